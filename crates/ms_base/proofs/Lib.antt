@@ -1,0 +1,10 @@
+pub mod SizeExamples
+pub mod PoolExamples
+pub mod ArenaExamples
+pub mod StepExamples
+pub mod EmptyLemmas
+pub mod PickLemmas
+pub mod PartLemmas
+pub mod GranuleLemmas
+pub mod IntervalLemmas
+pub mod NameLemmas
