@@ -8,3 +8,4 @@ pub mod PartLemmas
 pub mod GranuleLemmas
 pub mod IntervalLemmas
 pub mod NameLemmas
+pub mod EntryLemmas
