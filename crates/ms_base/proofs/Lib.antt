@@ -9,3 +9,4 @@ pub mod GranuleLemmas
 pub mod IntervalLemmas
 pub mod NameLemmas
 pub mod EntryLemmas
+pub mod ApartLemmas
