@@ -10,3 +10,6 @@ pub mod IntervalLemmas
 pub mod NameLemmas
 pub mod EntryLemmas
 pub mod ApartLemmas
+pub mod HeldLemmas
+pub mod SlotLemmas
+pub mod CommittedLemmas
