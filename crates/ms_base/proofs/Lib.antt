@@ -13,3 +13,4 @@ pub mod ApartLemmas
 pub mod HeldLemmas
 pub mod SlotLemmas
 pub mod CommittedLemmas
+pub mod GoodLemmas
