@@ -5,10 +5,11 @@ use Rattle.std.specs.Ordering.{nat_cmp}
 use Rattle.std.specs.List.{All, filter, flat_map}
 use Rattle.std.specs.Map.{values_of}
 use Rattle.std.specs.BTreeMap.{is_at}
+use Rattle.std.specs.Option.{IfSome}
 use Rattle.std.proofs.lemmas.List.Concat.{flat_map-append}
 use Rattle.std.proofs.lemmas.List.Elements.{All-filter}
 use Rattle.std.proofs.lemmas.List.Kept.{IsStrictlyIncreasing-filter}
-use Rattle.std.proofs.lemmas.Map.Views.{All-values-insert_entry, All-map-remove_entry, All-values-set_value}
+use Rattle.std.proofs.lemmas.Map.Views.{All-values-insert_entry, All-map-remove_entry, All-values-set_value, IfSome-lookup_from_All}
 use Rattle.ms_base.specs.declared.kind.Kind.{Kind}
 use Rattle.ms_base.specs.declared.span.Chunk.{Chunk}
 use Rattle.ms_base.specs.Names.{named, with_new, with_changed, without}
@@ -62,6 +63,11 @@ sound_when_empty kind = record {
   arena = record { apart = refl; long = refl; inside = refl; few = omega arith; tops = refl; kept = λ k h. absurd (omega arith) };
   names = λ k h. absurd (omega arith);
 }
+
+-- Each loader of a good machine is sound.
+pub loader_is_sound : (m : Machine) (name : ℕ) (loader : LoaderState) → named m.loaders name ≡ Some loader → IsGood m → IsSoundLoader loader
+loader_is_sound m name loader found good =
+    subst (λ (o : Option LoaderState). IfSome o IsSoundLoader) found (IfSome-lookup_from_All IsSoundLoader (is_at (nat_cmp name)) m.loaders good.loaders)
 
 -- A new loader.
 pub good_with_new_loader : (m : Machine) (name : ℕ) (kind : Kind) → LacksLoader m name → m.given < 2 ^ 32 - 1 → IsGood m

@@ -14,3 +14,4 @@ pub mod HeldLemmas
 pub mod SlotLemmas
 pub mod CommittedLemmas
 pub mod GoodLemmas
+pub mod BlockLemmas
