@@ -15,3 +15,4 @@ pub mod SlotLemmas
 pub mod CommittedLemmas
 pub mod GoodLemmas
 pub mod BlockLemmas
+pub mod TopLemmas
