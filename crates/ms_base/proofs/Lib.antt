@@ -16,3 +16,4 @@ pub mod CommittedLemmas
 pub mod GoodLemmas
 pub mod BlockLemmas
 pub mod TopLemmas
+pub mod FrontLemmas
