@@ -37,6 +37,20 @@ apart-rest_of (x ∷ b) mid a h =
     let clear = list_any-rest_of (λ (other : ℕ × ℕ). meet x.0 x.1 other.0 other.1) b mid a (not-true (meets_any x (b ++ (mid ++ a))) both.0) in
     and_from (not (meets_any x (b ++ a))) (are_apart (b ++ a)) (not_from_false (meets_any x (b ++ a)) clear) (apart-rest_of b mid a both.1)
 
+-- The part in the middle alone.
+each_middle : {X : Type 0} (P : X → Type 0) (b mid a : List X) → AllByRecursion P (b ++ (mid ++ a)) → AllByRecursion P mid
+each_middle P [] [] a h = tt
+each_middle P [] (x ∷ mid) a h = (h.0, each_middle P [] mid a h.1)
+each_middle P (x ∷ b) mid a h = each_middle P b mid a h.1
+
+pub All-middle_of : {X : Type 0} (P : X → Type 0) (b mid a : List X) → All P (b ++ (mid ++ a)) → All P mid
+All-middle_of P b mid a h = All-from_recursion P mid (each_middle P b mid a (recursion_from_All P (b ++ (mid ++ a)) h))
+
+pub list_any-middle_of : {X : Type 0} (p : X → Bool) (b mid a : List X) → list_any p (b ++ (mid ++ a)) ≡ false → list_any p mid ≡ false
+list_any-middle_of p b mid a h =
+    (or_parts (list_any p mid) (list_any p a) (sym (list_any-append p mid a)
+    ∙ (or_parts (list_any p b) (list_any p (mid ++ a)) (sym (list_any-append p b (mid ++ a)) ∙ h)).1)).0
+
 -- An element comes in between.
 each_with : {X : Type 0} (P : X → Type 0) (b : List X) (x : X) (a : List X) → P x → AllByRecursion P (b ++ a) → AllByRecursion P (b ++ x ∷ a)
 each_with P [] x a h all = (h, all)

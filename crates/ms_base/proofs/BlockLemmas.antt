@@ -1,17 +1,15 @@
 -- A loader stays sound, and the machine good, where a block is written or freed.
-use Rattle.std.proofs.Common.{◌≡◌, ◌≤◌, ℕ, ◌+◌, Bool, true, Option, Some, None, List, [], ◌∷◌, ◌++◌, length, map, refl, sym, ap, ◌∙◌, subst, arith, length-set}
+use Rattle.std.proofs.Common.{◌≡◌, ℕ, Some, List, [], ◌∷◌, ◌++◌, map, refl, sym, ap, ◌∙◌, length-set}
 use Rattle.std.specs.Prelude.{slice_set, nat_le}
-use Rattle.std.specs.List.{list_all}
 use Rattle.std.specs.Map.{values_of}
 use Rattle.std.proofs.lemmas.List.{map-append, append_assoc}
 use Rattle.ms_base.specs.declared.words.LiveBlock.{LiveBlock}
-use Rattle.ms_base.specs.Interval.{are_apart}
-use Rattle.ms_base.specs.Names.{named, with_new, with_changed, without}
+use Rattle.ms_base.specs.Names.{named, with_changed, without}
 use Rattle.ms_base.specs.Live.{run_of, runs_of}
-use Rattle.ms_base.specs.State.{ArenaState, LoaderState, Machine}
+use Rattle.ms_base.specs.State.{LoaderState, Machine}
 use Rattle.ms_base.specs.Good.{is_in_use, IsSound, IsSoundLoader, IsGood}
 use Rattle.ms_base.specs.Transition.{HasLoader, HasBlock, with_loader, with_block}
-use Rattle.ms_base.proofs.EntryLemmas.{Split, split_at, Gap, gap_at, values_split, values_joined, rises_with_changed, rises_without}
+use Rattle.ms_base.proofs.EntryLemmas.{Split, split_at, values_split, values_joined, rises_with_changed, rises_without}
 use Rattle.ms_base.proofs.ApartLemmas.{list_all-rest_of, apart-rest_of}
 use Rattle.ms_base.proofs.GoodLemmas.{loader_is_sound, good_with_loader}
 

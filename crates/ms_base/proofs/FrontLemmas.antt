@@ -1,10 +1,8 @@
 -- The front of a new chunk: it is one, and reaches as far as was asked.
-use Rattle.std.proofs.Common.{◌≡◌, ◌≤◌, ◌<◌, ◌+◌, ◌-◌, ◌*◌, ◌/◌, ◌%◌, ◌^◌, ℕ, Bool, true, false, cond, refl, sym, ap, ◌∙◌, subst, arith, inl, inr}
-use Rattle.std.specs.Prelude.{nat_lt}
-use Rattle.std.proofs.lemmas.Nat.{mul-le, pow-add, pow_pos, pow_below, div-add-mod', mod-mul-add, div-mul-add}
+use Rattle.std.proofs.Common.{◌≡◌, ◌≤◌, ◌<◌, ◌+◌, ◌-◌, ◌*◌, ◌%◌, ◌^◌, ℕ, refl, ap, ◌∙◌, arith, inl, inr}
+use Rattle.std.proofs.lemmas.Nat.{mul-le, pow-add, pow_pos, pow_below, div-add-mod', mod-mul-add}
 use Rattle.std.proofs.Math.Nat.{add-mul}
-use Rattle.std.proofs.lemmas.Bool.{cases_lt, ltb-true, ltb-false, lt-ltb, le-ltb}
-use Rattle.ms_base.specs.declared.span.Chunk.{Chunk}
+use Rattle.std.proofs.lemmas.Bool.{cases_lt, lt-ltb, le-ltb}
 use Rattle.ms_base.specs.Level.{size_of}
 use Rattle.ms_base.specs.Front.{granules_for, front_for, HasFront}
 

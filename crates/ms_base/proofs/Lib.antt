@@ -17,3 +17,4 @@ pub mod GoodLemmas
 pub mod BlockLemmas
 pub mod TopLemmas
 pub mod FrontLemmas
+pub mod AddedLemmas
