@@ -18,3 +18,4 @@ pub mod BlockLemmas
 pub mod TopLemmas
 pub mod FrontLemmas
 pub mod AddedLemmas
+pub mod PackingLemmas
