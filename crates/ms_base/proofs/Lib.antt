@@ -19,3 +19,4 @@ pub mod TopLemmas
 pub mod FrontLemmas
 pub mod AddedLemmas
 pub mod PackingLemmas
+pub mod SumLemmas
