@@ -20,3 +20,4 @@ pub mod FrontLemmas
 pub mod AddedLemmas
 pub mod PackingLemmas
 pub mod SumLemmas
+pub mod FrontSumLemmas
