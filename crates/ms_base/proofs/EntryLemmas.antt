@@ -21,7 +21,7 @@ pub record Split {X : Type 0} (entries : List (ℕ × X)) (name : ℕ) (value : 
   pub changed : (other : X) → with_changed entries name other ≡ before ++ (name, other) ∷ after
   pub gone : without entries name ≡ before ++ after
 
-same_name : (a b : ℕ) → is_eq (nat_cmp a b) ≡ true → b ≡ a
+pub same_name : (a b : ℕ) → is_eq (nat_cmp a b) ≡ true → b ≡ a
 same_name a b e = sym (exact_unsigned a b (equal (nat_cmp a b) e))
   where
     equal : (o : Rattle.std.proofs.Common.Ordering) → is_eq o ≡ true → o ≡ Equal

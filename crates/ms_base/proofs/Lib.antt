@@ -21,3 +21,4 @@ pub mod AddedLemmas
 pub mod PackingLemmas
 pub mod SumLemmas
 pub mod FrontSumLemmas
+pub mod BackedLemmas
