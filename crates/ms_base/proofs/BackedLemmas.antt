@@ -1,11 +1,10 @@
 -- Live blocks lie in committed words of chunks of their own loader, and share none.
-use Rattle.std.proofs.Common.{◌≡◌, ◌≤◌, ◌<◌, ◌+◌, ◌*◌, ℕ, Bool, true, false, cond, not, ◌&&◌, ◌||◌, Some, None, List, [], ◌∷◌, ◌++◌, length, map, refl, sym, ap, ◌∙◌, subst, arith, inl, inr}
-use Rattle.std.specs.Prelude.{nat_le, nat_lt}
-use Rattle.std.specs.Ordering.{nat_cmp, is_eq}
-use Rattle.std.specs.List.{All, AllByRecursion, list_any, list_all, zip}
-use Rattle.std.specs.Map.{values_of}
+use Rattle.std.proofs.Common.{◌≡◌, ◌≤◌, ◌*◌, ℕ, Bool, true, false, cond, not, Some, List, [], ◌∷◌, ◌++◌, length, map, refl, sym, ap, ◌∙◌, arith, inl, inr}
+use Rattle.std.specs.Prelude.{nat_le}
+use Rattle.std.specs.Ordering.{nat_cmp}
+use Rattle.std.specs.List.{AllByRecursion, list_any, list_all, zip}
 use Rattle.std.specs.BTreeMap.{is_at}
-use Rattle.std.proofs.lemmas.Bool.{and_parts, and_from, or_parts, or_from, or_left, or_right, or_cases, not-true, not_from_false, leb-true, cases_eq}
+use Rattle.std.proofs.lemmas.Bool.{and_parts, or_parts, or_from, or_left, or_right, or_cases, not-true, leb-true, cases_eq}
 use Rattle.std.proofs.lemmas.Bool.Decides.{nat_tests}
 use Rattle.std.proofs.lemmas.List.{map-append, append_assoc}
 use Rattle.std.proofs.lemmas.List.Folds.{list_any-append, list_all-append}
@@ -17,12 +16,11 @@ use Rattle.ms_base.specs.Level.{size_of}
 use Rattle.ms_base.specs.Front.{HasFront}
 use Rattle.ms_base.specs.Names.{named}
 use Rattle.ms_base.specs.Held.{words_of}
-use Rattle.ms_base.specs.Committed.{is_committed}
-use Rattle.ms_base.specs.State.{LoaderState, Machine, chunks_held, pool_of}
+use Rattle.ms_base.specs.State.{LoaderState, Machine, chunks_held}
 use Rattle.ms_base.specs.Live.{run_of, runs_of}
-use Rattle.ms_base.specs.Good.{is_in_use, IsSound, IsSoundLoader, IsGood}
+use Rattle.ms_base.specs.Good.{is_in_use, IsSoundLoader, IsGood}
 use Rattle.ms_base.specs.Transition.{HasBlock}
-use Rattle.ms_base.specs.BlockLaws.{lies_in_own_front, IsOnCommitted, IsBacked}
+use Rattle.ms_base.specs.BlockLaws.{lies_in_own_front, IsBacked}
 use Rattle.ms_base.proofs.EntryLemmas.{Split, split_at, same_name}
 use Rattle.ms_base.proofs.ApartLemmas.{All-rest_of, list_any-rest_of, apart-rest_of, list_any-with, meet_turned}
 use Rattle.ms_base.proofs.GoodLemmas.{chunks_split, chunks_joined, loader_is_sound}
@@ -157,3 +155,76 @@ apart_in_loader loader block found other_block other has has_other differ sound 
     live_clear =
         (or_parts (meets_any (run_of found) (b ++ a)) (meets_any (run_of found) loader.arena.kept)
         (sym (list_any-append (λ (run : ℕ × ℕ). meet (run_of found).0 (run_of found).1 run.0 run.1) (b ++ a) loader.arena.kept) ∙ ap (meets_any (run_of found)) (append_assoc b a loader.arena.kept) ∙ clear)).0
+
+-- Runs in the fronts of chunks that share no word share none.
+inside_both : (a s f r m b t g k n : ℕ) → meet a s b t ≡ false → lies_in (r, m) (a, f) ≡ true → f ≤ s → lies_in (k, n) (b, g) ≡ true → g ≤ t → meet r m k n ≡ false
+inside_both a s f r m b t g k n h i j l o = grind (arith, nat_tests)
+
+abbrev some_front : List Chunk → ℕ × ℕ → Bool
+some_front chunks run = list_any (λ (chunk : Chunk). lies_in run (chunk.start, chunk.front)) chunks
+
+clear_of_others : (granule : ℕ) (c : Chunk) (others : List Chunk) (run other : ℕ × ℕ) → lies_in run (c.start, c.front) ≡ true → c.front ≤ size_of c.level
+    → AllByRecursion (HasFront granule) others → meets_any (words_of c) (map words_of others) ≡ false → some_front others other ≡ true
+    → meet run.0 run.1 other.0 other.1 ≡ false
+clear_of_others granule c [] run other inside within fronts clear h = absurd (cc)
+clear_of_others granule c (d ∷ others) run other inside within fronts clear h =
+    let none = or_parts (meet c.start (size_of c.level) d.start (size_of d.level)) (meets_any (words_of c) (map words_of others)) clear in
+    elim (or_cases (lies_in other (d.start, d.front)) (some_front others other) h) [
+      | inl here ↦ inside_both c.start (size_of c.level) c.front run.0 run.1 d.start (size_of d.level) d.front other.0 other.1 none.0 inside within here fronts.0.within
+      | inr later ↦ clear_of_others granule c others run other inside within fronts.1 none.1 later
+    ]
+
+-- A run in the front of one of some chunks, and one in that of one of the others.
+apart_in_parts : (granule : ℕ) (b own a : List Chunk) (run other : ℕ × ℕ) → AllByRecursion (HasFront granule) own → AllByRecursion (HasFront granule) (b ++ a)
+    → are_apart (map words_of b ++ (map words_of own ++ map words_of a)) ≡ true → some_front own run ≡ true → some_front (b ++ a) other ≡ true
+    → meet run.0 run.1 other.0 other.1 ≡ false
+apart_in_parts granule b [] a run other fronts others apart h k = absurd (cc)
+apart_in_parts granule b (c ∷ own) a run other fronts others apart h k =
+    elim (or_cases (lies_in run (c.start, c.front)) (some_front own run) h) [
+      | inl here ↦ clear_of_others granule c (b ++ a) run other here fronts.0.within others
+          (rw (map-append words_of b a)
+          (list_any-rest_of (λ (r : ℕ × ℕ). meet c.start (size_of c.level) r.0 r.1) (map words_of b) (map words_of own) (map words_of a)
+          (middle_is_clear (map words_of b) (words_of c) (map words_of own ++ map words_of a) apart))) k
+      | inr later ↦ apart_in_parts granule b own a run other fronts.1 others
+          (apart-rest_of (map words_of b) (words_of c ∷ []) (map words_of own ++ map words_of a) apart) later k
+    ]
+
+-- Two blocks of two loaders.
+apart_in_machine : (m : Machine) (name block : ℕ) (loader : LoaderState) (found : LiveBlock) (other_name other_block : ℕ) (other_loader : LoaderState) (other : LiveBlock)
+    → IsGood m → HasBlock m name block loader found → HasBlock m other_name other_block other_loader other → (name ≡ other_name → ⊥)
+    → meet found.start (length found.contents) other.start (length other.contents) ≡ false
+apart_in_machine m name block loader found other_name other_block other_loader other good has has_other differ =
+    apart_in_parts m.limits.granule b loader.arena.chunks a (run_of found) (run_of other)
+    (recursion_from_All (HasFront m.limits.granule) loader.arena.chunks (fronts_of_loader m name loader has.loader_is good))
+    (recursion_from_All (HasFront m.limits.granule) (b ++ a)
+    (All-rest_of (HasFront m.limits.granule) b loader.arena.chunks a (rw all at good.pool.held.fronts)))
+    (rw (all, map-append words_of b (loader.arena.chunks ++ a), map-append words_of loader.arena.chunks a) at good.pool.held.apart)
+    (block_in_own_front loader block found has.block_is (loader_is_sound m name loader has.loader_is good))
+    (rw (chunks_joined split.before split.after) at
+    (any_of_loader (λ (chunk : Chunk). lies_in (run_of other) (chunk.start, chunk.front)) (split.before ++ split.after) other_name other_loader
+    (named_past split.before name loader split.after other_name other_loader differ (rw split.is at has_other.loader_is))
+    (block_in_own_front other_loader other_block other has_other.block_is (loader_is_sound m other_name other_loader has_other.loader_is good))))
+  where
+    split : Split m.loaders name loader
+    split = split_at m.loaders name loader has.loader_is
+
+    b : List Chunk
+    b = chunks_held split.before
+
+    a : List Chunk
+    a = chunks_held split.after
+
+    all : chunks_held m.loaders ≡ b ++ (loader.arena.chunks ++ a)
+    all = ap chunks_held split.is ∙ chunks_split split.before split.after name loader
+
+pub blocks_are_apart : (m : Machine) (name block : ℕ) (loader : LoaderState) (found : LiveBlock) (other_name other_block : ℕ) (other_loader : LoaderState) (other : LiveBlock)
+    → IsGood m → HasBlock m name block loader found → HasBlock m other_name other_block other_loader other
+    → ((name ≡ other_name) × (block ≡ other_block) → ⊥) → meet found.start (length found.contents) other.start (length other.contents) ≡ false
+blocks_are_apart m name block loader found other_name other_block other_loader other good has has_other differ = elim (cases_eq name other_name) [
+  | inl same ↦
+      let one : Some loader ≡ Some other_loader = sym has.loader_is ∙ ap (named m.loaders) same ∙ has_other.loader_is in
+      let its : loader ≡ other_loader = cc in
+      apart_in_loader loader block found other_block other has.block_is (rw its has_other.block_is) (λ blocks. differ (same, blocks))
+      (loader_is_sound m name loader has.loader_is good)
+  | inr names ↦ apart_in_machine m name block loader found other_name other_block other_loader other good has has_other names
+]
