@@ -22,3 +22,4 @@ pub mod PackingLemmas
 pub mod SumLemmas
 pub mod FrontSumLemmas
 pub mod BackedLemmas
+pub mod LookupLemmas

@@ -24,3 +24,4 @@ pub mod Alone
 pub mod Laws
 pub mod SumLaws
 pub mod BlockLaws
+pub mod WordLaws
