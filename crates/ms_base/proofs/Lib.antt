@@ -23,3 +23,4 @@ pub mod SumLemmas
 pub mod FrontSumLemmas
 pub mod BackedLemmas
 pub mod LookupLemmas
+pub mod WordLemmas

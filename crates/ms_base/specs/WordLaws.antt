@@ -1,9 +1,9 @@
 -- What a read is answered: laws over runs of the machine, each the contract of a function of `laws`.
 use Rattle.std.specs.Prelude.{◌≡◌, ℕ, Bool, true, false, not, ◌&&◌, ◌==◌, List, [], ◌∷◌, ◌++◌, IsTrue}
 use Rattle.ms_base.specs.declared.step.Step.{Step}
-use Rattle.ms_base.specs.declared.step.Step.TheVariants.{New, Alloc, Write, Read, Free, Unload, Purge}
+use Rattle.ms_base.specs.declared.step.Step.TheVariants.{Alloc, Write, Read, Free, Unload}
 use Rattle.ms_base.specs.declared.step.Reply.{Reply}
-use Rattle.ms_base.specs.declared.step.Reply.TheVariants.{Ok as Done, At, Value, Refused}
+use Rattle.ms_base.specs.declared.step.Reply.TheVariants.{Ok as Done, At, Value}
 use Rattle.ms_base.specs.State.{Machine}
 use Rattle.ms_base.specs.Run.{Run}
 
