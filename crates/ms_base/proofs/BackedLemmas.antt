@@ -28,7 +28,7 @@ use Rattle.ms_base.proofs.BlockLemmas.{runs_split, runs_joined}
 use Rattle.ms_base.proofs.AddedLemmas.{fronts_of_loader}
 
 -- A run in use lies within the front of a chunk.
-in_use_in_front : (run : ℕ × ℕ) (chunks : List Chunk) (tops : List ℕ)
+pub in_use_in_front : (run : ℕ × ℕ) (chunks : List Chunk) (tops : List ℕ)
     → list_all (λ (used : Chunk × ℕ). nat_le used.1 used.0.front) (zip chunks tops) ≡ true
     → list_any (λ (used : Chunk × ℕ). lies_in run (used.0.start, used.1)) (zip chunks tops) ≡ true
     → list_any (λ (chunk : Chunk). lies_in run (chunk.start, chunk.front)) chunks ≡ true
@@ -160,7 +160,7 @@ apart_in_loader loader block found other_block other has has_other differ sound 
 inside_both : (a s f r m b t g k n : ℕ) → meet a s b t ≡ false → lies_in (r, m) (a, f) ≡ true → f ≤ s → lies_in (k, n) (b, g) ≡ true → g ≤ t → meet r m k n ≡ false
 inside_both a s f r m b t g k n h i j l o = grind (arith, nat_tests)
 
-abbrev some_front : List Chunk → ℕ × ℕ → Bool
+abbrev pub some_front : List Chunk → ℕ × ℕ → Bool
 some_front chunks run = list_any (λ (chunk : Chunk). lies_in run (chunk.start, chunk.front)) chunks
 
 clear_of_others : (granule : ℕ) (c : Chunk) (others : List Chunk) (run other : ℕ × ℕ) → lies_in run (c.start, c.front) ≡ true → c.front ≤ size_of c.level
@@ -175,7 +175,7 @@ clear_of_others granule c (d ∷ others) run other inside within fronts clear h 
     ]
 
 -- A run in the front of one of some chunks, and one in that of one of the others.
-apart_in_parts : (granule : ℕ) (b own a : List Chunk) (run other : ℕ × ℕ) → AllByRecursion (HasFront granule) own → AllByRecursion (HasFront granule) (b ++ a)
+pub apart_in_parts : (granule : ℕ) (b own a : List Chunk) (run other : ℕ × ℕ) → AllByRecursion (HasFront granule) own → AllByRecursion (HasFront granule) (b ++ a)
     → are_apart (map words_of b ++ (map words_of own ++ map words_of a)) ≡ true → some_front own run ≡ true → some_front (b ++ a) other ≡ true
     → meet run.0 run.1 other.0 other.1 ≡ false
 apart_in_parts granule b [] a run other fronts others apart h k = absurd (cc)

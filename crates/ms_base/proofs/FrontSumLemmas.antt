@@ -21,7 +21,7 @@ use Rattle.ms_base.specs.State.{Machine, pool_of}
 use Rattle.ms_base.specs.Good.{IsSoundLoader, IsGood}
 use Rattle.ms_base.specs.Totals.{fronts_of}
 use Rattle.ms_base.specs.SumLaws.{is_word_of, has_word, words_in, IsBounded, IsGivenBack}
-use Rattle.ms_base.proofs.EmptyLemmas.{filter-none, nothing_is_committed}
+use Rattle.ms_base.proofs.EmptyLemmas.{filter-none, roots_are_free, nothing_is_committed}
 use Rattle.ms_base.proofs.GranuleLemmas.{committed_are_counted}
 use Rattle.ms_base.proofs.PackingLemmas.{packed}
 use Rattle.ms_base.proofs.SumLemmas.{capacity_within, few_slots, fronts_within, used_within, all_blocks_within, committed_within_slots}
@@ -139,6 +139,7 @@ sums_are_bounded m whole good = record {
 pub nothing_is_left : (m : Machine) → m.loaders ≡ [] → IsGivenBack m
 nothing_is_left m none = record {
   held = rw none refl;
+  whole = rw none (roots_are_free m.slots);
   committed = rw none (ap length (nothing_is_committed m.limits.granule m.slots));
   used = rw none refl;
   live = rw none refl;

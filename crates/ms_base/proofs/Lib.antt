@@ -22,5 +22,6 @@ pub mod PackingLemmas
 pub mod SumLemmas
 pub mod FrontSumLemmas
 pub mod BackedLemmas
+pub mod AllBlocksLemmas
 pub mod LookupLemmas
 pub mod WordLemmas

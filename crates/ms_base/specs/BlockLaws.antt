@@ -1,12 +1,13 @@
 -- Where the live blocks of a good machine lie: laws about it, each the contract of a function of
 -- `laws`.
-use Rattle.std.specs.Prelude.{◌≡◌, ℕ, ◌*◌, ◌≤◌, Bool, length, IsTrue, IsFalse}
-use Rattle.std.specs.List.{list_any}
+use Rattle.std.specs.Prelude.{◌≡◌, ℕ, ◌*◌, ◌≤◌, Bool, List, ◌++◌, length, IsTrue, IsFalse}
+use Rattle.std.specs.List.{list_any, flat_map}
+use Rattle.std.specs.Map.{values_of}
 use Rattle.ms_base.specs.declared.words.LiveBlock.{LiveBlock}
-use Rattle.ms_base.specs.Interval.{meet, lies_in}
+use Rattle.ms_base.specs.Interval.{meet, lies_in, are_apart}
 use Rattle.ms_base.specs.Pick.{has_committed}
 use Rattle.ms_base.specs.State.{LoaderState, Machine, pool_of}
-use Rattle.ms_base.specs.Live.{run_of}
+use Rattle.ms_base.specs.Live.{run_of, runs_of}
 use Rattle.ms_base.specs.Good.{IsGood}
 use Rattle.ms_base.specs.Transition.{HasBlock}
 
@@ -39,3 +40,11 @@ LiveBlocksAreApart =
     → IsGood m → HasBlock m name block loader found → HasBlock m other_name other_block other_loader other
     → ((name ≡ other_name) × (block ≡ other_block) → ⊥)
     → IsFalse (meet found.start (length found.contents) other.start (length other.contents))
+
+-- The words of all live and free blocks of a machine, loader by loader.
+abbrev pub all_blocks : Machine → List (ℕ × ℕ)
+all_blocks m = flat_map (λ loader. runs_of loader.blocks ++ loader.arena.kept) (values_of m.loaders)
+
+-- No two of a good machine's live and free blocks share a word.
+abbrev pub AllBlocksAreApart : Type 0
+AllBlocksAreApart = (m : Machine) → IsGood m → IsTrue (are_apart (all_blocks m))

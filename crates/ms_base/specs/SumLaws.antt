@@ -1,8 +1,10 @@
 -- What the sums of a machine come to: laws about them, each the contract of a function of `laws`.
 use Rattle.std.specs.Prelude.{◌≡◌, ℕ, ◌+◌, ◌*◌, ◌/◌, ◌≤◌, Bool, ◌&&◌, nat_le, nat_lt, List, [], length, IsTrue}
-use Rattle.std.specs.List.{list_any, sum_by}
+use Rattle.std.specs.List.{list_any, flat_map, sum_by}
 use Rattle.ms_base.specs.Interval.{are_apart}
 use Rattle.ms_base.specs.Part.{node_words}
+use Rattle.ms_base.specs.FreeParts.{free_parts}
+use Rattle.ms_base.specs.Laws.{roots_of}
 use Rattle.ms_base.specs.Causes.{committed_count}
 use Rattle.ms_base.specs.State.{Machine, pool_of}
 use Rattle.ms_base.specs.Good.{IsGood}
@@ -43,9 +45,11 @@ pub record IsBounded (m : Machine) : Type 0 where
 abbrev pub SumsAreBounded : Type 0
 SumsAreBounded = (m : Machine) → node_words / m.limits.granule * m.limits.granule ≡ node_words → IsGood m → IsBounded m
 
--- All memory has been given back: nothing is lent, committed or used, and a purge leaves no node.
+-- All memory has been given back: nothing is lent, committed or used, each root is one free part,
+-- and a purge leaves no node.
 pub record IsGivenBack (m : Machine) : Type 0 where
   pub held : (pool_of m).held ≡ []
+  pub whole : free_parts (pool_of m).held m.slots ≡ flat_map roots_of m.slots
   pub committed : committed_count (pool_of m) ≡ 0
   pub used : used_words m ≡ 0
   pub live : live_words m ≡ 0
