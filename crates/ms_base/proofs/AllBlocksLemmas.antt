@@ -25,8 +25,8 @@ abbrev chunks_of : List LoaderState → List Chunk
 chunks_of loaders = flat_map (λ (loader : LoaderState). loader.arena.chunks) loaders
 
 -- Each lies in a front.
-in_fronts : (loader : LoaderState) (runs : List (ℕ × ℕ)) → IsSoundLoader loader → list_all (is_in_use loader.arena) runs ≡ true
-    → list_all (some_front loader.arena.chunks) runs ≡ true
+in_fronts : (loader : LoaderState) (runs : List (ℕ × ℕ)) → IsSoundLoader loader
+    → list_all (is_in_use loader.arena) runs ≡ true → list_all (some_front loader.arena.chunks) runs ≡ true
 in_fronts loader [] sound h = refl
 in_fronts loader (run ∷ runs) sound h =
     let both = and_parts (is_in_use loader.arena run) (list_all (is_in_use loader.arena) runs) h in
@@ -34,7 +34,8 @@ in_fronts loader (run ∷ runs) sound h =
     (in_use_in_front run loader.arena.chunks loader.arena.tops sound.arena.tops both.0) (in_fronts loader runs sound both.1)
 
 -- What lies in a front of some chunks lies in one of more.
-in_more_before : (chunks more : List Chunk) (runs : List (ℕ × ℕ)) → list_all (some_front chunks) runs ≡ true → list_all (some_front (chunks ++ more)) runs ≡ true
+in_more_before : (chunks more : List Chunk) (runs : List (ℕ × ℕ)) → list_all (some_front chunks) runs ≡ true
+    → list_all (some_front (chunks ++ more)) runs ≡ true
 in_more_before chunks more [] h = refl
 in_more_before chunks more (run ∷ runs) h =
     let both = and_parts (some_front chunks run) (list_all (some_front chunks) runs) h in
@@ -42,7 +43,8 @@ in_more_before chunks more (run ∷ runs) h =
     (list_any-append (λ (c : Chunk). lies_in run (c.start, c.front)) chunks more ∙ or_left (some_front chunks run) (some_front more run) both.0)
     (in_more_before chunks more runs both.1)
 
-in_more_after : (more chunks : List Chunk) (runs : List (ℕ × ℕ)) → list_all (some_front chunks) runs ≡ true → list_all (some_front (more ++ chunks)) runs ≡ true
+in_more_after : (more chunks : List Chunk) (runs : List (ℕ × ℕ)) → list_all (some_front chunks) runs ≡ true
+    → list_all (some_front (more ++ chunks)) runs ≡ true
 in_more_after more chunks [] h = refl
 in_more_after more chunks (run ∷ runs) h =
     let both = and_parts (some_front chunks run) (list_all (some_front chunks) runs) h in
@@ -50,7 +52,8 @@ in_more_after more chunks (run ∷ runs) h =
     (list_any-append (λ (c : Chunk). lies_in run (c.start, c.front)) more chunks ∙ or_right (some_front more run) (some_front chunks run) both.0)
     (in_more_after more chunks runs both.1)
 
-all_in_fronts : (loaders : List LoaderState) → AllByRecursion IsSoundLoader loaders → list_all (some_front (chunks_of loaders)) (flat_map blocks_of loaders) ≡ true
+all_in_fronts : (loaders : List LoaderState) → AllByRecursion IsSoundLoader loaders
+    → list_all (some_front (chunks_of loaders)) (flat_map blocks_of loaders) ≡ true
 all_in_fronts [] sound = refl
 all_in_fronts (l ∷ loaders) sound =
     list_all-append (some_front (chunks_of (l ∷ loaders))) (blocks_of l) (flat_map blocks_of loaders)
@@ -59,8 +62,9 @@ all_in_fronts (l ∷ loaders) sound =
     (in_more_after l.arena.chunks (chunks_of loaders) (flat_map blocks_of loaders) (all_in_fronts loaders sound.1))
 
 -- Runs in fronts of some chunks meet none in fronts of the others.
-meets_none_of : (granule : ℕ) (own others : List Chunk) (run : ℕ × ℕ) (runs : List (ℕ × ℕ)) → AllByRecursion (HasFront granule) own
-    → AllByRecursion (HasFront granule) others → are_apart (map words_of own ++ map words_of others) ≡ true → some_front own run ≡ true
+meets_none_of : (granule : ℕ) (own others : List Chunk) (run : ℕ × ℕ) (runs : List (ℕ × ℕ))
+    → AllByRecursion (HasFront granule) own → AllByRecursion (HasFront granule) others
+    → are_apart (map words_of own ++ map words_of others) ≡ true → some_front own run ≡ true
     → list_all (some_front others) runs ≡ true → meets_any run runs ≡ false
 meets_none_of granule own others run [] fronts more apart h k = refl
 meets_none_of granule own others run (other ∷ runs) fronts more apart h k =
@@ -69,9 +73,11 @@ meets_none_of granule own others run (other ∷ runs) fronts more apart h k =
     (meets_none_of granule own others run runs fronts more apart h both.1)
 
 -- So they are apart together where each of both are.
-apart_together : (granule : ℕ) (own others : List Chunk) (mine runs : List (ℕ × ℕ)) → AllByRecursion (HasFront granule) own
-    → AllByRecursion (HasFront granule) others → are_apart (map words_of own ++ map words_of others) ≡ true → list_all (some_front own) mine ≡ true
-    → list_all (some_front others) runs ≡ true → are_apart mine ≡ true → are_apart runs ≡ true → are_apart (mine ++ runs) ≡ true
+apart_together : (granule : ℕ) (own others : List Chunk) (mine runs : List (ℕ × ℕ))
+    → AllByRecursion (HasFront granule) own → AllByRecursion (HasFront granule) others
+    → are_apart (map words_of own ++ map words_of others) ≡ true → list_all (some_front own) mine ≡ true
+    → list_all (some_front others) runs ≡ true → are_apart mine ≡ true → are_apart runs ≡ true
+    → are_apart (mine ++ runs) ≡ true
 apart_together granule own others [] runs fronts more apart h k mine_apart runs_apart = runs_apart
 apart_together granule own others (run ∷ mine) runs fronts more apart h k mine_apart runs_apart =
     let its = and_parts (some_front own run) (list_all (some_front own) mine) h in
@@ -83,7 +89,8 @@ apart_together granule own others (run ∷ mine) runs fronts more apart h k mine
     (apart_together granule own others mine runs fronts more apart its.1 k first.1 runs_apart)
 
 -- What holds of each of two parts together holds of each of either.
-parts_of : (P : Chunk → Type 0) (xs ys : List Chunk) → AllByRecursion P (xs ++ ys) → AllByRecursion P xs × AllByRecursion P ys
+parts_of : (P : Chunk → Type 0) (xs ys : List Chunk) → AllByRecursion P (xs ++ ys)
+    → AllByRecursion P xs × AllByRecursion P ys
 parts_of P [] ys all = (tt, all)
 parts_of P (x ∷ xs) ys all = let rest = parts_of P xs ys all.1 in ((all.0, rest.0), rest.1)
 
@@ -91,8 +98,9 @@ later_apart : (xs ys : List (ℕ × ℕ)) → are_apart (xs ++ ys) ≡ true → 
 later_apart [] ys h = h
 later_apart (x ∷ xs) ys h = later_apart xs ys (and_parts (not (meets_any x (xs ++ ys))) (are_apart (xs ++ ys)) h).1
 
-apart_by_loader : (granule : ℕ) (loaders : List LoaderState) → AllByRecursion IsSoundLoader loaders → AllByRecursion (HasFront granule) (chunks_of loaders)
-    → are_apart (map words_of (chunks_of loaders)) ≡ true → are_apart (flat_map blocks_of loaders) ≡ true
+apart_by_loader : (granule : ℕ) (loaders : List LoaderState) → AllByRecursion IsSoundLoader loaders
+    → AllByRecursion (HasFront granule) (chunks_of loaders) → are_apart (map words_of (chunks_of loaders)) ≡ true
+    → are_apart (flat_map blocks_of loaders) ≡ true
 apart_by_loader granule [] sound fronts apart = refl
 apart_by_loader granule (l ∷ loaders) sound fronts apart =
     let both = parts_of (HasFront granule) l.arena.chunks (chunks_of loaders) fronts in

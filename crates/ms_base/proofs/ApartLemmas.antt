@@ -9,7 +9,8 @@ use Rattle.std.proofs.lemmas.List.Elements.{recursion_from_All, All-from_recursi
 use Rattle.ms_base.specs.Interval.{meet, meets_any, are_apart}
 
 -- A part in the middle goes.
-each_rest : {X : Type 0} (P : X → Type 0) (b mid a : List X) → AllByRecursion P (b ++ (mid ++ a)) → AllByRecursion P (b ++ a)
+each_rest : {X : Type 0} (P : X → Type 0) (b mid a : List X) → AllByRecursion P (b ++ (mid ++ a))
+    → AllByRecursion P (b ++ a)
 each_rest P [] [] a h = h
 each_rest P [] (x ∷ mid) a h = each_rest P [] mid a h.1
 each_rest P (x ∷ b) mid a h = (h.0, each_rest P b mid a h.1)
@@ -17,13 +18,15 @@ each_rest P (x ∷ b) mid a h = (h.0, each_rest P b mid a h.1)
 pub All-rest_of : {X : Type 0} (P : X → Type 0) (b mid a : List X) → All P (b ++ (mid ++ a)) → All P (b ++ a)
 All-rest_of P b mid a h = All-from_recursion P (b ++ a) (each_rest P b mid a (recursion_from_All P (b ++ (mid ++ a)) h))
 
-pub list_all-rest_of : {X : Type 0} (p : X → Bool) (b mid a : List X) → list_all p (b ++ (mid ++ a)) ≡ true → list_all p (b ++ a) ≡ true
+pub list_all-rest_of : {X : Type 0} (p : X → Bool) (b mid a : List X) → list_all p (b ++ (mid ++ a)) ≡ true
+    → list_all p (b ++ a) ≡ true
 list_all-rest_of p [] [] a h = h
 list_all-rest_of p [] (x ∷ mid) a h = list_all-rest_of p [] mid a (and_parts (p x) (list_all p (mid ++ a)) h).1
 list_all-rest_of p (x ∷ b) mid a h =
     let both = and_parts (p x) (list_all p (b ++ (mid ++ a))) h in and_from (p x) (list_all p (b ++ a)) both.0 (list_all-rest_of p b mid a both.1)
 
-pub list_any-rest_of : {X : Type 0} (p : X → Bool) (b mid a : List X) → list_any p (b ++ (mid ++ a)) ≡ false → list_any p (b ++ a) ≡ false
+pub list_any-rest_of : {X : Type 0} (p : X → Bool) (b mid a : List X) → list_any p (b ++ (mid ++ a)) ≡ false
+    → list_any p (b ++ a) ≡ false
 list_any-rest_of p [] [] a h = h
 list_any-rest_of p [] (x ∷ mid) a h = list_any-rest_of p [] mid a (or_parts (p x) (list_any p (mid ++ a)) h).1
 list_any-rest_of p (x ∷ b) mid a h =
@@ -38,7 +41,8 @@ apart-rest_of (x ∷ b) mid a h =
     and_from (not (meets_any x (b ++ a))) (are_apart (b ++ a)) (not_from_false (meets_any x (b ++ a)) clear) (apart-rest_of b mid a both.1)
 
 -- The part in the middle alone.
-each_middle : {X : Type 0} (P : X → Type 0) (b mid a : List X) → AllByRecursion P (b ++ (mid ++ a)) → AllByRecursion P mid
+each_middle : {X : Type 0} (P : X → Type 0) (b mid a : List X) → AllByRecursion P (b ++ (mid ++ a))
+    → AllByRecursion P mid
 each_middle P [] [] a h = tt
 each_middle P [] (x ∷ mid) a h = (h.0, each_middle P [] mid a h.1)
 each_middle P (x ∷ b) mid a h = each_middle P b mid a h.1
@@ -46,26 +50,31 @@ each_middle P (x ∷ b) mid a h = each_middle P b mid a h.1
 pub All-middle_of : {X : Type 0} (P : X → Type 0) (b mid a : List X) → All P (b ++ (mid ++ a)) → All P mid
 All-middle_of P b mid a h = All-from_recursion P mid (each_middle P b mid a (recursion_from_All P (b ++ (mid ++ a)) h))
 
-pub list_any-middle_of : {X : Type 0} (p : X → Bool) (b mid a : List X) → list_any p (b ++ (mid ++ a)) ≡ false → list_any p mid ≡ false
+pub list_any-middle_of : {X : Type 0} (p : X → Bool) (b mid a : List X) → list_any p (b ++ (mid ++ a)) ≡ false
+    → list_any p mid ≡ false
 list_any-middle_of p b mid a h =
     (or_parts (list_any p mid) (list_any p a) (sym (list_any-append p mid a)
     ∙ (or_parts (list_any p b) (list_any p (mid ++ a)) (sym (list_any-append p b (mid ++ a)) ∙ h)).1)).0
 
 -- An element comes in between.
-each_with : {X : Type 0} (P : X → Type 0) (b : List X) (x : X) (a : List X) → P x → AllByRecursion P (b ++ a) → AllByRecursion P (b ++ x ∷ a)
+each_with : {X : Type 0} (P : X → Type 0) (b : List X) (x : X) (a : List X) → P x → AllByRecursion P (b ++ a)
+    → AllByRecursion P (b ++ x ∷ a)
 each_with P [] x a h all = (h, all)
 each_with P (y ∷ b) x a h all = (all.0, each_with P b x a h all.1)
 
-pub All-with : {X : Type 0} (P : X → Type 0) (b : List X) (x : X) (a : List X) → P x → All P (b ++ a) → All P (b ++ x ∷ a)
+pub All-with : {X : Type 0} (P : X → Type 0) (b : List X) (x : X) (a : List X) → P x → All P (b ++ a)
+    → All P (b ++ x ∷ a)
 All-with P b x a h all = All-from_recursion P (b ++ x ∷ a) (each_with P b x a h (recursion_from_All P (b ++ a) all))
 
-pub list_all-with : {X : Type 0} (p : X → Bool) (b : List X) (x : X) (a : List X) → p x ≡ true → list_all p (b ++ a) ≡ true → list_all p (b ++ x ∷ a) ≡ true
+pub list_all-with : {X : Type 0} (p : X → Bool) (b : List X) (x : X) (a : List X) → p x ≡ true
+    → list_all p (b ++ a) ≡ true → list_all p (b ++ x ∷ a) ≡ true
 list_all-with p [] x a h all = and_from (p x) (list_all p a) h all
 list_all-with p (y ∷ b) x a h all =
     let both = and_parts (p y) (list_all p (b ++ a)) all in and_from (p y) (list_all p (b ++ x ∷ a)) both.0 (list_all-with p b x a h both.1)
 
 -- A test of a list with one element more, wherever it stands.
-pub list_any-with : {X : Type 0} (p : X → Bool) (b : List X) (x : X) (a : List X) → list_any p (b ++ x ∷ a) ≡ (p x || list_any p (b ++ a))
+pub list_any-with : {X : Type 0} (p : X → Bool) (b : List X) (x : X) (a : List X)
+    → list_any p (b ++ x ∷ a) ≡ (p x || list_any p (b ++ a))
 list_any-with p [] x a = refl
 list_any-with p (y ∷ b) x a = ap (λ t. p y || t) (list_any-with p b x a) ∙ swap (p y) (p x) (list_any p (b ++ a))
   where
@@ -85,8 +94,8 @@ meet_turned a m b n = turned (nat_lt a (b + n)) (nat_lt b (a + m))
     turned false false = refl
 
 -- A run that meets none of those before and after comes between them.
-pub apart-with : (b : List (ℕ × ℕ)) (run : ℕ × ℕ) (a : List (ℕ × ℕ)) → meets_any run (b ++ a) ≡ false → are_apart (b ++ a) ≡ true
-    → are_apart (b ++ run ∷ a) ≡ true
+pub apart-with : (b : List (ℕ × ℕ)) (run : ℕ × ℕ) (a : List (ℕ × ℕ)) → meets_any run (b ++ a) ≡ false
+    → are_apart (b ++ a) ≡ true → are_apart (b ++ run ∷ a) ≡ true
 apart-with [] run a clear apart = and_from (not (meets_any run a)) (are_apart a) (not_from_false (meets_any run a) clear) apart
 apart-with (x ∷ b) run a clear apart =
     let both = and_parts (not (meets_any x (b ++ a))) (are_apart (b ++ a)) apart in

@@ -46,8 +46,9 @@ in_use_in_front run (c ∷ chunks) (t ∷ tops) tops_in h =
     further r m a t f h k = grind (arith, nat_tests)
 
 -- What holds of all runs of an arena holds of a live block.
-of_block : (p : ℕ × ℕ → Bool) (loader : LoaderState) (block : ℕ) (found : LiveBlock) → named loader.blocks block ≡ Some found
-    → list_all p (runs_of loader.blocks ++ loader.arena.kept) ≡ true → p (run_of found) ≡ true
+of_block : (p : ℕ × ℕ → Bool) (loader : LoaderState) (block : ℕ) (found : LiveBlock)
+    → named loader.blocks block ≡ Some found → list_all p (runs_of loader.blocks ++ loader.arena.kept) ≡ true
+    → p (run_of found) ≡ true
 of_block p loader block found has h =
     let split = split_at loader.blocks block found has in
     let live = (and_parts (list_all p (runs_of loader.blocks)) (list_all p loader.arena.kept) (sym (list_all-append p (runs_of loader.blocks) loader.arena.kept) ∙ h)).0 in
@@ -55,14 +56,15 @@ of_block p loader block found has h =
     (and_parts (p (run_of found)) (list_all p (runs_of split.after))
     (and_parts (list_all p (runs_of split.before)) (list_all p (run_of found ∷ runs_of split.after)) (sym (list_all-append p (runs_of split.before) (run_of found ∷ runs_of split.after)) ∙ parts)).1).0
 
-pub block_in_own_front : (loader : LoaderState) (block : ℕ) (found : LiveBlock) → named loader.blocks block ≡ Some found → IsSoundLoader loader
-    → lies_in_own_front loader found ≡ true
+pub block_in_own_front : (loader : LoaderState) (block : ℕ) (found : LiveBlock) → named loader.blocks block ≡ Some found
+    → IsSoundLoader loader → lies_in_own_front loader found ≡ true
 block_in_own_front loader block found has sound =
     in_use_in_front (run_of found) loader.arena.chunks loader.arena.tops sound.arena.tops (of_block (is_in_use loader.arena) loader block found has sound.arena.inside)
 
 -- A granule that meets a run within a front meets the front.
-front_meets : (run : ℕ × ℕ) (chunks : List Chunk) (g n : ℕ) → list_any (λ (chunk : Chunk). lies_in run (chunk.start, chunk.front)) chunks ≡ true
-    → meet run.0 run.1 g n ≡ true → list_any (λ (chunk : Chunk). meet chunk.start chunk.front g n) chunks ≡ true
+front_meets : (run : ℕ × ℕ) (chunks : List Chunk) (g n : ℕ)
+    → list_any (λ (chunk : Chunk). lies_in run (chunk.start, chunk.front)) chunks ≡ true → meet run.0 run.1 g n ≡ true
+    → list_any (λ (chunk : Chunk). meet chunk.start chunk.front g n) chunks ≡ true
 front_meets run [] g n h meets = absurd (cc)
 front_meets run (c ∷ chunks) g n h meets =
     let rest = list_any (λ (chunk : Chunk). meet chunk.start chunk.front g n) chunks in
@@ -75,8 +77,8 @@ front_meets run (c ∷ chunks) g n h meets =
     wider r m a f g n h k = grind (arith, nat_tests)
 
 -- What some chunk of a loader passes, some held chunk does.
-any_of_loader : (p : Chunk → Bool) (loaders : List (ℕ × LoaderState)) (name : ℕ) (loader : LoaderState) → named loaders name ≡ Some loader
-    → list_any p loader.arena.chunks ≡ true → list_any p (chunks_held loaders) ≡ true
+any_of_loader : (p : Chunk → Bool) (loaders : List (ℕ × LoaderState)) (name : ℕ) (loader : LoaderState)
+    → named loaders name ≡ Some loader → list_any p loader.arena.chunks ≡ true → list_any p (chunks_held loaders) ≡ true
 any_of_loader p loaders name loader found h =
     let split = split_at loaders name loader found in
     let a = chunks_held split.after in
@@ -85,8 +87,8 @@ any_of_loader p loaders name loader found h =
     ∙ or_right (list_any p (chunks_held split.before)) (list_any p (loader.arena.chunks ++ a))
     (list_any-append p loader.arena.chunks a ∙ or_left (list_any p loader.arena.chunks) (list_any p a) h))
 
-pub block_is_backed : (m : Machine) (name block : ℕ) (loader : LoaderState) (found : LiveBlock) → IsGood m → HasBlock m name block loader found
-    → IsBacked m loader found
+pub block_is_backed : (m : Machine) (name block : ℕ) (loader : LoaderState) (found : LiveBlock) → IsGood m
+    → HasBlock m name block loader found → IsBacked m loader found
 block_is_backed m name block loader found good has =
     let sound = loader_is_sound m name loader has.loader_is good in
     let own = block_in_own_front loader block found has.block_is sound in
@@ -98,8 +100,8 @@ block_is_backed m name block loader found good has =
     }
 
 -- What stands under another name stands among the others.
-named_past : {X : Type 0} (b : List (ℕ × X)) (name : ℕ) (value : X) (a : List (ℕ × X)) (other : ℕ) (found : X) → (name ≡ other → ⊥)
-    → named (b ++ (name, value) ∷ a) other ≡ Some found → named (b ++ a) other ≡ Some found
+named_past : {X : Type 0} (b : List (ℕ × X)) (name : ℕ) (value : X) (a : List (ℕ × X)) (other : ℕ) (found : X)
+    → (name ≡ other → ⊥) → named (b ++ (name, value) ∷ a) other ≡ Some found → named (b ++ a) other ≡ Some found
 named_past [] name value a other found differ h =
     elim (is_at (nat_cmp other) name) as (λ t. is_at (nat_cmp other) name ≡ t → cond t (Some value) (named a other) ≡ Some found → named a other ≡ Some found) [
       | true ↦ λ e h. absurd (differ (same_name other name e))
@@ -112,8 +114,8 @@ named_past (e ∷ b) name value a other found differ h =
     ] h
 
 -- What no run of blocks passes, the run of a block doesn't.
-not_of_block : (p : ℕ × ℕ → Bool) (blocks : List (ℕ × LiveBlock)) (block : ℕ) (found : LiveBlock) → named blocks block ≡ Some found
-    → list_any p (runs_of blocks) ≡ false → p (run_of found) ≡ false
+not_of_block : (p : ℕ × ℕ → Bool) (blocks : List (ℕ × LiveBlock)) (block : ℕ) (found : LiveBlock)
+    → named blocks block ≡ Some found → list_any p (runs_of blocks) ≡ false → p (run_of found) ≡ false
 not_of_block p blocks block found has h =
     let split = split_at blocks block found has in
     let all = rw (ap runs_of split.is ∙ runs_split split.before split.after block found) at h in
@@ -121,7 +123,8 @@ not_of_block p blocks block found has h =
     (sym (list_any-with p (runs_of split.before) (run_of found) (runs_of split.after)) ∙ all)).0
 
 -- A run among others that are apart meets none of them.
-middle_is_clear : (b : List (ℕ × ℕ)) (run : ℕ × ℕ) (a : List (ℕ × ℕ)) → are_apart (b ++ run ∷ a) ≡ true → meets_any run (b ++ a) ≡ false
+middle_is_clear : (b : List (ℕ × ℕ)) (run : ℕ × ℕ) (a : List (ℕ × ℕ)) → are_apart (b ++ run ∷ a) ≡ true
+    → meets_any run (b ++ a) ≡ false
 middle_is_clear [] run a h = not-true (meets_any run a) (and_parts (not (meets_any run a)) (are_apart a) h).0
 middle_is_clear (x ∷ b) run a h =
     let both = and_parts (not (meets_any x (b ++ run ∷ a))) (are_apart (b ++ run ∷ a)) h in
@@ -130,9 +133,9 @@ middle_is_clear (x ∷ b) run a h =
     or_from (meet run.0 run.1 x.0 x.1) (meets_any run (b ++ a)) (meet_turned run.0 run.1 x.0 x.1 ∙ none.0) (middle_is_clear b run a both.1)
 
 -- Two blocks of one loader.
-apart_in_loader : (loader : LoaderState) (block : ℕ) (found : LiveBlock) (other_block : ℕ) (other : LiveBlock) → named loader.blocks block ≡ Some found
-    → named loader.blocks other_block ≡ Some other → (block ≡ other_block → ⊥) → IsSoundLoader loader
-    → meet found.start (length found.contents) other.start (length other.contents) ≡ false
+apart_in_loader : (loader : LoaderState) (block : ℕ) (found : LiveBlock) (other_block : ℕ) (other : LiveBlock)
+    → named loader.blocks block ≡ Some found → named loader.blocks other_block ≡ Some other → (block ≡ other_block → ⊥)
+    → IsSoundLoader loader → meet found.start (length found.contents) other.start (length other.contents) ≡ false
 apart_in_loader loader block found other_block other has has_other differ sound =
     not_of_block (λ (run : ℕ × ℕ). meet found.start (length found.contents) run.0 run.1) (split.before ++ split.after) other_block other
     (named_past split.before block found split.after other_block other differ (rw split.is at has_other))
@@ -157,14 +160,16 @@ apart_in_loader loader block found other_block other has has_other differ sound 
         (sym (list_any-append (λ (run : ℕ × ℕ). meet (run_of found).0 (run_of found).1 run.0 run.1) (b ++ a) loader.arena.kept) ∙ ap (meets_any (run_of found)) (append_assoc b a loader.arena.kept) ∙ clear)).0
 
 -- Runs in the fronts of chunks that share no word share none.
-inside_both : (a s f r m b t g k n : ℕ) → meet a s b t ≡ false → lies_in (r, m) (a, f) ≡ true → f ≤ s → lies_in (k, n) (b, g) ≡ true → g ≤ t → meet r m k n ≡ false
+inside_both : (a s f r m b t g k n : ℕ) → meet a s b t ≡ false → lies_in (r, m) (a, f) ≡ true → f ≤ s
+    → lies_in (k, n) (b, g) ≡ true → g ≤ t → meet r m k n ≡ false
 inside_both a s f r m b t g k n h i j l o = grind (arith, nat_tests)
 
 abbrev pub some_front : List Chunk → ℕ × ℕ → Bool
 some_front chunks run = list_any (λ (chunk : Chunk). lies_in run (chunk.start, chunk.front)) chunks
 
-clear_of_others : (granule : ℕ) (c : Chunk) (others : List Chunk) (run other : ℕ × ℕ) → lies_in run (c.start, c.front) ≡ true → c.front ≤ size_of c.level
-    → AllByRecursion (HasFront granule) others → meets_any (words_of c) (map words_of others) ≡ false → some_front others other ≡ true
+clear_of_others : (granule : ℕ) (c : Chunk) (others : List Chunk) (run other : ℕ × ℕ)
+    → lies_in run (c.start, c.front) ≡ true → c.front ≤ size_of c.level → AllByRecursion (HasFront granule) others
+    → meets_any (words_of c) (map words_of others) ≡ false → some_front others other ≡ true
     → meet run.0 run.1 other.0 other.1 ≡ false
 clear_of_others granule c [] run other inside within fronts clear h = absurd (cc)
 clear_of_others granule c (d ∷ others) run other inside within fronts clear h =
@@ -175,9 +180,10 @@ clear_of_others granule c (d ∷ others) run other inside within fronts clear h 
     ]
 
 -- A run in the front of one of some chunks, and one in that of one of the others.
-pub apart_in_parts : (granule : ℕ) (b own a : List Chunk) (run other : ℕ × ℕ) → AllByRecursion (HasFront granule) own → AllByRecursion (HasFront granule) (b ++ a)
-    → are_apart (map words_of b ++ (map words_of own ++ map words_of a)) ≡ true → some_front own run ≡ true → some_front (b ++ a) other ≡ true
-    → meet run.0 run.1 other.0 other.1 ≡ false
+pub apart_in_parts : (granule : ℕ) (b own a : List Chunk) (run other : ℕ × ℕ) → AllByRecursion (HasFront granule) own
+    → AllByRecursion (HasFront granule) (b ++ a)
+    → are_apart (map words_of b ++ (map words_of own ++ map words_of a)) ≡ true → some_front own run ≡ true
+    → some_front (b ++ a) other ≡ true → meet run.0 run.1 other.0 other.1 ≡ false
 apart_in_parts granule b [] a run other fronts others apart h k = absurd (cc)
 apart_in_parts granule b (c ∷ own) a run other fronts others apart h k =
     elim (or_cases (lies_in run (c.start, c.front)) (some_front own run) h) [
@@ -190,9 +196,10 @@ apart_in_parts granule b (c ∷ own) a run other fronts others apart h k =
     ]
 
 -- Two blocks of two loaders.
-apart_in_machine : (m : Machine) (name block : ℕ) (loader : LoaderState) (found : LiveBlock) (other_name other_block : ℕ) (other_loader : LoaderState) (other : LiveBlock)
-    → IsGood m → HasBlock m name block loader found → HasBlock m other_name other_block other_loader other → (name ≡ other_name → ⊥)
-    → meet found.start (length found.contents) other.start (length other.contents) ≡ false
+apart_in_machine : (m : Machine) (name block : ℕ) (loader : LoaderState) (found : LiveBlock)
+    (other_name other_block : ℕ) (other_loader : LoaderState) (other : LiveBlock) → IsGood m
+    → HasBlock m name block loader found → HasBlock m other_name other_block other_loader other
+    → (name ≡ other_name → ⊥) → meet found.start (length found.contents) other.start (length other.contents) ≡ false
 apart_in_machine m name block loader found other_name other_block other_loader other good has has_other differ =
     apart_in_parts m.limits.granule b loader.arena.chunks a (run_of found) (run_of other)
     (recursion_from_All (HasFront m.limits.granule) loader.arena.chunks (fronts_of_loader m name loader has.loader_is good))
@@ -217,9 +224,11 @@ apart_in_machine m name block loader found other_name other_block other_loader o
     all : chunks_held m.loaders ≡ b ++ (loader.arena.chunks ++ a)
     all = ap chunks_held split.is ∙ chunks_split split.before split.after name loader
 
-pub blocks_are_apart : (m : Machine) (name block : ℕ) (loader : LoaderState) (found : LiveBlock) (other_name other_block : ℕ) (other_loader : LoaderState) (other : LiveBlock)
-    → IsGood m → HasBlock m name block loader found → HasBlock m other_name other_block other_loader other
-    → ((name ≡ other_name) × (block ≡ other_block) → ⊥) → meet found.start (length found.contents) other.start (length other.contents) ≡ false
+pub blocks_are_apart : (m : Machine) (name block : ℕ) (loader : LoaderState) (found : LiveBlock)
+    (other_name other_block : ℕ) (other_loader : LoaderState) (other : LiveBlock) → IsGood m
+    → HasBlock m name block loader found → HasBlock m other_name other_block other_loader other
+    → ((name ≡ other_name) × (block ≡ other_block) → ⊥)
+    → meet found.start (length found.contents) other.start (length other.contents) ≡ false
 blocks_are_apart m name block loader found other_name other_block other_loader other good has has_other differ = elim (cases_eq name other_name) [
   | inl same ↦
       let one : Some loader ≡ Some other_loader = sym has.loader_is ∙ ap (named m.loaders) same ∙ has_other.loader_is in

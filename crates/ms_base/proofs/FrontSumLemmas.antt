@@ -1,10 +1,11 @@
 -- Fronts are committed: each of their words lies in a committed granule, so they have no more words
 -- than these. And with no loader left there are none.
-use Rattle.std.proofs.Common.{◌≡◌, ◌≤◌, ◌<◌, ◌+◌, ◌-◌, ◌*◌, ◌/◌, ℕ, Bool, true, false, not, ◌&&◌, ◌||◌, List, [], ◌∷◌, length, map, refl, sym, ap, ◌∙◌, arith, inl, inr}
+use Rattle.std.proofs.Common.{◌≡◌, ◌≤◌, ◌<◌, ◌+◌, ◌*◌, ◌/◌, ℕ, true, false, not, List, [], ◌∷◌, length, map, refl, sym, ap, ◌∙◌, arith, inl, inr, zero, suc}
 use Rattle.std.specs.Prelude.{◌==◌}
 use Rattle.std.specs.List.{AllByRecursion, list_any}
 use Rattle.std.specs.Map.{values_of}
 use Rattle.std.proofs.lemmas.Nat.{div-add-mod'}
+use Rattle.std.proofs.Math.Nat.{add-mul}
 use Rattle.std.proofs.lemmas.Bool.{and_parts, and_from, or_parts, or_from, or_left, or_right, or_cases, not-true, not_from_false, eqb-true}
 use Rattle.std.proofs.lemmas.Bool.Decides.{nat_tests}
 use Rattle.std.proofs.lemmas.List.Sums.{sum_by-cons}
@@ -33,8 +34,9 @@ front_run chunk = (chunk.start, chunk.front)
 narrower_apart : (a m b n k l : ℕ) → meet a m b n ≡ false → k ≤ m → l ≤ n → meet a k b l ≡ false
 narrower_apart a m b n k l h i j = grind (arith, nat_tests)
 
-front_meets_none : (granule : ℕ) (chunk : Chunk) (held : List Chunk) → chunk.front ≤ size_of chunk.level → AllByRecursion (HasFront granule) held
-    → meets_any (words_of chunk) (map words_of held) ≡ false → meets_any (front_run chunk) (map front_run held) ≡ false
+front_meets_none : (granule : ℕ) (chunk : Chunk) (held : List Chunk) → chunk.front ≤ size_of chunk.level
+    → AllByRecursion (HasFront granule) held → meets_any (words_of chunk) (map words_of held) ≡ false
+    → meets_any (front_run chunk) (map front_run held) ≡ false
 front_meets_none granule chunk [] within fronts h = refl
 front_meets_none granule chunk (c ∷ held) within fronts h =
     let both = or_parts (meet chunk.start (size_of chunk.level) c.start (size_of c.level)) (meets_any (words_of chunk) (map words_of held)) h in
@@ -43,8 +45,8 @@ front_meets_none granule chunk (c ∷ held) within fronts h =
     (front_meets_none granule chunk held within fronts.1 both.1)
 
 -- Fronts of chunks that are apart are so too.
-pub fronts_apart : (granule : ℕ) (held : List Chunk) → AllByRecursion (HasFront granule) held → are_apart (map words_of held) ≡ true
-    → are_apart (map front_run held) ≡ true
+pub fronts_apart : (granule : ℕ) (held : List Chunk) → AllByRecursion (HasFront granule) held
+    → are_apart (map words_of held) ≡ true → are_apart (map front_run held) ≡ true
 fronts_apart granule [] fronts h = refl
 fronts_apart granule (c ∷ held) fronts h =
     let both = and_parts (not (meets_any (words_of c) (map words_of held))) (are_apart (map words_of held)) h in
@@ -95,23 +97,24 @@ words_of_fronts (c ∷ held) =
     sum_by-cons (λ (run : ℕ × ℕ). run.1) (front_run c) (map front_run held) ∙ ap (λ (n : ℕ). c.front + n) (words_of_fronts held)
     ∙ sym (sum_by-cons (λ (chunk : Chunk). chunk.front) c held)
 
-words_of_granules : (granule : ℕ) (numbers : List ℕ) → words_in (map (granule_run granule) numbers) ≡ length numbers * granule
+words_of_granules : (granule : ℕ) (numbers : List ℕ)
+    → words_in (map (granule_run granule) numbers) ≡ length numbers * granule
 words_of_granules granule [] = omega arith
 words_of_granules granule (k ∷ numbers) =
     omega (
       arith,
       sum_by-cons (λ (run : ℕ × ℕ). run.1) (granule_run granule k) (map (granule_run granule) numbers),
       words_of_granules granule numbers,
-      Rattle.std.proofs.Math.Nat.add-mul (length numbers) 1 granule,
+      add-mul (length numbers) 1 granule,
     )
 
 some_words : (granule : ℕ) → node_words / granule * granule ≡ node_words → 0 < granule
-some_words Rattle.std.proofs.Common.zero whole = absurd (omega (arith, whole))
-some_words (Rattle.std.proofs.Common.suc granule) whole = omega arith
+some_words zero whole = absurd (omega (arith, whole))
+some_words (suc granule) whole = omega arith
 
 -- Fronts have no more words than are committed.
-pub fronts_committed : (granule : ℕ) (slots : List ℕ) (held : List Chunk) → node_words / granule * granule ≡ node_words → AreHeld granule slots held
-    → fronts_of held ≤ length (committed_granules granule held slots) * granule
+pub fronts_committed : (granule : ℕ) (slots : List ℕ) (held : List Chunk) → node_words / granule * granule ≡ node_words
+    → AreHeld granule slots held → fronts_of held ≤ length (committed_granules granule held slots) * granule
 fronts_committed granule slots held whole good =
     omega (
       arith,
@@ -124,7 +127,8 @@ fronts_committed granule slots held whole good =
     )
 
 -- The sums of a good machine.
-pub sums_are_bounded : (m : Machine) → node_words / m.limits.granule * m.limits.granule ≡ node_words → IsGood m → IsBounded m
+pub sums_are_bounded : (m : Machine) → node_words / m.limits.granule * m.limits.granule ≡ node_words → IsGood m
+    → IsBounded m
 sums_are_bounded m whole good = record {
   blocks = all_blocks_within (values_of m.loaders) (recursion_from_All IsSoundLoader (values_of m.loaders) good.loaders);
   used = used_within (values_of m.loaders) (recursion_from_All IsSoundLoader (values_of m.loaders) good.loaders);

@@ -75,7 +75,8 @@ words_of_slots [] = refl
 words_of_slots (s ∷ slots) = omega (arith, sum_by-cons (λ (area : ℕ × ℕ). area.1) (area_of s) (map area_of slots), words_of_slots slots)
 
 -- Held chunks have no more words than the reserved slots.
-pub capacity_within : (granule : ℕ) (slots : List ℕ) (held : List Chunk) → AreHeld granule slots held → capacity_of held ≤ length slots * node_words
+pub capacity_within : (granule : ℕ) (slots : List ℕ) (held : List Chunk) → AreHeld granule slots held
+    → capacity_of held ≤ length slots * node_words
 capacity_within granule slots held good =
     omega (
       arith,
@@ -90,7 +91,8 @@ pub few_slots : (pool : PoolState) → IsSoundPool pool → length pool.slots �
 few_slots pool sound = length-le_from_below 64 pool.slots (sorted_from_strictly_increasing pool.slots sound.slots) sound.below
 
 -- Fronts are within their chunks, and tops within fronts.
-pub fronts_within : (granule : ℕ) (held : List Chunk) → AllByRecursion (HasFront granule) held → fronts_of held ≤ capacity_of held
+pub fronts_within : (granule : ℕ) (held : List Chunk) → AllByRecursion (HasFront granule) held
+    → fronts_of held ≤ capacity_of held
 fronts_within granule [] fronts = omega arith
 fronts_within granule (c ∷ held) fronts =
     omega (
@@ -188,7 +190,8 @@ all_blocks_within (l ∷ loaders) sound =
     )
 
 -- Committed granules have no more words than the slots.
-pub committed_within_slots : (pool : PoolState) → committed_count pool * pool.limits.granule ≤ length pool.slots * node_words
+pub committed_within_slots : (pool : PoolState)
+    → committed_count pool * pool.limits.granule ≤ length pool.slots * node_words
 committed_within_slots pool =
     omega (
       arith,
@@ -200,8 +203,8 @@ committed_within_slots pool =
     )
 
 -- A loader's part of a sum is at most the whole.
-pub part_of_sum : (amount : LoaderState → ℕ) (loaders : List (ℕ × LoaderState)) (name : ℕ) (loader : LoaderState) → named loaders name ≡ Some loader
-    → amount loader ≤ sum_by amount (values_of loaders)
+pub part_of_sum : (amount : LoaderState → ℕ) (loaders : List (ℕ × LoaderState)) (name : ℕ) (loader : LoaderState)
+    → named loaders name ≡ Some loader → amount loader ≤ sum_by amount (values_of loaders)
 part_of_sum amount loaders name loader found =
     let split = split_at loaders name loader found in
     omega (
@@ -233,5 +236,6 @@ pub committed_below : (m : Machine) → IsGood m → committed_words m ≤ 67108
 committed_below m good = omega (arith, committed_within_slots (pool_of m), few_slots (pool_of m) good.pool)
 
 -- A sum over the first loaders is at most the sum over all.
-pub first_loaders : (amount : LoaderState → ℕ) (loaders : List (ℕ × LoaderState)) (k : ℕ) → sum_by amount (values_of (take k loaders)) ≤ sum_by amount (values_of loaders)
+pub first_loaders : (amount : LoaderState → ℕ) (loaders : List (ℕ × LoaderState)) (k : ℕ)
+    → sum_by amount (values_of (take k loaders)) ≤ sum_by amount (values_of loaders)
 first_loaders amount loaders k = subst (λ (l : List LoaderState). sum_by amount l ≤ sum_by amount (values_of loaders)) (take-map (λ (e : ℕ × LoaderState). e.1) k loaders) (sum_by-take-le amount (values_of loaders) k)

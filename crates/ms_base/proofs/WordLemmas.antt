@@ -63,9 +63,9 @@ beside : (loaders after : List (ℕ × LoaderState)) (name block index value : �
 beside loaders after name block index value same h = record { loader = h.loader; found = h.found; has = same ∙ h.has; block_is = h.block_is; word = h.word }
 
 -- A change of the loader's other blocks.
-pub in_changed_loader : (loaders : List (ℕ × LoaderState)) (at name block index value : ℕ) (before after : LoaderState) → named loaders at ≡ Some before
-    → (at ≡ name → named after.blocks block ≡ named before.blocks block) → HoldsWord loaders name block index value
-    → HoldsWord (with_changed loaders at after) name block index value
+pub in_changed_loader : (loaders : List (ℕ × LoaderState)) (at name block index value : ℕ) (before after : LoaderState)
+    → named loaders at ≡ Some before → (at ≡ name → named after.blocks block ≡ named before.blocks block)
+    → HoldsWord loaders name block index value → HoldsWord (with_changed loaders at after) name block index value
 in_changed_loader loaders at name block index value before after found same h = elim (cases_eq at name) [
   | inl e ↦
       let one : Some before ≡ Some h.loader = sym found ∙ ap (named loaders) e ∙ h.has in
@@ -90,8 +90,9 @@ after_new old new at made name block index value m h =
     taken e = let both : Some h.loader ≡ None = sym h.has ∙ e ∙ m.unused in cc
 
 -- A new block has another name, or is another loader's.
-after_alloc : (old new : Machine) (at other words start name block index value : ℕ) → Allocates old at other words start new
-    → HoldsWord old.loaders name block index value → HoldsWord new.loaders name block index value
+after_alloc : (old new : Machine) (at other words start name block index value : ℕ)
+    → Allocates old at other words start new → HoldsWord old.loaders name block index value
+    → HoldsWord new.loaders name block index value
 after_alloc old new at other words start name block index value a h =
     rw a.after (in_changed_loader old.loaders at name block index value a.before
     (record a.before { arena = a.arena; blocks = with_new a.before.blocks other (zeroed start (block_words words)) }) a.found
@@ -105,8 +106,9 @@ after_alloc old new at other words start name block index value a h =
         cc
 
 -- A write to another word of the block.
-after_same_block : (loaders : List (ℕ × LoaderState)) (name block index value : ℕ) (loader : LoaderState) (found : LiveBlock) (i written : ℕ)
-    → named loaders name ≡ Some loader → named loader.blocks block ≡ Some found → (i ≡ index → ⊥) → HoldsWord loaders name block index value
+after_same_block : (loaders : List (ℕ × LoaderState)) (name block index value : ℕ) (loader : LoaderState)
+    (found : LiveBlock) (i written : ℕ) → named loaders name ≡ Some loader → named loader.blocks block ≡ Some found
+    → (i ≡ index → ⊥) → HoldsWord loaders name block index value
     → HoldsWord (with_changed loaders name (record loader { blocks = with_changed loader.blocks block (record found { contents = slice_set found.contents i written }) })) name block index value
 after_same_block loaders name block index value loader found i written has block_is differ h =
     let one : Some loader ≡ Some h.loader = sym has ∙ h.has in
@@ -122,7 +124,8 @@ after_same_block loaders name block index value loader found i written has block
     }
 
 after_write : (old new : Machine) (at other i written name block index value : ℕ) → Writes old at other i written new
-    → ((at == name) && (other == block) && (i == index)) ≡ false → HoldsWord old.loaders name block index value → HoldsWord new.loaders name block index value
+    → ((at == name) && (other == block) && (i == index)) ≡ false → HoldsWord old.loaders name block index value
+    → HoldsWord new.loaders name block index value
 after_write old new at other i written name block index value w leaves h = rw w.after (elim (cases_eq other block) [
   | inl blocks ↦ elim (cases_eq at name) [
     | inl e ↦ subst (λ (n : ℕ). HoldsWord (with_changed old.loaders at after) n block index value) e
@@ -140,8 +143,9 @@ after_write old new at other i written name block index value w leaves h = rw w.
     another e blocks words = let t = all_same name block index in let f = rw (e, blocks, words) at leaves in cc
 
 -- A block freed that is another.
-after_free : (old new : Machine) (at other name block index value : ℕ) → Frees old at other new → ((at == name) && (other == block)) ≡ false
-    → HoldsWord old.loaders name block index value → HoldsWord new.loaders name block index value
+after_free : (old new : Machine) (at other name block index value : ℕ) → Frees old at other new
+    → ((at == name) && (other == block)) ≡ false → HoldsWord old.loaders name block index value
+    → HoldsWord new.loaders name block index value
 after_free old new at other name block index value f leaves h =
     rw f.after (in_changed_loader old.loaders at name block index value f.loader
     (record f.loader { arena = record f.loader.arena { kept = f.kept }; blocks = without f.loader.blocks other }) f.has.loader_is
@@ -160,8 +164,9 @@ after_unload old new at name block index value u leaves h =
     another e = let t = same_one name in let f = rw e at leaves in cc
 
 -- A request refused.
-after_refusal : (old new : Machine) (step : Step) (refusal : Refusal) (name block index value : ℕ) → Leaves old step refusal new
-    → HoldsWord old.loaders name block index value → HoldsWord new.loaders name block index value
+after_refusal : (old new : Machine) (step : Step) (refusal : Refusal) (name block index value : ℕ)
+    → Leaves old step refusal new → HoldsWord old.loaders name block index value
+    → HoldsWord new.loaders name block index value
 after_refusal old new (New at kind) OutOfMemory name block index value l h = elim l [
   | inl same ↦ rw same h
   | inr counted ↦ rw counted h
@@ -169,8 +174,9 @@ after_refusal old new (New at kind) OutOfMemory name block index value l h = eli
 after_refusal old new _ _ name block index value l h = rw l h
 
 -- Any request that leaves the word.
-after_step : (old new : Machine) (step : Step) (reply : Reply) (name block index value : ℕ) → Transition old step reply new
-    → changes_word name block index step reply ≡ false → HoldsWord old.loaders name block index value → HoldsWord new.loaders name block index value
+after_step : (old new : Machine) (step : Step) (reply : Reply) (name block index value : ℕ)
+    → Transition old step reply new → changes_word name block index step reply ≡ false
+    → HoldsWord old.loaders name block index value → HoldsWord new.loaders name block index value
 after_step old new step (Refused refusal) name block index value t leaves h = after_refusal old new step refusal name block index value t.1 h
 after_step old new (New at kind) Done name block index value t leaves h = after_new old new at (empty_loader kind) name block index value t.0 h
 after_step old new (Alloc at other words) (At start) name block index value t leaves h = after_alloc old new at other words start name block index value t.0 h
@@ -182,7 +188,8 @@ after_step old new Purge Done name block index value t leaves h = rw t.0 h
 after_step old new _ _ name block index value t leaves h = absurd t.0
 
 -- A read answers the word.
-after_read : (old new : Machine) (name block index value read : ℕ) → Reads old name block index read new → HoldsWord old.loaders name block index value → read ≡ value
+after_read : (old new : Machine) (name block index value read : ℕ) → Reads old name block index read new
+    → HoldsWord old.loaders name block index value → read ≡ value
 after_read old new name block index value read r h =
     let one : Some r.loader ≡ Some h.loader = sym r.has.loader_is ∙ h.has in
     let its : r.loader ≡ h.loader = cc in
@@ -192,8 +199,8 @@ after_read old new name block index value read r h =
 
 -- So does a read after requests that leave it.
 after_run : (old new : Machine) (steps : List Step) (replies : List Reply) (name block index value read : ℕ)
-    → Run old (steps ++ Read name block index ∷ []) (replies ++ Value read ∷ []) new → leave_word name block index steps replies ≡ true
-    → HoldsWord old.loaders name block index value → read ≡ value
+    → Run old (steps ++ Read name block index ∷ []) (replies ++ Value read ∷ []) new
+    → leave_word name block index steps replies ≡ true → HoldsWord old.loaders name block index value → read ≡ value
 after_run old new [] [] name block index value read run leaving h = after_read old run.0 name block index value read run.1.0 h
 after_run old new [] (r ∷ []) name block index value read run leaving h = absurd run.2
 after_run old new [] (r ∷ q ∷ replies) name block index value read run leaving h = absurd run.2
@@ -205,7 +212,8 @@ after_run old new (s ∷ steps) (r ∷ replies) name block index value read run 
     (after_step old run.0 s r name block index value run.1 (not-true (changes_word name block index s r) both.0) h)
 
 -- A written word is read as what was written.
-pub read_after_write : (old : Machine) (name block index written value : ℕ) → ReadsAfter old name block index (Write name block index written) Done value → value ≡ written
+pub read_after_write : (old : Machine) (name block index written value : ℕ)
+    → ReadsAfter old name block index (Write name block index written) Done value → value ≡ written
 read_after_write old name block index written value r =
     after_run r.run.0 r.new r.steps r.replies name block index written value r.run.2 r.leaving (rw w.after (record {
       loader = after;
@@ -222,7 +230,8 @@ read_after_write old name block index written value r =
     after = record w.loader { blocks = with_changed w.loader.blocks block (record w.found { contents = slice_set w.found.contents index written }) }
 
 -- A word of a new block is read as 0.
-pub read_after_alloc : (old : Machine) (name block index words start value : ℕ) → ReadsAfter old name block index (Alloc name block words) (At start) value → value ≡ 0
+pub read_after_alloc : (old : Machine) (name block index words start value : ℕ)
+    → ReadsAfter old name block index (Alloc name block words) (At start) value → value ≡ 0
 read_after_alloc old name block index words start value r =
     after_run r.run.0 r.new r.steps r.replies name block index 0 value r.run.2 r.leaving (rw a.after (record {
       loader = after;
