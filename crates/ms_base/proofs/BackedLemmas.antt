@@ -123,7 +123,7 @@ not_of_block p blocks block found has h =
     (sym (list_any-with p (runs_of split.before) (run_of found) (runs_of split.after)) ∙ all)).0
 
 -- A run among others that are apart meets none of them.
-middle_is_clear : (b : List (ℕ × ℕ)) (run : ℕ × ℕ) (a : List (ℕ × ℕ)) → are_apart (b ++ run ∷ a) ≡ true
+pub middle_is_clear : (b : List (ℕ × ℕ)) (run : ℕ × ℕ) (a : List (ℕ × ℕ)) → are_apart (b ++ run ∷ a) ≡ true
     → meets_any run (b ++ a) ≡ false
 middle_is_clear [] run a h = not-true (meets_any run a) (and_parts (not (meets_any run a)) (are_apart a) h).0
 middle_is_clear (x ∷ b) run a h =

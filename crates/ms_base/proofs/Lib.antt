@@ -23,5 +23,6 @@ pub mod SumLemmas
 pub mod FrontSumLemmas
 pub mod BackedLemmas
 pub mod AllBlocksLemmas
+pub mod KeptLemmas
 pub mod LookupLemmas
 pub mod WordLemmas
