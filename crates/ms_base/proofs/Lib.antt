@@ -24,5 +24,6 @@ pub mod FrontSumLemmas
 pub mod BackedLemmas
 pub mod AllBlocksLemmas
 pub mod KeptLemmas
+pub mod FreeBlockLemmas
 pub mod LookupLemmas
 pub mod WordLemmas
