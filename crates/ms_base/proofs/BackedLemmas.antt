@@ -167,7 +167,7 @@ inside_both a s f r m b t g k n h i j l o = grind (arith, nat_tests)
 abbrev pub some_front : List Chunk → ℕ × ℕ → Bool
 some_front chunks run = list_any (λ (chunk : Chunk). lies_in run (chunk.start, chunk.front)) chunks
 
-clear_of_others : (granule : ℕ) (c : Chunk) (others : List Chunk) (run other : ℕ × ℕ)
+pub clear_of_others : (granule : ℕ) (c : Chunk) (others : List Chunk) (run other : ℕ × ℕ)
     → lies_in run (c.start, c.front) ≡ true → c.front ≤ size_of c.level → AllByRecursion (HasFront granule) others
     → meets_any (words_of c) (map words_of others) ≡ false → some_front others other ≡ true
     → meet run.0 run.1 other.0 other.1 ≡ false

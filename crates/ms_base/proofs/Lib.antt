@@ -25,5 +25,6 @@ pub mod BackedLemmas
 pub mod AllBlocksLemmas
 pub mod KeptLemmas
 pub mod FreeBlockLemmas
+pub mod RaisedLemmas
 pub mod LookupLemmas
 pub mod WordLemmas
