@@ -56,6 +56,20 @@ list_any-middle_of p b mid a h =
     (or_parts (list_any p mid) (list_any p a) (sym (list_any-append p mid a)
     ∙ (or_parts (list_any p b) (list_any p (mid ++ a)) (sym (list_any-append p b (mid ++ a)) ∙ h)).1)).0
 
+later-apart : (a b : List (ℕ × ℕ)) → are_apart (a ++ b) ≡ true → are_apart b ≡ true
+later-apart [] b h = h
+later-apart (x ∷ a) b h = later-apart a b (and_parts (not (meets_any x (a ++ b))) (are_apart (a ++ b)) h).1
+
+earlier-apart : (a b : List (ℕ × ℕ)) → are_apart (a ++ b) ≡ true → are_apart a ≡ true
+earlier-apart [] b h = refl
+earlier-apart (x ∷ a) b h =
+    let both = and_parts (not (meets_any x (a ++ b))) (are_apart (a ++ b)) h in
+    let clear = or_parts (meets_any x a) (meets_any x b) (sym (list_any-append (λ (other : ℕ × ℕ). meet x.0 x.1 other.0 other.1) a b) ∙ not-true (meets_any x (a ++ b)) both.0) in
+    and_from (not (meets_any x a)) (are_apart a) (not_from_false (meets_any x a) clear.0) (earlier-apart a b both.1)
+
+pub apart-middle_of : (b mid a : List (ℕ × ℕ)) → are_apart (b ++ (mid ++ a)) ≡ true → are_apart mid ≡ true
+apart-middle_of b mid a h = earlier-apart mid a (later-apart b (mid ++ a) h)
+
 -- An element comes in between.
 each_with : {X : Type 0} (P : X → Type 0) (b : List X) (x : X) (a : List X) → P x → AllByRecursion P (b ++ a)
     → AllByRecursion P (b ++ x ∷ a)

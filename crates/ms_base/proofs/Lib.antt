@@ -26,5 +26,6 @@ pub mod AllBlocksLemmas
 pub mod KeptLemmas
 pub mod FreeBlockLemmas
 pub mod RaisedLemmas
+pub mod PlacedLemmas
 pub mod LookupLemmas
 pub mod WordLemmas
