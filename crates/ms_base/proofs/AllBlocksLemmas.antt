@@ -15,6 +15,7 @@ use Rattle.ms_base.specs.State.{LoaderState, Machine, pool_of}
 use Rattle.ms_base.specs.Live.{runs_of}
 use Rattle.ms_base.specs.Good.{is_in_use, IsSoundLoader, IsGood}
 use Rattle.ms_base.specs.BlockLaws.{all_blocks}
+use Rattle.ms_base.proofs.ApartLemmas.{later-apart}
 use Rattle.ms_base.proofs.BackedLemmas.{in_use_in_front, apart_in_parts, some_front}
 
 -- A loader's live and free blocks, and those of several.
@@ -94,10 +95,6 @@ parts_of : (P : Chunk → Type 0) (xs ys : List Chunk) → AllByRecursion P (xs 
 parts_of P [] ys all = (tt, all)
 parts_of P (x ∷ xs) ys all = let rest = parts_of P xs ys all.1 in ((all.0, rest.0), rest.1)
 
-later_apart : (xs ys : List (ℕ × ℕ)) → are_apart (xs ++ ys) ≡ true → are_apart ys ≡ true
-later_apart [] ys h = h
-later_apart (x ∷ xs) ys h = later_apart xs ys (and_parts (not (meets_any x (xs ++ ys))) (are_apart (xs ++ ys)) h).1
-
 apart_by_loader : (granule : ℕ) (loaders : List LoaderState) → AllByRecursion IsSoundLoader loaders
     → AllByRecursion (HasFront granule) (chunks_of loaders) → are_apart (map words_of (chunks_of loaders)) ≡ true
     → are_apart (flat_map blocks_of loaders) ≡ true
@@ -107,7 +104,7 @@ apart_by_loader granule (l ∷ loaders) sound fronts apart =
     let chunks = rw (map-append words_of l.arena.chunks (chunks_of loaders)) at apart in
     apart_together granule l.arena.chunks (chunks_of loaders) (blocks_of l) (flat_map blocks_of loaders) both.0 both.1 chunks
     (in_fronts l (blocks_of l) sound.0 sound.0.arena.inside) (all_in_fronts loaders sound.1) sound.0.arena.apart
-    (apart_by_loader granule loaders sound.1 both.1 (later_apart (map words_of l.arena.chunks) (map words_of (chunks_of loaders)) chunks))
+    (apart_by_loader granule loaders sound.1 both.1 (later-apart (map words_of l.arena.chunks) (map words_of (chunks_of loaders)) chunks))
 
 pub blocks_of_all_apart : (m : Machine) → IsGood m → are_apart (all_blocks m) ≡ true
 blocks_of_all_apart m good =

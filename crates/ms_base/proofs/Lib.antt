@@ -27,5 +27,6 @@ pub mod KeptLemmas
 pub mod FreeBlockLemmas
 pub mod RaisedLemmas
 pub mod PlacedLemmas
+pub mod GrownLemmas
 pub mod LookupLemmas
 pub mod WordLemmas

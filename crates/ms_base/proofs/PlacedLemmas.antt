@@ -1,26 +1,21 @@
 -- The machine stays good where a loader allocates: in a free block, at the current chunk's top, or
 -- in a chunk taken after the current one retired; and where the words of a freed block are kept.
-use Rattle.std.proofs.Common.{◌≡◌, ◌≤◌, ◌<◌, ◌+◌, ◌-◌, ℕ, Bool, true, false, not, ◌&&◌, Option, Some, None, List, [], ◌∷◌, ◌++◌, length, map, replicate, refl, sym, ap, ◌∙◌, subst, arith, length-append}
-use Rattle.std.specs.Prelude.{nat_le}
-use Rattle.std.specs.Ordering.{nat_cmp}
-use Rattle.std.specs.List.{All, list_any, list_all, filter, find}
-use Rattle.std.proofs.lemmas.Bool.{and_parts}
+use Rattle.std.proofs.Common.{◌≡◌, ◌≤◌, ◌+◌, ◌-◌, ℕ, true, Option, Some, None, List, [], ◌∷◌, ◌++◌, length, map, refl, sym, ap, ◌∙◌, subst, arith, length-append}
 use Rattle.std.proofs.lemmas.List.{map-append, length-replicate}
 use Rattle.ms_base.specs.declared.span.Chunk.{Chunk}
 use Rattle.ms_base.specs.declared.words.LiveBlock.{LiveBlock}
-use Rattle.ms_base.specs.Interval.{meets_any, are_apart}
-use Rattle.ms_base.specs.Front.{HasFront}
+use Rattle.ms_base.specs.Interval.{are_apart}
 use Rattle.ms_base.specs.Held.{words_of}
 use Rattle.ms_base.specs.Committed.{committed_granules}
 use Rattle.ms_base.specs.Names.{named, with_new, with_changed, without}
 use Rattle.ms_base.specs.PoolSteps.{slots_with}
 use Rattle.ms_base.specs.State.{ArenaState, LoaderState, Machine, chunks_held}
-use Rattle.ms_base.specs.Live.{run_of, runs_of}
+use Rattle.ms_base.specs.Live.{runs_of}
 use Rattle.ms_base.specs.Good.{IsSound, IsSoundLoader, IsGood}
 use Rattle.ms_base.specs.Place.{current, current_top, tops_with, with_used, with_top, with_chunk, with_taken, retired, retired_chunk}
 use Rattle.ms_base.specs.Transition.{HasLoader, HasBlock, with_loader, zeroed}
 use Rattle.ms_base.proofs.NameLemmas.{rises_with_new}
-use Rattle.ms_base.proofs.EntryLemmas.{Split, split_at, Gap, gap_at}
+use Rattle.ms_base.proofs.EntryLemmas.{split_at, Gap, gap_at}
 use Rattle.ms_base.proofs.ApartLemmas.{apart-middle_of}
 use Rattle.ms_base.proofs.GoodLemmas.{chunks_split, loader_is_sound, good_with_loader}
 use Rattle.ms_base.proofs.BlockLemmas.{runs_split, runs_joined, good_with_kept}
@@ -45,9 +40,10 @@ apart_of_loader m name loader found good =
 abbrev pub with_block_at : LoaderState → ArenaState → ℕ → ℕ → ℕ → LoaderState
 with_block_at before arena block start n = record before { arena = arena; blocks = with_new before.blocks block (zeroed start n) }
 
-pub sound_with_block : (before : LoaderState) (arena : ArenaState) (block start n : ℕ) → named before.blocks block ≡ None
-    → ((b a : List (ℕ × ℕ)) → IsSound before.arena (b ++ a) → IsSound arena (b ++ (start, n) ∷ a)) → IsSoundLoader before
-    → IsSoundLoader (with_block_at before arena block start n)
+pub sound_with_block : (before : LoaderState) (arena : ArenaState) (block start n : ℕ)
+    → named before.blocks block ≡ None
+    → ((b a : List (ℕ × ℕ)) → IsSound before.arena (b ++ a) → IsSound arena (b ++ (start, n) ∷ a))
+    → IsSoundLoader before → IsSoundLoader (with_block_at before arena block start n)
 sound_with_block before arena block start n unused placed sound = record {
   arena = rw new (placed (runs_of gap.before) (runs_of gap.after) (rw old at sound.arena));
   names = rises_with_new before.blocks block (zeroed start n) sound.names;
@@ -64,8 +60,9 @@ sound_with_block before arena block start n unused placed sound = record {
         ∙ ap (λ (k : ℕ). runs_of gap.before ++ (start, k) ∷ runs_of gap.after) (length-replicate n 0)
 
 -- A block in a free block.
-pub good_with_block_in_free : (m : Machine) (name : ℕ) (before : LoaderState) (run : ℕ × ℕ) (block n : ℕ) → HasLoader m name before
-    → named before.blocks block ≡ None → named before.arena.kept run.0 ≡ Some run.1 → 2 ≤ n → n ≤ run.1 → IsGood m
+pub good_with_block_in_free : (m : Machine) (name : ℕ) (before : LoaderState) (run : ℕ × ℕ) (block n : ℕ)
+    → HasLoader m name before → named before.blocks block ≡ None → named before.arena.kept run.0 ≡ Some run.1 → 2 ≤ n
+    → n ≤ run.1 → IsGood m
     → IsGood (with_loader m name (with_block_at before (with_used before.arena run n) block run.0 n))
 good_with_block_in_free m name before run block n found unused has long within good =
     good_with_loader m name before _ found refl
@@ -73,8 +70,9 @@ good_with_block_in_free m name before run block n found unused has long within g
     (loader_is_sound m name before found good)) good
 
 -- A block at the top.
-pub good_with_block_at_top : (m : Machine) (name : ℕ) (before : LoaderState) (chunk : Chunk) (block n : ℕ) → HasLoader m name before
-    → named before.blocks block ≡ None → current before.arena ≡ Some chunk → current_top before.arena + n ≤ chunk.front → 2 ≤ n → IsGood m
+pub good_with_block_at_top : (m : Machine) (name : ℕ) (before : LoaderState) (chunk : Chunk) (block n : ℕ)
+    → HasLoader m name before → named before.blocks block ≡ None → current before.arena ≡ Some chunk
+    → current_top before.arena + n ≤ chunk.front → 2 ≤ n → IsGood m
     → IsGood (with_loader m name (with_block_at before (with_top before.arena (current_top before.arena + n)) block (chunk.start + current_top before.arena) n))
 good_with_block_at_top m name before chunk block n found unused has within long good =
     good_with_loader m name before _ found refl
@@ -87,15 +85,16 @@ retired_chunks : (arena : ArenaState) (o : Option Chunk) → (retired_chunk aren
 retired_chunks arena None = refl
 retired_chunks arena (Some chunk) = refl
 
-taken_is_used : (arena : ArenaState) (chunk : Chunk) (n : ℕ) → with_taken arena chunk n ≡ with_chunk_used (retired arena) chunk n
+taken_is_used : (arena : ArenaState) (chunk : Chunk) (n : ℕ)
+    → with_taken arena chunk n ≡ with_chunk_used (retired arena) chunk n
 taken_is_used arena chunk n =
     ap (λ (place : ℕ). record (with_chunk (retired arena) chunk) { tops = tops_with (retired arena).tops place n }) last
   where
     last : length ((retired arena).chunks ++ chunk ∷ []) - 1 ≡ length (retired arena).chunks
     last = omega (arith, length-append (retired arena).chunks (chunk ∷ []))
 
-pub good_with_block_taken : (m : Machine) (name : ℕ) (before : LoaderState) (chunk : Chunk) (block n : ℕ) → HasLoader m name before
-    → named before.blocks block ≡ None → 2 ≤ n → n ≤ chunk.front → IsAddable m chunk
+pub good_with_block_taken : (m : Machine) (name : ℕ) (before : LoaderState) (chunk : Chunk) (block n : ℕ)
+    → HasLoader m name before → named before.blocks block ≡ None → 2 ≤ n → n ≤ chunk.front → IsAddable m chunk
     → length (committed_granules m.limits.granule (chunks_held (with_changed m.loaders name (with_block_at before (with_taken before.arena chunk n) block chunk.start n))) (slots_with m.slots chunk.start)) ≤ m.limits.granules
     → IsGood m
     → IsGood (record m { loaders = with_changed m.loaders name (with_block_at before (with_taken before.arena chunk n) block chunk.start n); slots = slots_with m.slots chunk.start })

@@ -1,5 +1,5 @@
 -- An arena stays sound where a top rises: for a block placed there, or since its chunk retires.
-use Rattle.std.proofs.Common.{◌≡◌, ◌≤◌, ◌<◌, ◌+◌, ◌-◌, ℕ, zero, suc, Bool, true, false, cond, not, ◌&&◌, ◌||◌, Option, Some, None, List, [], ◌∷◌, ◌++◌, length, map, refl, sym, ap, ◌∙◌, subst, arith, inl, inr}
+use Rattle.std.proofs.Common.{◌≡◌, ◌≤◌, ◌<◌, ◌+◌, ◌-◌, ℕ, zero, suc, Bool, true, false, not, Some, None, List, [], ◌∷◌, ◌++◌, length, map, refl, ◌∙◌, subst, arith, inl, inr}
 use Rattle.std.specs.Prelude.{nat_le, slice_get, slice_index}
 use Rattle.std.specs.List.{All, AllByRecursion, list_any, list_all, zip}
 use Rattle.std.proofs.lemmas.Bool.{and_parts, and_from, or_from, or_left, or_right, or_cases, not-true, le-leb, leb-true}
@@ -11,7 +11,7 @@ use Rattle.ms_base.specs.Front.{HasFront}
 use Rattle.ms_base.specs.Held.{words_of}
 use Rattle.ms_base.specs.State.{ArenaState}
 use Rattle.ms_base.specs.Good.{topped, is_in_use, IsSound}
-use Rattle.ms_base.specs.Place.{tops_with, last_place, current, current_top, with_top, with_rest, retired_chunk, retired}
+use Rattle.ms_base.specs.Place.{tops_with, last_place, current, current_top, with_top, retired_chunk, retired}
 use Rattle.ms_base.proofs.ApartLemmas.{meet_turned}
 use Rattle.ms_base.proofs.BackedLemmas.{some_front, in_use_in_front, clear_of_others}
 use Rattle.ms_base.proofs.KeptLemmas.{Fits, sound_with_live}
@@ -29,7 +29,8 @@ further r m a t f h k = grind (arith, nat_tests)
 
 -- What is in use is so still under a higher top.
 any_raised : (run : ℕ × ℕ) (chunks : List Chunk) (tops : List ℕ) (place top : ℕ) → slice_index tops place ≤ top
-    → list_any (holds run) (zip chunks tops) ≡ true → list_any (holds run) (zip chunks (tops_with tops place top)) ≡ true
+    → list_any (holds run) (zip chunks tops) ≡ true
+    → list_any (holds run) (zip chunks (tops_with tops place top)) ≡ true
 any_raised run [] tops place top higher h = absurd (cc)
 any_raised run (c ∷ chunks) [] place top higher h = absurd (cc)
 any_raised run (c ∷ chunks) (t ∷ tops) zero top higher h =
@@ -46,8 +47,9 @@ any_raised run (c ∷ chunks) (t ∷ tops) (suc place) top higher h =
     ]
 
 -- What lies below the new top is in use.
-any_at_place : (run : ℕ × ℕ) (chunks : List Chunk) (tops : List ℕ) (place top : ℕ) (chunk : Chunk) → slice_get chunks place ≡ Some chunk
-    → lies_in run (chunk.start, top) ≡ true → list_any (holds run) (zip chunks (tops_with tops place top)) ≡ true
+any_at_place : (run : ℕ × ℕ) (chunks : List Chunk) (tops : List ℕ) (place top : ℕ) (chunk : Chunk)
+    → slice_get chunks place ≡ Some chunk → lies_in run (chunk.start, top) ≡ true
+    → list_any (holds run) (zip chunks (tops_with tops place top)) ≡ true
 any_at_place run [] tops place top chunk found h = absurd (cc)
 any_at_place run (c ∷ chunks) [] zero top chunk found h =
     let its : c ≡ chunk = cc in or_left (holds run (c, top)) (list_any (holds run) (zip {X = ℕ} chunks [])) (rw its h)
@@ -63,8 +65,9 @@ none_topped : (chunks : List Chunk) → list_all is_topped_within (zip {X = ℕ}
 none_topped [] = refl
 none_topped (c ∷ chunks) = refl
 
-all_raised : (chunks : List Chunk) (tops : List ℕ) (place top : ℕ) (chunk : Chunk) → slice_get chunks place ≡ Some chunk → top ≤ chunk.front
-    → list_all is_topped_within (zip chunks tops) ≡ true → list_all is_topped_within (zip chunks (tops_with tops place top)) ≡ true
+all_raised : (chunks : List Chunk) (tops : List ℕ) (place top : ℕ) (chunk : Chunk) → slice_get chunks place ≡ Some chunk
+    → top ≤ chunk.front → list_all is_topped_within (zip chunks tops) ≡ true
+    → list_all is_topped_within (zip chunks (tops_with tops place top)) ≡ true
 all_raised [] tops place top chunk found within h = absurd (cc)
 all_raised (c ∷ chunks) [] zero top chunk found within h =
     let its : c ≡ chunk = cc in
@@ -102,7 +105,8 @@ top_within (c ∷ chunks) (t ∷ tops) zero chunk found h =
 top_within (c ∷ chunks) (t ∷ tops) (suc place) chunk found h =
     top_within chunks tops place chunk found (and_parts (nat_le t c.front) (list_all is_topped_within (zip chunks tops)) h).1
 
-all_still_used : (arena : ArenaState) (place top : ℕ) (runs : List (ℕ × ℕ)) → slice_index arena.tops place ≤ top → list_all (is_in_use arena) runs ≡ true
+all_still_used : (arena : ArenaState) (place top : ℕ) (runs : List (ℕ × ℕ)) → slice_index arena.tops place ≤ top
+    → list_all (is_in_use arena) runs ≡ true
     → list_all (is_in_use (record arena { tops = tops_with arena.tops place top })) runs ≡ true
 all_still_used arena place top [] higher h = refl
 all_still_used arena place top (run ∷ runs) higher h =
@@ -112,8 +116,9 @@ all_still_used arena place top (run ∷ runs) higher h =
     (all_still_used arena place top runs higher both.1)
 
 -- A top rises within its chunk's front.
-pub raised_is_sound : (arena : ArenaState) (live : List (ℕ × ℕ)) (place top : ℕ) (chunk : Chunk) → slice_get arena.chunks place ≡ Some chunk
-    → slice_index arena.tops place ≤ top → top ≤ chunk.front → IsSound arena live → IsSound (record arena { tops = tops_with arena.tops place top }) live
+pub raised_is_sound : (arena : ArenaState) (live : List (ℕ × ℕ)) (place top : ℕ) (chunk : Chunk)
+    → slice_get arena.chunks place ≡ Some chunk → slice_index arena.tops place ≤ top → top ≤ chunk.front
+    → IsSound arena live → IsSound (record arena { tops = tops_with arena.tops place top }) live
 raised_is_sound arena live place top chunk found higher within sound = record {
   apart = sound.apart;
   long = sound.long;
@@ -138,8 +143,9 @@ above a t n r m h = grind (arith, nat_tests)
 above_in_front : (a t n f : ℕ) → t + n ≤ f → lies_in (a + t, n) (a, f) ≡ true
 above_in_front a t n f h = grind (arith, nat_tests)
 
-above_is_clear : (granule : ℕ) (chunks : List Chunk) (tops : List ℕ) (place n : ℕ) (chunk : Chunk) (run : ℕ × ℕ) → AllByRecursion (HasFront granule) chunks
-    → are_apart (map words_of chunks) ≡ true → slice_get chunks place ≡ Some chunk → slice_index tops place + n ≤ chunk.front
+above_is_clear : (granule : ℕ) (chunks : List Chunk) (tops : List ℕ) (place n : ℕ) (chunk : Chunk) (run : ℕ × ℕ)
+    → AllByRecursion (HasFront granule) chunks → are_apart (map words_of chunks) ≡ true
+    → slice_get chunks place ≡ Some chunk → slice_index tops place + n ≤ chunk.front
     → list_all is_topped_within (zip chunks tops) ≡ true → list_any (holds run) (zip chunks tops) ≡ true
     → meet (chunk.start + slice_index tops place) n run.0 run.1 ≡ false
 above_is_clear granule [] tops place n chunk run fronts apart found within tops_in h = absurd (cc)
@@ -166,8 +172,9 @@ above_is_clear granule (c ∷ chunks) (t ∷ tops) (suc place) n chunk run front
       | inr later ↦ above_is_clear granule chunks tops place n chunk run fronts.1 both.1 found within low.1 later
     ]
 
-all_clear_above : (granule : ℕ) (arena : ArenaState) (place n : ℕ) (chunk : Chunk) (runs : List (ℕ × ℕ)) → AllByRecursion (HasFront granule) arena.chunks
-    → are_apart (map words_of arena.chunks) ≡ true → slice_get arena.chunks place ≡ Some chunk → slice_index arena.tops place + n ≤ chunk.front
+all_clear_above : (granule : ℕ) (arena : ArenaState) (place n : ℕ) (chunk : Chunk) (runs : List (ℕ × ℕ))
+    → AllByRecursion (HasFront granule) arena.chunks → are_apart (map words_of arena.chunks) ≡ true
+    → slice_get arena.chunks place ≡ Some chunk → slice_index arena.tops place + n ≤ chunk.front
     → list_all is_topped_within (topped arena) ≡ true → list_all (is_in_use arena) runs ≡ true
     → meets_any (chunk.start + slice_index arena.tops place, n) runs ≡ false
 all_clear_above granule arena place n chunk [] fronts apart found within tops_in h = refl
@@ -178,9 +185,11 @@ all_clear_above granule arena place n chunk (run ∷ runs) fronts apart found wi
     (all_clear_above granule arena place n chunk runs fronts apart found within tops_in both.1)
 
 -- So they fit once the top has risen over them.
-pub above_fits : (granule : ℕ) (arena : ArenaState) (live : List (ℕ × ℕ)) (place n top : ℕ) (chunk : Chunk) → All (HasFront granule) arena.chunks
-    → are_apart (map words_of arena.chunks) ≡ true → slice_get arena.chunks place ≡ Some chunk → top ≡ slice_index arena.tops place + n → top ≤ chunk.front → 2 ≤ n
-    → IsSound arena live → Fits (record arena { tops = tops_with arena.tops place top }) live (chunk.start + slice_index arena.tops place, n)
+pub above_fits : (granule : ℕ) (arena : ArenaState) (live : List (ℕ × ℕ)) (place n top : ℕ) (chunk : Chunk)
+    → All (HasFront granule) arena.chunks → are_apart (map words_of arena.chunks) ≡ true
+    → slice_get arena.chunks place ≡ Some chunk → top ≡ slice_index arena.tops place + n → top ≤ chunk.front → 2 ≤ n
+    → IsSound arena live
+    → Fits (record arena { tops = tops_with arena.tops place top }) live (chunk.start + slice_index arena.tops place, n)
 above_fits granule arena live place n top chunk fronts apart found is within long sound = record {
   clear = all_clear_above granule arena place n chunk (live ++ arena.kept) (recursion_from_All (HasFront granule) arena.chunks fronts) apart found (omega (arith, is, within)) sound.tops sound.inside;
   long = long;
@@ -189,9 +198,10 @@ above_fits granule arena live place n top chunk fronts apart found is within lon
 }
 
 -- A block placed at the current chunk's top.
-pub placed_at_top_is_sound : (granule : ℕ) (arena : ArenaState) (b a : List (ℕ × ℕ)) (n : ℕ) (chunk : Chunk) → All (HasFront granule) arena.chunks
-    → are_apart (map words_of arena.chunks) ≡ true → current arena ≡ Some chunk → current_top arena + n ≤ chunk.front → 2 ≤ n
-    → IsSound arena (b ++ a) → IsSound (with_top arena (current_top arena + n)) (b ++ (chunk.start + current_top arena, n) ∷ a)
+pub placed_at_top_is_sound : (granule : ℕ) (arena : ArenaState) (b a : List (ℕ × ℕ)) (n : ℕ) (chunk : Chunk)
+    → All (HasFront granule) arena.chunks → are_apart (map words_of arena.chunks) ≡ true → current arena ≡ Some chunk
+    → current_top arena + n ≤ chunk.front → 2 ≤ n → IsSound arena (b ++ a)
+    → IsSound (with_top arena (current_top arena + n)) (b ++ (chunk.start + current_top arena, n) ∷ a)
 placed_at_top_is_sound granule arena b a n chunk fronts apart found within long sound =
     sound_with_live (with_top arena (current_top arena + n)) b (chunk.start + current_top arena, n) a
     (above_fits granule arena (b ++ a) (last_place arena) n (current_top arena + n) chunk fronts apart found refl within long sound)
@@ -204,8 +214,8 @@ retired_is_sound granule arena live fronts apart sound =
     elim (current arena) as (λ o. current arena ≡ o → IsSound (retired_chunk arena o) live) [
       | None ↦ λ found. sound
       | Some chunk ↦ λ found.
-        let low = top_within arena.chunks arena.tops (last_place arena) chunk found sound.tops in
-        rest_is_sound (with_top arena chunk.front) live (chunk.start + current_top arena) (chunk.front - current_top arena)
-        (λ some. above_fits granule arena live (last_place arena) (chunk.front - current_top arena) chunk.front chunk fronts apart found (omega (arith, low)) (omega arith) some sound)
-        (raised_is_sound arena live (last_place arena) chunk.front chunk found low (omega arith) sound)
+          let low = top_within arena.chunks arena.tops (last_place arena) chunk found sound.tops in
+          rest_is_sound (with_top arena chunk.front) live (chunk.start + current_top arena) (chunk.front - current_top arena)
+          (λ some. above_fits granule arena live (last_place arena) (chunk.front - current_top arena) chunk.front chunk fronts apart found (omega (arith, low)) (omega arith) some sound)
+          (raised_is_sound arena live (last_place arena) chunk.front chunk found low (omega arith) sound)
     ] refl
