@@ -1,9 +1,10 @@
 -- Sizes of levels, multiples of them, and the two halves of a part.
 use Rattle.std.proofs.Common.{◌≡◌, ◌≤◌, ◌<◌, ℕ, suc, ◌+◌, ◌-◌, ◌*◌, ◌/◌, ◌%◌, ◌^◌, sym, ap, ◌∙◌, inl, inr, arith}
-use Rattle.std.proofs.lemmas.Nat.{mul-le, pow-add, pow_pos}
+use Rattle.std.proofs.lemmas.Nat.{mul-le, pow-add, pow_pos, mod-mul-add}
 use Rattle.std.proofs.lemmas.Bool.{cases_lt}
 use Rattle.std.proofs.Math.Nat.{add-mul, mul_assoc, mul-mod_left, add-mod_right}
 use Rattle.ms_base.specs.Level.{size_of}
+use Rattle.ms_base.specs.Part.{parent_start}
 use Rattle.ms_base.proofs.PartLemmas.{by_number, size_by_level}
 
 -- A chunk of any level has some words.
@@ -40,3 +41,25 @@ start_is_whole below start h whole = multiple_of_smaller start (12 - suc below) 
 
 pub middle_is_whole : (below start : ℕ) → below < 12 → start % size_of (12 - suc below) ≡ 0 → (start + size_of (12 - below)) % size_of (12 - below) ≡ 0
 middle_is_whole below start h whole = add-mod_right start (size_of (12 - below)) ∙ start_is_whole below start h whole
+
+-- A chunk of a greater level has no more words.
+pub size_falls : (l k : ℕ) → l ≤ k → k ≤ 12 → size_of k ≤ size_of l
+size_falls l k h m = omega (arith, size_by_level l k h m, mul-le 1 (size_of k) (2 ^ (k - l)) (size_of k) (pow_pos (k - l)) (omega arith))
+
+-- The level above the halves' one.
+level_above : (below : ℕ) → below < 12 → (12 - below) - 1 ≡ 12 - suc below
+level_above below h = omega arith
+
+-- The parent of both halves is the part.
+pub parent_of_lower : (below start : ℕ) → below < 12 → start % size_of (12 - suc below) ≡ 0 → parent_start start (12 - below) ≡ start
+parent_of_lower below start h whole = ap (λ (l : ℕ). start - start % size_of l) (level_above below h) ∙ ap (λ (r : ℕ). start - r) whole ∙ omega arith
+
+pub parent_of_upper : (below start : ℕ) → below < 12 → start % size_of (12 - suc below) ≡ 0
+    → parent_start (start + size_of (12 - below)) (12 - below) ≡ start
+parent_of_upper below start h whole =
+    ap (λ (l : ℕ). start + size_of (12 - below) - (start + size_of (12 - below)) % size_of l) (level_above below h)
+    ∙ ap (λ (r : ℕ). start + size_of (12 - below) - r) rest ∙ omega arith
+  where
+    rest : (start + size_of (12 - below)) % size_of (12 - suc below) ≡ size_of (12 - below)
+    rest = ap (λ (a : ℕ). (a + size_of (12 - below)) % size_of (12 - suc below)) (by_number start (size_of (12 - suc below)) whole)
+        ∙ mod-mul-add (start / size_of (12 - suc below)) (size_of (12 - suc below)) (size_of (12 - below)) (omega (arith, size_of_halves below h, size_some (12 - below)))
