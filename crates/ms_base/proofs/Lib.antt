@@ -8,6 +8,8 @@ pub mod PartLemmas
 pub mod HalvesLemmas
 pub mod FreeLemmas
 pub mod RoomLemmas
+pub mod LargestLemmas
+pub mod RisingLemmas
 pub mod GranuleLemmas
 pub mod IntervalLemmas
 pub mod NameLemmas

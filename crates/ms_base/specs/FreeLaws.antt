@@ -1,13 +1,14 @@
 -- What the list of free parts amounts to: laws about it, each the contract of a function of `laws`.
-use Rattle.std.specs.Prelude.{ℕ, ◌≤◌, List, IsTrue, IsFalse}
-use Rattle.std.specs.List.{Contains}
+use Rattle.std.specs.Prelude.{◌≡◌, ℕ, ◌≤◌, List, map, IsTrue, IsFalse}
+use Rattle.std.specs.List.{All, Contains}
+use Rattle.std.specs.List.Sorted.{IsStrictlyIncreasing}
 use Rattle.ms_base.specs.declared.span.Chunk.{Chunk}
 use Rattle.ms_base.specs.declared.span.Span.{Span}
 use Rattle.ms_base.specs.Interval.{lies_in}
 use Rattle.ms_base.specs.Level.{size_of}
-use Rattle.ms_base.specs.Part.{IsPart, slot_of, is_reserved}
+use Rattle.ms_base.specs.Part.{IsPart, buddy_start, slot_of, is_reserved}
 use Rattle.ms_base.specs.Held.{meets_chunk}
-use Rattle.ms_base.specs.FreeParts.{free_parts}
+use Rattle.ms_base.specs.FreeParts.{IsFreePart, free_parts}
 use Rattle.ms_base.specs.State.{PoolState}
 use Rattle.ms_base.specs.Causes.{has_room}
 
@@ -49,3 +50,23 @@ pub record HasRoomWhereClear (pool : PoolState) (m : ℕ) : Type 0 where
 
 abbrev pub RoomIsClear : Type 0
 RoomIsClear = (pool : PoolState) (m : ℕ) → m ≤ 12 → HasRoomWhereClear pool m
+
+-- The list has exactly the free parts, in rising order where the slots rise.
+pub record ListsFreeParts (held : List Chunk) (slots : List ℕ) : Type 0 where
+  pub only : All (IsFreePart held slots) (free_parts held slots)
+  pub all : (part : Span) → IsFreePart held slots part → Contains (free_parts held slots) part
+  pub rising : IsStrictlyIncreasing slots → IsStrictlyIncreasing (map (λ (part : Span). part.start) (free_parts held slots))
+
+abbrev pub FreePartsAreListed : Type 0
+FreePartsAreListed = (held : List Chunk) (slots : List ℕ) → ListsFreeParts held slots
+
+-- Two parts of a level below the root's are buddies where each is the other half of one parent.
+pub record AreBuddies (part other : Span) : Type 0 where
+  pub below : 1 ≤ part.level
+  pub same_level : other.level ≡ part.level
+  pub other_half : other.start ≡ buddy_start part.start part.level
+
+abbrev pub NoFreeBuddies : Type 0
+NoFreeBuddies =
+    (held : List Chunk) (slots : List ℕ) (part other : Span) → Contains (free_parts held slots) part → Contains (free_parts held slots) other
+    → AreBuddies part other → ⊥

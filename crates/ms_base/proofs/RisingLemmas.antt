@@ -1,0 +1,111 @@
+-- Free parts stand in rising order, each after the end of the one before. The law on the list of
+-- free parts uses this.
+use Rattle.std.proofs.Common.{◌≡◌, ◌≤◌, ◌<◌, ℕ, zero, suc, ◌+◌, ◌-◌, ◌*◌, ◌%◌, Bool, true, false, cond, List, [], ◌∷◌, ◌++◌, map, refl, arith}
+use Rattle.std.specs.List.{AllByRecursion, flat_map}
+use Rattle.std.specs.List.Sorted.{IsStrictlyIncreasing, IsStrictlySortedBy}
+use Rattle.std.specs.Ordering.{nat_cmp}
+use Rattle.std.specs.declared.cmp.Ordering.TheVariants.{Less}
+use Rattle.std.proofs.lemmas.Bool.Decides.{nat_tests}
+use Rattle.std.proofs.lemmas.Map.Keys.{sorted_from_strictly_increasing, IsStrictlyIncreasing-from_sorted}
+use Rattle.ms_base.specs.declared.span.Chunk.{Chunk}
+use Rattle.ms_base.specs.declared.span.Span.{Span}
+use Rattle.ms_base.specs.Level.{size_of}
+use Rattle.ms_base.specs.Part.{node_words}
+use Rattle.ms_base.specs.Held.{meets_chunk}
+use Rattle.ms_base.specs.FreeParts.{free_within, free_in_slot, free_parts}
+use Rattle.ms_base.proofs.HalvesLemmas.{size_some, size_of_halves}
+use Rattle.ms_base.proofs.FreeLemmas.{part_at}
+
+-- Parts rise from low to high: each starts where the one before ends, or later.
+abbrev Rises : ℕ → ℕ → List Span → Type 0
+Rises low high [] = low ≤ high
+Rises low high (part ∷ parts) = (low ≤ part.start) × Rises (part.start + size_of part.level) high parts
+
+rises_lower : (a low high : ℕ) (parts : List Span) → a ≤ low → Rises low high parts → Rises a high parts
+rises_lower a low high [] h rises = omega (arith, rises)
+rises_lower a low high (part ∷ parts) h rises = (omega (arith, rises.0), rises.1)
+
+rises_joined : (low middle high : ℕ) (xs ys : List Span) → Rises low middle xs → Rises middle high ys → Rises low high (xs ++ ys)
+rises_joined low middle high [] ys first second = rises_lower low middle high ys first second
+rises_joined low middle high (part ∷ xs) ys first second = (first.0, rises_joined (part.start + size_of part.level) middle high xs ys first.1 second)
+
+-- The free parts of a part rise from its start to its end.
+within_rises : (held : List Chunk) (below start : ℕ) → below ≤ 12 → Rises start (start + size_of (12 - below)) (free_within held below start)
+within_rises held zero start h = elim (meets_chunk held start 12) as (λ b. Rises start (start + size_of 12) (cond b [] (part_at zero start ∷ []))) [
+  | true ↦ omega arith
+  | false ↦ (omega arith, omega arith)
+]
+within_rises held (suc below) start h =
+    elim (meets_chunk held start (12 - suc below)) as (λ b. Rises start end (cond b (free_within held below start ++ free_within held below middle) (part_at (suc below) start ∷ []))) [
+      | true ↦ rises_joined start middle end (free_within held below start) (free_within held below middle) (within_rises held below start (omega arith))
+          (rw e (within_rises held below middle (omega arith)))
+      | false ↦ (omega arith, omega arith)
+    ]
+  where
+    middle : ℕ
+    middle = start + size_of (12 - below)
+
+    end : ℕ
+    end = start + size_of (12 - suc below)
+
+    e : end ≡ middle + size_of (12 - below)
+    e = omega (arith, size_of_halves below (omega arith))
+
+-- The free parts of a slot rise within its node.
+slot_rises : (held : List Chunk) (slot : ℕ) → Rises (slot * node_words) ((slot + 1) * node_words) (free_in_slot held slot)
+slot_rises held slot = rises_joined root middle ((slot + 1) * node_words) (free_within held 12 root) (free_within held 12 middle)
+    (within_rises held 12 root (omega arith)) (rw e (within_rises held 12 middle (omega arith)))
+  where
+    root : ℕ
+    root = slot * node_words
+
+    middle : ℕ
+    middle = slot * node_words + size_of 0
+
+    e : (slot + 1) * node_words ≡ middle + size_of 0
+    e = omega arith
+
+-- What is above a slot is at least the next one.
+next_from_above : (slot : ℕ) (slots : List ℕ) → AllByRecursion (λ y. nat_cmp slot y ≡ Less) slots → AllByRecursion (λ y. slot + 1 ≤ y) slots
+next_from_above slot [] above = tt
+next_from_above slot (y ∷ slots) above = (above_is slot y above.0, next_from_above slot slots above.1)
+  where
+    above_is : (a b : ℕ) → nat_cmp a b ≡ Less → a + 1 ≤ b
+    above_is a b h = grind (arith, nat_tests)
+
+-- The free parts of rising slots rise, from the first slot's node on.
+slots_rise : (held : List Chunk) (low : ℕ) (slots : List ℕ) → AllByRecursion (λ y. low ≤ y) slots → IsStrictlySortedBy nat_cmp slots
+    → (high : ℕ) × Rises (low * node_words) high (flat_map (free_in_slot held) slots)
+unfolding IsStrictlySortedBy
+slots_rise held low [] above sorted = (low * node_words, omega arith)
+slots_rise held low (slot ∷ slots) above sorted =
+    let rest = slots_rise held (slot + 1) slots (next_from_above slot slots sorted.0) sorted.1 in (
+      rest.0,
+      rises_lower (low * node_words) (slot * node_words) rest.0 (free_in_slot held slot ++ flat_map (free_in_slot held) slots) (omega (arith, above.0))
+          (rises_joined (slot * node_words) ((slot + 1) * node_words) rest.0 (free_in_slot held slot) (flat_map (free_in_slot held) slots) (slot_rises held slot) rest.1),
+    )
+
+-- The starts of rising parts are in order.
+starts_above : (part : Span) (low high : ℕ) (parts : List Span) → part.start < low → Rises low high parts
+    → AllByRecursion (λ y. nat_cmp part.start y ≡ Less) (map (λ (p : Span). p.start) parts)
+starts_above part low high [] h rises = tt
+starts_above part low high (next ∷ parts) h rises =
+    (is_less part.start next.start (omega (arith, rises.0)), starts_above part (next.start + size_of next.level) high parts (omega (arith, rises.0)) rises.1)
+  where
+    is_less : (a b : ℕ) → a < b → nat_cmp a b ≡ Less
+    is_less a b h = grind (arith, nat_tests)
+
+starts_sorted : (low high : ℕ) (parts : List Span) → Rises low high parts → IsStrictlySortedBy nat_cmp (map (λ (p : Span). p.start) parts)
+unfolding IsStrictlySortedBy
+starts_sorted low high [] rises = tt
+starts_sorted low high (part ∷ parts) rises =
+    (starts_above part (part.start + size_of part.level) high parts (omega (arith, size_some part.level)) rises.1, starts_sorted (part.start + size_of part.level) high parts rises.1)
+
+-- Free parts are listed in rising order of their starts where the slots rise.
+pub free_parts_rise : (held : List Chunk) (slots : List ℕ) → IsStrictlyIncreasing slots → IsStrictlyIncreasing (map (λ (part : Span). part.start) (free_parts held slots))
+free_parts_rise held slots h = let rises = slots_rise held 0 slots (all_from_zero slots) (sorted_from_strictly_increasing slots h) in
+    IsStrictlyIncreasing-from_sorted _ (starts_sorted (0 * node_words) rises.0 (free_parts held slots) rises.1)
+  where
+    all_from_zero : (xs : List ℕ) → AllByRecursion (λ y. 0 ≤ y) xs
+    all_from_zero [] = tt
+    all_from_zero (x ∷ xs) = (omega arith, all_from_zero xs)
