@@ -10,6 +10,7 @@ pub mod FreeLemmas
 pub mod RoomLemmas
 pub mod LargestLemmas
 pub mod RisingLemmas
+pub mod LevelLemmas
 pub mod GranuleLemmas
 pub mod IntervalLemmas
 pub mod NameLemmas
