@@ -1,6 +1,6 @@
 -- Sizes of levels, multiples of them, and the two halves of a part.
 use Rattle.std.proofs.Common.{◌≡◌, ◌≤◌, ◌<◌, ℕ, suc, ◌+◌, ◌-◌, ◌*◌, ◌/◌, ◌%◌, ◌^◌, sym, ap, ◌∙◌, inl, inr, arith}
-use Rattle.std.proofs.lemmas.Nat.{mul-le, pow-add, pow_pos, mod-mul-add}
+use Rattle.std.proofs.lemmas.Nat.{mul-le, pow-add, pow_pos, pow_below, mod-mul-add}
 use Rattle.std.proofs.lemmas.Bool.{cases_lt}
 use Rattle.std.proofs.Math.Nat.{add-mul, mul_assoc, mul-mod_left, add-mod_right}
 use Rattle.ms_base.specs.Level.{size_of}
@@ -45,6 +45,10 @@ middle_is_whole below start h whole = add-mod_right start (size_of (12 - below))
 -- A chunk of a greater level has no more words.
 pub size_falls : (l k : ℕ) → l ≤ k → k ≤ 12 → size_of k ≤ size_of l
 size_falls l k h m = omega (arith, size_by_level l k h m, mul-le 1 (size_of k) (2 ^ (k - l)) (size_of k) (pow_pos (k - l)) (omega arith))
+
+pub size_falls_strictly : (l k : ℕ) → l < k → k ≤ 12 → size_of k < size_of l
+size_falls_strictly l k h m =
+    omega (arith, size_by_level l k (omega arith) m, mul-le 2 (size_of k) (2 ^ (k - l)) (size_of k) (pow_below 0 (k - l) (omega arith)) (omega arith), size_some k)
 
 -- The level above the halves' one.
 level_above : (below : ℕ) → below < 12 → (12 - below) - 1 ≡ 12 - suc below

@@ -24,7 +24,7 @@ pub inside_bounds : (b t a s : ℕ) → IsTrue (lies_in (b, t) (a, s)) → (a �
 inside_bounds b t a s inside = let both = and_parts (nat_le a b) (nat_le (b + t) (a + s)) inside in (leb-true a b both.0, leb-true (b + t) (a + s) both.1)
 
 -- The parent starts at the last multiple of its size up to the part.
-parent_is_whole : (start level : ℕ) → parent_start start level % size_of (level - 1) ≡ 0
+pub parent_is_whole : (start level : ℕ) → parent_start start level % size_of (level - 1) ≡ 0
 parent_is_whole start level = ap (λ (x : ℕ). x % size) (number start size) ∙ mul-mod_left (start / size) size
   where
     size : ℕ
@@ -33,11 +33,17 @@ parent_is_whole start level = ap (λ (x : ℕ). x % size) (number start size) �
     number : (a s : ℕ) → a - a % s ≡ a / s * s
     number a s = omega (arith, div-add-mod' a s)
 
-parent_around : (start level : ℕ) → (parent_start start level ≤ start) × (start < parent_start start level + size_of (level - 1))
+pub parent_around : (start level : ℕ) → (parent_start start level ≤ start) × (start < parent_start start level + size_of (level - 1))
 parent_around start level = around start (size_of (level - 1)) (size_some (level - 1))
   where
     around : (a s : ℕ) → 1 ≤ s → (a - a % s ≤ a) × (a < a - a % s + s)
     around a s h = (omega arith, omega (arith, mod_below a s (omega arith)))
+
+-- A part ends within its parent.
+pub ends_in_parent : (start level : ℕ) → IsPart start level → start + size_of level ≤ parent_start start level + size_of (level - 1)
+ends_in_parent start level placed = steps_apart start (parent_start start level + size_of (level - 1)) (size_of level) placed.1
+    (multiple_of_smaller (parent_start start level + size_of (level - 1)) (level - 1) level (omega arith) placed.0
+    (add-mod_right (parent_start start level) (size_of (level - 1)) ∙ parent_is_whole start level)) (parent_around start level).1
 
 -- The parent of a part lies in each larger part that the part lies in.
 parent_inside : (start level a k : ℕ) → k < level → level ≤ 12 → a % size_of k ≡ 0 → a ≤ start → start + size_of level ≤ a + size_of k
@@ -128,7 +134,7 @@ leads_or_follows start level twice small whole = elim (cases_lt parent start) [
     multiple = multiple_of_smaller parent (level - 1) level (omega arith) small (parent_is_whole start level)
 
 -- A parent has the words of two parts.
-parent_is_twice : (level : ℕ) → 1 ≤ level → level ≤ 12 → size_of (level - 1) ≡ size_of level + size_of level
+pub parent_is_twice : (level : ℕ) → 1 ≤ level → level ≤ 12 → size_of (level - 1) ≡ size_of level + size_of level
 parent_is_twice level h k = ap size_of (omega arith) ∙ size_of_halves (12 - level) (omega arith) ∙ ap (λ (l : ℕ). size_of l + size_of l) (omega arith)
 
 -- No two free parts are buddies.

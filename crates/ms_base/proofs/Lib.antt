@@ -11,6 +11,7 @@ pub mod RoomLemmas
 pub mod LargestLemmas
 pub mod RisingLemmas
 pub mod LevelLemmas
+pub mod FreeGranuleLemmas
 pub mod GranuleLemmas
 pub mod IntervalLemmas
 pub mod NameLemmas
