@@ -30,11 +30,11 @@ use Rattle.ms_base.proofs.LargestLemmas.{inside_bounds, parent_is_whole, parent_
 meets_bounds : (a m b n : ℕ) → meet a m b n ≡ true → (a < b + n) × (b < a + m)
 meets_bounds a m b n e = let both = and_parts (nat_lt a (b + n)) (nat_lt b (a + m)) e in (ltb-true a (b + n) both.0, ltb-true b (a + m) both.1)
 
-bounds_meet : (a m b n : ℕ) → a < b + n → b < a + m → meet a m b n ≡ true
+pub bounds_meet : (a m b n : ℕ) → a < b + n → b < a + m → meet a m b n ≡ true
 bounds_meet a m b n h k = grind (arith, nat_tests)
 
 -- Of two parts that meet, one of a greater level lies in the other.
-meeting_lies_in : (a l b k : ℕ) → IsPart a l → IsPart b k → l ≤ k → meet a (size_of l) b (size_of k) ≡ true → (a ≤ b) × (b + size_of k ≤ a + size_of l)
+pub meeting_lies_in : (a l b k : ℕ) → IsPart a l → IsPart b k → l ≤ k → meet a (size_of l) b (size_of k) ≡ true → (a ≤ b) × (b + size_of k ≤ a + size_of l)
 meeting_lies_in a l b k first second h meets = elim (parts_are_nested_or_apart a l b k first second h) [
   | inl inside ↦ inside_bounds b (size_of k) a (size_of l) inside
   | inr apart ↦ absurd (both_ways (meet a (size_of l) b (size_of k)) apart meets)

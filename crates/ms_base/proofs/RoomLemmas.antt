@@ -21,10 +21,10 @@ use Rattle.ms_base.proofs.HalvesLemmas.{size_falls, size_some, multiple_of_small
 use Rattle.ms_base.proofs.FreeLemmas.{has_part, IsInside, clear_is_in_free, IsFreeWithin, widened, listed_are_free}
 
 -- A slot's roots are multiples of their size, and fill its node.
-abbrev root_of : ℕ → ℕ
+abbrev pub root_of : ℕ → ℕ
 root_of slot = slot * node_words
 
-roots_are_whole : (slot : ℕ) → (root_of slot % size_of 0 ≡ 0) × ((root_of slot + size_of 0) % size_of 0 ≡ 0)
+pub roots_are_whole : (slot : ℕ) → (root_of slot % size_of 0 ≡ 0) × ((root_of slot + size_of 0) % size_of 0 ≡ 0)
 roots_are_whole slot = (omega arith, omega arith)
 
 in_lower_root : (part : Span) (slot : ℕ) → IsPart part.start part.level → root_of slot ≤ part.start → part.start < root_of slot + size_of 0 → IsInside part 12 (root_of slot)

@@ -1,13 +1,13 @@
 -- What the list of free parts amounts to: laws about it, each the contract of a function of `laws`.
-use Rattle.std.specs.Prelude.{◌≡◌, ℕ, ◌*◌, nat_lt, ◌≤◌, List, map, IsTrue, IsFalse}
-use Rattle.std.specs.List.{All, Contains}
+use Rattle.std.specs.Prelude.{◌≡◌, ℕ, ◌*◌, nat_lt, ◌≤◌, cond, List, ◌++◌, map, IsTrue, IsFalse}
+use Rattle.std.specs.List.{All, Contains, count_by}
 use Rattle.std.specs.List.Sorted.{IsStrictlyIncreasing}
 use Rattle.ms_base.specs.declared.span.Chunk.{Chunk}
 use Rattle.ms_base.specs.declared.span.Span.{Span}
 use Rattle.ms_base.specs.Interval.{meet, lies_in}
 use Rattle.ms_base.specs.Level.{size_of}
 use Rattle.ms_base.specs.Part.{IsPart, buddy_start, slot_of, is_reserved}
-use Rattle.ms_base.specs.Held.{AreHeld, meets_chunk}
+use Rattle.ms_base.specs.Held.{AreHeld, words_of, meets_chunk}
 use Rattle.ms_base.specs.FreeParts.{IsFreePart, free_parts}
 use Rattle.ms_base.specs.Committed.{is_committed}
 use Rattle.ms_base.specs.State.{PoolState}
@@ -94,3 +94,18 @@ EnoughIsBySize =
     (pool : PoolState) (part : Span) (words : ℕ) → IsGranule pool.limits.granule → AreHeld pool.limits.granule pool.slots pool.held
     → Contains (free_parts pool.held pool.slots) part → 1 ≤ words → words ≤ size_of part.level
     → is_committed_enough pool words part ≡ nat_lt (size_of part.level) pool.limits.granule
+
+-- The words of a part.
+abbrev pub words_in : Span → ℕ × ℕ
+words_in part = (part.start, size_of part.level)
+
+-- The runs of words that the held chunks and the free parts have.
+abbrev pub runs_in_roots : List Chunk → List ℕ → List (ℕ × ℕ)
+runs_in_roots held slots = map words_of held ++ map words_in (free_parts held slots)
+
+-- Each word of a reserved node lies in exactly one held chunk or free part, and any other word in
+-- none.
+abbrev pub RootsAreCoveredOnce : Type 0
+RootsAreCoveredOnce =
+    (granule word : ℕ) (held : List Chunk) (slots : List ℕ) → AreHeld granule slots held → IsStrictlyIncreasing slots
+    → count_by (λ run. lies_in (word, 1) run) (runs_in_roots held slots) ≡ cond (is_reserved slots (slot_of word)) 1 0
