@@ -1,8 +1,8 @@
 -- A granule that meets a free part is committed exactly where the part is smaller than it. The laws
 -- on free parts and granules use this.
-use Rattle.std.proofs.Common.{◌≡◌, ◌≤◌, ◌<◌, ℕ, zero, suc, ◌+◌, ◌-◌, ◌*◌, ◌/◌, ◌%◌, Bool, true, false, ◌&&◌, ◌||◌, List, [], ◌∷◌, refl, sym, ap, subst, ◌∙◌, inl, inr, arith, length, get_or}
-use Rattle.std.specs.Prelude.{◌==◌, nat_lt, nat_le, IsTrue, IsFalse}
-use Rattle.std.specs.List.{All, Any, Contains, list_any, list_all, range_with_len}
+use Rattle.std.proofs.Common.{◌≡◌, ◌≤◌, ◌<◌, ℕ, zero, suc, ◌+◌, ◌-◌, ◌*◌, ◌/◌, ◌%◌, Bool, true, false, ◌&&◌, List, refl, sym, ap, ◌∙◌, inl, inr, arith, length, get_or}
+use Rattle.std.specs.Prelude.{◌==◌, nat_lt}
+use Rattle.std.specs.List.{All, Any, list_all, range_with_len}
 use Rattle.std.proofs.lemmas.Nat.{mul-le, div-add-mod', mod_below, le-div}
 use Rattle.std.proofs.lemmas.Bool.{cases_lt, or_cases, and_parts, both_ways, false_from_ne_true, eqb-true, ltb-true, lt-ltb, le-ltb}
 use Rattle.std.proofs.lemmas.Bool.Decides.{nat_tests}
@@ -11,12 +11,12 @@ use Rattle.std.proofs.lemmas.List.Folds.{list_any_at, list_any_none, Any-from_li
 use Rattle.std.proofs.Math.Nat.{mul-mod_left}
 use Rattle.ms_base.specs.declared.span.Chunk.{Chunk}
 use Rattle.ms_base.specs.declared.span.Span.{Span}
-use Rattle.ms_base.specs.Interval.{meet, lies_in}
+use Rattle.ms_base.specs.Interval.{meet}
 use Rattle.ms_base.specs.Level.{size_of}
 use Rattle.ms_base.specs.Part.{IsPart, parent_start}
 use Rattle.ms_base.specs.Front.{HasFront}
 use Rattle.ms_base.specs.Held.{AreHeld, meets_chunk}
-use Rattle.ms_base.specs.FreeParts.{IsFreePart, free_parts}
+use Rattle.ms_base.specs.FreeParts.{IsFreePart}
 use Rattle.ms_base.specs.Committed.{is_committed}
 use Rattle.ms_base.specs.State.{PoolState}
 use Rattle.ms_base.specs.Pick.{has_committed, is_committed_enough}
@@ -24,7 +24,7 @@ use Rattle.ms_base.specs.FreeLaws.{IsGranule}
 use Rattle.ms_base.proofs.PartLemmas.{parts_are_nested_or_apart}
 use Rattle.ms_base.proofs.HalvesLemmas.{size_some, size_falls, size_falls_strictly}
 use Rattle.ms_base.proofs.RoomLemmas.{clear_within}
-use Rattle.ms_base.proofs.LargestLemmas.{inside_bounds, parent_is_whole, parent_around, parent_is_twice, ends_in_parent}
+use Rattle.ms_base.proofs.LargestLemmas.{inside_bounds, parent_is_whole, parent_around, ends_in_parent}
 
 -- Runs that meet start below each other's ends, and the other way round.
 meets_bounds : (a m b n : ℕ) → meet a m b n ≡ true → (a < b + n) × (b < a + m)

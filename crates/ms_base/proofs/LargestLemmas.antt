@@ -1,7 +1,7 @@
 -- A free part is as large as it can be: none lies in a larger one, and none has a free buddy. The
 -- laws on the list of free parts and on buddies use these.
-use Rattle.std.proofs.Common.{◌≡◌, ◌≤◌, ◌<◌, ℕ, suc, ◌+◌, ◌-◌, ◌*◌, ◌/◌, ◌%◌, Bool, true, false, ◌&&◌, ◌||◌, List, [], ◌∷◌, refl, sym, ap, subst, ◌∙◌, inl, inr, arith}
-use Rattle.std.specs.Prelude.{◌==◌, nat_le, IsTrue, IsFalse, ◌⊎◌}
+use Rattle.std.proofs.Common.{◌≡◌, ◌≤◌, ◌<◌, ℕ, ◌+◌, ◌-◌, ◌*◌, ◌/◌, ◌%◌, false, List, [], ◌∷◌, refl, sym, ap, subst, ◌∙◌, inl, inr, arith}
+use Rattle.std.specs.Prelude.{◌==◌, nat_le, IsTrue, ◌⊎◌}
 use Rattle.std.specs.List.{Contains}
 use Rattle.std.proofs.lemmas.Nat.{div-add-mod', mod_below}
 use Rattle.std.proofs.lemmas.Bool.{cases_lt, or_from, or_parts, or_cases, and_parts, both_ways, eqb-true, leb-true}
@@ -12,10 +12,10 @@ use Rattle.ms_base.specs.declared.span.Chunk.{Chunk}
 use Rattle.ms_base.specs.declared.span.Span.{Span}
 use Rattle.ms_base.specs.Interval.{meet, lies_in}
 use Rattle.ms_base.specs.Level.{size_of}
-use Rattle.ms_base.specs.Part.{IsPart, parent_start, buddy_start}
+use Rattle.ms_base.specs.Part.{IsPart, parent_start}
 use Rattle.ms_base.specs.Held.{meets_chunk}
 use Rattle.ms_base.specs.FreeParts.{IsFreePart, free_parts}
-use Rattle.ms_base.specs.FreeLaws.{IsClear, LiesIn, AreBuddies}
+use Rattle.ms_base.specs.FreeLaws.{LiesIn, AreBuddies}
 use Rattle.ms_base.proofs.HalvesLemmas.{size_some, size_of_halves, multiple_of_smaller, steps_apart}
 use Rattle.ms_base.proofs.RoomLemmas.{clear_within, clear_lies_in_free, listed_is_free}
 
