@@ -1,9 +1,8 @@
 -- A granule that meets a free part is committed exactly where the part is smaller than it. The laws
 -- on free parts and granules use this.
-use Rattle.std.proofs.Common.{◌≡◌, ◌≤◌, ◌<◌, ℕ, zero, suc, ◌+◌, ◌-◌, ◌*◌, ◌/◌, ◌%◌, Bool, true, false, ◌&&◌, List, refl, sym, ap, ◌∙◌, inl, inr, arith, length, get_or}
+use Rattle.std.proofs.Common.{◌≡◌, ◌≤◌, ◌<◌, ℕ, ◌+◌, ◌-◌, ◌*◌, ◌%◌, true, false, List, sym, ap, ◌∙◌, inl, inr, arith, length, get_or}
 use Rattle.std.specs.Prelude.{◌==◌, nat_lt}
-use Rattle.std.specs.List.{All, Any, list_all, range_with_len}
-use Rattle.std.proofs.lemmas.Nat.{mul-le, div-add-mod', mod_below, le-div}
+use Rattle.std.specs.List.{All, Any}
 use Rattle.std.proofs.lemmas.Bool.{cases_lt, or_cases, and_parts, both_ways, false_from_ne_true, eqb-true, ltb-true, lt-ltb, le-ltb}
 use Rattle.std.proofs.lemmas.Bool.Decides.{nat_tests}
 use Rattle.std.proofs.lemmas.List.Elements.{All-contains}
@@ -18,8 +17,6 @@ use Rattle.ms_base.specs.Front.{HasFront}
 use Rattle.ms_base.specs.Held.{AreHeld, meets_chunk}
 use Rattle.ms_base.specs.FreeParts.{IsFreePart}
 use Rattle.ms_base.specs.Committed.{is_committed}
-use Rattle.ms_base.specs.State.{PoolState}
-use Rattle.ms_base.specs.Pick.{has_committed, is_committed_enough}
 use Rattle.ms_base.specs.FreeLaws.{IsGranule}
 use Rattle.ms_base.proofs.PartLemmas.{parts_are_nested_or_apart}
 use Rattle.ms_base.proofs.HalvesLemmas.{size_some, size_falls, size_falls_strictly}
@@ -27,7 +24,7 @@ use Rattle.ms_base.proofs.RoomLemmas.{clear_within}
 use Rattle.ms_base.proofs.LargestLemmas.{inside_bounds, parent_is_whole, parent_around, ends_in_parent}
 
 -- Runs that meet start below each other's ends, and the other way round.
-meets_bounds : (a m b n : ℕ) → meet a m b n ≡ true → (a < b + n) × (b < a + m)
+pub meets_bounds : (a m b n : ℕ) → meet a m b n ≡ true → (a < b + n) × (b < a + m)
 meets_bounds a m b n e = let both = and_parts (nat_lt a (b + n)) (nat_lt b (a + m)) e in (ltb-true a (b + n) both.0, ltb-true b (a + m) both.1)
 
 pub bounds_meet : (a m b n : ℕ) → a < b + n → b < a + m → meet a m b n ≡ true
@@ -149,50 +146,3 @@ committed_where_small granule held slots part number of_level good free meets = 
   | inr large ↦ large_is_uncommitted granule held slots part number of_level.level of_level.is of_level.below good free meets large
       ∙ sym (le-ltb (size_of part.level) granule (omega (arith, size_falls part.level of_level.level large of_level.below, of_level.is)))
 ]
-
--- A test that gives one answer at each number of a range gives it of all.
-all_alike : (p : ℕ → Bool) (b : Bool) (low n : ℕ) → ((k : ℕ) → low ≤ k → k < low + suc n → p k ≡ b) → list_all p (range_with_len low (suc n)) ≡ b
-all_alike p b low zero each = ap (λ x. x && true) (each low (omega arith) (omega arith)) ∙ with_true b
-  where
-    with_true : (b : Bool) → (b && true) ≡ b
-    with_true true = refl
-    with_true false = refl
-all_alike p b low (suc n) each = ap (λ x. x && list_all p (range_with_len (low + 1) (suc n))) (each low (omega arith) (omega arith))
-    ∙ ap (λ x. b && x) (all_alike p b (low + 1) n (λ k h m. each k (omega arith) (omega arith))) ∙ with_itself b
-  where
-    with_itself : (b : Bool) → (b && b) ≡ b
-    with_itself true = refl
-    with_itself false = refl
-
--- The granules that meet the first words of a run meet the run.
-first_words_meet : (granule start words size k : ℕ) → 1 ≤ granule → 1 ≤ words → words ≤ size → start / granule ≤ k → k ≤ (start + words - 1) / granule
-    → meet start size (k * granule) granule ≡ true
-first_words_meet granule start words size k some few within low high = bounds_meet start size (k * granule) granule
-    (omega (arith, div-add-mod' start granule, mod_below start granule (omega arith), mul-le (start / granule) granule k granule low (omega arith)))
-    (omega (arith, div-add-mod' (start + words - 1) granule, mul-le k granule ((start + words - 1) / granule) granule high (omega arith)))
-
--- A free part is committed enough for words that it can hold exactly where it is smaller than a
--- granule.
-pub enough_where_small : (pool : PoolState) (part : Span) (words : ℕ) → IsGranule pool.limits.granule → AreHeld pool.limits.granule pool.slots pool.held
-    → IsFreePart pool.held pool.slots part → 1 ≤ words → words ≤ size_of part.level
-    → is_committed_enough pool words part ≡ nat_lt (size_of part.level) pool.limits.granule
-enough_where_small pool part words of_level good free some few =
-    ap (λ (n : ℕ). list_all (has_committed pool) (range_with_len (part.start / granule) n)) count
-    ∙ all_alike (has_committed pool) (nat_lt (size_of part.level) granule) (part.start / granule) more
-    (λ k h m. committed_where_small granule pool.held pool.slots part k of_level good free
-    (first_words_meet granule part.start words (size_of part.level) k granule_some some few h (omega (arith, rises))))
-  where
-    granule : ℕ
-    granule = pool.limits.granule
-
-    granule_some : 1 ≤ granule
-    granule_some = omega (arith, of_level.is, size_some of_level.level)
-
-    more : ℕ
-    more = (part.start + words - 1) / granule - part.start / granule
-
-    rises : part.start / granule ≤ (part.start + words - 1) / granule
-    rises = le-div (part.start / granule) (part.start + words - 1) granule (omega (arith, granule_some)) (omega (arith, div-add-mod' part.start granule))
-
-    count : (part.start + words - 1) / granule + 1 - part.start / granule ≡ suc more
-    count = omega (arith, rises)

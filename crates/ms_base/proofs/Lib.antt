@@ -12,6 +12,7 @@ pub mod LargestLemmas
 pub mod RisingLemmas
 pub mod LevelLemmas
 pub mod FreeGranuleLemmas
+pub mod CommittedRoomLemmas
 pub mod CoverLemmas
 pub mod GranuleLemmas
 pub mod IntervalLemmas

@@ -12,7 +12,7 @@ use Rattle.ms_base.specs.FreeParts.{IsFreePart, free_parts}
 use Rattle.ms_base.specs.Committed.{is_committed}
 use Rattle.ms_base.specs.State.{PoolState}
 use Rattle.ms_base.specs.Pick.{is_committed_enough}
-use Rattle.ms_base.specs.Causes.{has_room}
+use Rattle.ms_base.specs.Causes.{has_room, has_committed_room}
 
 -- A clear part is a part of a reserved root that meets no held chunk.
 pub record IsClear (held : List Chunk) (slots : List ℕ) (part : Span) : Type 0 where
@@ -94,6 +94,25 @@ EnoughIsBySize =
     (pool : PoolState) (part : Span) (words : ℕ) → IsGranule pool.limits.granule → AreHeld pool.limits.granule pool.slots pool.held
     → Contains (free_parts pool.held pool.slots) part → 1 ≤ words → words ≤ size_of part.level
     → is_committed_enough pool words part ≡ nat_lt (size_of part.level) pool.limits.granule
+
+-- There is committed room for words at a level exactly where a clear part of that level is
+-- committed enough for them.
+pub record HasCommittedRoomWhereClear (pool : PoolState) (m words : ℕ) : Type 0 where
+  pub room :
+      (start : ℕ) → IsClear pool.held pool.slots (record { start = start; level = m })
+      → IsTrue (is_committed_enough pool words (record { start = start; level = m })) → IsTrue (has_committed_room pool m words)
+  pub clear :
+      IsTrue (has_committed_room pool m words)
+      → (start : ℕ) × IsClear pool.held pool.slots (record { start = start; level = m })
+      × IsTrue (is_committed_enough pool words (record { start = start; level = m }))
+  pub full :
+      ((start : ℕ) → IsClear pool.held pool.slots (record { start = start; level = m })
+      → IsFalse (is_committed_enough pool words (record { start = start; level = m }))) → IsFalse (has_committed_room pool m words)
+
+abbrev pub CommittedRoomIsClear : Type 0
+CommittedRoomIsClear =
+    (pool : PoolState) (m words : ℕ) → m ≤ 12 → 1 ≤ words → words ≤ size_of m → IsGranule pool.limits.granule
+    → AreHeld pool.limits.granule pool.slots pool.held → HasCommittedRoomWhereClear pool m words
 
 -- The words of a part.
 abbrev pub words_in : Span → ℕ × ℕ
