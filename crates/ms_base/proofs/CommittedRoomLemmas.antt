@@ -16,7 +16,7 @@ use Rattle.ms_base.specs.Committed.{is_committed, granules_meeting}
 use Rattle.ms_base.specs.State.{PoolState}
 use Rattle.ms_base.specs.Pick.{has_committed, is_committed_enough}
 use Rattle.ms_base.specs.Causes.{has_committed_room}
-use Rattle.ms_base.specs.FreeLaws.{IsClear, LiesIn, IsGranule, HasCommittedRoomWhereClear}
+use Rattle.ms_base.specs.FreeLaws.{part_at, IsClearIn, is_enough_at, LiesIn, IsGranule, HasCommittedRoomWhereClear}
 use Rattle.ms_base.proofs.HalvesLemmas.{size_some}
 use Rattle.ms_base.proofs.RoomLemmas.{clear_lies_in_free, listed_is_free, lowest_is_clear}
 use Rattle.ms_base.proofs.LargestLemmas.{inside_bounds}
@@ -112,23 +112,23 @@ committed_room_is_clear pool m words h some few of_level good = record {
   room = room;
   clear = clear;
   full = λ none. false_from_ne_true (has_committed_room pool m words) (λ e. let some_clear = clear e in
-      both_ways (is_committed_enough pool words (record { start = some_clear.0; level = m })) (none some_clear.0 some_clear.1) some_clear.2);
+      both_ways (is_enough_at pool some_clear.0 m words) (none some_clear.0 some_clear.1) some_clear.2);
 }
   where
     test : Span → Bool
     test part = nat_le part.level m && is_committed_enough pool words part
 
-    clear : has_committed_room pool m words ≡ true → (start : ℕ) × IsClear pool.held pool.slots (record { start = start; level = m })
-        × (is_committed_enough pool words (record { start = start; level = m }) ≡ true)
+    clear : has_committed_room pool m words ≡ true → (start : ℕ) × IsClearIn pool start m
+        × (is_enough_at pool start m words ≡ true)
     clear e = let found = Any-from_list_any test (free_parts pool.held pool.slots) e in
         let both = and_parts (nat_le found.1.level m) (is_committed_enough pool words found.1) found.4 in
         (found.1.start, lowest_is_clear pool.held pool.slots found.1 m (found.0, found.2, found.3) (leb-true found.1.level m both.0) h, both.1)
 
-    room : (start : ℕ) → IsClear pool.held pool.slots (record { start = start; level = m })
-        → is_committed_enough pool words (record { start = start; level = m }) ≡ true → has_committed_room pool m words ≡ true
-    room start clear enough = let found = clear_lies_in_free pool.held pool.slots (record { start = start; level = m }) clear in
+    room : (start : ℕ) → IsClearIn pool start m
+        → is_enough_at pool start m words ≡ true → has_committed_room pool m words ≡ true
+    room start clear enough = let found = clear_lies_in_free pool.held pool.slots (part_at start m) clear in
         list_any_at test (free_parts pool.held pool.slots) found.free.0 found.around found.free.1
         (ap test found.free.2 ∙ and_from (nat_le found.around.level m) (is_committed_enough pool words found.around) (le-leb found.around.level m found.within.wide)
-        (around_is_enough pool (record { start = start; level = m }) found.around words of_level good
+        (around_is_enough pool (part_at start m) found.around words of_level good
         (All-contains (IsFreePart pool.held pool.slots) (free_parts pool.held pool.slots) found.around (listed_is_free pool.held pool.slots) found.free)
         found.within some few enough))

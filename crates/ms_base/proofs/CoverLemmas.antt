@@ -21,7 +21,7 @@ use Rattle.ms_base.specs.Held.{AreHeld, words_of, meets_chunk}
 use Rattle.ms_base.specs.FreeParts.{free_within, free_in_slot, free_parts}
 use Rattle.ms_base.specs.FreeLaws.{words_in, runs_in_roots}
 use Rattle.ms_base.proofs.HalvesLemmas.{size_of_halves, start_is_whole, middle_is_whole}
-use Rattle.ms_base.proofs.FreeLemmas.{part_at}
+use Rattle.ms_base.proofs.FreeLemmas.{part_above}
 use Rattle.ms_base.proofs.RoomLemmas.{root_of, roots_are_whole}
 use Rattle.ms_base.proofs.LargestLemmas.{inside_bounds}
 use Rattle.ms_base.proofs.GranuleLemmas.{ends_in_node}
@@ -104,7 +104,7 @@ free_in_halves word start half size b e = grind (arith, nat_tests)
 
 -- A word of a part that lies in no held chunk lies in one of the free parts there.
 itself_covers : (held : List Chunk) (word below start : ℕ) → meets_chunk held start (12 - below) ≡ false
-    → times word (map words_in (part_at below start ∷ [])) ≡ one_if (is_free word held (start, size_of (12 - below)))
+    → times word (map words_in (part_above below start ∷ [])) ≡ one_if (is_free word held (start, size_of (12 - below)))
 itself_covers held word below start clear =
     elim (has_word word (start, size_of (12 - below))) as (λ b. has_word word (start, size_of (12 - below)) ≡ b → 0 + one_if b ≡ one_if (b && not (is_held word held))) [
       | true ↦ λ here. ap (λ b. one_if (not b)) (sym (clear_has_no_word held word start (12 - below) clear here))
@@ -114,7 +114,7 @@ itself_covers held word below start clear =
 covered_within : (held : List Chunk) (word below start : ℕ) → All (λ chunk. IsPart chunk.start chunk.level) held → below ≤ 12 → start % size_of (12 - below) ≡ 0
     → times word (map words_in (free_within held below start)) ≡ one_if (is_free word held (start, size_of (12 - below)))
 covered_within held word zero start parts h whole =
-    elim (meets_chunk held start 12) as (λ b. meets_chunk held start 12 ≡ b → times word (map words_in (cond b [] (part_at zero start ∷ []))) ≡ one_if (is_free word held (start, size_of 12))) [
+    elim (meets_chunk held start 12) as (λ b. meets_chunk held start 12 ≡ b → times word (map words_in (cond b [] (part_above zero start ∷ []))) ≡ one_if (is_free word held (start, size_of 12))) [
       | true ↦ λ meets. ap one_if (sym (held_here meets))
       | false ↦ λ clear. itself_covers held word zero start clear
     ] refl
@@ -125,7 +125,7 @@ covered_within held word zero start parts h whole =
       | false ↦ λ past. refl
     ] refl
 covered_within held word (suc below) start parts h whole =
-    elim (meets_chunk held start (12 - suc below)) as (λ b. meets_chunk held start (12 - suc below) ≡ b → times word (map words_in (cond b (free_within held below start ++ free_within held below middle) (part_at (suc below) start ∷ []))) ≡ one_if (is_free word held (start, size_of (12 - suc below)))) [
+    elim (meets_chunk held start (12 - suc below)) as (λ b. meets_chunk held start (12 - suc below) ≡ b → times word (map words_in (cond b (free_within held below start ++ free_within held below middle) (part_above (suc below) start ∷ []))) ≡ one_if (is_free word held (start, size_of (12 - suc below)))) [
       | true ↦ λ meets. times_joined word (free_within held below start) (free_within held below middle)
           ∙ omega (
             arith,

@@ -17,8 +17,8 @@ use Rattle.ms_base.specs.FreeParts.{free_within}
 use Rattle.ms_base.proofs.HalvesLemmas.{size_of_halves, multiple_of_smaller, steps_apart, start_is_whole, middle_is_whole, parent_of_lower, parent_of_upper}
 
 -- The part with so many levels below it.
-abbrev pub part_at : ℕ → ℕ → Span
-part_at below start = record { start = start; level = 12 - below }
+abbrev pub part_above : ℕ → ℕ → Span
+part_above below start = record { start = start; level = 12 - below }
 
 -- The test whether a free part has the part within it.
 abbrev pub has_part : Span → Span → Bool
@@ -30,7 +30,7 @@ pub record IsInside (part : Span) (below start : ℕ) : Type 0 where
   pub from : start ≤ part.start
   pub upto : part.start + size_of part.level ≤ start + size_of (12 - below)
 
-inside_passes : (part : Span) (below start : ℕ) → IsInside part below start → has_part part (part_at below start) ≡ true
+inside_passes : (part : Span) (below start : ℕ) → IsInside part below start → has_part part (part_above below start) ≡ true
 inside_passes part below start h = passes part.level part.start (size_of part.level) (12 - below) start (size_of (12 - below)) h.wide h.from h.upto
   where
     passes : (l a t k b s : ℕ) → k ≤ l → b ≤ a → a + t ≤ b + s → (nat_le k l && lies_in (a, t) (b, s)) ≡ true
@@ -64,14 +64,14 @@ pub clear_is_in_free : (held : List Chunk) (part : Span) → IsPart part.start p
     → (below start : ℕ) → below ≤ 12 → start % size_of (12 - below) ≡ 0 → IsInside part below start
     → list_any (has_part part) (free_within held below start) ≡ true
 clear_is_in_free held part placed empty zero start h whole inside =
-    subst (λ (b : Bool). list_any (has_part part) (cond b [] (part_at zero start ∷ [])) ≡ true) (sym clear)
-    (or_left (has_part part (part_at zero start)) false (inside_passes part zero start inside))
+    subst (λ (b : Bool). list_any (has_part part) (cond b [] (part_above zero start ∷ [])) ≡ true) (sym clear)
+    (or_left (has_part part (part_above zero start)) false (inside_passes part zero start inside))
   where
     clear : meets_chunk held start 12 ≡ false
     clear = let level : part.level ≡ 12 = omega (arith, inside.wide, placed.0) in
         ap (λ (s : ℕ). meets_chunk held s 12) (sym (inside_same part zero start inside level)) ∙ ap (λ (l : ℕ). meets_chunk held part.start l) (sym level) ∙ empty
 clear_is_in_free held part placed empty (suc below) start h whole inside =
-    elim (meets_chunk held start (12 - suc below)) as (λ b. meets_chunk held start (12 - suc below) ≡ b → list_any (has_part part) (cond b (free_within held below start ++ free_within held below (start + size_of (12 - below))) (part_at (suc below) start ∷ [])) ≡ true) [
+    elim (meets_chunk held start (12 - suc below)) as (λ b. meets_chunk held start (12 - suc below) ≡ b → list_any (has_part part) (cond b (free_within held below start ++ free_within held below (start + size_of (12 - below))) (part_above (suc below) start ∷ [])) ≡ true) [
       | true ↦ λ meets. list_any-append (has_part part) (free_within held below start) (free_within held below (start + size_of (12 - below)))
           ∙ elim (cases_lt part.start (start + size_of (12 - below))) [
             | inl low ↦ or_left (list_any (has_part part) (free_within held below start)) (list_any (has_part part) (free_within held below (start + size_of (12 - below))))
@@ -81,7 +81,7 @@ clear_is_in_free held part placed empty (suc below) start h whole inside =
                 (clear_is_in_free held part placed empty below (start + size_of (12 - below)) (omega arith) (middle_is_whole below start h whole)
                 (in_upper part below start h whole inside (other meets) high))
           ]
-      | false ↦ λ clear. or_left (has_part part (part_at (suc below) start)) false (inside_passes part (suc below) start inside)
+      | false ↦ λ clear. or_left (has_part part (part_above (suc below) start)) false (inside_passes part (suc below) start inside)
     ] refl
   where
     other : meets_chunk held start (12 - suc below) ≡ true → part.level ≡ 12 - suc below → ⊥
@@ -102,8 +102,8 @@ abbrev IsLargest : List Chunk → ℕ → ℕ → Type 0
 IsLargest held start level = IsTrue (level == 0 || meets_chunk held (parent_start start level) (level - 1))
 
 itself_free : (held : List Chunk) (below start : ℕ) → start % size_of (12 - below) ≡ 0 → IsLargest held start (12 - below)
-    → meets_chunk held start (12 - below) ≡ false → All (IsFreeWithin held start (start + size_of (12 - below))) (part_at below start ∷ [])
-itself_free held below start whole largest clear = All-cons (IsFreeWithin held start (start + size_of (12 - below))) (part_at below start) []
+    → meets_chunk held start (12 - below) ≡ false → All (IsFreeWithin held start (start + size_of (12 - below))) (part_above below start ∷ [])
+itself_free held below start whole largest clear = All-cons (IsFreeWithin held start (start + size_of (12 - below))) (part_above below start) []
     (record { placed = (omega arith, whole); empty = clear; largest = largest; from = omega arith; upto = omega arith })
     (All-nil (IsFreeWithin held start (start + size_of (12 - below))))
 
@@ -122,12 +122,12 @@ half_is_largest held below start half h parent meets = or_right ((12 - below) ==
 pub listed_are_free : (held : List Chunk) (below start : ℕ) → below ≤ 12 → start % size_of (12 - below) ≡ 0 → IsLargest held start (12 - below)
     → All (IsFreeWithin held start (start + size_of (12 - below))) (free_within held below start)
 listed_are_free held zero start h whole largest =
-    elim (meets_chunk held start 12) as (λ b. meets_chunk held start 12 ≡ b → All (IsFreeWithin held start (start + size_of 12)) (cond b [] (part_at zero start ∷ []))) [
+    elim (meets_chunk held start 12) as (λ b. meets_chunk held start 12 ≡ b → All (IsFreeWithin held start (start + size_of 12)) (cond b [] (part_above zero start ∷ []))) [
       | true ↦ λ meets. All-nil (IsFreeWithin held start (start + size_of 12))
       | false ↦ λ clear. itself_free held zero start whole largest clear
     ] refl
 listed_are_free held (suc below) start h whole largest =
-    elim (meets_chunk held start (12 - suc below)) as (λ b. meets_chunk held start (12 - suc below) ≡ b → All (IsFreeWithin held start end) (cond b (free_within held below start ++ free_within held below middle) (part_at (suc below) start ∷ []))) [
+    elim (meets_chunk held start (12 - suc below)) as (λ b. meets_chunk held start (12 - suc below) ≡ b → All (IsFreeWithin held start end) (cond b (free_within held below start ++ free_within held below middle) (part_above (suc below) start ∷ []))) [
       | true ↦ λ meets. All-append (IsFreeWithin held start end) (free_within held below start) (free_within held below middle)
           (widened held start middle start end (free_within held below start) (omega arith) (omega (arith, size_of_halves below h))
           (listed_are_free held below start (omega arith) (start_is_whole below start h whole) (half_is_largest held below start start h (parent_of_lower below start h whole) meets)))

@@ -13,8 +13,9 @@ use Rattle.ms_base.specs.Level.{size_of}
 use Rattle.ms_base.specs.Part.{node_words}
 use Rattle.ms_base.specs.Held.{meets_chunk}
 use Rattle.ms_base.specs.FreeParts.{free_within, free_in_slot, free_parts}
+use Rattle.ms_base.specs.FreeLaws.{start_of}
 use Rattle.ms_base.proofs.HalvesLemmas.{size_some, size_of_halves}
-use Rattle.ms_base.proofs.FreeLemmas.{part_at}
+use Rattle.ms_base.proofs.FreeLemmas.{part_above}
 
 -- Parts rise from low to high: each starts where the one before ends, or later.
 abbrev Rises : ℕ → ℕ → List Span → Type 0
@@ -31,12 +32,12 @@ rises_joined low middle high (part ∷ xs) ys first second = (first.0, rises_joi
 
 -- The free parts of a part rise from its start to its end.
 within_rises : (held : List Chunk) (below start : ℕ) → below ≤ 12 → Rises start (start + size_of (12 - below)) (free_within held below start)
-within_rises held zero start h = elim (meets_chunk held start 12) as (λ b. Rises start (start + size_of 12) (cond b [] (part_at zero start ∷ []))) [
+within_rises held zero start h = elim (meets_chunk held start 12) as (λ b. Rises start (start + size_of 12) (cond b [] (part_above zero start ∷ []))) [
   | true ↦ omega arith
   | false ↦ (omega arith, omega arith)
 ]
 within_rises held (suc below) start h =
-    elim (meets_chunk held start (12 - suc below)) as (λ b. Rises start end (cond b (free_within held below start ++ free_within held below middle) (part_at (suc below) start ∷ []))) [
+    elim (meets_chunk held start (12 - suc below)) as (λ b. Rises start end (cond b (free_within held below start ++ free_within held below middle) (part_above (suc below) start ∷ []))) [
       | true ↦ rises_joined start middle end (free_within held below start) (free_within held below middle) (within_rises held below start (omega arith))
           (rw e (within_rises held below middle (omega arith)))
       | false ↦ (omega arith, omega arith)
@@ -87,7 +88,7 @@ slots_rise held low (slot ∷ slots) above sorted =
 
 -- The starts of rising parts are in order.
 starts_above : (part : Span) (low high : ℕ) (parts : List Span) → part.start < low → Rises low high parts
-    → AllByRecursion (λ y. nat_cmp part.start y ≡ Less) (map (λ (p : Span). p.start) parts)
+    → AllByRecursion (λ y. nat_cmp part.start y ≡ Less) (map start_of parts)
 starts_above part low high [] h rises = tt
 starts_above part low high (next ∷ parts) h rises =
     (is_less part.start next.start (omega (arith, rises.0)), starts_above part (next.start + size_of next.level) high parts (omega (arith, rises.0)) rises.1)
@@ -95,14 +96,14 @@ starts_above part low high (next ∷ parts) h rises =
     is_less : (a b : ℕ) → a < b → nat_cmp a b ≡ Less
     is_less a b h = grind (arith, nat_tests)
 
-starts_sorted : (low high : ℕ) (parts : List Span) → Rises low high parts → IsStrictlySortedBy nat_cmp (map (λ (p : Span). p.start) parts)
+starts_sorted : (low high : ℕ) (parts : List Span) → Rises low high parts → IsStrictlySortedBy nat_cmp (map start_of parts)
 unfolding IsStrictlySortedBy
 starts_sorted low high [] rises = tt
 starts_sorted low high (part ∷ parts) rises =
     (starts_above part (part.start + size_of part.level) high parts (omega (arith, size_some part.level)) rises.1, starts_sorted (part.start + size_of part.level) high parts rises.1)
 
 -- Free parts are listed in rising order of their starts where the slots rise.
-pub free_parts_rise : (held : List Chunk) (slots : List ℕ) → IsStrictlyIncreasing slots → IsStrictlyIncreasing (map (λ (part : Span). part.start) (free_parts held slots))
+pub free_parts_rise : (held : List Chunk) (slots : List ℕ) → IsStrictlyIncreasing slots → IsStrictlyIncreasing (map start_of (free_parts held slots))
 free_parts_rise held slots h = let rises = slots_rise held 0 slots (all_from_zero slots) (sorted_from_strictly_increasing slots h) in
     IsStrictlyIncreasing-from_sorted _ (starts_sorted (0 * node_words) rises.0 (free_parts held slots) rises.1)
   where

@@ -16,7 +16,7 @@ use Rattle.ms_base.specs.Held.{meets_chunk}
 use Rattle.ms_base.specs.FreeParts.{IsFreePart, free_within, free_in_slot, free_parts}
 use Rattle.ms_base.specs.State.{PoolState}
 use Rattle.ms_base.specs.Causes.{has_room}
-use Rattle.ms_base.specs.FreeLaws.{IsClear, LiesIn, LiesInFree, HasRoomWhereClear}
+use Rattle.ms_base.specs.FreeLaws.{part_at, IsClearIn, IsClear, LiesIn, LiesInFree, HasRoomWhereClear}
 use Rattle.ms_base.proofs.HalvesLemmas.{size_falls, size_some, multiple_of_smaller, steps_apart}
 use Rattle.ms_base.proofs.FreeLemmas.{has_part, IsInside, clear_is_in_free, IsFreeWithin, widened, listed_are_free}
 
@@ -141,7 +141,7 @@ clear_within (chunk ∷ held) a l b k from upto clear =
 
 -- The lowest part of a level in a free part is clear.
 pub lowest_is_clear : (held : List Chunk) (slots : List ℕ) (part : Span) (m : ℕ) → Contains (free_parts held slots) part → part.level ≤ m → m ≤ 12
-    → IsClear held slots (record { start = part.start; level = m })
+    → IsClear held slots (part_at part.start m)
 lowest_is_clear held slots part m listed h k = let free = All-contains (IsFreePart held slots) (free_parts held slots) part (listed_is_free held slots) listed in record {
   placed = (k, multiple_of_smaller part.start part.level m h k free.placed.1);
   reserved = free.reserved;
@@ -151,13 +151,13 @@ lowest_is_clear held slots part m listed h k = let free = All-contains (IsFreePa
 -- There is room for a level exactly where a part of it is clear.
 pub room_is_clear : (pool : PoolState) (m : ℕ) → m ≤ 12 → HasRoomWhereClear pool m
 room_is_clear pool m h = record {
-  room = λ start clear. let found = clear_lies_in_free pool.held pool.slots (record { start = start; level = m }) clear in
+  room = λ start clear. let found = clear_lies_in_free pool.held pool.slots (part_at start m) clear in
       list_any_at (λ part. nat_le part.level m) (free_parts pool.held pool.slots) found.free.0 found.around found.free.1
       (ap (λ (part : Span). nat_le part.level m) found.free.2 ∙ le-leb found.around.level m found.within.wide);
   clear = some_clear;
   full = λ all. false_from_ne_true (has_room pool m) (λ e. let some = some_clear e in both_ways (meets_chunk pool.held some.0 m) some.1.empty (all some.0 some.1.placed some.1.reserved));
 }
   where
-    some_clear : has_room pool m ≡ true → (start : ℕ) × IsClear pool.held pool.slots (record { start = start; level = m })
+    some_clear : has_room pool m ≡ true → (start : ℕ) × IsClearIn pool start m
     some_clear e = let found = Any-from_list_any (λ (part : Span). nat_le part.level m) (free_parts pool.held pool.slots) e in
         (found.1.start, lowest_is_clear pool.held pool.slots found.1 m (found.0, found.2, found.3) (leb-true found.1.level m found.4) h)
