@@ -20,8 +20,8 @@ use Rattle.ms_base.specs.Part.{IsPart, slot_of, is_reserved, node_words}
 use Rattle.ms_base.specs.Held.{AreHeld, words_of, meets_chunk}
 use Rattle.ms_base.specs.FreeParts.{free_within, free_in_slot, free_parts}
 use Rattle.ms_base.specs.FreeLaws.{words_in, runs_in_roots}
-use Rattle.ms_base.proofs.HalvesLemmas.{size_of_halves, start_is_whole, middle_is_whole}
-use Rattle.ms_base.proofs.FreeLemmas.{part_above}
+use Rattle.ms_base.proofs.HalvesLemmas.{words_over, IsStart, size_of_halves}
+use Rattle.ms_base.proofs.FreeLemmas.{part_over, meets_over, by_halves}
 use Rattle.ms_base.proofs.RoomLemmas.{root_of, roots_are_whole}
 use Rattle.ms_base.proofs.LargestLemmas.{inside_bounds}
 use Rattle.ms_base.proofs.GranuleLemmas.{ends_in_node}
@@ -72,8 +72,11 @@ clear_has_no_word (chunk ∷ held) word start level clear here =
     not_in : (c t a s w : ℕ) → meet c t a s ≡ false → lies_in (w, 1) (a, s) ≡ true → lies_in (w, 1) (c, t) ≡ false
     not_in c t a s w e h = grind (arith, nat_tests)
 
+abbrev AreParts : List Chunk → Type 0
+AreParts held = All (λ chunk. IsPart chunk.start chunk.level) held
+
 -- A word of the smallest part lies in a chunk that meets it.
-meeting_has_word : (held : List Chunk) (word start : ℕ) → All (λ chunk. IsPart chunk.start chunk.level) held → start % size_of 12 ≡ 0
+meeting_has_word : (held : List Chunk) (word start : ℕ) → AreParts held → IsStart 0 start
     → meets_chunk held start 12 ≡ true → has_word word (start, size_of 12) ≡ true → is_held word held ≡ true
 meeting_has_word [] word start parts whole meets here = absurd (cc)
 meeting_has_word (chunk ∷ held) word start parts whole meets here =
@@ -102,42 +105,48 @@ free_in_halves : (word start half size : ℕ) (b : Bool) → size ≡ half + hal
     → one_if (lies_in (word, 1) (start, half) && b) + one_if (lies_in (word, 1) (start + half, half) && b) ≡ one_if (lies_in (word, 1) (start, size) && b)
 free_in_halves word start half size b e = grind (arith, nat_tests)
 
--- A word of a part that lies in no held chunk lies in one of the free parts there.
-itself_covers : (held : List Chunk) (word below start : ℕ) → meets_chunk held start (12 - below) ≡ false
-    → times word (map words_in (part_above below start ∷ [])) ≡ one_if (is_free word held (start, size_of (12 - below)))
+-- The parts have the word once where it lies in the part with so many levels below it and in no
+-- held chunk, and else not at all.
+abbrev CoverOver : List Chunk → ℕ → ℕ → ℕ → List Span → Type 0
+CoverOver held word below start parts = times word (map words_in parts) ≡ one_if (is_free word held (start, words_over below))
+
+-- A part that meets no chunk covers its words.
+itself_covers : (held : List Chunk) (word below start : ℕ) → meets_over held below start ≡ false
+    → CoverOver held word below start (part_over below start ∷ [])
 itself_covers held word below start clear =
-    elim (has_word word (start, size_of (12 - below))) as (λ b. has_word word (start, size_of (12 - below)) ≡ b → 0 + one_if b ≡ one_if (b && not (is_held word held))) [
+    elim (has_word word run) as (λ b. has_word word run ≡ b → 0 + one_if b ≡ one_if (b && not (is_held word held))) [
       | true ↦ λ here. ap (λ b. one_if (not b)) (sym (clear_has_no_word held word start (12 - below) clear here))
       | false ↦ λ past. refl
     ] refl
-
-covered_within : (held : List Chunk) (word below start : ℕ) → All (λ chunk. IsPart chunk.start chunk.level) held → below ≤ 12 → start % size_of (12 - below) ≡ 0
-    → times word (map words_in (free_within held below start)) ≡ one_if (is_free word held (start, size_of (12 - below)))
-covered_within held word zero start parts h whole =
-    elim (meets_chunk held start 12) as (λ b. meets_chunk held start 12 ≡ b → times word (map words_in (cond b [] (part_above zero start ∷ []))) ≡ one_if (is_free word held (start, size_of 12))) [
-      | true ↦ λ meets. ap one_if (sym (held_here meets))
-      | false ↦ λ clear. itself_covers held word zero start clear
-    ] refl
   where
-    held_here : meets_chunk held start 12 ≡ true → is_free word held (start, size_of 12) ≡ false
-    held_here meets = elim (has_word word (start, size_of 12)) as (λ b. has_word word (start, size_of 12) ≡ b → (b && not (is_held word held)) ≡ false) [
+    run : ℕ × ℕ
+    run = (start, words_over below)
+
+-- None of the words of the smallest part is free where it meets a chunk.
+smallest_is_held : (held : List Chunk) (word start : ℕ) → AreParts held → IsStart 0 start → meets_over held 0 start ≡ true
+    → is_free word held (start, words_over 0) ≡ false
+smallest_is_held held word start parts whole meets =
+    elim (has_word word run) as (λ b. has_word word run ≡ b → (b && not (is_held word held)) ≡ false) [
       | true ↦ λ here. not_from_true (is_held word held) (meeting_has_word held word start parts whole meets here)
       | false ↦ λ past. refl
     ] refl
-covered_within held word (suc below) start parts h whole =
-    elim (meets_chunk held start (12 - suc below)) as (λ b. meets_chunk held start (12 - suc below) ≡ b → times word (map words_in (cond b (free_within held below start ++ free_within held below middle) (part_above (suc below) start ∷ []))) ≡ one_if (is_free word held (start, size_of (12 - suc below)))) [
-      | true ↦ λ meets. times_joined word (free_within held below start) (free_within held below middle)
-          ∙ omega (
-            arith,
-            covered_within held word below start parts (omega arith) (start_is_whole below start h whole),
-            covered_within held word below middle parts (omega arith) (middle_is_whole below start h whole),
-            free_in_halves word start (size_of (12 - below)) (size_of (12 - suc below)) (not (is_held word held)) (size_of_halves below h),
-          )
-      | false ↦ λ clear. itself_covers held word (suc below) start clear
-    ] refl
   where
-    middle : ℕ
-    middle = start + size_of (12 - below)
+    run : ℕ × ℕ
+    run = (start, words_over 0)
+
+-- The free parts of a part cover each of its words that lies in no held chunk.
+covered_within : (held : List Chunk) (word : ℕ) → AreParts held → (below start : ℕ) → below ≤ 12 → IsStart below start
+    → CoverOver held word below start (free_within held below start)
+covered_within held word parts = by_halves held (CoverOver held word) (record {
+  none = λ start whole meets. ap one_if (sym (smallest_is_held held word start parts whole meets));
+  itself = λ below start h whole clear. itself_covers held word below start clear;
+  halves = λ below start lower upper h whole meets first second. times_joined word lower upper ∙ omega (
+    arith,
+    first,
+    second,
+    free_in_halves word start (words_over below) (words_over (suc below)) (not (is_held word held)) (size_of_halves below h),
+  );
+})
 
 -- A word lies in a slot's node exactly where the slot is its own.
 in_node : (word slot : ℕ) → lies_in (word, 1) (slot * node_words, node_words) ≡ (slot == slot_of word)
@@ -154,13 +163,13 @@ in_node word slot = elim (cases_eq slot (slot_of word)) [
     slot_is bounds = omega (arith, bounds.0, bounds.1)
 
 -- The free parts of a slot cover each word of its node that lies in no held chunk.
-covered_in_slot : (held : List Chunk) (word slot : ℕ) → All (λ chunk. IsPart chunk.start chunk.level) held
+covered_in_slot : (held : List Chunk) (word slot : ℕ) → AreParts held
     → times word (map words_in (free_in_slot held slot)) ≡ one_if ((slot == slot_of word) && not (is_held word held))
 covered_in_slot held word slot parts = times_joined word (free_within held 12 (root_of slot)) (free_within held 12 (root_of slot + size_of 0))
     ∙ omega (
       arith,
-      covered_within held word 12 (root_of slot) parts (omega arith) (roots_are_whole slot).0,
-      covered_within held word 12 (root_of slot + size_of 0) parts (omega arith) (roots_are_whole slot).1,
+      covered_within held word parts 12 (root_of slot) (omega arith) (roots_are_whole slot).0,
+      covered_within held word parts 12 (root_of slot + size_of 0) (omega arith) (roots_are_whole slot).1,
       free_in_halves word (root_of slot) (size_of 0) node_words (not (is_held word held)) refl,
     )
     ∙ ap (λ b. one_if (b && not (is_held word held))) (in_node word slot)
@@ -173,7 +182,7 @@ not_among slot other (y ∷ slots) e above = or_from (y == other) (is_reserved s
     differs : (a b y : ℕ) → a ≡ b → nat_cmp a y ≡ Less → (y == b) ≡ false
     differs a b y e h = grind (arith, nat_tests)
 
-covered_in_slots : (held : List Chunk) (word : ℕ) (slots : List ℕ) → All (λ chunk. IsPart chunk.start chunk.level) held → IsStrictlySortedBy nat_cmp slots
+covered_in_slots : (held : List Chunk) (word : ℕ) (slots : List ℕ) → AreParts held → IsStrictlySortedBy nat_cmp slots
     → times word (map words_in (flat_map (free_in_slot held) slots)) ≡ one_if (is_reserved slots (slot_of word) && not (is_held word held))
 unfolding IsStrictlySortedBy
 covered_in_slots held word [] parts sorted = refl
@@ -190,7 +199,7 @@ covered_in_slots held word (slot ∷ slots) parts sorted = times_joined word (fr
     ] refl
 
 -- A word of a held chunk lies in a reserved node.
-held_is_reserved : (word : ℕ) (slots : List ℕ) (held : List Chunk) → All (λ chunk. IsPart chunk.start chunk.level) held
+held_is_reserved : (word : ℕ) (slots : List ℕ) (held : List Chunk) → AreParts held
     → list_all (λ (chunk : Chunk). is_reserved slots (slot_of chunk.start)) held ≡ true → is_held word held ≡ true → is_reserved slots (slot_of word) ≡ true
 held_is_reserved word slots [] parts reserved here = absurd (cc)
 held_is_reserved word slots (chunk ∷ held) parts reserved here =
