@@ -23,7 +23,8 @@ use Rattle.ms_base.proofs.LargestLemmas.{inside_bounds}
 use Rattle.ms_base.proofs.FreeGranuleLemmas.{bounds_meet, committed_where_small}
 
 -- A test that gives one answer at each number of a range gives it of all.
-all_alike : (p : ℕ → Bool) (b : Bool) (low n : ℕ) → ((k : ℕ) → low ≤ k → k < low + suc n → p k ≡ b) → list_all p (range_with_len low (suc n)) ≡ b
+all_alike : (p : ℕ → Bool) (b : Bool) (low n : ℕ) → ((k : ℕ) → low ≤ k → k < low + suc n → p k ≡ b)
+    → list_all p (range_with_len low (suc n)) ≡ b
 all_alike p b low zero each = ap (λ x. x && true) (each low (omega arith) (omega arith)) ∙ with_true b
   where
     with_true : (b : Bool) → (b && true) ≡ b
@@ -37,8 +38,8 @@ all_alike p b low (suc n) each = ap (λ x. x && list_all p (range_with_len (low 
     with_itself false = refl
 
 -- The granules that meet the first words of a run meet the run.
-first_words_meet : (granule start words size k : ℕ) → 1 ≤ granule → 1 ≤ words → words ≤ size → start / granule ≤ k → k ≤ (start + words - 1) / granule
-    → meet start size (k * granule) granule ≡ true
+first_words_meet : (granule start words size k : ℕ) → 1 ≤ granule → 1 ≤ words → words ≤ size → start / granule ≤ k
+    → k ≤ (start + words - 1) / granule → meet start size (k * granule) granule ≡ true
 first_words_meet granule start words size k some few within low high = bounds_meet start size (k * granule) granule
     (omega (arith, div-add-mod' start granule, mod_below start granule (omega arith), mul-le (start / granule) granule k granule low (omega arith)))
     (omega (arith, div-add-mod' (start + words - 1) granule, mul-le k granule ((start + words - 1) / granule) granule high (omega arith)))
@@ -66,8 +67,9 @@ granules_from_first granule start words some_granule some =
 
 -- A free part is committed enough for words that it can hold exactly where it is smaller than a
 -- granule.
-pub enough_where_small : (pool : PoolState) (part : Span) (words : ℕ) → IsGranule pool.limits.granule → AreHeld pool.limits.granule pool.slots pool.held
-    → IsFreePart pool.held pool.slots part → 1 ≤ words → words ≤ size_of part.level
+pub enough_where_small : (pool : PoolState) (part : Span) (words : ℕ) → IsGranule pool.limits.granule
+    → AreHeld pool.limits.granule pool.slots pool.held → IsFreePart pool.held pool.slots part → 1 ≤ words
+    → words ≤ size_of part.level
     → is_committed_enough pool words part ≡ nat_lt (size_of part.level) pool.limits.granule
 enough_where_small pool part words of_level good free some few =
     ap (list_all (has_committed pool)) (granules_from_first granule part.start words (granule_some granule of_level) some)
@@ -80,9 +82,10 @@ enough_where_small pool part words of_level good free some few =
     granule = pool.limits.granule
 
 -- Where a part is committed enough, so is the free part that it lies in.
-around_is_enough : (pool : PoolState) (part around : Span) (words : ℕ) → IsGranule pool.limits.granule → AreHeld pool.limits.granule pool.slots pool.held
-    → IsFreePart pool.held pool.slots around → LiesIn part around → 1 ≤ words → words ≤ size_of part.level
-    → is_committed_enough pool words part ≡ true → is_committed_enough pool words around ≡ true
+around_is_enough : (pool : PoolState) (part around : Span) (words : ℕ) → IsGranule pool.limits.granule
+    → AreHeld pool.limits.granule pool.slots pool.held → IsFreePart pool.held pool.slots around → LiesIn part around
+    → 1 ≤ words → words ≤ size_of part.level → is_committed_enough pool words part ≡ true
+    → is_committed_enough pool words around ≡ true
 around_is_enough pool part around words of_level good free within some few enough =
     enough_where_small pool around words of_level good free some (omega (arith, bounds))
     ∙ sym (committed_where_small granule pool.held pool.slots around first of_level good free first_meets) ∙ first_committed
@@ -106,8 +109,9 @@ around_is_enough pool part around words of_level good free within some few enoug
         (ap (list_all (has_committed pool)) (sym (granules_from_first granule part.start words (granule_some granule of_level) some)) ∙ enough)).0
 
 -- There is committed room exactly where a clear part is committed enough.
-pub committed_room_is_clear : (pool : PoolState) (m words : ℕ) → m ≤ 12 → 1 ≤ words → words ≤ size_of m → IsGranule pool.limits.granule
-    → AreHeld pool.limits.granule pool.slots pool.held → HasCommittedRoomWhereClear pool m words
+pub committed_room_is_clear : (pool : PoolState) (m words : ℕ) → m ≤ 12 → 1 ≤ words → words ≤ size_of m
+    → IsGranule pool.limits.granule → AreHeld pool.limits.granule pool.slots pool.held
+    → HasCommittedRoomWhereClear pool m words
 committed_room_is_clear pool m words h some few of_level good = record {
   room = room;
   clear = clear;

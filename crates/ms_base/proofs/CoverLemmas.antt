@@ -38,11 +38,13 @@ one_if b = cond b 1 0
 abbrev times : ℕ → List (ℕ × ℕ) → ℕ
 times word runs = count_by (has_word word) runs
 
-times_with : (word : ℕ) (run : ℕ × ℕ) (runs : List (ℕ × ℕ)) → times word (run ∷ runs) ≡ one_if (has_word word run) + times word runs
+times_with : (word : ℕ) (run : ℕ × ℕ) (runs : List (ℕ × ℕ))
+    → times word (run ∷ runs) ≡ one_if (has_word word run) + times word runs
 times_with word run runs = sum_by-cons (λ r. one_if (has_word word r)) run runs
 
 -- Runs that are apart have a word once, or not at all.
-apart_from_all : (word : ℕ) (run : ℕ × ℕ) (runs : List (ℕ × ℕ)) → has_word word run ≡ true → meets_any run runs ≡ false → list_any (has_word word) runs ≡ false
+apart_from_all : (word : ℕ) (run : ℕ × ℕ) (runs : List (ℕ × ℕ)) → has_word word run ≡ true
+    → meets_any run runs ≡ false → list_any (has_word word) runs ≡ false
 apart_from_all word run [] here apart = refl
 apart_from_all word run (other ∷ runs) here apart = let both = or_parts (meet run.0 run.1 other.0 other.1) (meets_any run runs) apart in
     or_from (has_word word other) (list_any (has_word word) runs) (not_both word run.0 run.1 other.0 other.1 here both.0) (apart_from_all word run runs here both.1)
@@ -50,7 +52,8 @@ apart_from_all word run (other ∷ runs) here apart = let both = or_parts (meet 
     not_both : (w a m b n : ℕ) → lies_in (w, 1) (a, m) ≡ true → meet a m b n ≡ false → lies_in (w, 1) (b, n) ≡ false
     not_both w a m b n h e = grind (arith, nat_tests)
 
-once_where_apart : (word : ℕ) (runs : List (ℕ × ℕ)) → are_apart runs ≡ true → times word runs ≡ one_if (list_any (has_word word) runs)
+once_where_apart : (word : ℕ) (runs : List (ℕ × ℕ)) → are_apart runs ≡ true
+    → times word runs ≡ one_if (list_any (has_word word) runs)
 once_where_apart word [] apart = refl
 once_where_apart word (run ∷ runs) apart = let both = and_parts (not (meets_any run runs)) (are_apart runs) apart in
     times_with word run runs ∙ elim (has_word word run) as (λ b. has_word word run ≡ b → one_if b + times word runs ≡ one_if (b || list_any (has_word word) runs)) [
@@ -63,7 +66,8 @@ abbrev is_held : ℕ → List Chunk → Bool
 is_held word held = list_any (has_word word) (map words_of held)
 
 -- A word of a part that meets no chunk lies in none.
-clear_has_no_word : (held : List Chunk) (word start level : ℕ) → meets_chunk held start level ≡ false → has_word word (start, size_of level) ≡ true → is_held word held ≡ false
+clear_has_no_word : (held : List Chunk) (word start level : ℕ) → meets_chunk held start level ≡ false
+    → has_word word (start, size_of level) ≡ true → is_held word held ≡ false
 clear_has_no_word [] word start level clear here = refl
 clear_has_no_word (chunk ∷ held) word start level clear here =
     let both = or_parts (meet chunk.start (size_of chunk.level) start (size_of level)) (meets_chunk held start level) clear in
@@ -94,7 +98,8 @@ meeting_has_word (chunk ∷ held) word start parts whole meets here =
     still_in w c t a s h m e = grind (arith, nat_tests)
 
 -- The words of parts that stand in two lists.
-times_joined : (word : ℕ) (xs ys : List Span) → times word (map words_in (xs ++ ys)) ≡ times word (map words_in xs) + times word (map words_in ys)
+times_joined : (word : ℕ) (xs ys : List Span)
+    → times word (map words_in (xs ++ ys)) ≡ times word (map words_in xs) + times word (map words_in ys)
 times_joined word xs ys = ap (times word) (map-append words_in xs ys) ∙ sum_by-append (λ r. one_if (has_word word r)) (map words_in xs) (map words_in ys)
 
 -- The word lies in the run, and in no held chunk.
@@ -123,8 +128,8 @@ itself_covers held word below start clear =
     run = (start, words_over below)
 
 -- None of the words of the smallest part is free where it meets a chunk.
-smallest_is_held : (held : List Chunk) (word start : ℕ) → AreParts held → IsStart 0 start → meets_over held 0 start ≡ true
-    → is_free word held (start, words_over 0) ≡ false
+smallest_is_held : (held : List Chunk) (word start : ℕ) → AreParts held → IsStart 0 start
+    → meets_over held 0 start ≡ true → is_free word held (start, words_over 0) ≡ false
 smallest_is_held held word start parts whole meets =
     elim (has_word word run) as (λ b. has_word word run ≡ b → (b && not (is_held word held)) ≡ false) [
       | true ↦ λ here. not_from_true (is_held word held) (meeting_has_word held word start parts whole meets here)
@@ -175,7 +180,8 @@ covered_in_slot held word slot parts = times_joined word (free_within held 12 (r
     ∙ ap (λ b. one_if (b && not (is_held word held))) (in_node word slot)
 
 -- A slot below all others is none of them.
-not_among : (slot other : ℕ) (slots : List ℕ) → slot ≡ other → AllByRecursion (λ y. nat_cmp slot y ≡ Less) slots → is_reserved slots other ≡ false
+not_among : (slot other : ℕ) (slots : List ℕ) → slot ≡ other → AllByRecursion (λ y. nat_cmp slot y ≡ Less) slots
+    → is_reserved slots other ≡ false
 not_among slot other [] e above = refl
 not_among slot other (y ∷ slots) e above = or_from (y == other) (is_reserved slots other) (differs slot other y e above.0) (not_among slot other slots e above.1)
   where
@@ -200,7 +206,8 @@ covered_in_slots held word (slot ∷ slots) parts sorted = times_joined word (fr
 
 -- A word of a held chunk lies in a reserved node.
 held_is_reserved : (word : ℕ) (slots : List ℕ) (held : List Chunk) → AreParts held
-    → list_all (λ (chunk : Chunk). is_reserved slots (slot_of chunk.start)) held ≡ true → is_held word held ≡ true → is_reserved slots (slot_of word) ≡ true
+    → list_all (λ (chunk : Chunk). is_reserved slots (slot_of chunk.start)) held ≡ true → is_held word held ≡ true
+    → is_reserved slots (slot_of word) ≡ true
 held_is_reserved word slots [] parts reserved here = absurd (cc)
 held_is_reserved word slots (chunk ∷ held) parts reserved here =
     let both = and_parts (is_reserved slots (slot_of chunk.start)) (list_all (λ (c : Chunk). is_reserved slots (slot_of c.start)) held) reserved in
@@ -211,12 +218,13 @@ held_is_reserved word slots (chunk ∷ held) parts reserved here =
     ]
   where
     same_slot : (chunk.start ≤ word) × (word + 1 ≤ chunk.start + size_of chunk.level)
-        → chunk.start + size_of chunk.level ≤ slot_of chunk.start * node_words + node_words → chunk.start / node_words ≡ word / node_words
+        → chunk.start + size_of chunk.level ≤ slot_of chunk.start * node_words + node_words
+        → chunk.start / node_words ≡ word / node_words
     same_slot bounds ends = omega (arith, bounds.0, bounds.1, ends)
 
 -- Held chunks and free parts together have each word of a reserved node once, and no other word.
-pub covered_once : (granule word : ℕ) (held : List Chunk) (slots : List ℕ) → AreHeld granule slots held → IsStrictlyIncreasing slots
-    → times word (runs_in_roots held slots) ≡ one_if (is_reserved slots (slot_of word))
+pub covered_once : (granule word : ℕ) (held : List Chunk) (slots : List ℕ) → AreHeld granule slots held
+    → IsStrictlyIncreasing slots → times word (runs_in_roots held slots) ≡ one_if (is_reserved slots (slot_of word))
 covered_once granule word held slots good rising = sum_by-append (λ r. one_if (has_word word r)) (map words_of held) (map words_in (free_parts held slots))
     ∙ elim (is_held word held) as (λ b. is_held word held ≡ b → times word (map words_of held) + times word (map words_in (free_parts held slots)) ≡ one_if (is_reserved slots (slot_of word))) [
       | true ↦ λ here. omega (

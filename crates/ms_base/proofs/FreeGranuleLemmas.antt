@@ -31,7 +31,8 @@ pub bounds_meet : (a m b n : ℕ) → a < b + n → b < a + m → meet a m b n �
 bounds_meet a m b n h k = grind (arith, nat_tests)
 
 -- Of two parts that meet, one of a greater level lies in the other.
-pub meeting_lies_in : (a l b k : ℕ) → IsPart a l → IsPart b k → l ≤ k → meet a (size_of l) b (size_of k) ≡ true → (a ≤ b) × (b + size_of k ≤ a + size_of l)
+pub meeting_lies_in : (a l b k : ℕ) → IsPart a l → IsPart b k → l ≤ k → meet a (size_of l) b (size_of k) ≡ true
+    → (a ≤ b) × (b + size_of k ≤ a + size_of l)
 meeting_lies_in a l b k first second h meets = elim (parts_are_nested_or_apart a l b k first second h) [
   | inl inside ↦ inside_bounds b (size_of k) a (size_of l) inside
   | inr apart ↦ absurd (both_ways (meet a (size_of l) b (size_of k)) apart meets)
@@ -44,8 +45,9 @@ one_is_apart held b k i d h clear = false_from_ne_true (meet (get_or held i d).s
     (λ meets. both_ways (meets_chunk held b k) clear (list_any_at (λ (chunk : Chunk). meet chunk.start (size_of chunk.level) b (size_of k)) held i d h meets))
 
 -- A granule that meets no chunk holds no word of a front.
-clear_is_uncommitted : (granule : ℕ) (held : List Chunk) (number k : ℕ) → granule ≡ size_of k → All (HasFront granule) held
-    → meets_chunk held (number * granule) k ≡ false → is_committed granule held number ≡ false
+clear_is_uncommitted : (granule : ℕ) (held : List Chunk) (number k : ℕ) → granule ≡ size_of k
+    → All (HasFront granule) held → meets_chunk held (number * granule) k ≡ false
+    → is_committed granule held number ≡ false
 clear_is_uncommitted granule held number k e fronts clear = list_any_none (λ (chunk : Chunk). meet chunk.start chunk.front (number * granule) granule) held
     (λ i d h. shorter (get_or held i d).start (size_of (get_or held i d).level) (get_or held i d).front (number * granule) granule (fronts i d h).within
     (ap (λ (n : ℕ). meet (get_or held i d).start (size_of (get_or held i d).level) (number * granule) n) e ∙ one_is_apart held (number * granule) k i d h clear))
@@ -54,9 +56,10 @@ clear_is_uncommitted granule held number k e fronts clear = list_any_none (λ (c
     shorter c t f b n h m = grind (arith, nat_tests)
 
 -- A granule that meets a free part of its size or more is not committed.
-pub large_is_uncommitted : (granule : ℕ) (held : List Chunk) (slots : List ℕ) (part : Span) (number k : ℕ) → granule ≡ size_of k → k ≤ 12
-    → AreHeld granule slots held → IsFreePart held slots part → meet part.start (size_of part.level) (number * granule) granule ≡ true
-    → part.level ≤ k → is_committed granule held number ≡ false
+pub large_is_uncommitted : (granule : ℕ) (held : List Chunk) (slots : List ℕ) (part : Span) (number k : ℕ)
+    → granule ≡ size_of k → k ≤ 12 → AreHeld granule slots held → IsFreePart held slots part
+    → meet part.start (size_of part.level) (number * granule) granule ≡ true → part.level ≤ k
+    → is_committed granule held number ≡ false
 large_is_uncommitted granule held slots part number k e small good free meets large =
     clear_is_uncommitted granule held number k e good.fronts (clear_within held part.start part.level (number * granule) k inside.0 inside.1 free.empty)
   where
@@ -69,7 +72,8 @@ large_is_uncommitted granule held slots part number k e small good free meets la
 
 -- The chunk that keeps a free part from being larger lies in the part's parent, and is no larger
 -- than the part.
-keeper_in_parent : (part : Span) (chunk : Chunk) → IsPart part.start part.level → 1 ≤ part.level → IsPart chunk.start chunk.level
+keeper_in_parent : (part : Span) (chunk : Chunk) → IsPart part.start part.level → 1 ≤ part.level
+    → IsPart chunk.start chunk.level
     → meet chunk.start (size_of chunk.level) (parent_start part.start part.level) (size_of (part.level - 1)) ≡ true
     → meet chunk.start (size_of chunk.level) part.start (size_of part.level) ≡ false
     → (part.level ≤ chunk.level) × (parent_start part.start part.level ≤ chunk.start)
@@ -92,9 +96,10 @@ keeper_in_parent part chunk placed below held meets apart = elim (cases_lt (part
     parent_placed = (omega (arith, placed.0), parent_is_whole part.start part.level)
 
 -- A granule that meets a free part smaller than it is committed.
-pub small_is_committed : (granule : ℕ) (held : List Chunk) (slots : List ℕ) (part : Span) (number k : ℕ) → granule ≡ size_of k → k ≤ 12
-    → AreHeld granule slots held → IsFreePart held slots part → meet part.start (size_of part.level) (number * granule) granule ≡ true
-    → k < part.level → is_committed granule held number ≡ true
+pub small_is_committed : (granule : ℕ) (held : List Chunk) (slots : List ℕ) (part : Span) (number k : ℕ)
+    → granule ≡ size_of k → k ≤ 12 → AreHeld granule slots held → IsFreePart held slots part
+    → meet part.start (size_of part.level) (number * granule) granule ≡ true → k < part.level
+    → is_committed granule held number ≡ true
 small_is_committed granule held slots part number k e small good free meets less = list_any_at (λ (chunk : Chunk). meet chunk.start chunk.front (number * granule) granule)
     held keeper.0 keeper.1 keeper.2 (ap (λ (chunk : Chunk). meet chunk.start chunk.front (number * granule) granule) keeper.3
     ∙ bounds_meet chunk.start chunk.front (number * granule) granule (omega (arith, inside.2, around.1, size_some chunk.level, e)) (omega (arith, around.0, inside.1, front.some)))
@@ -137,8 +142,9 @@ small_is_committed granule held slots part number k e small good free meets less
         (omega (arith, bounds.0, e, (parent_around part.start part.level).0)))
 
 -- A granule that meets a free part is committed exactly where the part is smaller.
-pub committed_where_small : (granule : ℕ) (held : List Chunk) (slots : List ℕ) (part : Span) (number : ℕ) → IsGranule granule → AreHeld granule slots held
-    → IsFreePart held slots part → meet part.start (size_of part.level) (number * granule) granule ≡ true
+pub committed_where_small : (granule : ℕ) (held : List Chunk) (slots : List ℕ) (part : Span) (number : ℕ)
+    → IsGranule granule → AreHeld granule slots held → IsFreePart held slots part
+    → meet part.start (size_of part.level) (number * granule) granule ≡ true
     → is_committed granule held number ≡ nat_lt (size_of part.level) granule
 committed_where_small granule held slots part number of_level good free meets = elim (cases_lt of_level.level part.level) [
   | inl less ↦ small_is_committed granule held slots part number of_level.level of_level.is of_level.below good free meets less

@@ -70,7 +70,8 @@ pub record IsInside (part : Span) (below start : ℕ) : Type 0 where
   pub from : start ≤ part.start
   pub upto : part.start + size_of part.level ≤ start + words_over below
 
-inside_passes : (part : Span) (below start : ℕ) → IsInside part below start → has_part part (part_over below start) ≡ true
+inside_passes : (part : Span) (below start : ℕ) → IsInside part below start
+    → has_part part (part_over below start) ≡ true
 inside_passes part below start h =
     passes part.level part.start (size_of part.level) (12 - below) start (words_over below) h.wide h.from h.upto
   where
@@ -100,15 +101,16 @@ in_lower part below start h placed whole inside other low = record {
     middle = multiple_of_smaller (start + words_over below) (12 - below) part.level (omega (arith, inside.wide, other)) placed.0
         (middle_is_whole below start h whole)
 
-in_upper : (part : Span) (below start : ℕ) → below < 12 → IsInside part (suc below) start → (part.level ≡ 12 - suc below → ⊥)
-    → start + words_over below ≤ part.start → IsInside part below (start + words_over below)
+in_upper : (part : Span) (below start : ℕ) → below < 12 → IsInside part (suc below) start
+    → (part.level ≡ 12 - suc below → ⊥) → start + words_over below ≤ part.start
+    → IsInside part below (start + words_over below)
 in_upper part below start h inside other high =
     record { wide = omega (arith, inside.wide, other); from = high; upto = omega (arith, inside.upto, size_of_halves below h) }
 
 -- Among the free parts of a part is one that has each clear part within it.
-pub clear_is_in_free : (held : List Chunk) (part : Span) → IsPart part.start part.level → IsFalse (meets_chunk held part.start part.level)
-    → (below start : ℕ) → below ≤ 12 → IsStart below start → IsInside part below start
-    → list_any (has_part part) (free_within held below start) ≡ true
+pub clear_is_in_free : (held : List Chunk) (part : Span) → IsPart part.start part.level
+    → IsFalse (meets_chunk held part.start part.level) → (below start : ℕ) → below ≤ 12 → IsStart below start
+    → IsInside part below start → list_any (has_part part) (free_within held below start) ≡ true
 clear_is_in_free held part placed empty =
     by_halves held (λ below start parts. IsInside part below start → list_any (has_part part) parts ≡ true) (record {
       none = λ start whole meets inside. absurd (not_itself held part 0 start empty inside meets (omega (arith, inside.wide, placed.0)));

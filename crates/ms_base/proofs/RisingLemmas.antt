@@ -27,7 +27,8 @@ rises_lower : (a low high : ℕ) (parts : List Span) → a ≤ low → Rises low
 rises_lower a low high [] h rises = omega (arith, rises)
 rises_lower a low high (part ∷ parts) h rises = (omega (arith, rises.0), rises.1)
 
-rises_joined : (low middle high : ℕ) (xs ys : List Span) → Rises low middle xs → Rises middle high ys → Rises low high (xs ++ ys)
+rises_joined : (low middle high : ℕ) (xs ys : List Span) → Rises low middle xs → Rises middle high ys
+    → Rises low high (xs ++ ys)
 rises_joined low middle high [] ys first second = rises_lower low middle high ys first second
 rises_joined low middle high (part ∷ xs) ys first second = (first.0, rises_joined (part.start + size_of part.level) middle high xs ys first.1 second)
 
@@ -44,7 +45,8 @@ within_rises held = by_halves held (λ below start parts. Rises start (start + w
 })
 
 -- The free parts of a slot rise within its node.
-slot_rises : (held : List Chunk) (slot : ℕ) → Rises (slot * node_words) ((slot + 1) * node_words) (free_in_slot held slot)
+slot_rises : (held : List Chunk) (slot : ℕ)
+    → Rises (slot * node_words) ((slot + 1) * node_words) (free_in_slot held slot)
 slot_rises held slot = subst (λ (high : ℕ). Rises root high (free_in_slot held slot)) (omega arith)
     (rises_joined root middle (middle + size_of 0) (free_within held 12 root) (free_within held 12 middle)
     (within_rises held 12 root (omega arith) (roots_are_whole slot).0) (within_rises held 12 middle (omega arith) (roots_are_whole slot).1))
@@ -86,7 +88,8 @@ slots_rise held low (slot ∷ slots) above sorted =
     )
 
 -- The starts of rising parts are in order.
-starts_above : (at : ℕ) (low high : ℕ) (parts : List Span) → at < low → Rises low high parts → AreAbove at (map start_of parts)
+starts_above : (at : ℕ) (low high : ℕ) (parts : List Span) → at < low → Rises low high parts
+    → AreAbove at (map start_of parts)
 starts_above at low high [] h rises = tt
 starts_above at low high (next ∷ parts) h rises =
     (is_less at next.start (omega (arith, rises.0)), starts_above at (next.start + size_of next.level) high parts (omega (arith, rises.0)) rises.1)
@@ -94,7 +97,8 @@ starts_above at low high (next ∷ parts) h rises =
     is_less : (a b : ℕ) → a < b → nat_cmp a b ≡ Less
     is_less a b h = grind (arith, nat_tests)
 
-starts_sorted : (low high : ℕ) (parts : List Span) → Rises low high parts → IsStrictlySortedBy nat_cmp (map start_of parts)
+starts_sorted : (low high : ℕ) (parts : List Span) → Rises low high parts
+    → IsStrictlySortedBy nat_cmp (map start_of parts)
 unfolding IsStrictlySortedBy
 starts_sorted low high [] rises = tt
 starts_sorted low high (part ∷ parts) rises = (
