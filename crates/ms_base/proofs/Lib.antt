@@ -5,6 +5,15 @@ pub mod StepExamples
 pub mod EmptyLemmas
 pub mod PickLemmas
 pub mod PartLemmas
+pub mod HalvesLemmas
+pub mod FreeLemmas
+pub mod RoomLemmas
+pub mod LargestLemmas
+pub mod RisingLemmas
+pub mod LevelLemmas
+pub mod FreeGranuleLemmas
+pub mod CommittedRoomLemmas
+pub mod CoverLemmas
 pub mod GranuleLemmas
 pub mod IntervalLemmas
 pub mod NameLemmas

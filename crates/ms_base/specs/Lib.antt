@@ -22,6 +22,8 @@ pub mod Run
 pub mod Totals
 pub mod Alone
 pub mod Laws
+pub mod FreeLaws
+pub mod LevelLaws
 pub mod SumLaws
 pub mod BlockLaws
 pub mod WordLaws
