@@ -126,12 +126,12 @@ CommittedRoomIsClear =
     → AreHeld pool.limits.granule pool.slots pool.held → HasCommittedRoomWhereClear pool m words
 
 -- The words of a part.
-abbrev pub words_in : Span → ℕ × ℕ
-words_in part = (part.start, size_of part.level)
+abbrev pub words_of_part : Span → ℕ × ℕ
+words_of_part part = (part.start, size_of part.level)
 
 -- The runs of words that the held chunks and the free parts have.
 abbrev pub runs_in_roots : List Chunk → List ℕ → List (ℕ × ℕ)
-runs_in_roots held slots = map words_of held ++ map words_in (free_parts held slots)
+runs_in_roots held slots = map words_of held ++ map words_of_part (free_parts held slots)
 
 -- Each word of a reserved node lies in exactly one held chunk or free part, and any other word in
 -- none.
