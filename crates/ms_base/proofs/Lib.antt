@@ -8,3 +8,9 @@ pub mod PartLemmas
 pub mod GranuleLemmas
 pub mod IntervalLemmas
 pub mod NameLemmas
+pub mod EntryLemmas
+pub mod ApartLemmas
+pub mod HeldLemmas
+pub mod SlotLemmas
+pub mod CommittedLemmas
+pub mod GoodLemmas
