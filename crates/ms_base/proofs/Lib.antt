@@ -5,6 +5,8 @@ pub mod StepExamples
 pub mod EmptyLemmas
 pub mod PickLemmas
 pub mod PartLemmas
+pub mod HalvesLemmas
+pub mod FreeLemmas
 pub mod GranuleLemmas
 pub mod IntervalLemmas
 pub mod NameLemmas
