@@ -2,8 +2,9 @@
 //!
 //! Each block lies at the start of a chunk of its own, so a chunk's top is the words of its block.
 //! Kept true: there are as many tops as chunks. Only `add` takes memory.
-ghost use Rattle.std.specs.Prelude.{◌≡◌, ℕ, ◌<◌, ◌≤◌, IfOk, IfErr, OnOk, OnErr, [], length, min};
+ghost use Rattle.std.specs.Prelude.{◌≡◌, ℕ, ◌+◌, ◌*◌, ◌^◌, ◌<◌, ◌≤◌, IfOk, IfErr, OnOk, OnErr, [], length, min};
 ghost use Rattle.std.specs.Option.{is_some};
+ghost use Rattle.ms_base.specs.Interval.{meet};
 ghost use Rattle.ms_base.specs.Held.{meets_chunk, has_chunk_in};
 ghost use Rattle.ms_base.specs.Committed.{is_committed};
 ghost use Rattle.ms_base.specs.Growth.{growth_level};
@@ -17,7 +18,8 @@ use std::alloc::{AllocError, Global};
 use std::collections::BTreeMap;
 use std::marker::Model;
 
-use crate::placing::{GRANULE_WORDS, NODE_WORDS};
+use crate::committing::GRANULE_WORDS;
+use crate::held::NODE_WORDS;
 
 #[derive(Drop)]
 pub struct Loader {
@@ -64,9 +66,7 @@ impl Loader {
         requires { granule < 8192 }
         ensures { result ≡ is_committed 8192 self.now.arena.chunks granule }
     {
-        self.chunks
-            .iter()
-            .any(|chunk| share_word(chunk.start, chunk.front, granule * GRANULE_WORDS, GRANULE_WORDS))
+        self.chunks.iter().any(|chunk| reaches(chunk, granule))
     }
 
     /// Tells whether a chunk of the loader lies in the slot's node.
@@ -76,6 +76,14 @@ impl Loader {
         self.chunks
             .iter()
             .any(|chunk| chunk.start / NODE_WORDS == u64::from(slot))
+    }
+
+    /// Tells the words in use: the sum of the tops.
+    pub fn used(&self) -> u64
+        requires { used_of self.now.arena < 2 ^ 64 }
+        ensures { result ≡ used_of self.now.arena }
+    {
+        self.tops.iter().sum()
     }
 
     /// Tells whether the loader has a block of the name.
@@ -163,5 +171,18 @@ impl Loader {
             Some(_) => Ok(()),
             None => Err(Refusal::NoBlock),
         }
+    }
+}
+
+/// Tells whether the granule holds a word of the chunk's front.
+fn reaches(chunk: &Chunk, granule: u64) -> bool
+    requires { granule < 8192 }
+    ensures { result ≡ meet chunk.now.start chunk.now.front (granule * 8192) 8192 }
+{
+    let first = granule * GRANULE_WORDS;
+    if chunk.start <= first {
+        first - chunk.start < chunk.front
+    } else {
+        chunk.start - first < GRANULE_WORDS
     }
 }
