@@ -16,3 +16,7 @@ pub mod HeldLemmas
 pub mod SlotLemmas
 pub mod CommittedLemmas
 pub mod GoodLemmas
+pub mod BlockLemmas
+pub mod TopLemmas
+pub mod FrontLemmas
+pub mod AddedLemmas
