@@ -7,6 +7,7 @@ pub mod PickLemmas
 pub mod PartLemmas
 pub mod HalvesLemmas
 pub mod FreeLemmas
+pub mod RoomLemmas
 pub mod GranuleLemmas
 pub mod IntervalLemmas
 pub mod NameLemmas
