@@ -1,0 +1,2 @@
+mod HeldLemmas
+mod SlotLemmas

@@ -6,7 +6,8 @@
 //! A granule is committed exactly where it holds a word of a front, so nothing is kept beside the
 //! chunks. Nothing here takes memory.
 ghost use Rattle.std.specs.Prelude.{◌≡◌, ◌+◌, ◌<◌, ◌≤◌};
-ghost use Rattle.std.specs.List.{count_by, range_with_len};
+ghost use Rattle.std.specs.List.{count_by, list_any, range_with_len};
+ghost use Rattle.std.specs.Map.{values_of};
 ghost use Rattle.ms_base.specs.Level.{size_of};
 ghost use Rattle.ms_base.specs.Front.{front_for};
 ghost use Rattle.ms_base.specs.Committed.{is_committed};
@@ -40,6 +41,15 @@ fn is_committed(loaders: &Loaders, granule: u64) -> bool
     requires { granule < 8192 }
     ensures { result ≡ is_committed 8192 (chunks_held loaders.now.entries) granule }
 {
+    some_commits(loaders, granule)
+}
+
+/// The same, loader by loader.
+fn some_commits(loaders: &Loaders, granule: u64) -> bool
+    requires { granule < 8192 }
+    ensures { result ≡ list_any (λ loader. is_committed 8192 loader.arena.chunks granule)
+        (values_of loaders.now.entries) }
+{
     loaders.values().any(|loader| loader.commits(granule))
 }
 
@@ -49,11 +59,7 @@ pub fn count_committed(loaders: &Loaders, first: u64, count: u64) -> u64
     ensures { result ≡ count_by (is_committed 8192 (chunks_held loaders.now.entries))
         (range_with_len first count) }
 {
-    let mut committed = 0;
-    for granule in first..first + count {
-        if is_committed(loaders, granule) {
-            committed += 1;
-        }
-    }
-    committed
+    (first..first + count)
+        .filter(|granule| is_committed(loaders, *granule))
+        .count() as u64
 }

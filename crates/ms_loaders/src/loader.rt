@@ -107,7 +107,6 @@ impl Loader {
         ensures ok { OnOk result (self.new ≡ with_chunk self.old block chunk contents) }
         ensures err { OnErr result (self.new ≡ self.old) }
         ensures whole { length self.old.arena.tops ≡ length self.old.arena.chunks }
-        ensures none_kept { self.old.arena.kept ≡ [] }
     {
         self.chunks.reserve(1)?;
         self.tops.reserve(1)?;

@@ -10,7 +10,8 @@ ghost use Rattle.std.specs.Prelude.{◌<◌, ◌≤◌, IfNone, IfSome, [], ◌�
 ghost use Rattle.std.specs.List.{All};
 ghost use Rattle.ms_base.specs.Held.{meets_chunk};
 ghost use Rattle.ms_base.specs.State.{chunks_held};
-ghost use Rattle.ms_loaders.specs.Placing.{IsFull, IsClear};
+ghost use Rattle.ms_base.specs.FreeLaws.{IsClear};
+ghost use Rattle.ms_loaders.specs.Placing.{IsFull};
 
 use ms_base::{Level, Span};
 

@@ -112,8 +112,9 @@ impl System {
         let Ok(contents) = Words::zeros(alloc, length as usize) else {
             return Err(Refusal::OutOfMemory);
         };
+        let start = part.start;
         match self.lend(name, part, block, contents) {
-            Ok(()) => Ok(part.start),
+            Ok(()) => Ok(start),
             Err(_) => Err(Refusal::OutOfMemory),
         }
     }
