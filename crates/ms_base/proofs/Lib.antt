@@ -21,3 +21,5 @@ pub mod BlockLemmas
 pub mod TopLemmas
 pub mod FrontLemmas
 pub mod AddedLemmas
+pub mod PackingLemmas
+pub mod SumLemmas
