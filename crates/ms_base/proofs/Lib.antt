@@ -8,6 +8,10 @@ pub mod PartLemmas
 pub mod HalvesLemmas
 pub mod FreeLemmas
 pub mod RoomLemmas
+pub mod LargestLemmas
+pub mod RisingLemmas
+pub mod LevelLemmas
+pub mod FreeGranuleLemmas
 pub mod GranuleLemmas
 pub mod IntervalLemmas
 pub mod NameLemmas
