@@ -1,2 +1,4 @@
 mod HeldLemmas
+mod PlaceLemmas
 mod SlotLemmas
+mod StepLemmas

@@ -25,6 +25,12 @@ slots_rise slots rises i (suc j) lt inside = elim (cases_lt i j) [
     step : get_or slots j 0 < get_or slots (suc j) 0
     step = rw add-one at (rises j (omega arith))
 
+pub slots_do_not_fall : (slots : List ℕ) → IsStrictlyIncreasing slots → (i j : ℕ) → i ≤ j → j < length slots → get_or slots i 0 ≤ get_or slots j 0
+slots_do_not_fall slots rises i j le inside = elim (cases_lt i j) [
+  | inl h ↦ omega (arith, slots_rise slots rises i j h inside)
+  | inr h ↦ let same : i ≡ j = omega arith in rw same (omega arith)
+]
+
 -- A slot that none of the list is, is not reserved.
 pub not_reserved : (slots : List ℕ) (slot : ℕ) → ((k : ℕ) → k < length slots → get_or slots k 0 ≢ slot) → is_reserved slots slot ≡ false
 not_reserved slots slot none =
@@ -32,6 +38,13 @@ not_reserved slots slot none =
   where
     differs : (a b : ℕ) → a ≢ b → (a == b) ≡ false
     differs a b ne = grind (arith, nat_tests)
+
+pub not_reserved_between : (slots : List ℕ) (i slot : ℕ) → ((k : ℕ) → k < i → get_or slots k 0 < slot)
+    → ((k : ℕ) → i ≤ k → k < length slots → slot < get_or slots k 0) → is_reserved slots slot ≡ false
+not_reserved_between slots i slot below above = not_reserved slots slot (λ k h same. elim (cases_lt k i) [
+  | inl lt ↦ absurd (omega (arith, below k lt))
+  | inr ge ↦ absurd (omega (arith, above k ge h))
+])
 
 -- Where the first slots are those from 0 on, and the next one isn't, that number is missing.
 pub missing_at : (slots : List ℕ) (next : ℕ) → IsStrictlyIncreasing slots → next ≤ length slots → ((k : ℕ) → k < next → get_or slots k 0 ≡ k)

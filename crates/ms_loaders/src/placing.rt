@@ -19,7 +19,8 @@ use crate::held::{Loaders, NODE_WORDS, meets_held};
 
 /// Finds the lowest part of the level in the slot that meets no held chunk.
 fn clear_in_slot(loaders: &Loaders, slot: u32, level: Level) -> Option<u64>
-    requires { slot < 64 }
+    requires below { slot < 64 }
+    requires real { level ≤ 12 }
     ensures none { IfNone result (IsFull (chunks_held loaders.now.entries) level slot) }
     ensures some { IfSome result
         (λ start. IsClear (chunks_held loaders.now.entries) (slot ∷ []) (record { start = start; level = level })) }
@@ -36,7 +37,8 @@ fn clear_in_slot(loaders: &Loaders, slot: u32, level: Level) -> Option<u64>
 
 /// Finds the lowest part of the level in the slots that meets no held chunk.
 fn clear_in_slots(loaders: &Loaders, slots: &[u32], level: Level) -> Option<u64>
-    requires { All (λ slot. slot < 64) slots.now }
+    requires below { All (λ slot. slot < 64) slots.now }
+    requires real { level ≤ 12 }
     ensures none { IfNone result (All (IsFull (chunks_held loaders.now.entries) level) slots.now) }
     ensures some { IfSome result
         (λ start. IsClear (chunks_held loaders.now.entries) slots.now (record { start = start; level = level })) }
