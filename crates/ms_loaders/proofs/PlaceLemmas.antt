@@ -1,5 +1,5 @@
 -- The parts of a level in a slot, by their numbers; for placing.rt and the search's answer.
-use Rattle.std.proofs.Common.{◌≡◌, ◌≢◌, ◌≤◌, ◌<◌, ℕ, ◌+◌, ◌-◌, ◌*◌, ◌/◌, ◌%◌, ◌^◌, ◌⊎◌, true, false, List, [], ◌∷◌, refl, sym, ap, subst, ◌∙◌, inl, inr, arith}
+use Rattle.std.proofs.Common.{◌≡◌, ◌≢◌, ◌≤◌, ◌<◌, ℕ, ◌+◌, ◌-◌, ◌*◌, ◌/◌, ◌%◌, ◌^◌, ◌⊎◌, true, false, List, [], ◌∷◌, length, refl, sym, ap, subst, ◌∙◌, inl, inr, arith}
 use Rattle.std.specs.Prelude.{◌==◌, IsTrue}
 use Rattle.std.specs.List.{All, AllByRecursion, list_all}
 use Rattle.std.proofs.lemmas.Bool.{and_parts, or_cases, cases_lt}
@@ -9,18 +9,20 @@ use Rattle.std.proofs.lemmas.Nat.{pow-add, pow_pos, mul-add-lt, div-mul-add, div
 use Rattle.std.proofs.Math.Nat.{add-mul, mul_assoc, mul_comm, mul-mod_left, mul-add-mod_self_right, div-lt_iff_lt-mul, mul-le-mul_left}
 use Rattle.std.proofs.lemmas.Bool.{eqb-true}
 use Rattle.ms_base.specs.declared.span.Chunk.{Chunk}
+use Rattle.ms_base.specs.declared.span.Span.{Span}
 use Rattle.ms_base.specs.Interval.{meet}
 use Rattle.ms_base.specs.Level.{size_of}
 use Rattle.ms_base.specs.Part.{IsPart, node_words, slot_of, is_reserved}
 use Rattle.ms_base.specs.Held.{meets_chunk}
-use Rattle.ms_base.specs.Causes.{has_room}
-use Rattle.ms_base.specs.State.{PoolState}
-use Rattle.ms_base.specs.Good.{IsSoundPool}
+use Rattle.ms_base.specs.FreeLaws.{IsClear}
+use Rattle.ms_base.specs.Causes.{has_room, ReserveCause}
+use Rattle.ms_base.specs.State.{Machine, PoolState, chunks_held, pool_of}
+use Rattle.ms_base.specs.Good.{IsGood, IsSoundPool}
 use Rattle.ms_base.proofs.HalvesLemmas.{size_some}
 use Rattle.ms_base.proofs.PartLemmas.{by_number}
 use Rattle.ms_base.proofs.GranuleLemmas.{ends_in_node}
 use Rattle.ms_base.proofs.RoomLemmas.{room_is_clear}
-use Rattle.ms_loaders.specs.Placing.{place_in, IsFull}
+use Rattle.ms_loaders.specs.Placing.{place_in, IsFull, IsLendable}
 
 starts_whole : (slot number k s : ℕ) → (slot * (k * s) + number * s) % s ≡ 0
 starts_whole slot number k s =
@@ -138,3 +140,37 @@ new_node_is_clear pool slot level h new sound =
 -- A slot is reserved among itself alone.
 pub reserved_alone : (slot : ℕ) → is_reserved (slot ∷ []) slot ≡ true
 reserved_alone slot = grind (arith, nat_tests)
+
+-- A clear part of a reserved slot may be lent.
+pub lendable_in_slots : (m : Machine) (most : ℕ) (part : Span) → IsClear (chunks_held m.loaders) m.slots part → part.level ≤ most
+    → All (λ slot. slot < 64) m.slots → IsLendable m most part
+lendable_in_slots m most part clear serves below = record {
+  placed = clear.placed;
+  serves = serves;
+  below = of_reserved (λ slot. slot < 64) m.slots (slot_of part.start) below clear.reserved;
+  clear = clear.empty;
+  room = inl clear.reserved;
+}
+
+-- So may the first part of a node that may still be reserved.
+pub lendable_in_new_node : (m : Machine) (most slot level : ℕ) → level ≤ most → level ≤ 12 → slot < 64 → is_reserved m.slots slot ≡ false
+    → length m.slots < m.limits.nodes → IsGood m → IsLendable m most (record { start = slot * node_words; level = level })
+lendable_in_new_node m most slot level serves real below new room good = record {
+  placed = (real, ap (λ (n : ℕ). n % size_of level) (omega arith) ∙ (place_is_part slot level 0 real).1);
+  serves = serves;
+  below = rw (whole_div slot node_words (omega arith)) below;
+  clear = new_node_is_clear (pool_of m) slot level real new good.pool;
+  room = inr room;
+}
+
+-- With each slot full and all nodes reserved, the reserve limit is met.
+pub limit_is_met : (m : Machine) (most : ℕ) → most ≤ 12 → All (IsFull (chunks_held m.loaders) most) m.slots → length m.slots ≡ m.limits.nodes
+    → ReserveCause (pool_of m) most (length m.slots) m.limits.nodes
+limit_is_met m most real full all = record {
+  met = rw (full_slots_have_no_room (pool_of m) most real full) (same (length m.slots) m.limits.nodes all);
+  nodes_are = refl;
+  limit_is = refl;
+}
+  where
+    same : (a b : ℕ) → a ≡ b → (a == b) ≡ true
+    same a b e = grind (arith, nat_tests)

@@ -8,7 +8,7 @@ use Rattle.std.specs.declared.cmp.Ordering.TheVariants.{Less, Equal, Greater}
 use Rattle.std.specs.List.{insert}
 use Rattle.std.specs.List.Sorted.{IsStrictlyIncreasing}
 use Rattle.std.specs.BTreeSet.{insert_key}
-use Rattle.std.proofs.lemmas.Bool.{cases_lt}
+use Rattle.std.proofs.lemmas.Bool.{cases_lt, eqb-true, or_cases}
 use Rattle.std.proofs.lemmas.Bool.Decides.{nat_tests}
 use Rattle.std.proofs.lemmas.Grind.{get_or_default_zero}
 use Rattle.std.proofs.lemmas.List.Folds.{list_any_none}
@@ -91,3 +91,17 @@ insert_key_there (s ∷ slots) zero slot inside below here = rw (here, is_equal 
 insert_key_there (s ∷ slots) (suc i) slot inside below here =
     rw (is_greater slot s (below 0 (omega arith)))
     (ap (λ l. s ∷ l) (insert_key_there slots i slot (omega arith) (λ k h. below (suc k) (omega arith)) here))
+
+-- Where a reserved slot stands.
+place_of : (slots : List ℕ) (slot : ℕ) → is_reserved slots slot ≡ true → (k : ℕ) × (k < length slots) × (get_or slots k 0 ≡ slot)
+place_of [] slot e = absurd (cc)
+place_of (s ∷ slots) slot e = elim (or_cases (s == slot) (is_reserved slots slot) e) [
+  | inl here ↦ (0, omega arith, eqb-true s slot here)
+  | inr there ↦ let place = place_of slots slot there in (suc place.0, omega (arith, place.1), place.2)
+]
+
+-- A slot that is reserved changes nothing.
+pub reserved_same : (slots : List ℕ) (slot : ℕ) → IsStrictlyIncreasing slots → is_reserved slots slot ≡ true → insert_key nat_cmp slots slot ≡ slots
+reserved_same slots slot rises there =
+    let place = place_of slots slot there in
+    insert_key_there slots place.0 slot place.1 (λ k h. omega (arith, slots_rise slots rises k place.0 h place.1, place.2)) place.2

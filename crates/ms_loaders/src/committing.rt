@@ -56,8 +56,9 @@ fn some_commits(loaders: &Loaders, granule: u64) -> bool
 /// Counts the committed granules from the first one on.
 pub fn count_committed(loaders: &Loaders, first: u64, count: u64) -> u64
     requires { first + count ≤ 8192 }
-    ensures { result ≡ count_by (is_committed 8192 (chunks_held loaders.now.entries))
+    ensures counted { result ≡ count_by (is_committed 8192 (chunks_held loaders.now.entries))
         (range_with_len first count) }
+    ensures few { result ≤ count }
 {
     (first..first + count)
         .filter(|granule| is_committed(loaders, *granule))

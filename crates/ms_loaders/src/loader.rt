@@ -96,7 +96,8 @@ impl Loader {
     /// Answers the level of the loader's next chunk: the one its kind wants by the number of chunks
     /// it holds, but at most the one given.
     pub fn next_level(&self, most: Level) -> Level
-        ensures { result ≤ most }
+        ensures most { result ≤ most }
+        ensures whole { length self.now.arena.tops ≡ length self.now.arena.chunks }
     {
         let chunks = u32::try_from(self.chunks.len()).unwrap_or(u32::MAX);
         growth(self.kind, Space::NonClass, chunks).min(most)
@@ -106,7 +107,6 @@ impl Loader {
     pub fn add(&mut self, block: u32, chunk: Chunk, contents: Words) -> Result<(), AllocError>
         ensures ok { OnOk result (self.new ≡ with_chunk self.old block chunk contents) }
         ensures err { OnErr result (self.new ≡ self.old) }
-        ensures whole { length self.old.arena.tops ≡ length self.old.arena.chunks }
     {
         self.chunks.reserve(1)?;
         self.tops.reserve(1)?;

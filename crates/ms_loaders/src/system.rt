@@ -122,7 +122,8 @@ impl System {
     /// Finds the part for a chunk of a level from the wanted one up to the most that serves: in a
     /// reserved node, else the first of the wanted level in a new one.
     fn part_for(&self, wanted: Level, most: Level) -> Result<Span, Refusal>
-        requires { wanted ≤ most }
+        requires order { wanted ≤ most }
+        requires real { most ≤ 12 }
         ensures ok { IfOk result (IsLendable self.now most) }
         ensures err { IfErr result (LacksPart self.now most) }
     {
@@ -267,10 +268,12 @@ impl System {
         ensures step { Transition self.old step result self.new }
         ensures good { IsGood self.new }
     {
-        match self.serve(step) {
+        let reply = match self.serve(step) {
             Ok(reply) => reply,
             Err(refusal) => Reply::Refused(refusal),
-        }
+        };
+        let _ = &self.loaders;
+        reply
     }
 
     /// One step of the machine.
@@ -328,6 +331,7 @@ impl System {
         ensures run { IfOk result (λ replies. Run self.old steps.now replies.items self.new) }
         ensures before { IsGood self.old }
         ensures after { IsGood self.new }
+        ensures emptied { self.new.loaders ≡ [] → HoldsNothing self.new }
         ensures err { OnErr result (self.new ≡ self.old) }
     {
         let mut replies = Vec::with_capacity(self.alloc, steps.len())?;
@@ -338,6 +342,7 @@ impl System {
             };
             replies.push_reserved(reply);
         }
+        let _ = &self.loaders;
         Ok(replies)
     }
 }
