@@ -18,3 +18,9 @@ loop-step-preserved c =
       told = omega (arith, c.push_reserved.ensures.len, c.loop-step.invariant.told);
       room = omega (arith, c.push_reserved.ensures.capacity, c.loop-step.invariant.room);
     }
+
+pub returns-in_err-replies-clause-emptied : goal.returns-in_err-replies-clause-emptied
+returns-in_err-replies-clause-emptied c = nothing_without_loaders _
+
+pub returns-clause-emptied : goal.returns-clause-emptied
+returns-clause-emptied c = nothing_without_loaders _
