@@ -73,8 +73,8 @@ pub part_has_number : (start level : ℕ) → IsPart start level → HasNumber s
 part_has_number start level part = record {
   number = start % node_words / size_of level;
   inside = rw (parts_in_node level part.0) (
-    rw (node_by_level level part.0)
-    (number_inside start (2 ^ (level + 1)) (size_of level) (size_some level) (omega (arith, pow_pos (level + 1)))));
+      rw (node_by_level level part.0)
+      (number_inside start (2 ^ (level + 1)) (size_of level) (size_some level) (omega (arith, pow_pos (level + 1)))));
   place = omega (arith, div-add-mod' start node_words, by_number (start % node_words) (size_of level) whole);
 }
   where

@@ -13,9 +13,8 @@ ghost use Rattle.ms_base.specs.Front.{front_for};
 ghost use Rattle.ms_base.specs.Committed.{is_committed};
 ghost use Rattle.ms_base.specs.State.{chunks_held};
 
-use ms_base::Level;
-
 use crate::held::{Loaders, NODE_WORDS};
+use ms_base::Level;
 
 /// The words of a granule, the unit of committing.
 pub const GRANULE_WORDS: u64 = 8192;

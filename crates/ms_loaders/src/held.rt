@@ -7,10 +7,9 @@ ghost use Rattle.std.specs.Map.{values_of};
 ghost use Rattle.ms_base.specs.Held.{meets_chunk, has_chunk_in};
 ghost use Rattle.ms_base.specs.State.{chunks_held};
 
+use crate::loader::Loader;
 use ms_base::Level;
 use std::collections::BTreeMap;
-
-use crate::loader::Loader;
 
 /// The words of a node: two root chunks.
 pub const NODE_WORDS: u64 = 1048576;

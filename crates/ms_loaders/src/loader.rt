@@ -13,13 +13,12 @@ ghost use Rattle.ms_base.specs.Totals.{used_of};
 ghost use Rattle.ms_base.specs.Names.{named};
 ghost use Rattle.ms_loaders.specs.Loader.{with_chunk, HasWord, WritesWord, FreesBlock, LacksWord, LacksName};
 
+use crate::committing::GRANULE_WORDS;
+use crate::held::NODE_WORDS;
 use ms_base::{Chunk, Kind, Level, LiveBlock, Refusal, Space, Words, growth, share_word};
 use std::alloc::{AllocError, Global};
 use std::collections::BTreeMap;
 use std::marker::Model;
-
-use crate::committing::GRANULE_WORDS;
-use crate::held::NODE_WORDS;
 
 #[derive(Drop)]
 pub struct Loader {
@@ -56,9 +55,12 @@ impl Loader {
     pub fn meets(&self, start: u64, level: Level) -> bool
         ensures { result ≡ meets_chunk self.now.arena.chunks start level }
     {
-        self.chunks
-            .iter()
-            .any(|chunk| share_word(chunk.start, chunk.level.words(), start, level.words()))
+        self.chunks.iter().any(|chunk| share_word(
+            chunk.start,
+            chunk.level.words(),
+            start,
+            level.words(),
+        ))
     }
 
     /// Tells whether the granule holds a word of the front of a chunk of the loader.

@@ -13,9 +13,8 @@ ghost use Rattle.ms_base.specs.State.{chunks_held};
 ghost use Rattle.ms_base.specs.FreeLaws.{IsClear};
 ghost use Rattle.ms_loaders.specs.Placing.{IsFull};
 
-use ms_base::{Level, Span};
-
 use crate::held::{Loaders, NODE_WORDS, meets_held};
+use ms_base::{Level, Span};
 
 /// Finds the lowest part of the level in the slot that meets no held chunk.
 fn clear_in_slot(loaders: &Loaders, slot: u32, level: Level) -> Option<u64>
@@ -68,4 +67,3 @@ pub fn clear_part(loaders: &Loaders, slots: &[u32], wanted: Level, most: Level) 
     }
     None
 }
-

@@ -11,16 +11,15 @@ ghost use Rattle.ms_base.specs.Run.{Run};
 ghost use Rattle.ms_loaders.specs.Placing.{IsLendable, LacksPart};
 ghost use Rattle.ms_loaders.specs.System.{limits_of, chunk_at, with_lent, reply_of, HoldsNothing};
 
-use ms_base::{Chunk, Kind, Level, Refusal, Reply, Settings, Span, Step, Words, level_for};
-use std::alloc::{AllocError, Global};
-use std::collections::BTreeMap;
-use std::marker::Model;
-
 use crate::committing::{GRANULE_WORDS, NODE_GRANULES, count_committed, front};
 use crate::held::{Loaders, NODE_WORDS, is_held_in};
 use crate::loader::Loader;
 use crate::placing::clear_part;
 use crate::slots::{next_slot, reserve};
+use ms_base::{Chunk, Kind, Level, Refusal, Reply, Settings, Span, Step, Words, level_for};
+use std::alloc::{AllocError, Global};
+use std::collections::BTreeMap;
+use std::marker::Model;
 
 /// The interval machine in one thread: class loaders by name, each with an arena of its own, over
 /// nodes that are reserved as they are needed.
@@ -66,8 +65,8 @@ impl System {
     /// memory. Refused with `LoaderExists`, with `IdsUsedUp` where all owner numbers were given
     /// out, and with `OutOfMemory`, in that order; a refusal changes nothing.
     pub fn new_loader(&mut self, name: u16, kind: Kind) -> Result<(), Refusal>
-        ensures ok { OnOk result (Transition self.old (Step.New name kind) Reply.Ok self.new) }
-        ensures err { IfErr result
+        ensures served { OnOk result (Transition self.old (Step.New name kind) Reply.Ok self.new) }
+        ensures refused { IfErr result
             (λ refusal. Transition self.old (Step.New name kind) (Reply.Refused refusal) self.new) }
         ensures unchanged { OnErr result (self.new ≡ self.old) }
     {
@@ -88,9 +87,9 @@ impl System {
 
     /// Allocates a block of zeros, in a chunk of its own.
     fn allocate(&mut self, name: u16, block: u32, words: u64) -> Result<u64, Refusal>
-        ensures ok { IfOk result
+        ensures served { IfOk result
             (λ start. Transition self.old (Step.Alloc name block words) (Reply.At start) self.new) }
-        ensures err { IfErr result
+        ensures refused { IfErr result
             (λ refusal. Transition self.old (Step.Alloc name block words) (Reply.Refused refusal) self.new) }
     {
         let alloc = self.alloc;
@@ -175,9 +174,9 @@ impl System {
     /// Unloads a loader: all that was its own goes with it, and its name may be used anew. Takes no
     /// memory. Refused with `NoLoader` alone, and then nothing changes.
     pub fn unload(&mut self, name: u16) -> Result<(), Refusal>
-        ensures ok { OnOk result (Transition self.old (Step.Unload name) Reply.Ok self.new) }
+        ensures served { OnOk result (Transition self.old (Step.Unload name) Reply.Ok self.new) }
         ensures no_loader { (result ≡ Err Refusal.NoLoader) ↔ LacksLoader self.old name }
-        ensures err { IfErr result
+        ensures refused { IfErr result
             (λ refusal. Transition self.old (Step.Unload name) (Reply.Refused refusal) self.new) }
     {
         match self.loaders.remove(&name) {
@@ -199,9 +198,9 @@ impl System {
 
     /// Writes a word of a block; the others stay.
     fn write(&mut self, name: u16, block: u32, index: u64, value: u64) -> Result<(), Refusal>
-        ensures ok { OnOk result
+        ensures served { OnOk result
             (Transition self.old (Step.Write name block index value) Reply.Ok self.new) }
-        ensures err { IfErr result (λ refusal.
+        ensures refused { IfErr result (λ refusal.
             Transition self.old (Step.Write name block index value) (Reply.Refused refusal) self.new) }
     {
         match self.loaders.get_mut(&name) {
@@ -215,9 +214,9 @@ impl System {
 
     /// Reads a word of a block.
     fn read(&self, name: u16, block: u32, index: u64) -> Result<u64, Refusal>
-        ensures ok { IfOk result
+        ensures served { IfOk result
             (λ value. Transition self.now (Step.Read name block index) (Reply.Value value) self.now) }
-        ensures err { IfErr result (λ refusal.
+        ensures refused { IfErr result (λ refusal.
             Transition self.now (Step.Read name block index) (Reply.Refused refusal) self.now) }
     {
         let Some(loader) = self.loaders.get(&name) else {
@@ -228,8 +227,8 @@ impl System {
 
     /// Frees a block; its words stay in use, as waste.
     fn free(&mut self, name: u16, block: u32) -> Result<(), Refusal>
-        ensures ok { OnOk result (Transition self.old (Step.Free name block) Reply.Ok self.new) }
-        ensures err { IfErr result
+        ensures served { OnOk result (Transition self.old (Step.Free name block) Reply.Ok self.new) }
+        ensures refused { IfErr result
             (λ refusal. Transition self.old (Step.Free name block) (Reply.Refused refusal) self.new) }
     {
         match self.loaders.get_mut(&name) {
@@ -258,7 +257,11 @@ impl System {
     {
         let mut granules = 0;
         for slot in &self.slots {
-            granules += count_committed(&self.loaders, u64::from(*slot) * NODE_GRANULES, NODE_GRANULES);
+            granules += count_committed(
+                &self.loaders,
+                u64::from(*slot) * NODE_GRANULES,
+                NODE_GRANULES,
+            );
         }
         granules * GRANULE_WORDS
     }
@@ -332,7 +335,7 @@ impl System {
         ensures before { IsGood self.old }
         ensures after { IsGood self.new }
         ensures emptied { self.new.loaders ≡ [] → HoldsNothing self.new }
-        ensures err { OnErr result (self.new ≡ self.old) }
+        ensures unchanged { OnErr result (self.new ≡ self.old) }
     {
         let mut replies = Vec::with_capacity(self.alloc, steps.len())?;
         for step in steps {

@@ -9,6 +9,6 @@ pub loop-number-preserved : goal.loop-number-preserved
 loop-number-preserved c = λ k low high. elim (cases_lt k c.loop-number.number) [
   | inl before ↦ c.loop-number.invariant k low before
   | inr after ↦
-    let same : k ≡ c.new-level.result = omega (arith, c.new-level.ensures) in
-    subst (λ (level : ℕ). All (IsFull (chunks_held c.args.loaders.now.entries) level) c.args.slots.now) (sym same) c.in_default.ensures.none
+      let same : k ≡ c.new-level.result = omega (arith, c.new-level.ensures) in
+      subst (λ (level : ℕ). All (IsFull (chunks_held c.args.loaders.now.entries) level) c.args.slots.now) (sym same) c.in_default.ensures.none
 ]

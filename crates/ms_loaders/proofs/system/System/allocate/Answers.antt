@@ -27,8 +27,8 @@ lend-requires-clause-good c = λ loader has.
     (omega arith)
     (level_serves c.max-length.result c.in_ok-part.part.level c.in-Some-level_for.ensures.fits part.placed.0 (rw c.in-Some-level_for.ensures.level at part.serves)) part)
 
-pub returns-in-Ok-lend-clause-ok : goal.returns-in-Ok-lend-clause-ok
-returns-in-Ok-lend-clause-ok c =
+pub returns-in-Ok-lend-clause-served : goal.returns-in-Ok-lend-clause-served
+returns-in-Ok-lend-clause-served c =
     let m = c.args.self.now in
     let part = c.in_ok-part.ensures.ok in
     let ample = machine_is_ample c.self.inside m c.self.view_is c.self.invariant in
@@ -36,8 +36,8 @@ returns-in-Ok-lend-clause-ok c =
     let unused = missing _ (sym c.has_block.ensures ∙ c.if-has_block.false) in
     rw (c.in-Ok-lend.ensures.ok c.in-Some.loader.now there) (
       lent_allocates m c.args.name c.args.block c.args.words c.in-Some.loader.now c.in_ok-part.part c.in-Ok.contents (rw c.max-length.ensures at c.in-Ok.ensures)
-      ample there unused (omega arith) (omega (arith, c.in-Some-level_for.ensures.fits)),
+          ample there unused (omega arith) (omega (arith, c.in-Some-level_for.ensures.fits)),
       lent_is_good m c.args.name c.args.block c.in-Some.loader.now c.in-Some-level_for.most c.in_ok-part.part c.max-length.result c.in-Ok.contents c.in-Ok.ensures
-      ample there unused c.next_level-wanted.ensures.whole (omega arith)
-      (level_serves c.max-length.result c.in_ok-part.part.level c.in-Some-level_for.ensures.fits part.placed.0 (rw c.in-Some-level_for.ensures.level at part.serves)) part,
+          ample there unused c.next_level-wanted.ensures.whole (omega arith)
+          (level_serves c.max-length.result c.in_ok-part.part.level c.in-Some-level_for.ensures.fits part.placed.0 (rw c.in-Some-level_for.ensures.level at part.serves)) part,
     )

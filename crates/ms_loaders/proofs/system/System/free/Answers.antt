@@ -21,8 +21,8 @@ invariant_of-self c = elim c.match-get_mut.branch [
   })
 ]
 
-pub returns-clause-ok : goal.returns-clause-ok
-returns-clause-ok c = elim c.match-get_mut.branch [
+pub returns-clause-served : goal.returns-clause-served
+returns-clause-served c = elim c.match-get_mut.branch [
   | in-None w ↦ rw w.result-is tt
   | in-Some+in-Ok w ↦ rw (w.result-is, w.self-inside-is, (c.get_mut.follows.holds w.free.new.self).0, ← c.self.view_is) (
     free_is_served _ c.args.name c.args.block w.in-Some.loader.now w.free.new.self (sym w.in-Some.ensures.value) w.in-Ok.ensures.ok,
@@ -31,8 +31,8 @@ returns-clause-ok c = elim c.match-get_mut.branch [
   | in-Some+in-Err w ↦ rw w.result-is tt
 ]
 
-pub returns-clause-err : goal.returns-clause-err
-returns-clause-err c = elim c.match-get_mut.branch [
+pub returns-clause-refused : goal.returns-clause-refused
+returns-clause-refused c = elim c.match-get_mut.branch [
   | in-None w ↦ rw (w.result-is, w.self-inside-is, c.get_mut.follows.holds-at-none, ← c.self.view_is) (sym w.in-None.ensures.value, refl)
   | in-Some+in-Ok w ↦ rw w.result-is tt
   | in-Some+in-Err w ↦ rw (w.result-is, w.self-inside-is, (c.get_mut.follows.holds w.free.new.self).0, w.in-Err.ensures.unchanged, set_value_same (is_at (nat_cmp c.args.name)) c.self.inside.loaders.entries w.in-Some.loader.now (sym w.in-Some.ensures.value), ← c.self.view_is) (

@@ -3,8 +3,8 @@ use Rattle.ms_base.proofs.GoodLemmas.{good_with_new_loader}
 use Rattle.ms_loaders.proofs.StepLemmas.{found, missing}
 use Rattle.ms_loaders.proofs.system.System.new_loader.Goals as goal
 
-pub returns-then-contains_key-clause-err : goal.returns-then-contains_key-clause-err
-returns-then-contains_key-clause-err c =
+pub returns-then-contains_key-clause-refused : goal.returns-then-contains_key-clause-refused
+returns-then-contains_key-clause-refused c =
     let there = found _ (sym c.contains_key.ensures ∙ c.if-contains_key.true) in
     rw (← c.self.view_is) (record { loader = there.0; has = there.1 }, refl)
 
@@ -16,8 +16,8 @@ invariant_of-self c =
       room = c.self.invariant.room;
     })
 
-pub returns-in-Ok-clause-ok : goal.returns-in-Ok-clause-ok
-returns-in-Ok-clause-ok c =
+pub returns-in-Ok-clause-served : goal.returns-in-Ok-clause-served
+returns-in-Ok-clause-served c =
     let none = missing _ (sym c.contains_key.ensures ∙ c.if-contains_key.false) in
     rw (← c.self.view_is) (
       record { unused = none; after = rw (c.in-Ok.ensures.entries, c.new.ensures) refl },

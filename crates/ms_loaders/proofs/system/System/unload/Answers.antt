@@ -17,8 +17,8 @@ invariant_of-self c = elim c.match-remove.branch [
   }
 ]
 
-pub returns-clause-ok : goal.returns-clause-ok
-returns-clause-ok c = elim c.match-remove.branch [
+pub returns-clause-served : goal.returns-clause-served
+returns-clause-served c = elim c.match-remove.branch [
   | in-Some w ↦ rw (w.result-is, ← c.self.view_is, c.remove.ensures.entries) (
     record { loader = w.in-Some.field-0; has = sym w.in-Some.ensures.value; after = refl },
     good_without_loader _ c.args.name w.in-Some.field-0 (sym w.in-Some.ensures.value) c.self.invariant.good,
