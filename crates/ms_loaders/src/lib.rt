@@ -17,6 +17,8 @@ mod loader;
 mod placing;
 mod slots;
 mod system;
+#[cfg(test)]
+mod tests;
 
 pub use ms_base::{Reply, Step};
 pub use system::System;
