@@ -1,0 +1,5 @@
+pub mod GrammarExamples
+pub mod DigitLemmas
+pub mod CutLemmas
+pub mod FieldLemmas
+pub mod CommandLemmas
