@@ -3,3 +3,4 @@ pub mod DigitLemmas
 pub mod CutLemmas
 pub mod FieldLemmas
 pub mod CommandLemmas
+pub mod SpellingLemmas
