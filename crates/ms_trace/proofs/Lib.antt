@@ -4,3 +4,4 @@ pub mod CutLemmas
 pub mod FieldLemmas
 pub mod CommandLemmas
 pub mod SpellingLemmas
+pub mod TraceLemmas

@@ -70,7 +70,7 @@ fields_of-spelling Sync h = refl
 fields_of-spelling Report h = refl
 
 -- It is no silent line.
-spelling_is_not_silent : (command : Command) → is_silent (spelling_of command) ≡ false
+pub spelling_is_not_silent : (command : Command) → is_silent (spelling_of command) ≡ false
 spelling_is_not_silent (New _ _) = refl
 spelling_is_not_silent (Alloc _ _ _) = refl
 spelling_is_not_silent (Write _ _ _ _) = refl

@@ -11,6 +11,7 @@
 #![tactic(auto)]
 
 mod fault;
+pub mod laws;
 mod printing;
 mod reading;
 mod trace;
