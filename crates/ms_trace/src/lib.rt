@@ -12,6 +12,7 @@
 
 mod cutting;
 mod fault;
+mod fields;
 pub mod laws;
 mod printing;
 mod reading;
