@@ -5,3 +5,4 @@ pub mod FieldLemmas
 pub mod CommandLemmas
 pub mod SpellingLemmas
 pub mod TraceLemmas
+pub mod ReadingLemmas

@@ -98,7 +98,7 @@ not_both : (line : List ℕ) (command : Command) → IsTrue (is_silent line) →
 not_both line command silent spelled = both_ways (is_silent line) (ap is_silent spelled ∙ spelling_is_not_silent command) silent
 
 -- Lines read as one trace only.
-abbrev Says : ℕ → List ℕ → List Line → List Line → Type 0
+abbrev pub Says : ℕ → List ℕ → List Line → List Line → Type 0
 Says number line trace rest = (IsTrue (is_silent line) × (trace ≡ rest)) ⊎ Gives number line trace rest
 
 same_line : (number : ℕ) (line : List ℕ) (one other rest other_rest : List Line) → rest ≡ other_rest →

@@ -3,3 +3,4 @@ pub mod Faults
 pub mod Spelling
 pub mod Laws
 pub mod Cutting
+pub mod Keeping

@@ -10,6 +10,7 @@
 //! the laws say that these fit. Stands on `ms_base`. Only `parse` and `print` take memory.
 #![tactic(auto)]
 
+mod commands;
 mod cutting;
 mod fault;
 mod fields;
