@@ -6,3 +6,4 @@ pub mod CommandLemmas
 pub mod SpellingLemmas
 pub mod TraceLemmas
 pub mod ReadingLemmas
+pub mod PrintingLemmas

@@ -16,7 +16,7 @@ use Rattle.ms_trace.proofs.SpellingLemmas.{IsAllowed, allowed_from_no_fault}
 use Rattle.ms_trace.proofs.TraceLemmas.{Says, faultless_from_reads}
 
 -- A part before others is a line.
-line_first : (part : List ℕ) (parts : List (List ℕ)) → 0 < length parts → without_empty_end (part ∷ parts) ≡ part ∷ without_empty_end parts
+pub line_first : (part : List ℕ) (parts : List (List ℕ)) → 0 < length parts → without_empty_end (part ∷ parts) ≡ part ∷ without_empty_end parts
 line_first part [] some = absurd (omega arith)
 line_first [] (next ∷ parts) some = refl
 line_first (byte ∷ bytes) (next ∷ parts) some = refl
