@@ -12,10 +12,7 @@ ghost use Rattle.ms_trace.specs.Spelling.{IsValid, command_fields, spelling_of};
 use crate::cutting::{cut, four_fields, no_fields, one_field, three_fields, two_fields};
 use crate::fault::FaultKind;
 use crate::fields::{read_block, read_kind, read_loader, read_word};
-use crate::trace::Command;
-
-/// The greatest number of a line.
-const MOST_LINES: u32 = 100_000;
+use crate::trace::{Command, MOST_LINES};
 
 /// The greatest length of a line in bytes.
 const MOST_BYTES: usize = 80;

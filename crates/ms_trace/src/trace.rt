@@ -1,8 +1,12 @@
 //! A trace: commands under the numbers of their lines.
-ghost use Rattle.std.specs.Prelude.{◌≡◌, ◌<◌, length, slice_index_or};
+ghost use Rattle.std.specs.Prelude.{◌≡◌};
+ghost use Rattle.ms_trace.specs.Spelling.{rises_above};
 
 use ms_base::Kind;
 use std::marker::Model;
+
+/// The greatest number of a line.
+pub(crate) const MOST_LINES: u32 = 100_000;
 
 /// What a line asks: a request to the machine, a point where all workers meet, or a report.
 /// Loaders are named by 0 to 65535, blocks of a loader by 0 to 4294967295; words and indices count
@@ -84,17 +88,26 @@ impl Lines {
     {
         self.items.as_slice()
     }
-
-    /// Tells how many lines there are.
-    pub fn len(&self) -> usize
-        ensures { result ≡ length self.now }
-    {
-        self.items.len()
-    }
 }
 
 /// The command lines of a text, in the order of their numbers where a text was read.
 #[derive(Drop)]
 pub struct Trace {
     pub lines: Lines,
+}
+
+impl Trace {
+    /// Tells whether the line numbers rise from 1 to 100000, so that the trace may be printed.
+    pub fn rises(&self) -> bool
+        ensures { result ≡ rises_above 0 self.now.lines }
+    {
+        let mut last: u32 = 0;
+        for line in self.lines.as_slice() {
+            if line.number <= last || line.number > MOST_LINES {
+                return false;
+            }
+            last = line.number;
+        }
+        true
+    }
 }
