@@ -111,9 +111,9 @@ pub value_kept : (fits : Bool) (number value digit : ℕ) → IsValueSoFar fits 
 value_kept true number value digit e = rw e refl
 value_kept false number value digit large = omega (arith, large)
 
-pub value_lost : (fits : Bool) (number value digit : ℕ) → IsValueSoFar fits number value → digit < 10 → (2 ^ 64 - 1 - digit) / 10 < number → 2 ^ 64 ≤ value * 10 + digit
-value_lost true number value digit e small over = omega (arith, e)
-value_lost false number value digit large small over = omega (arith, large)
+pub value_lost : (fits : Bool) (number value digit : ℕ) → IsValueSoFar fits number value → (number * 10 + digit < 2 ^ 64 → ⊥) → 2 ^ 64 ≤ value * 10 + digit
+value_lost true number value digit e over = omega (arith, e, over)
+value_lost false number value digit large over = omega (arith, large)
 
 -- Digits without a leading zero are a number.
 pub is_number_from_digits : (bytes : List ℕ) → all_ascii_digits bytes ≡ true → 0 < length bytes → ((get_or bytes 0 0 ≡ 48) × (length bytes ≡ 1)) ⊎ (get_or bytes 0 0 ≡ 48 → ⊥) → is_number bytes ≡ true

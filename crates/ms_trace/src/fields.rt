@@ -1,5 +1,5 @@
 //! Reading one field: a kind, or a number in decimal up to a greatest one.
-ghost use Rattle.std.specs.Prelude.{◌≡◌, ◌≤◌, ◌-◌, ◌^◌, IfOk, decimal, bytes_eq};
+ghost use Rattle.std.specs.Prelude.{◌≡◌, ◌≤◌, ◌-◌, ◌+◌, ◌*◌, ◌<◌, ◌^◌, IfOk, SomeIff, decimal, bytes_eq};
 ghost use Rattle.std.specs.Result.{result_err};
 ghost use Rattle.ms_trace.specs.Grammar.{kind_word, kind_field, number_field, loader_field, block_field, word_field};
 ghost use Rattle.ms_trace.specs.Faults.{field_fault};
@@ -67,10 +67,9 @@ fn read_number(field: &[u8], greatest: u64) -> Result<u64, FaultKind>
             return Err(FaultKind::BadNumber);
         }
         let digit = u64::from(*byte - b'0');
-        if number <= (u64::MAX - digit) / 10 {
-            number = number * 10 + digit;
-        } else {
-            fits = false;
+        match with_digit(number, digit) {
+            Some(more) => number = more,
+            None => fits = false,
         }
     }
     if fits && number <= greatest {
@@ -78,4 +77,11 @@ fn read_number(field: &[u8], greatest: u64) -> Result<u64, FaultKind>
     } else {
         Err(FaultKind::NumberTooLarge)
     }
+}
+
+/// Writes one more digit after a number, if that fits.
+fn with_digit(number: u64, digit: u64) -> Option<u64>
+    ensures { SomeIff result (number * 10 + digit < 2 ^ 64) (number * 10 + digit) }
+{
+    number.checked_mul(10)?.checked_add(digit)
 }

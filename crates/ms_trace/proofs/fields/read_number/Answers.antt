@@ -8,7 +8,7 @@ use Rattle.std.specs.Str.Parse.{digits_value}
 use Rattle.ms_trace.specs.Faults.{is_number}
 use Rattle.ms_trace.proofs.DigitLemmas.{IsValueSoFar, not_number_at, digits_more_test, value_more, value_kept, value_lost, is_number_from_digits, decimal-value}
 use Rattle.ms_trace.proofs.fields.read_number.Goals as goal
-use Rattle.ms_trace.proofs.fields.read_number.Goals.{then-number-digit, else-number-digit}
+use Rattle.ms_trace.proofs.fields.read_number.Goals.{in-Some, in-None}
 
 pub returns-then-not-is_ascii_digit-clause-fault : goal.returns-then-not-is_ascii_digit-clause-fault
 returns-then-not-is_ascii_digit-clause-fault c =
@@ -21,14 +21,12 @@ loop-byte-preserved c =
     let digit : ℕ = get_or field at 0 - 48 in
     let so_far : ℕ = digits_value 10 (take at field) in
     let is_digit : is_ascii_digit (get_or field at 0) ≡ true = sym c.is_ascii_digit.ensures.value ∙ c.if-not-is_ascii_digit.false in
-    let small : digit < 10 = grind (arith, nat_tests, is_digit) in
     record {
       digits = digits_more_test field at c.loop-byte-test.true c.loop-byte.invariant.digits is_digit;
       value = rw (value_more field at c.loop-byte-test.true is_digit) (
-        elim c.if-number-digit.branch [
-          then-number-digit w ↦ rw w.number-is (rw w.fits-is (rw c.from-digit.ensures (value_kept c.loop-byte.fits c.loop-byte.number so_far digit c.loop-byte.invariant.value)))
-          | else-number-digit w ↦
-            rw w.fits-is (value_lost c.loop-byte.fits c.loop-byte.number so_far digit c.loop-byte.invariant.value small (rw c.from-digit.ensures at w.if-number-digit.false))
+        elim c.match-with_digit.branch [
+          in-Some w ↦ rw w.number-is (rw w.fits-is (rw w.in-Some.ensures.1 (rw c.from-digit.ensures (value_kept c.loop-byte.fits c.loop-byte.number so_far digit c.loop-byte.invariant.value))))
+          | in-None w ↦ rw w.fits-is (value_lost c.loop-byte.fits c.loop-byte.number so_far digit c.loop-byte.invariant.value (rw c.from-digit.ensures at w.in-None.ensures))
         ]
       );
     }
