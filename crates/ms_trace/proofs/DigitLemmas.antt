@@ -3,14 +3,13 @@ use Rattle.std.proofs.Common.{zero, suc, add-one, ◌⊎◌, ⊎_elim, ◌-◌, 
 use Rattle.std.proofs.lemmas.Grind.{common_steps}
 use Rattle.std.proofs.lemmas.Bool.Decides.{nat_tests}
 use Rattle.std.proofs.lemmas.Fmt.{digits_decimal, digits_value-decimal, decimal-digits_value, first_decimal, decimal_nonempty, decimal_digit}
-use Rattle.std.proofs.lemmas.Str.Parse.{IsNumeralModel, numerals_by_value, tells_all_ascii_digits, not_in_digits}
+use Rattle.std.proofs.lemmas.Str.Parse.{IsNumeralModel, numerals_by_value, tells_all_ascii_digits, digits_value-take-le}
 use Rattle.std.specs.Fmt.{decimal}
 use Rattle.std.proofs.lemmas.Bool.{and_parts, and_from, both_ways}
 use Rattle.std.proofs.lemmas.List.Elements.{All-from_recursion}
 use Rattle.std.proofs.lemmas.Int.Digits.{digits_value_more}
-use Rattle.std.specs.Bool.{MatchBool}
 use Rattle.std.specs.Char.{is_ascii_digit, digit_value}
-use Rattle.std.specs.List.{All, AllByRecursion}
+use Rattle.std.specs.List.{All, AllByRecursion, list_all}
 use Rattle.std.specs.Int.{IsInRange}
 use Rattle.std.specs.Str.{all_ascii_digits}
 use Rattle.std.specs.Str.Parse.{digits_value}
@@ -103,17 +102,16 @@ digit_value-digit byte e = grind (arith, nat_tests, e)
 pub value_more : (bytes : List ℕ) (i : ℕ) → i < length bytes → is_ascii_digit (get_or bytes i 0) ≡ true → digits_value 10 (take (i + 1) bytes) ≡ digits_value 10 (take i bytes) * 10 + (get_or bytes i 0 - 48)
 value_more bytes i inside e = rw (sym (digit_value-digit (get_or bytes i 0) e)) (digits_value_more 10 bytes i inside)
 
--- The number read so far is the value, or the value no longer fits in 64 bits.
-abbrev pub IsValueSoFar : Bool → ℕ → ℕ → Type 0
-IsValueSoFar fits number value = MatchBool fits (number ≡ value) (2 ^ 64 ≤ value)
+-- Where one digit more doesn't fit in 64 bits, nor does the whole.
+pub value_is_long : (bytes : List ℕ) (i : ℕ) → i < length bytes → is_ascii_digit (get_or bytes i 0) ≡ true → (digits_value 10 (take i bytes) * 10 + (get_or bytes i 0 - 48) < 2 ^ 64 → ⊥) → 2 ^ 64 ≤ digits_value 10 bytes
+value_is_long bytes i inside e long =
+    let front : digits_value 10 (take (i + 1) bytes) ≤ digits_value 10 bytes = digits_value-take-le 10 bytes (i + 1) (omega arith) in
+    omega (arith, value_more bytes i inside e, front, long)
 
-pub value_kept : (fits : Bool) (number value digit : ℕ) → IsValueSoFar fits number value → IsValueSoFar fits (number * 10 + digit) (value * 10 + digit)
-value_kept true number value digit e = rw e refl
-value_kept false number value digit large = omega (arith, large)
-
-pub value_lost : (fits : Bool) (number value digit : ℕ) → IsValueSoFar fits number value → (number * 10 + digit < 2 ^ 64 → ⊥) → 2 ^ 64 ≤ value * 10 + digit
-value_lost true number value digit e over = omega (arith, e, over)
-value_lost false number value digit large over = omega (arith, large)
+-- `all_ascii_digits` as a test of each byte.
+pub list_all-digits : (bytes : List ℕ) → list_all is_ascii_digit bytes ≡ all_ascii_digits bytes
+list_all-digits [] = refl
+list_all-digits (byte ∷ bytes) = ap (λ rest. is_ascii_digit byte && rest) (list_all-digits bytes)
 
 -- Digits without a leading zero are a number.
 pub is_number_from_digits : (bytes : List ℕ) → all_ascii_digits bytes ≡ true → 0 < length bytes → ((get_or bytes 0 0 ≡ 48) × (length bytes ≡ 1)) ⊎ (get_or bytes 0 0 ≡ 48 → ⊥) → is_number bytes ≡ true

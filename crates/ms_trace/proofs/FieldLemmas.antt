@@ -1,10 +1,13 @@
 -- Fields without a fault: each is the text of a number or a kind, and there are as many as the word
 -- has.
-use Rattle.std.proofs.Common.{◌≡◌, ℕ, zero, suc, ◌+◌, ◌^◌, ◌<◌, ◌≤◌, Bool, true, false, cond, not, ◌&&◌, ◌||◌, eqb, ltb, List, [], ◌∷◌, length, refl, sym, ◌∙◌, ap, arith, Option, Some, None}
+use Rattle.std.proofs.Common.{◌≡◌, ℕ, ◌⊎◌, get_or, zero, suc, ◌+◌, ◌^◌, ◌<◌, ◌≤◌, Bool, true, false, cond, not, ◌&&◌, ◌||◌, eqb, ltb, List, [], ◌∷◌, length, refl, sym, ◌∙◌, ap, arith, Option, Some, None}
+use Rattle.std.proofs.lemmas.Bool.{both_ways, lt-ltb}
 use Rattle.std.proofs.lemmas.Bool.Decides.{nat_tests}
 use Rattle.std.proofs.lemmas.Slice.Eq.{bytes_eq-Decides}
 use Rattle.std.specs.Fmt.{decimal}
-use Rattle.std.specs.Str.{bytes_eq}
+use Rattle.std.specs.Char.{is_ascii_digit}
+use Rattle.std.specs.List.{list_all}
+use Rattle.std.specs.Str.{all_ascii_digits, bytes_eq}
 use Rattle.std.specs.Str.Parse.{digits_value}
 use Rattle.ms_base.specs.declared.kind.Kind.{Kind}
 use Rattle.ms_base.specs.declared.kind.Kind.TheVariants.{Standard, Boot, Reflection, Hidden}
@@ -12,7 +15,7 @@ use Rattle.ms_trace.specs.declared.fault.FaultKind.{FaultKind}
 use Rattle.ms_trace.specs.declared.fault.FaultKind.TheVariants.{FieldCount, BadKind, BadNumber, NumberTooLarge}
 use Rattle.ms_trace.specs.Grammar.{Field, kind_field, number_field, kind_word}
 use Rattle.ms_trace.specs.Faults.{is_number, is_kind, field_fault, first_of_two, fields_fault, after_word_fault}
-use Rattle.ms_trace.proofs.DigitLemmas.{is_number-decimal, value-decimal, decimal-value}
+use Rattle.ms_trace.proofs.DigitLemmas.{is_number-decimal, value-decimal, decimal-value, is_number_from_digits, plain_from_is_number, list_all-digits}
 
 -- The text has no fault at this field.
 pub record Passes (field : Field) (bytes : List ℕ) : Type 0 where
@@ -39,6 +42,20 @@ number_read {greatest} {bytes} small passes =
     let parts : (is_number bytes ≡ true) × (ltb greatest (digits_value 10 bytes) ≡ false) = number_form _ _ passes.without_fault in
     let low : digits_value 10 bytes ≤ greatest = grind (arith, nat_tests, parts.1) in
     record { value = digits_value 10 bytes; low = low; written = decimal-value bytes parts.0 (omega arith) }
+
+-- A number of more than 64 bits is too large for each field, and what isn't all digits is no number.
+long_form : (digits : Bool) (greatest : ℕ) (bytes : List ℕ) → digits ≡ all_ascii_digits bytes → (all_ascii_digits bytes ≡ true → is_number bytes ≡ true) → (is_number bytes ≡ true → all_ascii_digits bytes ≡ true) →
+    ltb greatest (digits_value 10 bytes) ≡ true → Some (cond digits NumberTooLarge BadNumber) ≡ field_fault (number_field greatest) bytes
+long_form true greatest bytes e from to large = rw (from (sym e)) (rw large refl)
+long_form false greatest bytes e from to large =
+    let no : is_number bytes ≡ false = elim (is_number bytes) as (λ b. is_number bytes ≡ b → b ≡ false) [ true ↦ λ f. absurd (both_ways _ (sym e) (to f)) | false ↦ λ f. refl ] refl in
+    rw no refl
+
+pub long_fault : (greatest : ℕ) (bytes : List ℕ) → greatest < 2 ^ 64 → 2 ^ 64 ≤ digits_value 10 bytes → 0 < length bytes → ((get_or bytes 0 0 ≡ 48) × (length bytes ≡ 1)) ⊎ (get_or bytes 0 0 ≡ 48 → ⊥) →
+    Some (cond (list_all is_ascii_digit bytes) NumberTooLarge BadNumber) ≡ field_fault (number_field greatest) bytes
+long_fault greatest bytes small long some either =
+    long_form _ greatest bytes (list_all-digits bytes) (λ all. is_number_from_digits bytes all some either) (λ number. (plain_from_is_number bytes number).digits)
+    (lt-ltb greatest (digits_value 10 bytes) (omega arith))
 
 -- The word of a kind has no fault.
 pub kind_passes : (kind : Kind) → Passes kind_field (kind_word kind)

@@ -1,5 +1,7 @@
 //! Reading one field: a kind, or a number in decimal up to a greatest one.
-ghost use Rattle.std.specs.Prelude.{◌≡◌, ◌≤◌, ◌-◌, ◌+◌, ◌*◌, ◌<◌, ◌^◌, IfOk, SomeIff, decimal, bytes_eq};
+ghost use Rattle.std.specs.Prelude.{◌≡◌, ◌≤◌, ◌-◌, ◌+◌, ◌*◌, ◌<◌, ◌^◌, IfOk, SomeIff, decimal, if◌then◌else◌};
+ghost use Rattle.std.specs.Char.{is_ascii_digit};
+ghost use Rattle.std.specs.List.{list_all};
 ghost use Rattle.std.specs.Result.{result_err};
 ghost use Rattle.ms_trace.specs.Grammar.{kind_word, kind_field, number_field, loader_field, block_field, word_field};
 ghost use Rattle.ms_trace.specs.Faults.{field_fault};
@@ -61,22 +63,38 @@ fn read_number(field: &[u8], greatest: u64) -> Result<u64, FaultKind>
         return Err(FaultKind::BadNumber);
     }
     let mut number: u64 = 0;
-    let mut fits = true;
     for byte in field {
         if !byte.is_ascii_digit() {
             return Err(FaultKind::BadNumber);
         }
-        let digit = u64::from(*byte - b'0');
-        match with_digit(number, digit) {
+        match with_digit(number, u64::from(*byte - b'0')) {
             Some(more) => number = more,
-            None => fits = false,
+            None => return Err(fault_of_long(field)),
         }
     }
-    if fits && number <= greatest {
+    if number <= greatest {
         Ok(number)
     } else {
         Err(FaultKind::NumberTooLarge)
     }
+}
+
+/// Decides the fault of a field whose first digits are too many for 64 bits.
+fn fault_of_long(field: &[u8]) -> FaultKind
+    ensures { result ≡ (if list_all is_ascii_digit field.now then FaultKind.NumberTooLarge else FaultKind.BadNumber) }
+{
+    if are_digits(field) {
+        FaultKind::NumberTooLarge
+    } else {
+        FaultKind::BadNumber
+    }
+}
+
+/// Tells whether each byte is a digit.
+fn are_digits(field: &[u8]) -> bool
+    ensures { result ≡ list_all is_ascii_digit field.now }
+{
+    field.iter().all(|byte| byte.is_ascii_digit())
 }
 
 /// Writes one more digit after a number, if that fits.
