@@ -9,7 +9,7 @@ ghost use Rattle.ms_trace.specs.Faults.{after_word_fault, command_fault, fault_o
 ghost use Rattle.ms_trace.specs.Grammar.{fields_of, is_silent, loader_field, block_field, word_field, kind_field};
 ghost use Rattle.ms_trace.specs.Spelling.{IsValid, command_fields, spelling_of};
 
-use crate::cutting::{cut, four_fields, no_fields, one_field, three_fields, two_fields};
+use crate::cutting::{cut_field, four_fields, no_fields, one_field, three_fields, two_fields};
 use crate::fault::FaultKind;
 use crate::fields::{read_block, read_kind, read_loader, read_word};
 use crate::trace::{Command, MOST_LINES};
@@ -42,7 +42,7 @@ fn read_command(line: &[u8]) -> Result<Command, FaultKind>
     ensures fields { IfOk result (λ command. command_fields command ≡ fields_of line.now) }
     ensures valid { IfOk result IsValid }
 {
-    let (word, rest) = cut(line, b' ');
+    let (word, rest) = cut_field(line);
     if word == b"new".as_slice() {
         read_new(rest)
     } else if word == b"alloc".as_slice() {

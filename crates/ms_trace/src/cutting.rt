@@ -9,24 +9,49 @@ ghost use Rattle.std.specs.Result.{result_err};
 ghost use Rattle.ms_trace.specs.Cutting.{parts_after};
 
 use crate::fault::FaultKind;
+use memchr::memchr;
 
-/// Cuts a text at its first separator: what stands before it, and what stands after it where there
-/// is one.
-pub(crate) fn cut(text: &[u8], separator: u8) -> (&[u8], Option<&[u8]>)
+/// Cuts off the first line: what stands before the first newline, and what stands after it where
+/// there is one. Lines may be long, so the search is by blocks.
+pub(crate) fn cut_line(text: &[u8]) -> (&[u8], Option<&[u8]>)
+    ensures parts { slice_split (λ byte. byte == 10) text.now ≡ result.0.now ∷ parts_after 10 (option_copied result.1) }
+    ensures shorter { IfSome result.1 (λ rest. length rest.now < length text.now) }
+{
+    cut_at(text, b'\n', first_newline(text))
+}
+
+/// Cuts off the first field, as `cut_line` does at spaces. Fields are short, so the search is by
+/// bytes.
+pub(crate) fn cut_field(text: &[u8]) -> (&[u8], Option<&[u8]>)
+    ensures parts { slice_split (λ byte. byte == 32) text.now ≡ result.0.now ∷ parts_after 32 (option_copied result.1) }
+{
+    cut_at(text, b' ', first_space(text))
+}
+
+/// Cuts a text at its first separator, which is at that place.
+fn cut_at(text: &[u8], separator: u8, place: Option<usize>) -> (&[u8], Option<&[u8]>)
+    requires { place ≡ position (λ byte. byte == separator) text.now }
     ensures parts { slice_split (λ byte. byte == separator) text.now ≡ result.0.now ∷ parts_after separator (option_copied result.1) }
     ensures shorter { IfSome result.1 (λ rest. length rest.now < length text.now) }
 {
-    match first_of(text, separator) {
+    match place {
         None => (text, None),
         Some(at) => (&text[..at], Some(&text[at + 1..])),
     }
 }
 
-/// Finds the first separator.
-fn first_of(text: &[u8], separator: u8) -> Option<usize>
-    ensures { result ≡ position (λ byte. byte == separator) text.now }
+/// Finds the first newline.
+fn first_newline(text: &[u8]) -> Option<usize>
+    ensures { result ≡ position (λ byte. byte == 10) text.now }
 {
-    text.iter().position(|byte| *byte == separator)
+    memchr(b'\n', text)
+}
+
+/// Finds the first space.
+fn first_space(text: &[u8]) -> Option<usize>
+    ensures { result ≡ position (λ byte. byte == 32) text.now }
+{
+    text.iter().position(|byte| *byte == b' ')
 }
 
 /// Answers no fields, where none are left.
@@ -48,7 +73,7 @@ pub(crate) fn one_field(rest: Option<&[u8]>) -> Result<&[u8], FaultKind>
     let Some(rest) = rest else {
         return Err(FaultKind::FieldCount);
     };
-    let (field, rest) = cut(rest, b' ');
+    let (field, rest) = cut_field(rest);
     no_fields(rest)?;
     Ok(field)
 }
@@ -61,7 +86,7 @@ pub(crate) fn two_fields(rest: Option<&[u8]>) -> Result<(&[u8], &[u8]), FaultKin
     let Some(rest) = rest else {
         return Err(FaultKind::FieldCount);
     };
-    let (first, rest) = cut(rest, b' ');
+    let (first, rest) = cut_field(rest);
     let second = one_field(rest)?;
     Ok((first, second))
 }
@@ -74,7 +99,7 @@ pub(crate) fn three_fields(rest: Option<&[u8]>) -> Result<(&[u8], &[u8], &[u8]),
     let Some(rest) = rest else {
         return Err(FaultKind::FieldCount);
     };
-    let (first, rest) = cut(rest, b' ');
+    let (first, rest) = cut_field(rest);
     let (second, third) = two_fields(rest)?;
     Ok((first, second, third))
 }
@@ -87,7 +112,7 @@ pub(crate) fn four_fields(rest: Option<&[u8]>) -> Result<(&[u8], &[u8], &[u8], &
     let Some(rest) = rest else {
         return Err(FaultKind::FieldCount);
     };
-    let (first, rest) = cut(rest, b' ');
+    let (first, rest) = cut_field(rest);
     let (second, third, fourth) = three_fields(rest)?;
     Ok((first, second, third, fourth))
 }

@@ -6,7 +6,7 @@ ghost use Rattle.ms_trace.specs.Keeping.{Keeps, BlamesLine};
 ghost use Rattle.ms_trace.specs.Spelling.{ReadsAs, rises_above};
 
 use crate::commands::read_line;
-use crate::cutting::cut;
+use crate::cutting::cut_line;
 use crate::fault::{ParseFault, TraceFault};
 use crate::trace::{Line, Lines, Trace};
 use std::alloc::Global;
@@ -24,7 +24,7 @@ pub fn parse(alloc: Global, text: &[u8]) -> Result<Trace, ParseFault>
     let mut number: u32 = 0;
     while !rest.is_empty() {
         number += 1;
-        let (line, after) = cut(rest, b'\n');
+        let (line, after) = cut_line(rest);
         keep(&mut lines, number, line)?;
         rest = after.unwrap_or(b"".as_slice());
     }
