@@ -81,7 +81,7 @@ digit_at_all (first ∷ rest) (suc i) e inside = digit_at_all rest i (and_parts 
 pub not_number_at : (bytes : List ℕ) (i : ℕ) → i < length bytes → is_ascii_digit (get_or bytes i 0) ≡ false → is_number bytes ≡ false
 not_number_at bytes i inside e =
     elim (is_number bytes) as (λ b. is_number bytes ≡ b → b ≡ false) [
-      true ↦ λ number. absurd (both_ways _ e (digit_at_all bytes i (plain_from_is_number bytes number).digits inside))
+      | true ↦ λ number. absurd (both_ways _ e (digit_at_all bytes i (plain_from_is_number bytes number).digits inside))
       | false ↦ λ number. refl
     ] refl
 

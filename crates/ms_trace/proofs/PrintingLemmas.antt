@@ -100,8 +100,8 @@ printed_reads last (line ∷ trace) (valid, others) rises =
     let later : ReadsFrom (line.number + 1) (lines_of (text_from (line.number + 1) trace)) trace = printed_reads line.number trace others parts.1 in
     let text : List ℕ = text_from (line.number + 1) trace in
     let here : ReadsFrom line.number (lines_of (spelling_of line.command ++ 10 ∷ text)) (line ∷ trace) =
-        rw (lines_of-line (spelling_of line.command) text (spelling_is_clean line.command valid))
-        (trace, high, spelling_is_short line.command valid, inr (record { command = line.command; valid = valid; spelled = refl; trace_is = refl }), later) in
+    rw (lines_of-line (spelling_of line.command) text (spelling_is_clean line.command valid))
+    (trace, high, spelling_is_short line.command valid, inr (record { command = line.command; valid = valid; spelled = refl; trace_is = refl }), later) in
     let gap : ℕ = line.number - (last + 1) in
     rw (append_assoc (replicate gap 10) (spelling_of line.command) (10 ∷ text))
     (gap_reads gap (last + 1) (spelling_of line.command ++ 10 ∷ text) (line ∷ trace) (rw place high) (rw place here))

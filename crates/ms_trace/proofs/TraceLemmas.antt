@@ -29,7 +29,7 @@ pub record Reads (number : ℕ) (lines : List (List ℕ)) : Type 0 where
 goes_on : (number : ℕ) (line : List ℕ) (lines : List (List ℕ)) → IsAllowed number line → Reads (number + 1) lines → Reads number (line ∷ lines)
 goes_on number line lines allowed later =
     elim allowed.says [
-      inl silent ↦ record { trace = later.trace; reads = (later.trace, allowed.few, allowed.short, inl (silent, refl), later.reads) }
+      | inl silent ↦ record { trace = later.trace; reads = (later.trace, allowed.few, allowed.short, inl (silent, refl), later.reads) }
       | inr spelled ↦ record {
         trace = record { number = number; command = spelled.command } ∷ later.trace;
         reads = (

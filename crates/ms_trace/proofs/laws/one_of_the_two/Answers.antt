@@ -8,8 +8,8 @@ pub returns : goal.returns
 returns c = λ text.
     ⊎_elim
     (λ faultless.
-        let found : Reads 1 (lines_of text) = reads_from_faultless 1 (lines_of text) faultless in
-        inl (record { lines = found.trace }, found.reads))
+    let found : Reads 1 (lines_of text) = reads_from_faultless 1 (lines_of text) faultless in
+    inl (record { lines = found.trace }, found.reads))
     (λ first. inr (
       _,
       first.kind,

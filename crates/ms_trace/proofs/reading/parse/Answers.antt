@@ -32,8 +32,8 @@ loop-rest-preserved c =
     let left : c.unwrap_or-rest.result.now ≡ unwrap_or after [] = ap (λ left. left.now) c.unwrap_or-rest.ensures ∙ rest_is c.cut_line.result.1 c.as_slice.result c.as_slice.ensures in
     record {
       read = rw left
-      (line_more c.args.text.now rest (unwrap_or after []) c.cut_line.result.0.now c.loop-rest.number c.loop-rest.lines.items c.keep.new.lines.items
-      c.loop-rest.invariant.read (lines_of-cut rest c.cut_line.result.0.now after some c.cut_line.ensures.parts) c.in_ok-keep.ensures.kept);
+          (line_more c.args.text.now rest (unwrap_or after []) c.cut_line.result.0.now c.loop-rest.number c.loop-rest.lines.items c.keep.new.lines.items
+          c.loop-rest.invariant.read (lines_of-cut rest c.cut_line.result.0.now after some c.cut_line.ensures.parts) c.in_ok-keep.ensures.kept);
       few = kept_number (c.loop-rest.number + 1) c.cut_line.result.0.now c.loop-rest.lines.items c.keep.new.lines.items c.in_ok-keep.ensures.kept;
     }
 
