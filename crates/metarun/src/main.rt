@@ -1,0 +1,6 @@
+//! Runs a trace.
+#![tactic(auto)]
+
+mod texts;
+
+fn main() {}
