@@ -1,6 +1,7 @@
 //! Runs a trace.
 #![tactic(auto)]
 
+mod devices;
 mod texts;
 
 fn main() {}
