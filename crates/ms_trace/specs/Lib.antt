@@ -1,0 +1,4 @@
+pub mod Grammar
+pub mod Faults
+pub mod Spelling
+pub mod Laws

@@ -1,0 +1,48 @@
+//! Why a text is no trace.
+use thiserror::Error;
+
+/// What is wrong with a line, in the order of the checks. A field is checked whole before the next
+/// one, so the last three come as the fields do. This project's choice.
+#[derive(Clone, Copy, Debug, PartialEq, Eq, Error)]
+pub enum FaultKind {
+    /// The line's number is 100001.
+    #[error("TooManyLines")]
+    TooManyLines,
+    /// The line has more than 80 bytes, the newline not counted; comments too.
+    #[error("LineTooLong")]
+    LineTooLong,
+    /// The first field is none of the command words.
+    #[error("UnknownCommand")]
+    UnknownCommand,
+    /// There are more or fewer fields than the command has.
+    #[error("FieldCount")]
+    FieldCount,
+    /// The field for a kind is none of the four words.
+    #[error("BadKind")]
+    BadKind,
+    /// The field for a number isn't `0`, nor a digit 1 to 9 followed by digits.
+    #[error("BadNumber")]
+    BadNumber,
+    /// The number is above the greatest that its field may have.
+    #[error("NumberTooLarge")]
+    NumberTooLarge,
+}
+
+/// The first faulty line, 1 to 100001, and its first failing check.
+#[derive(Clone, Copy, Debug, PartialEq, Eq, Error)]
+#[error("line {line}: {kind}")]
+pub struct TraceFault {
+    pub line: u32,
+    pub kind: FaultKind,
+}
+
+/// Why `parse` answers no trace.
+#[derive(Clone, Copy, Debug, PartialEq, Eq, Error)]
+pub enum ParseFault {
+    /// The text is no trace.
+    #[error("{0}")]
+    Trace(TraceFault),
+    /// The allocator refused a growth.
+    #[error("out of memory")]
+    OutOfMemory,
+}

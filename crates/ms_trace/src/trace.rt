@@ -1,0 +1,100 @@
+//! A trace: commands under the numbers of their lines.
+ghost use Rattle.std.specs.Prelude.{◌≡◌, ◌<◌, length, slice_index_or};
+
+use ms_base::Kind;
+use std::marker::Model;
+
+/// What a line asks: a request to the machine, a point where all workers meet, or a report.
+/// Loaders are named by 0 to 65535, blocks of a loader by 0 to 4294967295; words and indices count
+/// words of 8 bytes. This project's choice.
+#[derive(Clone, Copy, Debug, PartialEq, Eq)]
+pub enum Command {
+    New {
+        loader: u16,
+        kind: Kind,
+    },
+    Alloc {
+        loader: u16,
+        block: u32,
+        words: u64,
+    },
+    Write {
+        loader: u16,
+        block: u32,
+        index: u64,
+        value: u64,
+    },
+    Read {
+        loader: u16,
+        block: u32,
+        index: u64,
+    },
+    Free {
+        loader: u16,
+        block: u32,
+    },
+    Unload {
+        loader: u16,
+    },
+    Purge,
+    Sync,
+    Report,
+}
+
+/// A command and the number of its line, which counts from 1, blank lines and comments included.
+#[derive(Clone, Copy, Debug, PartialEq, Eq)]
+pub struct Line {
+    pub number: u32,
+    pub command: Command,
+}
+
+/// A list of lines in memory, which contracts see as that list.
+#[derive(Drop)]
+pub struct Lines {
+    items: Vec<Line>,
+}
+
+impl Model for Lines {
+    ghost use Rattle.std.specs.Prelude.{List};
+    ghost use Rattle.ms_trace.specs.declared.trace.Line.{Line};
+
+    ghost Value = { List Line };
+
+    ghost view = { λ lines. lines.items.items };
+}
+
+impl Lines {
+    /// Makes a list of the lines of a vector. Takes no memory.
+    pub fn from_vec(items: Vec<Line>) -> Lines
+        ensures { result ≡ items.items }
+    {
+        Lines { items }
+    }
+
+    /// Gives the lines back as a vector. Takes no memory.
+    pub fn into_vec(self) -> Vec<Line>
+        ensures { result.items ≡ self }
+    {
+        self.items
+    }
+
+    /// Lends the lines as a slice.
+    pub fn as_slice(&self) -> &[Line]
+        ensures { result.now ≡ self.now }
+    {
+        self.items.as_slice()
+    }
+
+    /// Tells how many lines there are.
+    pub fn len(&self) -> usize
+        ensures { result ≡ length self.now }
+    {
+        self.items.len()
+    }
+}
+
+/// The command lines of a text, in the order of their numbers where a text was read.
+#[derive(Drop)]
+pub struct Trace {
+    pub lines: Lines,
+}
