@@ -1,6 +1,7 @@
 //! Runs a trace.
 #![tactic(auto)]
 
+mod answering;
 mod devices;
 mod texts;
 
