@@ -5,6 +5,14 @@ pub mod StepExamples
 pub mod EmptyLemmas
 pub mod PickLemmas
 pub mod PartLemmas
+pub mod HalvesLemmas
+pub mod FreeLemmas
 pub mod GranuleLemmas
 pub mod IntervalLemmas
 pub mod NameLemmas
+pub mod EntryLemmas
+pub mod ApartLemmas
+pub mod HeldLemmas
+pub mod SlotLemmas
+pub mod CommittedLemmas
+pub mod GoodLemmas

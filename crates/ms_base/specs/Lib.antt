@@ -22,3 +22,4 @@ pub mod Run
 pub mod Totals
 pub mod Alone
 pub mod Laws
+pub mod FreeLaws

@@ -1,0 +1,4 @@
+pub mod Loader
+pub mod Placing
+pub mod System
+pub mod Inside

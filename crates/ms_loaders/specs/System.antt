@@ -1,0 +1,42 @@
+-- What a system's calls give and change.
+use Rattle.std.specs.Prelude.{◌≡◌, ℕ, List, [], Result, Ok, Err, ⊤}
+use Rattle.ms_base.specs.declared.step.Step.{Step}
+use Rattle.ms_base.specs.declared.step.Step.TheVariants.{New, Alloc}
+use Rattle.ms_base.specs.declared.span.Chunk.{Chunk}
+use Rattle.ms_base.specs.declared.settings.Settings.{Settings}
+use Rattle.ms_base.specs.declared.step.Reply.{Reply}
+use Rattle.ms_base.specs.declared.step.Reply.TheVariants.{Refused}
+use Rattle.ms_base.specs.declared.refusal.Refusal.{Refusal}
+use Rattle.ms_base.specs.Names.{with_changed}
+use Rattle.ms_base.specs.PoolSteps.{slots_with}
+use Rattle.ms_base.specs.State.{LoaderState, Limits, Machine, chunks_held}
+use Rattle.ms_base.specs.Totals.{committed_words, used_words}
+use Rattle.ms_loaders.specs.Loader.{with_chunk}
+
+-- The limits that settings give; a granule has 8192 words.
+abbrev pub limits_of : Settings → Limits
+limits_of settings = record { nodes = settings.nodes; granules = settings.max_granules; granule = 8192 }
+
+-- Nothing is left: no loader holds a chunk, no word is in use and none is committed.
+pub record HoldsNothing (m : Machine) : Type 0 where
+  pub chunks : chunks_held m.loaders ≡ []
+  pub used : used_words m ≡ 0
+  pub committed : committed_words m ≡ 0
+
+-- The machine where a loader is lent a chunk with a block at its start.
+abbrev pub with_lent : Machine → ℕ → LoaderState → ℕ → Chunk → List ℕ → Machine
+with_lent m name loader block chunk contents = record m {
+  loaders = with_changed m.loaders name (with_chunk loader block chunk contents);
+  slots = slots_with m.slots chunk.start;
+}
+
+-- The reply that a result stands for.
+abbrev pub reply_of : Result Reply Refusal → Reply
+reply_of (Ok reply) = reply
+reply_of (Err refusal) = Refused refusal
+
+-- The steps that are served so far.
+abbrev pub IsNewOrAlloc : Step → Type 0
+IsNewOrAlloc (New name kind) = ⊤
+IsNewOrAlloc (Alloc name block words) = ⊤
+IsNewOrAlloc _ = ⊥
