@@ -49,5 +49,8 @@ abbrev pub number_line : List ℕ → ℕ → List ℕ
 number_line label number = codes "  " ++ left_in 12 label ++ right_in 12 (decimal number) ++ codes "\n"
 
 -- The short report: the words committed, then the words used.
+abbrev pub short_lines : ℕ → ℕ → List ℕ
+short_lines committed used = number_line (codes "committed") committed ++ number_line (codes "used") used
+
 abbrev pub short_report : Machine → List ℕ
-short_report m = number_line (codes "committed") (committed_words m) ++ number_line (codes "used") (used_words m)
+short_report m = short_lines (committed_words m) (used_words m)

@@ -5,8 +5,9 @@ use Rattle.ms_base.specs.declared.step.Step.TheVariants as step
 use Rattle.ms_base.specs.declared.step.Reply.{Reply}
 use Rattle.ms_base.specs.declared.step.Reply.TheVariants.{Ok as Done}
 use Rattle.ms_base.specs.declared.settings.Settings.{Settings}
-use Rattle.ms_base.specs.State.{Limits, Machine, empty_machine}
+use Rattle.ms_base.specs.State.{Machine, empty_machine}
 use Rattle.ms_base.specs.Transition.{Transition}
+use Rattle.ms_loaders.specs.System.{limits_of}
 use Rattle.ms_trace.specs.declared.trace.Command.{Command}
 use Rattle.ms_trace.specs.declared.trace.Command.TheVariants.{New, Alloc, Write, Read, Free, Unload, Purge, Sync, Report}
 use Rattle.ms_trace.specs.declared.trace.Line.{Line}
@@ -46,10 +47,6 @@ Outputs addresses old (line ∷ lines) output new =
     × Advances (step_of line.command) old reply mid
     × (output ≡ reply_line addresses line.number reply ++ report_of line.command mid ++ rest)
     × Outputs addresses mid lines rest new
-
--- The limits that a session runs under.
-abbrev pub limits_of : Settings → Limits
-limits_of settings = record { nodes = settings.nodes; granules = settings.max_granules; granule = 8192 }
 
 -- The output is what a session with these settings writes for the text: the text reads as a trace,
 -- and the machine runs through its commands from the empty state.

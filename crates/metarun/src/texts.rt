@@ -1,6 +1,6 @@
 //! The text of replies and of the short report.
 ghost use Rattle.std.specs.Prelude.{◌≡◌, ◌++◌, IfOk, OnOk, OnErr, string_bytes, codes, decimal, replicate};
-ghost use Rattle.metarun.specs.ReplyText.{name_of, reply_text, reply_line, number_line, left_in, right_in};
+ghost use Rattle.metarun.specs.ReplyText.{name_of, reply_text, reply_line, number_line, short_lines};
 
 use itoa::Buffer;
 use ms_base::{Refusal, Reply};
@@ -101,8 +101,8 @@ fn push_number_line(text: &mut String, label: &str, number: u64) -> Result<(), A
 
 /// Appends the short report: the words committed, then the words used.
 pub fn push_short_report(text: &mut String, committed: u64, used: u64) -> Result<(), AllocError>
-    ensures { OnOk result (string_bytes text.new ≡ string_bytes text.old
-        ++ number_line (codes "committed") committed ++ number_line (codes "used") used) }
+    ensures { OnOk result (string_bytes text.new
+        ≡ string_bytes text.old ++ short_lines committed used) }
 {
     push_number_line(text, "committed", committed)?;
     push_number_line(text, "used", used)?;
