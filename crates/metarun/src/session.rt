@@ -65,3 +65,6 @@ fn answer_to<R: Read>(
     let trace = parse(alloc, &text)?;
     Ok(answer_all(alloc, options, trace.lines.as_slice())?)
 }
+
+#[cfg(test)]
+mod tests;
