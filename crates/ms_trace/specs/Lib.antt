@@ -2,3 +2,5 @@ pub mod Grammar
 pub mod Faults
 pub mod Spelling
 pub mod Laws
+pub mod Cutting
+pub mod Keeping

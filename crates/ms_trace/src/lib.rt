@@ -10,7 +10,11 @@
 //! the laws say that these fit. Stands on `ms_base`. Only `parse` and `print` take memory.
 #![tactic(auto)]
 
+mod commands;
+mod cutting;
 mod fault;
+mod fields;
+pub mod laws;
 mod printing;
 mod reading;
 mod trace;

@@ -1,8 +1,11 @@
 //! Printing a trace as a text that reads as it.
-ghost use Rattle.std.specs.Prelude.{◌≡◌, IfOk, IsTrue};
-ghost use Rattle.ms_trace.specs.Spelling.{ReadsAs, rises_above, text_of};
+ghost use Rattle.std.specs.Prelude.{◌≡◌, ◌++◌, ◌∷◌, IfOk, OnOk, IsTrue, decimal, replicate};
+ghost use Rattle.ms_trace.specs.Grammar.{kind_word};
+ghost use Rattle.ms_trace.specs.Spelling.{IsValid, ReadsAs, rises_above, spelling_of, text_of};
 
-use crate::trace::Trace;
+use crate::trace::{Command, Trace};
+use itoa::Buffer;
+use ms_base::Kind;
 use std::alloc::{AllocError, Global};
 
 /// Prints a trace whose line numbers rise from 1 to 100000: each command with single spaces on the
@@ -13,7 +16,104 @@ pub fn print(alloc: Global, trace: &Trace) -> Result<Vec<u8>, AllocError>
     ensures text { IfOk result (λ text. text.items ≡ text_of trace.now) }
     ensures reads { IfOk result (λ text. ReadsAs text.items trace.now) }
 {
-    let _ = alloc;
-    let _ = trace;
-    Err(AllocError)
+    let mut text = Vec::new(alloc);
+    let mut last: u32 = 0;
+    for line in trace.lines.as_slice() {
+        print_gap(&mut text, line.number - last - 1)?;
+        print_command(&mut text, line.command)?;
+        text.extend_from_slice(b"\n".as_slice())?;
+        last = line.number;
+    }
+    Ok(text)
+}
+
+/// Prints so many empty lines.
+fn print_gap(text: &mut Vec<u8>, lines: u32) -> Result<(), AllocError>
+    ensures { OnOk result (text.new.items ≡ text.old.items ++ replicate lines 10) }
+{
+    for _ in 0..lines {
+        text.extend_from_slice(b"\n".as_slice())?;
+    }
+    Ok(())
+}
+
+/// Prints a command.
+fn print_command(text: &mut Vec<u8>, command: Command) -> Result<(), AllocError>
+    ensures printed { OnOk result (text.new.items ≡ text.old.items ++ spelling_of command) }
+    ensures valid { IsValid command }
+{
+    match command {
+        Command::New { loader, kind } => {
+            text.extend_from_slice(b"new".as_slice())?;
+            print_number(text, u64::from(loader))?;
+            print_kind(text, kind)?;
+        }
+        Command::Alloc {
+            loader,
+            block,
+            words,
+        } => {
+            text.extend_from_slice(b"alloc".as_slice())?;
+            print_number(text, u64::from(loader))?;
+            print_number(text, u64::from(block))?;
+            print_number(text, words)?;
+        }
+        Command::Write {
+            loader,
+            block,
+            index,
+            value,
+        } => {
+            text.extend_from_slice(b"write".as_slice())?;
+            print_number(text, u64::from(loader))?;
+            print_number(text, u64::from(block))?;
+            print_number(text, index)?;
+            print_number(text, value)?;
+        }
+        Command::Read {
+            loader,
+            block,
+            index,
+        } => {
+            text.extend_from_slice(b"read".as_slice())?;
+            print_number(text, u64::from(loader))?;
+            print_number(text, u64::from(block))?;
+            print_number(text, index)?;
+        }
+        Command::Free { loader, block } => {
+            text.extend_from_slice(b"free".as_slice())?;
+            print_number(text, u64::from(loader))?;
+            print_number(text, u64::from(block))?;
+        }
+        Command::Unload { loader } => {
+            text.extend_from_slice(b"unload".as_slice())?;
+            print_number(text, u64::from(loader))?;
+        }
+        Command::Purge => text.extend_from_slice(b"purge".as_slice())?,
+        Command::Sync => text.extend_from_slice(b"sync".as_slice())?,
+        Command::Report => text.extend_from_slice(b"report".as_slice())?,
+    }
+    Ok(())
+}
+
+/// Prints a space and a number.
+fn print_number(text: &mut Vec<u8>, number: u64) -> Result<(), AllocError>
+    ensures { OnOk result (text.new.items ≡ text.old.items ++ 32 ∷ decimal number) }
+{
+    let mut buffer = Buffer::new();
+    text.extend_from_slice(b" ".as_slice())?;
+    text.extend_from_slice(buffer.format(number).as_bytes())
+}
+
+/// Prints a space and the word of a kind.
+fn print_kind(text: &mut Vec<u8>, kind: Kind) -> Result<(), AllocError>
+    ensures { OnOk result (text.new.items ≡ text.old.items ++ 32 ∷ kind_word kind) }
+{
+    let word = match kind {
+        Kind::Standard => b" standard".as_slice(),
+        Kind::Boot => b" boot".as_slice(),
+        Kind::Reflection => b" reflection".as_slice(),
+        Kind::Hidden => b" hidden".as_slice(),
+    };
+    text.extend_from_slice(word)
 }

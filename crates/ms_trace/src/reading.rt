@@ -1,10 +1,14 @@
-//! Reading a text as a trace.
-ghost use Rattle.std.specs.Prelude.{IfOk, IfErr, IsTrue};
+//! Reading a text as a trace, line by line. What is left of the text shrinks by a line a turn, and
+//! what was read stands in `lines`: the lines cut off so far read as those.
+ghost use Rattle.std.specs.Prelude.{IfOk, IfErr, IsTrue, OnOk};
 ghost use Rattle.ms_trace.specs.Faults.{BlamesText};
+ghost use Rattle.ms_trace.specs.Keeping.{Keeps, BlamesLine};
 ghost use Rattle.ms_trace.specs.Spelling.{ReadsAs, rises_above};
 
-use crate::fault::ParseFault;
-use crate::trace::Trace;
+use crate::commands::read_line;
+use crate::cutting::cut;
+use crate::fault::{ParseFault, TraceFault};
+use crate::trace::{Line, Lines, Trace};
 use std::alloc::Global;
 
 /// Reads a text as a trace. The fault is that of the first faulty line, by its first failing
@@ -15,7 +19,31 @@ pub fn parse(alloc: Global, text: &[u8]) -> Result<Trace, ParseFault>
     ensures in_order { IfOk result (λ trace. IsTrue (rises_above 0 trace.lines)) }
     ensures faults { IfErr result (λ fault. BlamesText text.now fault) }
 {
-    let _ = alloc;
-    let _ = text;
-    Err(ParseFault::OutOfMemory)
+    let mut lines: Vec<Line> = Vec::new(alloc);
+    let mut rest = text;
+    let mut number: u32 = 0;
+    while !rest.is_empty() {
+        number += 1;
+        let (line, after) = cut(rest, b'\n');
+        keep(&mut lines, number, line)?;
+        rest = after.unwrap_or(b"".as_slice());
+    }
+    Ok(Trace {
+        lines: Lines::from_vec(lines),
+    })
+}
+
+/// Reads the line of that number, and keeps its command, if it gives one.
+fn keep(lines: &mut Vec<Line>, number: u32, line: &[u8]) -> Result<(), ParseFault>
+    ensures kept { OnOk result (Keeps number line.now lines.old.items lines.new.items) }
+    ensures fault { IfErr result (λ fault. BlamesLine number line.now fault) }
+{
+    match read_line(number, line) {
+        Err(kind) => Err(ParseFault::Trace(TraceFault { line: number, kind })),
+        Ok(None) => Ok(()),
+        Ok(Some(command)) => match lines.push(Line { number, command }) {
+            Ok(()) => Ok(()),
+            Err(_) => Err(ParseFault::OutOfMemory),
+        },
+    }
 }

@@ -1,0 +1,38 @@
+-- Cutting at a byte undoes joining with it.
+use Rattle.std.proofs.Common.{◌≡◌, ℕ, ◌+◌, ◌<◌, ◌≤◌, not, cond, ltb, length, take, drop, Option, Some, None, arith, Bool, true, false, eqb, List, [], ◌∷◌, ◌++◌, refl, sym, ◌∙◌, ap}
+use Rattle.std.proofs.lemmas.Bool.{not-true, ltb-true, ltb-false}
+use Rattle.std.proofs.lemmas.List.Splits.{slice_split_none, slice_split_at, slice_split_first}
+use Rattle.std.proofs.lemmas.List.Sums.{prefix_len_passes}
+use Rattle.std.specs.List.{All, AllByRecursion, join_with_byte, slice_split, position, position_or_len}
+use Rattle.ms_trace.specs.Grammar.{fields_of}
+
+-- No byte is a space.
+abbrev pub IsSolid : List ℕ → Type 0
+IsSolid bytes = All (λ byte. eqb byte 32 ≡ false) bytes
+
+-- Fields without spaces are cut as they were joined.
+pub fields_of-join : (first : List ℕ) (rest : List (List ℕ)) → IsSolid first → AllByRecursion IsSolid rest → fields_of (join_with_byte 32 (first ∷ rest)) ≡ first ∷ rest
+fields_of-join first [] solid all = slice_split_none (λ byte. eqb byte 32) first solid
+fields_of-join first (next ∷ rest) solid all =
+    slice_split_at (λ byte. eqb byte 32) first 32 (join_with_byte 32 (next ∷ rest)) solid refl
+    ∙ ap (λ fields. first ∷ fields) (fields_of-join next rest all.0 all.1)
+
+-- Where the byte isn't found, the text is one part.
+not_inside : (inside : Bool) (place : ℕ) → None ≡ cond inside (Some place) None → inside ≡ false
+not_inside true place e = cc
+not_inside false place e = refl
+
+pub cut_nowhere : (p : ℕ → Bool) (text : List ℕ) → None ≡ position p text → slice_split p text ≡ text ∷ []
+cut_nowhere p text e =
+    let past : length text ≤ position_or_len p text = ltb-false _ _ (not_inside _ _ e) in
+    slice_split_none p text (λ k d inside. not-true _ (prefix_len_passes (λ byte. not (p byte)) text k d (omega arith)))
+
+-- Where it is found, the first part ends there.
+found_inside : (inside : Bool) (place at : ℕ) → Some at ≡ cond inside (Some place) None → (inside ≡ true) × (place ≡ at)
+found_inside true place at e = (refl, cc)
+found_inside false place at e = cc
+
+pub cut_there : (p : ℕ → Bool) (text : List ℕ) (at : ℕ) → Some at ≡ position p text → slice_split p text ≡ take at text ∷ slice_split p (drop (at + 1) text)
+cut_there p text at e =
+    let found : (ltb (position_or_len p text) (length text) ≡ true) × (position_or_len p text ≡ at) = found_inside _ _ at e in
+    rw found.1 at (slice_split_first p text 0 (ltb-true _ _ found.0))

@@ -1,0 +1,128 @@
+-- The loop of printing, and that a printed trace reads as itself.
+use Rattle.std.proofs.Common.{◌≡◌, ℕ, inl, inr, IsTrue, zero, suc, not, ◌&&◌, ◌+◌, ◌-◌, ◌^◌, ◌<◌, ◌≤◌, Bool, true, false, eqb, ltb, leb, List, [], ◌∷◌, ◌++◌, length, get_or, drop, take, replicate, refl, sym, ◌∙◌, ap, arith, add-zero, add-one, append_assoc, codes}
+use Rattle.std.proofs.lemmas.Bool.{and_parts, and_from, not-true, ltb-true, leb-true}
+use Rattle.std.proofs.lemmas.Bool.Decides.{nat_tests}
+use Rattle.std.proofs.lemmas.Fmt.{digits_decimal}
+use Rattle.std.proofs.lemmas.List.Elements.{All-from_recursion}
+use Rattle.std.proofs.lemmas.List.Folds.{list_all-append}
+use Rattle.std.proofs.lemmas.List.Splits.{slice_split_at, length-slice_split}
+use Rattle.std.proofs.Math.Seq.{drop-cons}
+use Rattle.std.specs.Char.{is_ascii_digit}
+use Rattle.std.specs.Fmt.{decimal}
+use Rattle.std.specs.List.{All, AllByRecursion, list_all, slice_split}
+use Rattle.std.specs.Str.{all_ascii_digits}
+use Rattle.ms_base.specs.declared.kind.Kind.{Kind}
+use Rattle.ms_base.specs.declared.kind.Kind.TheVariants.{Standard, Boot, Reflection, Hidden}
+use Rattle.ms_trace.specs.declared.trace.Command.{Command}
+use Rattle.ms_trace.specs.declared.trace.Command.TheVariants.{New, Alloc, Write, Read, Free, Unload, Purge, Sync, Report}
+use Rattle.ms_trace.specs.declared.trace.Line.{Line}
+use Rattle.ms_trace.specs.Grammar.{kind_word, lines_of, without_empty_end, most_lines}
+use Rattle.ms_trace.specs.Spelling.{spelling_of, IsValid, ReadsFrom, rises_above, text_from}
+use Rattle.ms_trace.proofs.DigitLemmas.{own}
+use Rattle.ms_trace.proofs.SpellingLemmas.{spelling_is_short}
+use Rattle.ms_trace.proofs.ReadingLemmas.{line_first}
+
+-- No byte is a newline.
+abbrev is_clean : List ℕ → Bool
+is_clean bytes = list_all (λ byte. not (eqb byte 10)) bytes
+
+clean_parts : (bytes : List ℕ) → is_clean bytes ≡ true → AllByRecursion (λ byte. eqb byte 10 ≡ false) bytes
+clean_parts [] e = tt
+clean_parts (byte ∷ bytes) e =
+    let parts : (not (eqb byte 10) ≡ true) × (is_clean bytes ≡ true) = and_parts _ _ e in
+    (not-true _ parts.0, clean_parts bytes parts.1)
+
+digits_are_clean : (bytes : List ℕ) → all_ascii_digits bytes ≡ true → is_clean bytes ≡ true
+digits_are_clean [] e = refl
+digits_are_clean (byte ∷ bytes) e =
+    let parts : (is_ascii_digit byte ≡ true) × (all_ascii_digits bytes ≡ true) = and_parts _ _ e in
+    and_from (not (eqb byte 10)) (is_clean bytes) (grind (arith, nat_tests, parts.0)) (digits_are_clean bytes parts.1)
+
+number_is_clean : (n : ℕ) → n < 2 ^ 64 → is_clean (decimal n) ≡ true
+number_is_clean n small = digits_are_clean (decimal n) (digits_decimal own n small)
+
+loader_is_clean : (n : ℕ) → n < 2 ^ 16 → is_clean (decimal n) ≡ true
+loader_is_clean n h = number_is_clean n (omega arith)
+
+block_is_clean : (n : ℕ) → n < 2 ^ 32 → is_clean (decimal n) ≡ true
+block_is_clean n h = number_is_clean n (omega arith)
+
+kind_is_clean : (kind : Kind) → is_clean (kind_word kind) ≡ true
+kind_is_clean Standard = refl
+kind_is_clean Boot = refl
+kind_is_clean Reflection = refl
+kind_is_clean Hidden = refl
+
+both_clean : (one other : List ℕ) → is_clean one ≡ true → is_clean other ≡ true → is_clean (one ++ other) ≡ true
+both_clean one other e f = list_all-append _ one other ∙ and_from _ _ e f
+
+spelling_is_clean : (command : Command) → IsValid command → is_clean (spelling_of command) ≡ true
+spelling_is_clean (New loader kind) h = both_clean (decimal loader) (32 ∷ kind_word kind) (loader_is_clean loader h) (kind_is_clean kind)
+spelling_is_clean (Alloc loader block words) (l, b, w) =
+    both_clean (decimal loader) _ (loader_is_clean loader l) (both_clean (decimal block) (32 ∷ decimal words) (block_is_clean block b) (number_is_clean words w))
+spelling_is_clean (Write loader block index value) (l, b, i, v) =
+    both_clean (decimal loader) _ (loader_is_clean loader l)
+    (both_clean (decimal block) _ (block_is_clean block b) (both_clean (decimal index) (32 ∷ decimal value) (number_is_clean index i) (number_is_clean value v)))
+spelling_is_clean (Read loader block index) (l, b, i) =
+    both_clean (decimal loader) _ (loader_is_clean loader l) (both_clean (decimal block) (32 ∷ decimal index) (block_is_clean block b) (number_is_clean index i))
+spelling_is_clean (Free loader block) (l, b) = both_clean (decimal loader) (32 ∷ decimal block) (loader_is_clean loader l) (block_is_clean block b)
+spelling_is_clean (Unload loader) h = loader_is_clean loader h
+spelling_is_clean Purge h = refl
+spelling_is_clean Sync h = refl
+spelling_is_clean Report h = refl
+
+-- A text that goes on with a line and a newline has that line first.
+some_part : (text : List ℕ) → 0 < length (slice_split (λ byte. eqb byte 10) text)
+some_part text = omega (arith, length-slice_split (λ byte. eqb byte 10) text)
+
+lines_of-line : (line text : List ℕ) → is_clean line ≡ true → lines_of (line ++ 10 ∷ text) ≡ line ∷ lines_of text
+lines_of-line line text clean =
+    ap without_empty_end (slice_split_at (λ byte. eqb byte 10) line 10 text (All-from_recursion (λ byte. eqb byte 10 ≡ false) line (clean_parts line clean)) refl)
+    ∙ line_first line (slice_split (λ byte. eqb byte 10) text) (some_part text)
+
+-- Empty lines before lines that read.
+gap_reads : (gap number : ℕ) (text : List ℕ) (trace : List Line) → number + gap ≤ most_lines → ReadsFrom (number + gap) (lines_of text) trace → ReadsFrom number (lines_of (replicate gap 10 ++ text)) trace
+gap_reads zero number text trace few reads = rw add-zero at reads
+gap_reads (suc gap) number text trace few reads =
+    let place : number + suc gap ≡ number + 1 + gap = omega arith in
+    let later : ReadsFrom (number + 1) (lines_of (replicate gap 10 ++ text)) trace = gap_reads gap (number + 1) text trace (omega arith) (rw place at reads) in
+    rw (lines_of-line [] (replicate gap 10 ++ text) refl) (trace, omega arith, omega arith, inl (refl, refl), later)
+
+-- A printed trace reads as itself.
+pub printed_reads : (last : ℕ) (trace : List Line) → AllByRecursion (λ (line : Line). IsValid line.command) trace → rises_above last trace ≡ true → ReadsFrom (last + 1) (lines_of (text_from (last + 1) trace)) trace
+printed_reads last [] valid rises = refl
+printed_reads last (line ∷ trace) (valid, others) rises =
+    let parts : ((ltb last line.number && leb line.number most_lines) ≡ true) × (rises_above line.number trace ≡ true) = and_parts _ _ rises in
+    let bounds : (ltb last line.number ≡ true) × (leb line.number most_lines ≡ true) = and_parts _ _ parts.0 in
+    let low : last < line.number = ltb-true _ _ bounds.0 in
+    let high : line.number ≤ most_lines = leb-true _ _ bounds.1 in
+    let place : last + 1 + (line.number - (last + 1)) ≡ line.number = omega arith in
+    let later : ReadsFrom (line.number + 1) (lines_of (text_from (line.number + 1) trace)) trace = printed_reads line.number trace others parts.1 in
+    let text : List ℕ = text_from (line.number + 1) trace in
+    let here : ReadsFrom line.number (lines_of (spelling_of line.command ++ 10 ∷ text)) (line ∷ trace) =
+        rw (lines_of-line (spelling_of line.command) text (spelling_is_clean line.command valid))
+        (trace, high, spelling_is_short line.command valid, inr (record { command = line.command; valid = valid; spelled = refl; trace_is = refl }), later) in
+    let gap : ℕ = line.number - (last + 1) in
+    rw (append_assoc (replicate gap 10) (spelling_of line.command) (10 ∷ text))
+    (gap_reads gap (last + 1) (spelling_of line.command ++ 10 ∷ text) (line ∷ trace) (rw place high) (rw place here))
+
+-- The lines left begin with the next one.
+drop_here : (items : List Line) (i : ℕ) (d : Line) → i < length items → drop i items ≡ get_or items i d ∷ drop (i + 1) items
+drop_here items i d inside = rw add-one (drop-cons items i d inside)
+
+joined : (text gap spelled rest : List ℕ) → text ++ gap ++ spelled ++ 10 ∷ [] ++ rest ≡ text ++ (gap ++ spelled ++ 10 ∷ rest)
+joined text gap spelled rest = simp append_assoc refl
+
+-- What is printed of a line is the next part of the text.
+pub line_printed : (items : List Line) (i last : ℕ) (d : Line) (text whole : List ℕ) → i < length items → text ++ text_from (last + 1) (drop i items) ≡ whole →
+    text ++ replicate ((get_or items i d).number - last - 1) 10 ++ spelling_of (get_or items i d).command ++ 10 ∷ [] ++ text_from ((get_or items i d).number + 1) (drop (i + 1) items) ≡ whole
+line_printed items i last d text whole inside e =
+    let line : Line = get_or items i d in
+    let gap : line.number - last - 1 ≡ line.number - (last + 1) = omega arith in
+    rw gap (joined text _ (spelling_of line.command) _ ∙ rw (drop_here items i d inside) at e)
+
+-- The lines left rise from that line's number on.
+pub rises_on : (items : List Line) (i last : ℕ) (d : Line) → i < length items → rises_above last (drop i items) ≡ true → rises_above (get_or items i d).number (drop (i + 1) items) ≡ true
+rises_on items i last d inside rises =
+    let front : rises_above last (get_or items i d ∷ drop (i + 1) items) ≡ true = rw (drop_here items i d inside) at rises in
+    (and_parts _ _ front).1

@@ -1,0 +1,101 @@
+-- The loop of reading: the lines cut off so far read as the lines kept so far.
+use Rattle.std.proofs.Common.{◌≡◌, ℕ, ◌⊎◌, inl, inr, IsTrue, suc, ◌+◌, ◌<◌, ◌≤◌, Bool, true, false, eqb, List, [], ◌∷◌, ◌++◌, length, refl, sym, ◌∙◌, ap, arith, add-zero, append_assoc, length-append, append-nil, Option, Some, None, unwrap_or}
+use Rattle.std.proofs.lemmas.List.Splits.{length-slice_split, join_with_byte-slice_split}
+use Rattle.std.specs.List.{join_with_byte, slice_split, count_by}
+use Rattle.ms_trace.specs.declared.fault.FaultKind.{FaultKind}
+use Rattle.ms_trace.specs.declared.fault.ParseFault.{ParseFault}
+use Rattle.ms_trace.specs.declared.fault.ParseFault.TheVariants.{Trace, OutOfMemory}
+use Rattle.ms_trace.specs.declared.trace.Command.{Command}
+use Rattle.ms_trace.specs.declared.trace.Line.{Line}
+use Rattle.ms_trace.specs.Cutting.{parts_after}
+use Rattle.ms_trace.specs.Grammar.{is_silent, lines_of, without_empty_end, most_lines, most_bytes}
+use Rattle.ms_trace.specs.Faults.{fault_of, AreFaultless, HasFault, BlamesText}
+use Rattle.ms_trace.specs.Keeping.{Keeps, BlamesLine}
+use Rattle.ms_trace.specs.Spelling.{spelling_of, IsValid, Gives, ReadsFrom, ReadsAs}
+use Rattle.ms_trace.proofs.SpellingLemmas.{IsAllowed, allowed_from_no_fault}
+use Rattle.ms_trace.proofs.TraceLemmas.{Says, faultless_from_reads}
+
+-- A part before others is a line.
+pub line_first : (part : List ℕ) (parts : List (List ℕ)) → 0 < length parts → without_empty_end (part ∷ parts) ≡ part ∷ without_empty_end parts
+line_first part [] some = absurd (omega arith)
+line_first [] (next ∷ parts) some = refl
+line_first (byte ∷ bytes) (next ∷ parts) some = refl
+
+-- So is a last part with a byte.
+last_line : (part : List ℕ) → 0 < length part → without_empty_end (part ∷ []) ≡ part ∷ []
+last_line [] some = absurd (omega arith)
+last_line (byte ∷ bytes) some = refl
+
+-- What is cut off a text that isn't empty is its first line.
+pub lines_of-cut : (rest line : List ℕ) (after : Option (List ℕ)) → 0 < length rest → slice_split (λ byte. eqb byte 10) rest ≡ line ∷ parts_after 10 after → lines_of rest ≡ line ∷ lines_of (unwrap_or after [])
+lines_of-cut rest line None some cut =
+    let same : line ≡ rest = sym (ap (join_with_byte 10) cut) ∙ join_with_byte-slice_split 10 rest in
+    ap without_empty_end cut ∙ last_line line (rw same some)
+lines_of-cut rest line (Some text) some cut =
+    ap without_empty_end cut ∙ line_first line (slice_split (λ byte. eqb byte 10) text) (omega (arith, length-slice_split (λ byte. eqb byte 10) text))
+
+-- Lines read as a trace with one more line.
+says_more : (number : ℕ) (line : List ℕ) (trace rest said : List Line) → Says number line trace rest → Says number line (trace ++ said) (rest ++ said)
+says_more number line trace rest said (inl (silent, e)) = inl (silent, ap (λ lines. lines ++ said) e)
+says_more number line trace rest said (inr gives) =
+    inr (record { command = gives.command; valid = gives.valid; spelled = gives.spelled; trace_is = ap (λ lines. lines ++ said) gives.trace_is })
+
+reads_push : (number : ℕ) (before : List (List ℕ)) (line : List ℕ) (trace said : List Line) → ReadsFrom number before trace → ReadsFrom (number + length before) (line ∷ []) said → ReadsFrom number (before ++ line ∷ []) (trace ++ said)
+reads_push number [] line trace said e last = rw e (rw add-zero at last)
+reads_push number (first ∷ before) line trace said (rest, few, short, says, more) last =
+    let place : number + suc (length before) ≡ number + 1 + length before = omega arith in
+    (rest ++ said, few, short, says_more number first trace rest said says, reads_push (number + 1) before line rest said more (rw place at last))
+
+-- What is left of a text after so many lines, which read as that trace.
+pub record IsRead (text rest : List ℕ) (number : ℕ) (trace : List Line) : Type 0 where
+  pub before : List (List ℕ)
+  pub lines_are : lines_of text ≡ before ++ lines_of rest
+  pub number_is : number ≡ length before
+  pub reads : ReadsFrom 1 before trace
+
+pub nothing_read : (text : List ℕ) → IsRead text text 0 []
+nothing_read text = record { before = []; lines_are = refl; number_is = refl; reads = refl }
+
+-- One line more.
+pub line_more : (text rest after line : List ℕ) (number : ℕ) (trace new : List Line) → IsRead text rest number trace → lines_of rest ≡ line ∷ lines_of after →
+    Keeps (number + 1) line trace new → IsRead text after (number + 1) new
+line_more text rest after line number trace new read cut keeps =
+    let allowed : IsAllowed (number + 1) line = allowed_from_no_fault (number + 1) line keeps.faultless in
+    let place : 1 + length read.before ≡ number + 1 = omega (arith, read.number_is) in
+    let last : ReadsFrom (number + 1) (line ∷ []) keeps.said = ([], allowed.few, allowed.short, keeps.says, refl) in
+    record {
+      before = read.before ++ line ∷ [];
+      lines_are = read.lines_are ∙ ap (λ lines. read.before ++ lines) cut ∙ sym (append_assoc read.before (line ∷ []) (lines_of after));
+      number_is = simp length-append (omega (arith, read.number_is));
+      reads = rw keeps.new_is (reads_push 1 read.before line trace keeps.said read.reads (rw place last));
+    }
+
+-- A line that is kept is allowed, so its number is.
+pub kept_number : (number : ℕ) (line : List ℕ) (trace new : List Line) → Keeps number line trace new → number ≤ most_lines
+kept_number number line trace new keeps = (allowed_from_no_fault number line keeps.faultless).few
+
+-- A line with a fault is the first one.
+fault_here : (text rest after line : List ℕ) (number : ℕ) (trace : List Line) (kind : FaultKind) → IsRead text rest number trace → lines_of rest ≡ line ∷ lines_of after →
+    fault_of (number + 1) line ≡ Some kind → HasFault text (number + 1) kind
+fault_here text rest after line number trace kind read cut e = record {
+  before = read.before;
+  line = line;
+  after = lines_of after;
+  lines_are = read.lines_are ∙ ap (λ lines. read.before ++ lines) cut;
+  faultless = faultless_from_reads 1 read.before trace read.reads;
+  number_is = ap (λ n. n + 1) read.number_is;
+  kind_is = e;
+}
+
+pub blames_text : (text rest after line : List ℕ) (number : ℕ) (trace : List Line) (fault : ParseFault) → IsRead text rest number trace → lines_of rest ≡ line ∷ lines_of after →
+    BlamesLine (number + 1) line fault → BlamesText text fault
+blames_text text rest after line number trace (Trace fault) read cut (at, kind) =
+    rw at (fault_here text rest after line number trace fault.kind read cut kind)
+blames_text text rest after line number trace OutOfMemory read cut blames = tt
+
+-- Where nothing is left, the text was read.
+pub all_read : (text rest : List ℕ) (number : ℕ) (trace : List Line) → IsRead text rest number trace → length rest ≡ 0 → ReadsFrom 1 (lines_of text) trace
+all_read text [] number trace read none =
+    let whole : lines_of text ≡ read.before = read.lines_are ∙ append-nil read.before in
+    rw whole read.reads
+all_read text (byte ∷ rest) number trace read none = absurd (omega (arith, none))

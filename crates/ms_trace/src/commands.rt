@@ -1,0 +1,181 @@
+//! Reading a line: which command it gives, if any, or its first failing check.
+//!
+//!     alloc 1 10          the word decides how many fields follow and what each of them is;
+//!     ----- - --          their number is checked before the first of them is read
+ghost use Rattle.std.specs.Prelude.{◌≡◌, ◌∷◌, [], Some, IfOk, IfSome, IsNone, IsTrue, codes, option_copied};
+ghost use Rattle.std.specs.Result.{result_err};
+ghost use Rattle.ms_trace.specs.Cutting.{parts_after};
+ghost use Rattle.ms_trace.specs.Faults.{after_word_fault, command_fault, fault_of};
+ghost use Rattle.ms_trace.specs.Grammar.{fields_of, is_silent, loader_field, block_field, word_field, kind_field};
+ghost use Rattle.ms_trace.specs.Spelling.{IsValid, command_fields, spelling_of};
+
+use crate::cutting::{cut, four_fields, no_fields, one_field, three_fields, two_fields};
+use crate::fault::FaultKind;
+use crate::fields::{read_block, read_kind, read_loader, read_word};
+use crate::trace::Command;
+
+/// The greatest number of a line.
+const MOST_LINES: u32 = 100_000;
+
+/// The greatest length of a line in bytes.
+const MOST_BYTES: usize = 80;
+
+/// Reads the line of that number: the command that it gives, if it isn't silent.
+pub(crate) fn read_line(number: u32, line: &[u8]) -> Result<Option<Command>, FaultKind>
+    ensures fault { result_err result ≡ fault_of number line.now }
+    ensures silent { IfOk result (λ said. IsNone said → IsTrue (is_silent line.now)) }
+    ensures spelled { IfOk result (λ said. IfSome said (λ command. line.now ≡ spelling_of command)) }
+    ensures valid { IfOk result (λ said. IfSome said IsValid) }
+{
+    if number > MOST_LINES {
+        return Err(FaultKind::TooManyLines);
+    }
+    if line.len() > MOST_BYTES {
+        return Err(FaultKind::LineTooLong);
+    }
+    if line.is_empty() || line[0] == b'#' {
+        return Ok(None);
+    }
+    Ok(Some(read_command(line)?))
+}
+
+/// Reads a command line.
+fn read_command(line: &[u8]) -> Result<Command, FaultKind>
+    ensures fault { result_err result ≡ command_fault (fields_of line.now) }
+    ensures fields { IfOk result (λ command. command_fields command ≡ fields_of line.now) }
+    ensures valid { IfOk result IsValid }
+{
+    let (word, rest) = cut(line, b' ');
+    if word == b"new".as_slice() {
+        read_new(rest)
+    } else if word == b"alloc".as_slice() {
+        read_alloc(rest)
+    } else if word == b"write".as_slice() {
+        read_write(rest)
+    } else if word == b"read".as_slice() {
+        read_read(rest)
+    } else if word == b"free".as_slice() {
+        read_free(rest)
+    } else if word == b"unload".as_slice() {
+        read_unload(rest)
+    } else if word == b"purge".as_slice() {
+        read_purge(rest)
+    } else if word == b"sync".as_slice() {
+        read_sync(rest)
+    } else if word == b"report".as_slice() {
+        read_report(rest)
+    } else {
+        Err(FaultKind::UnknownCommand)
+    }
+}
+
+/// Reads what follows `new`: a loader and its kind.
+fn read_new(rest: Option<&[u8]>) -> Result<Command, FaultKind>
+    ensures fault { result_err result ≡ after_word_fault (Some (loader_field ∷ kind_field ∷ [])) (parts_after 32 (option_copied rest.entry)) }
+    ensures fields { IfOk result (λ command. command_fields command ≡ codes "new" ∷ parts_after 32 (option_copied rest.entry)) }
+    ensures valid { IfOk result IsValid }
+{
+    let (loader, kind) = two_fields(rest)?;
+    Ok(Command::New {
+        loader: read_loader(loader)?,
+        kind: read_kind(kind)?,
+    })
+}
+
+/// Reads what follows `alloc`: a loader, a block and its words.
+fn read_alloc(rest: Option<&[u8]>) -> Result<Command, FaultKind>
+    ensures fault { result_err result ≡ after_word_fault (Some (loader_field ∷ block_field ∷ word_field ∷ [])) (parts_after 32 (option_copied rest.entry)) }
+    ensures fields { IfOk result (λ command. command_fields command ≡ codes "alloc" ∷ parts_after 32 (option_copied rest.entry)) }
+    ensures valid { IfOk result IsValid }
+{
+    let (loader, block, words) = three_fields(rest)?;
+    Ok(Command::Alloc {
+        loader: read_loader(loader)?,
+        block: read_block(block)?,
+        words: read_word(words)?,
+    })
+}
+
+/// Reads what follows `write`: a loader, a block, an index and a value.
+fn read_write(rest: Option<&[u8]>) -> Result<Command, FaultKind>
+    ensures fault { result_err result ≡ after_word_fault (Some (loader_field ∷ block_field ∷ word_field ∷ word_field ∷ [])) (parts_after 32 (option_copied rest.entry)) }
+    ensures fields { IfOk result (λ command. command_fields command ≡ codes "write" ∷ parts_after 32 (option_copied rest.entry)) }
+    ensures valid { IfOk result IsValid }
+{
+    let (loader, block, index, value) = four_fields(rest)?;
+    Ok(Command::Write {
+        loader: read_loader(loader)?,
+        block: read_block(block)?,
+        index: read_word(index)?,
+        value: read_word(value)?,
+    })
+}
+
+/// Reads what follows `read`: a loader, a block and an index.
+fn read_read(rest: Option<&[u8]>) -> Result<Command, FaultKind>
+    ensures fault { result_err result ≡ after_word_fault (Some (loader_field ∷ block_field ∷ word_field ∷ [])) (parts_after 32 (option_copied rest.entry)) }
+    ensures fields { IfOk result (λ command. command_fields command ≡ codes "read" ∷ parts_after 32 (option_copied rest.entry)) }
+    ensures valid { IfOk result IsValid }
+{
+    let (loader, block, index) = three_fields(rest)?;
+    Ok(Command::Read {
+        loader: read_loader(loader)?,
+        block: read_block(block)?,
+        index: read_word(index)?,
+    })
+}
+
+/// Reads what follows `free`: a loader and a block.
+fn read_free(rest: Option<&[u8]>) -> Result<Command, FaultKind>
+    ensures fault { result_err result ≡ after_word_fault (Some (loader_field ∷ block_field ∷ [])) (parts_after 32 (option_copied rest.entry)) }
+    ensures fields { IfOk result (λ command. command_fields command ≡ codes "free" ∷ parts_after 32 (option_copied rest.entry)) }
+    ensures valid { IfOk result IsValid }
+{
+    let (loader, block) = two_fields(rest)?;
+    Ok(Command::Free {
+        loader: read_loader(loader)?,
+        block: read_block(block)?,
+    })
+}
+
+/// Reads what follows `unload`: a loader.
+fn read_unload(rest: Option<&[u8]>) -> Result<Command, FaultKind>
+    ensures fault { result_err result ≡ after_word_fault (Some (loader_field ∷ [])) (parts_after 32 (option_copied rest.entry)) }
+    ensures fields { IfOk result (λ command. command_fields command ≡ codes "unload" ∷ parts_after 32 (option_copied rest.entry)) }
+    ensures valid { IfOk result IsValid }
+{
+    let loader = one_field(rest)?;
+    Ok(Command::Unload {
+        loader: read_loader(loader)?,
+    })
+}
+
+/// Reads what follows `purge`: nothing.
+fn read_purge(rest: Option<&[u8]>) -> Result<Command, FaultKind>
+    ensures fault { result_err result ≡ after_word_fault (Some ([])) (parts_after 32 (option_copied rest.entry)) }
+    ensures fields { IfOk result (λ command. command_fields command ≡ codes "purge" ∷ parts_after 32 (option_copied rest.entry)) }
+    ensures valid { IfOk result IsValid }
+{
+    no_fields(rest)?;
+    Ok(Command::Purge)
+}
+
+/// Reads what follows `sync`: nothing.
+fn read_sync(rest: Option<&[u8]>) -> Result<Command, FaultKind>
+    ensures fault { result_err result ≡ after_word_fault (Some ([])) (parts_after 32 (option_copied rest.entry)) }
+    ensures fields { IfOk result (λ command. command_fields command ≡ codes "sync" ∷ parts_after 32 (option_copied rest.entry)) }
+    ensures valid { IfOk result IsValid }
+{
+    no_fields(rest)?;
+    Ok(Command::Sync)
+}
+
+/// Reads what follows `report`: nothing.
+fn read_report(rest: Option<&[u8]>) -> Result<Command, FaultKind>
+    ensures fault { result_err result ≡ after_word_fault (Some ([])) (parts_after 32 (option_copied rest.entry)) }
+    ensures fields { IfOk result (λ command. command_fields command ≡ codes "report" ∷ parts_after 32 (option_copied rest.entry)) }
+    ensures valid { IfOk result IsValid }
+{
+    no_fields(rest)?;
+    Ok(Command::Report)
+}
