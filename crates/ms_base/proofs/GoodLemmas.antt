@@ -1,24 +1,24 @@
 -- The machine stays good where a loader is made, changed without another chunk, or unloaded, and
 -- where nodes are purged.
-use Rattle.std.proofs.Common.{◌≡◌, ◌≤◌, ◌<◌, ◌+◌, ◌-◌, ◌^◌, ℕ, Bool, true, Option, Some, None, List, [], ◌∷◌, ◌++◌, length, map, refl, sym, ap, ◌∙◌, subst, arith}
+use Rattle.std.proofs.Common.{◌≡◌, ◌<◌, ◌+◌, ◌-◌, ◌^◌, ℕ, Option, Some, None, List, [], ◌∷◌, ◌++◌, refl, sym, ap, ◌∙◌, subst, arith}
 use Rattle.std.specs.Ordering.{nat_cmp}
-use Rattle.std.specs.List.{All, filter, flat_map}
+use Rattle.std.specs.List.{flat_map}
 use Rattle.std.specs.Map.{values_of}
 use Rattle.std.specs.BTreeMap.{is_at}
+use Rattle.std.specs.Option.{IfSome}
 use Rattle.std.proofs.lemmas.List.Concat.{flat_map-append}
 use Rattle.std.proofs.lemmas.List.Elements.{All-filter}
 use Rattle.std.proofs.lemmas.List.Kept.{IsStrictlyIncreasing-filter}
-use Rattle.std.proofs.lemmas.Map.Views.{All-values-insert_entry, All-map-remove_entry, All-values-set_value}
+use Rattle.std.proofs.lemmas.Map.Views.{All-values-insert_entry, All-map-remove_entry, All-values-set_value, IfSome-lookup_from_All}
 use Rattle.ms_base.specs.declared.kind.Kind.{Kind}
 use Rattle.ms_base.specs.declared.span.Chunk.{Chunk}
 use Rattle.ms_base.specs.Names.{named, with_new, with_changed, without}
 use Rattle.ms_base.specs.Held.{has_chunk_in}
-use Rattle.ms_base.specs.Committed.{committed_granules}
 use Rattle.ms_base.specs.State.{LoaderState, Machine, PoolState, chunks_held, empty_loader, pool_of}
 use Rattle.ms_base.specs.Good.{IsSoundLoader, IsSoundPool, IsGood}
 use Rattle.ms_base.specs.Transition.{HasLoader, LacksLoader, with_loader, purged}
 use Rattle.ms_base.proofs.NameLemmas.{rises_with_new}
-use Rattle.ms_base.proofs.EntryLemmas.{Split, split_at, Gap, gap_at, values_split, values_joined, rises_with_changed, rises_without}
+use Rattle.ms_base.proofs.EntryLemmas.{Split, split_at, gap_at, values_split, values_joined, rises_with_changed, rises_without}
 use Rattle.ms_base.proofs.HeldLemmas.{held_rest, held_in}
 use Rattle.ms_base.proofs.SlotLemmas.{slots_of_chunks, all_have}
 use Rattle.ms_base.proofs.CommittedLemmas.{committed_rest, committed_in_fewer}
@@ -62,6 +62,11 @@ sound_when_empty kind = record {
   arena = record { apart = refl; long = refl; inside = refl; few = omega arith; tops = refl; kept = λ k h. absurd (omega arith) };
   names = λ k h. absurd (omega arith);
 }
+
+-- Each loader of a good machine is sound.
+pub loader_is_sound : (m : Machine) (name : ℕ) (loader : LoaderState) → named m.loaders name ≡ Some loader → IsGood m → IsSoundLoader loader
+loader_is_sound m name loader found good =
+    subst (λ (o : Option LoaderState). IfSome o IsSoundLoader) found (IfSome-lookup_from_All IsSoundLoader (is_at (nat_cmp name)) m.loaders good.loaders)
 
 -- A new loader.
 pub good_with_new_loader : (m : Machine) (name : ℕ) (kind : Kind) → LacksLoader m name → m.given < 2 ^ 32 - 1 → IsGood m

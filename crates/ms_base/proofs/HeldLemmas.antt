@@ -1,27 +1,15 @@
 -- Held chunks where some are given back, one is added, or slots come and go.
-use Rattle.std.proofs.Common.{◌≡◌, ◌≤◌, ◌<◌, ℕ, ◌+◌, ◌*◌, ◌/◌, Bool, true, false, cond, ◌&&◌, ◌||◌, List, [], ◌∷◌, ◌++◌, length, map, refl, sym, ap, ◌∙◌, subst, arith, length-append}
-use Rattle.std.specs.Prelude.{◌==◌}
-use Rattle.std.specs.Ordering.{nat_cmp, match_ordering}
-use Rattle.std.specs.declared.cmp.Ordering.TheVariants.{Less, Equal, Greater}
-use Rattle.std.specs.List.{All, AllByRecursion, list_any, list_all, filter, flat_map}
-use Rattle.std.specs.List.Sorted.{IsStrictlyIncreasing, IsStrictlySortedBy}
-use Rattle.std.specs.BTreeSet.{insert_key}
-use Rattle.std.proofs.lemmas.Bool.{and_parts, and_from, or_left, or_right, or_parts, or_cases, not-true, false_from_ne_true}
-use Rattle.std.proofs.lemmas.Bool.Decides.{nat_tests}
-use Rattle.std.proofs.lemmas.Cmp.{nat_cmp_total}
+use Rattle.std.proofs.Common.{◌≡◌, ℕ, true, false, List, [], ◌∷◌, ◌++◌, map, refl, ◌∙◌}
+use Rattle.std.specs.List.{list_all}
+use Rattle.std.proofs.lemmas.Bool.{or_parts}
 use Rattle.std.proofs.lemmas.List.{map-append}
-use Rattle.std.proofs.lemmas.List.Elements.{recursion_from_All, All-from_recursion, All-filter, filter-append}
-use Rattle.std.proofs.lemmas.Map.Lookups.{exact_unsigned}
-use Rattle.std.proofs.lemmas.Map.Keys.{sorted_from_strictly_increasing, IsStrictlyIncreasing-from_sorted}
 use Rattle.ms_base.specs.declared.span.Chunk.{Chunk}
-use Rattle.ms_base.specs.Interval.{meet, meets_any, are_apart}
+use Rattle.ms_base.specs.Interval.{meet, meets_any}
 use Rattle.ms_base.specs.Level.{size_of}
 use Rattle.ms_base.specs.Part.{IsPart, slot_of, is_reserved}
 use Rattle.ms_base.specs.Front.{HasFront}
-use Rattle.ms_base.specs.Held.{AreHeld, words_of, meets_chunk, has_chunk_in}
-use Rattle.ms_base.specs.Committed.{is_committed, committed_granules, granules_of}
-use Rattle.ms_base.specs.PoolSteps.{slots_with}
-use Rattle.ms_base.proofs.ApartLemmas.{All-rest_of, list_all-rest_of, list_any-rest_of, apart-rest_of, All-with, list_all-with, list_any-with, apart-with, meet_turned}
+use Rattle.ms_base.specs.Held.{AreHeld, words_of, meets_chunk}
+use Rattle.ms_base.proofs.ApartLemmas.{All-rest_of, list_all-rest_of, apart-rest_of, All-with, list_all-with, apart-with, meet_turned}
 
 abbrev IsPlaced : Chunk → Type 0
 IsPlaced chunk = IsPart chunk.start chunk.level

@@ -7,6 +7,11 @@ pub mod PickLemmas
 pub mod PartLemmas
 pub mod HalvesLemmas
 pub mod FreeLemmas
+pub mod RoomLemmas
+pub mod LargestLemmas
+pub mod RisingLemmas
+pub mod LevelLemmas
+pub mod FreeGranuleLemmas
 pub mod GranuleLemmas
 pub mod IntervalLemmas
 pub mod NameLemmas
@@ -16,3 +21,9 @@ pub mod HeldLemmas
 pub mod SlotLemmas
 pub mod CommittedLemmas
 pub mod GoodLemmas
+pub mod BlockLemmas
+pub mod TopLemmas
+pub mod FrontLemmas
+pub mod AddedLemmas
+pub mod PackingLemmas
+pub mod SumLemmas

@@ -1,15 +1,17 @@
 -- What the list of free parts amounts to: laws about it, each the contract of a function of `laws`.
-use Rattle.std.specs.Prelude.{◌≡◌, ℕ, ◌≤◌, List, map, IsTrue, IsFalse}
+use Rattle.std.specs.Prelude.{◌≡◌, ℕ, ◌*◌, nat_lt, ◌≤◌, List, map, IsTrue, IsFalse}
 use Rattle.std.specs.List.{All, Contains}
 use Rattle.std.specs.List.Sorted.{IsStrictlyIncreasing}
 use Rattle.ms_base.specs.declared.span.Chunk.{Chunk}
 use Rattle.ms_base.specs.declared.span.Span.{Span}
-use Rattle.ms_base.specs.Interval.{lies_in}
+use Rattle.ms_base.specs.Interval.{meet, lies_in}
 use Rattle.ms_base.specs.Level.{size_of}
-use Rattle.ms_base.specs.Part.{IsPart, slot_of, is_reserved}
-use Rattle.ms_base.specs.Held.{meets_chunk}
+use Rattle.ms_base.specs.Part.{IsPart, buddy_start, slot_of, is_reserved}
+use Rattle.ms_base.specs.Held.{AreHeld, meets_chunk}
 use Rattle.ms_base.specs.FreeParts.{IsFreePart, free_parts}
+use Rattle.ms_base.specs.Committed.{is_committed}
 use Rattle.ms_base.specs.State.{PoolState}
+use Rattle.ms_base.specs.Pick.{is_committed_enough}
 use Rattle.ms_base.specs.Causes.{has_room}
 
 -- A clear part is a part of a reserved root that meets no held chunk.
@@ -34,8 +36,8 @@ pub record LiesInFree (held : List Chunk) (slots : List ℕ) (part : Span) : Typ
 pub record ClearIsFree (held : List Chunk) (slots : List ℕ) : Type 0 where
   pub inside : (part : Span) → IsClear held slots part → LiesInFree held slots part
   pub lowest :
-    (part : Span) (m : ℕ) → Contains (free_parts held slots) part → part.level ≤ m → m ≤ 12
-    → IsClear held slots (record { start = part.start; level = m })
+      (part : Span) (m : ℕ) → Contains (free_parts held slots) part → part.level ≤ m → m ≤ 12
+      → IsClear held slots (record { start = part.start; level = m })
 
 abbrev pub ClearPartsAreFree : Type 0
 ClearPartsAreFree = (held : List Chunk) (slots : List ℕ) → ClearIsFree held slots
@@ -45,8 +47,8 @@ pub record HasRoomWhereClear (pool : PoolState) (m : ℕ) : Type 0 where
   pub room : (start : ℕ) → IsClear pool.held pool.slots (record { start = start; level = m }) → IsTrue (has_room pool m)
   pub clear : IsTrue (has_room pool m) → (start : ℕ) × IsClear pool.held pool.slots (record { start = start; level = m })
   pub full :
-    ((start : ℕ) → IsPart start m → IsTrue (is_reserved pool.slots (slot_of start)) → IsTrue (meets_chunk pool.held start m))
-    → IsFalse (has_room pool m)
+      ((start : ℕ) → IsPart start m → IsTrue (is_reserved pool.slots (slot_of start)) → IsTrue (meets_chunk pool.held start m))
+      → IsFalse (has_room pool m)
 
 abbrev pub RoomIsClear : Type 0
 RoomIsClear = (pool : PoolState) (m : ℕ) → m ≤ 12 → HasRoomWhereClear pool m
@@ -59,3 +61,36 @@ pub record ListsFreeParts (held : List Chunk) (slots : List ℕ) : Type 0 where
 
 abbrev pub FreePartsAreListed : Type 0
 FreePartsAreListed = (held : List Chunk) (slots : List ℕ) → ListsFreeParts held slots
+
+-- Two parts of a level below the root's are buddies where each is the other half of one parent.
+pub record AreBuddies (part other : Span) : Type 0 where
+  pub below : 1 ≤ part.level
+  pub same_level : other.level ≡ part.level
+  pub other_half : other.start ≡ buddy_start part.start part.level
+
+abbrev pub NoFreeBuddies : Type 0
+NoFreeBuddies =
+    (held : List Chunk) (slots : List ℕ) (part other : Span) → Contains (free_parts held slots) part → Contains (free_parts held slots) other
+    → AreBuddies part other → ⊥
+
+-- A granule has the words of a level.
+pub record IsGranule (granule : ℕ) : Type 0 where
+  pub level : ℕ
+  pub below : level ≤ 12
+  pub is : granule ≡ size_of level
+
+-- A granule that meets a free part is committed exactly where the part is smaller than a granule.
+-- So a part as large as a granule has none that is committed, and a smaller one has its own.
+abbrev pub FreePartsAreCommittedBySize : Type 0
+FreePartsAreCommittedBySize =
+    (granule number : ℕ) (held : List Chunk) (slots : List ℕ) (part : Span) → IsGranule granule → AreHeld granule slots held
+    → Contains (free_parts held slots) part → IsTrue (meet part.start (size_of part.level) (number * granule) granule)
+    → is_committed granule held number ≡ nat_lt (size_of part.level) granule
+
+-- A free part is committed enough for words that it can hold exactly where it is smaller than a
+-- granule.
+abbrev pub EnoughIsBySize : Type 0
+EnoughIsBySize =
+    (pool : PoolState) (part : Span) (words : ℕ) → IsGranule pool.limits.granule → AreHeld pool.limits.granule pool.slots pool.held
+    → Contains (free_parts pool.held pool.slots) part → 1 ≤ words → words ≤ size_of part.level
+    → is_committed_enough pool words part ≡ nat_lt (size_of part.level) pool.limits.granule

@@ -23,3 +23,4 @@ pub mod Totals
 pub mod Alone
 pub mod Laws
 pub mod FreeLaws
+pub mod LevelLaws

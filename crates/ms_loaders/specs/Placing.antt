@@ -19,12 +19,6 @@ place_in slot level number = slot * node_words + number * size_of level
 abbrev pub IsFull : List Chunk → ℕ → ℕ → Type 0
 IsFull held level slot = (number : ℕ) → number < node_words / size_of level → meets_chunk held (place_in slot level number) level ≡ true
 
--- A part of a reserved slot that meets no held chunk.
-pub record IsClear (held : List Chunk) (slots : List ℕ) (part : Span) : Type 0 where
-  pub placed : IsPart part.start part.level
-  pub reserved : IsTrue (is_reserved slots (slot_of part.start))
-  pub clear : IsFalse (meets_chunk held part.start part.level)
-
 -- A part that a chunk may get: it meets no held chunk, has at most that level, and lies in a
 -- reserved slot or in one of 0 to 63 that may still be reserved.
 pub record IsLendable (m : Machine) (most : ℕ) (part : Span) : Type 0 where

@@ -1,8 +1,9 @@
 -- What a system's calls give and change.
-use Rattle.std.specs.Prelude.{◌≡◌, ℕ, List, [], Result, Ok, Err, ⊤}
-use Rattle.ms_base.specs.declared.step.Step.{Step}
-use Rattle.ms_base.specs.declared.step.Step.TheVariants.{New, Alloc}
+use Rattle.std.specs.Prelude.{◌≡◌, ℕ, List, [], Result, Ok, Err}
 use Rattle.ms_base.specs.declared.span.Chunk.{Chunk}
+use Rattle.ms_base.specs.declared.span.Span.{Span}
+use Rattle.ms_base.specs.Level.{size_of}
+use Rattle.ms_base.specs.Front.{front_for}
 use Rattle.ms_base.specs.declared.settings.Settings.{Settings}
 use Rattle.ms_base.specs.declared.step.Reply.{Reply}
 use Rattle.ms_base.specs.declared.step.Reply.TheVariants.{Refused}
@@ -23,6 +24,10 @@ pub record HoldsNothing (m : Machine) : Type 0 where
   pub used : used_words m ≡ 0
   pub committed : committed_words m ≡ 0
 
+-- The chunk at a part whose front is for so many words.
+abbrev pub chunk_at : Span → ℕ → Chunk
+chunk_at part words = record { start = part.start; level = part.level; front = front_for 8192 (size_of part.level) words }
+
 -- The machine where a loader is lent a chunk with a block at its start.
 abbrev pub with_lent : Machine → ℕ → LoaderState → ℕ → Chunk → List ℕ → Machine
 with_lent m name loader block chunk contents = record m {
@@ -34,9 +39,3 @@ with_lent m name loader block chunk contents = record m {
 abbrev pub reply_of : Result Reply Refusal → Reply
 reply_of (Ok reply) = reply
 reply_of (Err refusal) = Refused refusal
-
--- The steps that are served so far.
-abbrev pub IsNewOrAlloc : Step → Type 0
-IsNewOrAlloc (New name kind) = ⊤
-IsNewOrAlloc (Alloc name block words) = ⊤
-IsNewOrAlloc _ = ⊥

@@ -11,8 +11,11 @@
 //! `run`; nothing waits.
 #![tactic(auto)]
 
+mod committing;
+mod held;
 mod loader;
 mod placing;
+mod slots;
 mod system;
 
 pub use ms_base::{Reply, Step};

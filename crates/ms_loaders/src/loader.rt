@@ -2,8 +2,9 @@
 //!
 //! Each block lies at the start of a chunk of its own, so a chunk's top is the words of its block.
 //! Kept true: there are as many tops as chunks. Only `add` takes memory.
-ghost use Rattle.std.specs.Prelude.{◌≡◌, ℕ, ◌<◌, ◌≤◌, IfOk, IfErr, OnOk, OnErr, [], length, min};
+ghost use Rattle.std.specs.Prelude.{◌≡◌, ℕ, ◌+◌, ◌*◌, ◌^◌, ◌<◌, ◌≤◌, IfOk, IfErr, OnOk, OnErr, [], length, min};
 ghost use Rattle.std.specs.Option.{is_some};
+ghost use Rattle.ms_base.specs.Interval.{meet};
 ghost use Rattle.ms_base.specs.Held.{meets_chunk, has_chunk_in};
 ghost use Rattle.ms_base.specs.Committed.{is_committed};
 ghost use Rattle.ms_base.specs.Growth.{growth_level};
@@ -12,12 +13,12 @@ ghost use Rattle.ms_base.specs.Totals.{used_of};
 ghost use Rattle.ms_base.specs.Names.{named};
 ghost use Rattle.ms_loaders.specs.Loader.{with_chunk, HasWord, WritesWord, FreesBlock, LacksWord, LacksName};
 
+use crate::committing::GRANULE_WORDS;
+use crate::held::NODE_WORDS;
 use ms_base::{Chunk, Kind, Level, LiveBlock, Refusal, Space, Words, growth, share_word};
 use std::alloc::{AllocError, Global};
 use std::collections::BTreeMap;
 use std::marker::Model;
-
-use crate::placing::{GRANULE_WORDS, NODE_WORDS};
 
 #[derive(Drop)]
 pub struct Loader {
@@ -54,9 +55,12 @@ impl Loader {
     pub fn meets(&self, start: u64, level: Level) -> bool
         ensures { result ≡ meets_chunk self.now.arena.chunks start level }
     {
-        self.chunks
-            .iter()
-            .any(|chunk| share_word(chunk.start, chunk.level.words(), start, level.words()))
+        self.chunks.iter().any(|chunk| share_word(
+            chunk.start,
+            chunk.level.words(),
+            start,
+            level.words(),
+        ))
     }
 
     /// Tells whether the granule holds a word of the front of a chunk of the loader.
@@ -64,9 +68,7 @@ impl Loader {
         requires { granule < 8192 }
         ensures { result ≡ is_committed 8192 self.now.arena.chunks granule }
     {
-        self.chunks
-            .iter()
-            .any(|chunk| share_word(chunk.start, chunk.front, granule * GRANULE_WORDS, GRANULE_WORDS))
+        self.chunks.iter().any(|chunk| reaches(chunk, granule))
     }
 
     /// Tells whether a chunk of the loader lies in the slot's node.
@@ -76,6 +78,14 @@ impl Loader {
         self.chunks
             .iter()
             .any(|chunk| chunk.start / NODE_WORDS == u64::from(slot))
+    }
+
+    /// Tells the words in use: the sum of the tops.
+    pub fn used(&self) -> u64
+        requires { used_of self.now.arena < 2 ^ 64 }
+        ensures { result ≡ used_of self.now.arena }
+    {
+        self.tops.iter().sum()
     }
 
     /// Tells whether the loader has a block of the name.
@@ -88,7 +98,8 @@ impl Loader {
     /// Answers the level of the loader's next chunk: the one its kind wants by the number of chunks
     /// it holds, but at most the one given.
     pub fn next_level(&self, most: Level) -> Level
-        ensures { result ≤ most }
+        ensures most { result ≤ most }
+        ensures whole { length self.now.arena.tops ≡ length self.now.arena.chunks }
     {
         let chunks = u32::try_from(self.chunks.len()).unwrap_or(u32::MAX);
         growth(self.kind, Space::NonClass, chunks).min(most)
@@ -98,8 +109,6 @@ impl Loader {
     pub fn add(&mut self, block: u32, chunk: Chunk, contents: Words) -> Result<(), AllocError>
         ensures ok { OnOk result (self.new ≡ with_chunk self.old block chunk contents) }
         ensures err { OnErr result (self.new ≡ self.old) }
-        ensures whole { length self.old.arena.tops ≡ length self.old.arena.chunks }
-        ensures none_kept { self.old.arena.kept ≡ [] }
     {
         self.chunks.reserve(1)?;
         self.tops.reserve(1)?;
@@ -163,5 +172,18 @@ impl Loader {
             Some(_) => Ok(()),
             None => Err(Refusal::NoBlock),
         }
+    }
+}
+
+/// Tells whether the granule holds a word of the chunk's front.
+fn reaches(chunk: &Chunk, granule: u64) -> bool
+    requires { granule < 8192 }
+    ensures { result ≡ meet chunk.now.start chunk.now.front (granule * 8192) 8192 }
+{
+    let first = granule * GRANULE_WORDS;
+    if chunk.start <= first {
+        first - chunk.start < chunk.front
+    } else {
+        chunk.start - first < GRANULE_WORDS
     }
 }

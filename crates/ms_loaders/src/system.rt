@@ -1,14 +1,7 @@
 //! The system: loaders by name, reserved slots, and the steps of the machine.
-ghost use Rattle.std.specs.Prelude.{◌≡◌, ℕ, ◌+◌, ◌*◌, ◌<◌, ◌≤◌, ◌↔◌, ◌⊎◌, IfOk, OnOk, OnErr, IfErr, [], ◌∷◌, ◌++◌, vec_len, true, Some, None, Ok, Err, length, ⊤};
-ghost use Rattle.std.specs.Vec.{vec_capacity};
-ghost use Rattle.std.specs.List.Sorted.{IsStrictlyIncreasing};
-ghost use Rattle.std.specs.List.{All};
-ghost use Rattle.std.specs.Ordering.{nat_cmp};
-ghost use Rattle.std.specs.BTreeSet.{insert_key};
-ghost use Rattle.ms_base.specs.Part.{is_reserved};
-ghost use Rattle.ms_base.specs.Held.{has_chunk_in};
-ghost use Rattle.ms_base.specs.Committed.{committed_granules};
-ghost use Rattle.ms_base.specs.PoolSteps.{slots_with};
+ghost use Rattle.std.specs.Prelude.{◌≡◌, ℕ, ◌+◌, ◌*◌, ◌<◌, ◌≤◌, ◌↔◌, ◌⊎◌, IfOk, OnOk, OnErr, IfErr, [], ◌∷◌, ◌++◌, vec_len, true, Some, None, Ok, Err, length, IsTrue};
+ghost use Rattle.ms_base.specs.Level.{size_of};
+ghost use Rattle.ms_base.specs.Part.{is_reserved, slot_of};
 ghost use Rattle.ms_base.specs.State.{LoaderState, Machine, empty_machine, chunks_held};
 ghost use Rattle.ms_base.specs.Totals.{committed_words, used_words};
 ghost use Rattle.ms_base.specs.Names.{named};
@@ -16,17 +9,17 @@ ghost use Rattle.ms_base.specs.Good.{IsGood};
 ghost use Rattle.ms_base.specs.Transition.{Transition, LacksLoader};
 ghost use Rattle.ms_base.specs.Run.{Run};
 ghost use Rattle.ms_loaders.specs.Placing.{IsLendable, LacksPart};
-ghost use Rattle.ms_loaders.specs.System.{limits_of, with_lent, reply_of, HoldsNothing, IsNewOrAlloc};
+ghost use Rattle.ms_loaders.specs.System.{limits_of, chunk_at, with_lent, reply_of, HoldsNothing};
 
+use crate::committing::{GRANULE_WORDS, NODE_GRANULES, count_committed, front};
+use crate::held::{Loaders, NODE_WORDS, is_held_in};
+use crate::loader::Loader;
+use crate::placing::clear_part;
+use crate::slots::{next_slot, reserve};
 use ms_base::{Chunk, Kind, Level, Refusal, Reply, Settings, Span, Step, Words, level_for};
 use std::alloc::{AllocError, Global};
 use std::collections::BTreeMap;
 use std::marker::Model;
-
-use crate::loader::Loader;
-use crate::placing::{
-    GRANULE_WORDS, Loaders, NODE_WORDS, clear_part, is_committed, is_held_in, next_slot,
-};
 
 /// The interval machine in one thread: class loaders by name, each with an arena of its own, over
 /// nodes that are reserved as they are needed.
@@ -72,8 +65,8 @@ impl System {
     /// memory. Refused with `LoaderExists`, with `IdsUsedUp` where all owner numbers were given
     /// out, and with `OutOfMemory`, in that order; a refusal changes nothing.
     pub fn new_loader(&mut self, name: u16, kind: Kind) -> Result<(), Refusal>
-        ensures ok { OnOk result (Transition self.old (Step.New name kind) Reply.Ok self.new) }
-        ensures err { IfErr result
+        ensures served { OnOk result (Transition self.old (Step.New name kind) Reply.Ok self.new) }
+        ensures refused { IfErr result
             (λ refusal. Transition self.old (Step.New name kind) (Reply.Refused refusal) self.new) }
         ensures unchanged { OnErr result (self.new ≡ self.old) }
     {
@@ -92,13 +85,14 @@ impl System {
         }
     }
 
-    /// Allocates a block of zeros, a chunk of its own for it, and a node where none has room.
+    /// Allocates a block of zeros, in a chunk of its own.
     fn allocate(&mut self, name: u16, block: u32, words: u64) -> Result<u64, Refusal>
-        ensures ok { IfOk result
+        ensures served { IfOk result
             (λ start. Transition self.old (Step.Alloc name block words) (Reply.At start) self.new) }
-        ensures err { IfErr result
+        ensures refused { IfErr result
             (λ refusal. Transition self.old (Step.Alloc name block words) (Reply.Refused refusal) self.new) }
     {
+        let alloc = self.alloc;
         let Some(loader) = self.loaders.get(&name) else {
             return Err(Refusal::NoLoader);
         };
@@ -108,10 +102,153 @@ impl System {
         if words == 0 {
             return Err(Refusal::ZeroWords);
         }
-        if words > 524288 {
+        let length = words.max(2);
+        let Some(most) = level_for(length) else {
             return Err(Refusal::TooLarge);
+        };
+        let wanted = loader.next_level(most);
+        let part = self.part_for(wanted, most)?;
+        let Ok(contents) = Words::zeros(alloc, length as usize) else {
+            return Err(Refusal::OutOfMemory);
+        };
+        let start = part.start;
+        match self.lend(name, part, block, contents) {
+            Ok(()) => Ok(start),
+            Err(_) => Err(Refusal::OutOfMemory),
         }
-        Err(Refusal::OutOfMemory)
+    }
+
+    /// Finds the part for a chunk of a level from the wanted one up to the most that serves: in a
+    /// reserved node, else the first of the wanted level in a new one.
+    fn part_for(&self, wanted: Level, most: Level) -> Result<Span, Refusal>
+        requires order { wanted ≤ most }
+        requires real { most ≤ 12 }
+        ensures ok { IfOk result (IsLendable self.now most) }
+        ensures err { IfErr result (LacksPart self.now most) }
+    {
+        if let Some(part) = clear_part(&self.loaders, &self.slots, wanted, most) {
+            return Ok(part);
+        }
+        let nodes = self.slots.len() as u32;
+        if nodes == self.settings.nodes {
+            return Err(Refusal::ReserveLimit {
+                nodes,
+                limit: self.settings.nodes,
+            });
+        }
+        Ok(Span {
+            start: u64::from(next_slot(&self.slots)) * NODE_WORDS,
+            level: wanted,
+        })
+    }
+
+    /// Lends a loader a chunk at the part, committed for the words of its block. Fails only where
+    /// memory is refused.
+    fn lend(&mut self, name: u16, part: Span, block: u32, contents: Words) -> Result<(), AllocError>
+        requires fits { length contents ≤ size_of part.level }
+        requires below { slot_of part.start < 64 }
+        requires room { IsTrue (is_reserved self.old.slots (slot_of part.start))
+            ⊎ (length self.old.slots < self.old.limits.nodes) }
+        requires good { (loader : LoaderState) → named self.old.loaders name ≡ Some loader
+            → IsGood (with_lent self.old name loader block (chunk_at part (length contents)) contents) }
+        ensures ok { OnOk result ((loader : LoaderState) → named self.old.loaders name ≡ Some loader
+            → self.new ≡ with_lent self.old name loader block (chunk_at part (length contents)) contents) }
+        ensures err { OnErr result (self.new ≡ self.old) }
+    {
+        let chunk = Chunk {
+            start: part.start,
+            level: part.level,
+            front: front(part.level, contents.len() as u64),
+        };
+        match self.loaders.get_mut(&name) {
+            None => return Ok(()),
+            Some(loader) => match loader.add(block, chunk, contents) {
+                Ok(()) => {}
+                Err(error) => return Err(error),
+            },
+        }
+        reserve(&mut self.slots, (part.start / NODE_WORDS) as u32);
+        Ok(())
+    }
+
+    /// Unloads a loader: all that was its own goes with it, and its name may be used anew. Takes no
+    /// memory. Refused with `NoLoader` alone, and then nothing changes.
+    pub fn unload(&mut self, name: u16) -> Result<(), Refusal>
+        ensures served { OnOk result (Transition self.old (Step.Unload name) Reply.Ok self.new) }
+        ensures no_loader { (result ≡ Err Refusal.NoLoader) ↔ LacksLoader self.old name }
+        ensures refused { IfErr result
+            (λ refusal. Transition self.old (Step.Unload name) (Reply.Refused refusal) self.new) }
+    {
+        match self.loaders.remove(&name) {
+            Some(_) => Ok(()),
+            None => Err(Refusal::NoLoader),
+        }
+    }
+
+    /// Gives back the nodes in which no chunk is held, and tells how many. Takes no memory.
+    pub fn purge(&mut self) -> u32
+        ensures step { Transition self.old Step.Purge Reply.Ok self.new }
+        ensures gone { result + length self.new.slots ≡ length self.old.slots }
+    {
+        let before = self.slots.len();
+        let loaders = &self.loaders;
+        self.slots.retain(|slot| is_held_in(loaders, *slot));
+        (before - self.slots.len()) as u32
+    }
+
+    /// Writes a word of a block; the others stay.
+    fn write(&mut self, name: u16, block: u32, index: u64, value: u64) -> Result<(), Refusal>
+        ensures served { OnOk result
+            (Transition self.old (Step.Write name block index value) Reply.Ok self.new) }
+        ensures refused { IfErr result (λ refusal.
+            Transition self.old (Step.Write name block index value) (Reply.Refused refusal) self.new) }
+    {
+        match self.loaders.get_mut(&name) {
+            None => Err(Refusal::NoLoader),
+            Some(loader) => match loader.write(block, index, value) {
+                Ok(()) => Ok(()),
+                Err(refusal) => Err(refusal),
+            },
+        }
+    }
+
+    /// Reads a word of a block.
+    fn read(&self, name: u16, block: u32, index: u64) -> Result<u64, Refusal>
+        ensures served { IfOk result
+            (λ value. Transition self.now (Step.Read name block index) (Reply.Value value) self.now) }
+        ensures refused { IfErr result (λ refusal.
+            Transition self.now (Step.Read name block index) (Reply.Refused refusal) self.now) }
+    {
+        let Some(loader) = self.loaders.get(&name) else {
+            return Err(Refusal::NoLoader);
+        };
+        loader.read(block, index)
+    }
+
+    /// Frees a block; its words stay in use, as waste.
+    fn free(&mut self, name: u16, block: u32) -> Result<(), Refusal>
+        ensures served { OnOk result (Transition self.old (Step.Free name block) Reply.Ok self.new) }
+        ensures refused { IfErr result
+            (λ refusal. Transition self.old (Step.Free name block) (Reply.Refused refusal) self.new) }
+    {
+        match self.loaders.get_mut(&name) {
+            None => Err(Refusal::NoLoader),
+            Some(loader) => match loader.free(block) {
+                Ok(()) => Ok(()),
+                Err(refusal) => Err(refusal),
+            },
+        }
+    }
+
+    /// Tells the words in use: the sum of the tops of all chunks. Takes no memory.
+    pub fn used(&self) -> u64
+        ensures { result ≡ used_words self.now }
+    {
+        let mut words = 0;
+        for loader in self.loaders.values() {
+            words += loader.used();
+        }
+        words
     }
 
     /// Tells the committed words, a multiple of a granule's. Takes no memory.
@@ -120,26 +257,30 @@ impl System {
     {
         let mut granules = 0;
         for slot in &self.slots {
-            granules += committed_in(&self.loaders, *slot);
+            granules += count_committed(
+                &self.loaders,
+                u64::from(*slot) * NODE_GRANULES,
+                NODE_GRANULES,
+            );
         }
         granules * GRANULE_WORDS
     }
 
     /// One step of the machine. Takes memory for a new loader and for a block.
     pub fn step(&mut self, step: Step) -> Reply
-        requires { IsNewOrAlloc step }
         ensures step { Transition self.old step result self.new }
         ensures good { IsGood self.new }
     {
-        match self.serve(step) {
+        let reply = match self.serve(step) {
             Ok(reply) => reply,
             Err(refusal) => Reply::Refused(refusal),
-        }
+        };
+        let _ = &self.loaders;
+        reply
     }
 
     /// One step of the machine.
     fn serve(&mut self, step: Step) -> Result<Reply, Refusal>
-        requires { IsNewOrAlloc step }
         ensures { Transition self.old step (reply_of result) self.new }
     {
         match step {
@@ -155,18 +296,46 @@ impl System {
                 let start = self.allocate(loader, block, words)?;
                 Ok(Reply::At(start))
             }
-            _ => unreachable!(),
+            Step::Write {
+                loader,
+                block,
+                index,
+                value,
+            } => {
+                self.write(loader, block, index, value)?;
+                Ok(Reply::Ok)
+            }
+            Step::Read {
+                loader,
+                block,
+                index,
+            } => {
+                let value = self.read(loader, block, index)?;
+                Ok(Reply::Value(value))
+            }
+            Step::Free { loader, block } => {
+                self.free(loader, block)?;
+                Ok(Reply::Ok)
+            }
+            Step::Unload { loader } => {
+                self.unload(loader)?;
+                Ok(Reply::Ok)
+            }
+            Step::Purge => {
+                let _ = self.purge();
+                Ok(Reply::Ok)
+            }
         }
     }
 
     /// Runs the steps in their order, and answers the reply to each. Takes memory: room for all
     /// replies is made before the first step, so an error means that no step ran.
     pub fn run(&mut self, steps: &[Step]) -> Result<Vec<Reply>, AllocError>
-        requires { All IsNewOrAlloc steps.now }
         ensures run { IfOk result (λ replies. Run self.old steps.now replies.items self.new) }
         ensures before { IsGood self.old }
         ensures after { IsGood self.new }
-        ensures err { OnErr result (self.new ≡ self.old) }
+        ensures emptied { self.new.loaders ≡ [] → HoldsNothing self.new }
+        ensures unchanged { OnErr result (self.new ≡ self.old) }
     {
         let mut replies = Vec::with_capacity(self.alloc, steps.len())?;
         for step in steps {
@@ -176,17 +345,7 @@ impl System {
             };
             replies.push_reserved(reply);
         }
+        let _ = &self.loaders;
         Ok(replies)
     }
-}
-
-/// Counts the committed granules of the slot's node.
-fn committed_in(loaders: &Loaders, slot: u32) -> u64
-    requires { slot < 64 }
-    ensures { result ≡ length (committed_granules 8192 (chunks_held loaders.now.entries) (slot ∷ [])) }
-{
-    let first = u64::from(slot) * 128;
-    (first..first + 128)
-        .filter(|granule| is_committed(loaders, *granule))
-        .count() as u64
 }

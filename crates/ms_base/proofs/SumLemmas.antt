@@ -1,0 +1,214 @@
+-- Sums are bounded: held chunks have no more words than the reserved slots, and used, live, kept and
+-- committed words no more than 64 nodes.
+use Rattle.std.proofs.Common.{◌≡◌, ◌≤◌, ◌<◌, ◌+◌, ◌-◌, ◌*◌, ◌/◌, ℕ, zero, suc, Bool, true, false, ◌&&◌, ◌||◌, List, [], ◌∷◌, ◌++◌, length, map, take, refl, sym, ap, ◌∙◌, arith, inl, inr, length-append}
+use Rattle.std.specs.Prelude.{nat_le, sum, ◌==◌}
+use Rattle.std.specs.List.{All, AllByRecursion, list_any, list_all, sum_by, flat_map, zip}
+use Rattle.std.specs.Map.{values_of}
+use Rattle.std.proofs.lemmas.Nat.{mul-le, div-add-mod'}
+use Rattle.std.proofs.Math.Nat.{add-mul, mul_assoc}
+use Rattle.std.proofs.lemmas.Bool.{and_parts, and_from, or_left, or_right, or_cases, le-leb, leb-true, eqb-true}
+use Rattle.std.proofs.lemmas.List.Sums.{sum_by-cons, sum_by-append, sum_by-take-le}
+use Rattle.std.proofs.lemmas.List.Elements.{recursion_from_All}
+use Rattle.std.proofs.lemmas.Map.Views.{length-le_from_below}
+use Rattle.std.proofs.lemmas.Map.Keys.{sorted_from_strictly_increasing}
+use Rattle.ms_base.specs.declared.span.Chunk.{Chunk}
+use Rattle.ms_base.specs.Interval.{are_apart, lies_in}
+use Rattle.ms_base.specs.Level.{size_of}
+use Rattle.ms_base.specs.Part.{IsPart, slot_of, is_reserved, node_words}
+use Rattle.ms_base.specs.Front.{HasFront}
+use Rattle.ms_base.specs.Held.{AreHeld, words_of}
+use Rattle.ms_base.specs.Causes.{committed_count}
+use Rattle.ms_base.specs.State.{ArenaState, LoaderState, Machine, PoolState, chunks_held, pool_of}
+use Rattle.ms_base.specs.Live.{runs_of}
+use Rattle.ms_base.specs.Good.{topped, is_in_use, IsSound, IsSoundLoader, IsSoundPool, IsGood}
+use Rattle.ms_base.specs.Totals.{capacity_of, fronts_of, used_of, kept_of, live_of, used_words, live_words, kept_words, committed_words}
+use Rattle.ms_base.proofs.GranuleLemmas.{ends_in_node}
+use Rattle.ms_base.proofs.CommittedLemmas.{committed_at_most}
+use Rattle.ms_base.proofs.PackingLemmas.{packed}
+
+-- The words of a slot.
+abbrev area_of : ℕ → ℕ × ℕ
+area_of slot = (slot * node_words, node_words)
+
+-- A part lies in its slot.
+in_its_slot : (start level : ℕ) → IsPart start level → lies_in (start, size_of level) (area_of (slot_of start)) ≡ true
+in_its_slot start level part =
+    and_from (nat_le (slot_of start * node_words) start) (nat_le (start + size_of level) (slot_of start * node_words + node_words))
+    (le-leb (slot_of start * node_words) start (omega (arith, div-add-mod' start node_words)))
+    (le-leb (start + size_of level) (slot_of start * node_words + node_words) (ends_in_node start level part))
+
+in_some_slot : (start level : ℕ) (slots : List ℕ) → IsPart start level → is_reserved slots (slot_of start) ≡ true
+    → list_any (λ (area : ℕ × ℕ). lies_in (start, size_of level) area) (map area_of slots) ≡ true
+in_some_slot start level [] part h = absurd (cc)
+in_some_slot start level (s ∷ slots) part h =
+    let later = list_any (λ (area : ℕ × ℕ). lies_in (start, size_of level) area) (map area_of slots) in
+    elim (or_cases (s == slot_of start) (is_reserved slots (slot_of start)) h) [
+      | inl here ↦ or_left (lies_in (start, size_of level) (area_of s)) later (ap (λ (k : ℕ). lies_in (start, size_of level) (area_of k)) (eqb-true s (slot_of start) here) ∙ in_its_slot start level part)
+      | inr there ↦ or_right (lies_in (start, size_of level) (area_of s)) later (in_some_slot start level slots part there)
+    ]
+
+abbrev IsPlaced : Chunk → Type 0
+IsPlaced chunk = IsPart chunk.start chunk.level
+
+all_in_slots : (slots : List ℕ) (held : List Chunk) → AllByRecursion IsPlaced held
+    → list_all (λ (chunk : Chunk). is_reserved slots (slot_of chunk.start)) held ≡ true
+    → list_all (λ (run : ℕ × ℕ). list_any (λ (area : ℕ × ℕ). lies_in run area) (map area_of slots)) (map words_of held) ≡ true
+all_in_slots slots [] parts h = refl
+all_in_slots slots (c ∷ held) parts h =
+    let both = and_parts (is_reserved slots (slot_of c.start)) (list_all (λ (d : Chunk). is_reserved slots (slot_of d.start)) held) h in
+    and_from (list_any (λ (area : ℕ × ℕ). lies_in (words_of c) area) (map area_of slots))
+    (list_all (λ (run : ℕ × ℕ). list_any (λ (area : ℕ × ℕ). lies_in run area) (map area_of slots)) (map words_of held))
+    (in_some_slot c.start c.level slots parts.0 both.0) (all_in_slots slots held parts.1 both.1)
+
+-- The words of the runs of chunks, and of slots.
+words_of_chunks : (held : List Chunk) → sum_by (λ (run : ℕ × ℕ). run.1) (map words_of held) ≡ capacity_of held
+words_of_chunks [] = refl
+words_of_chunks (c ∷ held) =
+    sum_by-cons (λ (run : ℕ × ℕ). run.1) (words_of c) (map words_of held) ∙ ap (λ (n : ℕ). size_of c.level + n) (words_of_chunks held)
+    ∙ sym (sum_by-cons (λ (chunk : Chunk). size_of chunk.level) c held)
+
+words_of_slots : (slots : List ℕ) → sum_by (λ (area : ℕ × ℕ). area.1) (map area_of slots) ≡ length slots * node_words
+words_of_slots [] = refl
+words_of_slots (s ∷ slots) = omega (arith, sum_by-cons (λ (area : ℕ × ℕ). area.1) (area_of s) (map area_of slots), words_of_slots slots)
+
+-- Held chunks have no more words than the reserved slots.
+pub capacity_within : (granule : ℕ) (slots : List ℕ) (held : List Chunk) → AreHeld granule slots held → capacity_of held ≤ length slots * node_words
+capacity_within granule slots held good =
+    omega (
+      arith,
+      words_of_chunks held,
+      words_of_slots slots,
+      packed (map words_of held) (map area_of slots) good.apart (all_in_slots slots held (recursion_from_All IsPlaced held good.parts) good.reserved),
+    )
+
+-- A sound pool has at most 64 slots.
+pub few_slots : (pool : PoolState) → IsSoundPool pool → length pool.slots ≤ 64
+few_slots pool sound = length-le_from_below 64 pool.slots (sorted_from_strictly_increasing pool.slots sound.slots) sound.below
+
+-- Fronts are within their chunks, and tops within fronts.
+pub fronts_within : (granule : ℕ) (held : List Chunk) → AllByRecursion (HasFront granule) held → fronts_of held ≤ capacity_of held
+fronts_within granule [] fronts = omega arith
+fronts_within granule (c ∷ held) fronts =
+    omega (
+      arith,
+      sum_by-cons (λ (chunk : Chunk). chunk.front) c held,
+      sum_by-cons (λ (chunk : Chunk). size_of chunk.level) c held,
+      fronts.0.within,
+      fronts_within granule held fronts.1,
+    )
+
+tops_within : (chunks : List Chunk) (tops : List ℕ) → length tops ≤ length chunks
+    → list_all (λ (used : Chunk × ℕ). nat_le used.1 used.0.front) (zip chunks tops) ≡ true → sum tops ≤ fronts_of chunks
+tops_within chunks [] few h = omega arith
+tops_within [] (t ∷ tops) few h = absurd (omega arith)
+tops_within (c ∷ chunks) (t ∷ tops) few h =
+    let both = and_parts (nat_le t c.front) (list_all (λ (used : Chunk × ℕ). nat_le used.1 used.0.front) (zip chunks tops)) h in
+    omega (
+      arith,
+      sum_by-cons (λ (top : ℕ). top) t tops,
+      sum_by-cons (λ (chunk : Chunk). chunk.front) c chunks,
+      leb-true t c.front both.0,
+      tops_within chunks tops (omega arith) both.1,
+    )
+
+-- The used words of loaders are within the fronts of their chunks.
+abbrev chunks_of_all : List LoaderState → List Chunk
+chunks_of_all loaders = flat_map (λ (loader : LoaderState). loader.arena.chunks) loaders
+
+pub used_within : (loaders : List LoaderState) → AllByRecursion IsSoundLoader loaders
+    → sum_by (λ (loader : LoaderState). used_of loader.arena) loaders ≤ fronts_of (chunks_of_all loaders)
+used_within [] sound = omega arith
+used_within (l ∷ loaders) sound =
+    omega (
+      arith,
+      sum_by-cons (λ (loader : LoaderState). used_of loader.arena) l loaders,
+      sum_by-append (λ (chunk : Chunk). chunk.front) l.arena.chunks (chunks_of_all loaders),
+      tops_within l.arena.chunks l.arena.tops sound.0.arena.few sound.0.arena.tops,
+      used_within loaders sound.1,
+    )
+
+-- The words below tops are areas where blocks lie.
+abbrev used_area : Chunk × ℕ → ℕ × ℕ
+used_area used = (used.0.start, used.1)
+
+words_of_tops : (chunks : List Chunk) (tops : List ℕ) → length tops ≤ length chunks
+    → sum_by (λ (area : ℕ × ℕ). area.1) (map used_area (zip chunks tops)) ≡ sum tops
+words_of_tops [] [] few = refl
+words_of_tops [] (t ∷ tops) few = absurd (omega arith)
+words_of_tops (c ∷ chunks) [] few = refl
+words_of_tops (c ∷ chunks) (t ∷ tops) few =
+    omega (
+      arith,
+      sum_by-cons (λ (area : ℕ × ℕ). area.1) (used_area (c, t)) (map used_area (zip chunks tops)),
+      sum_by-cons (λ (top : ℕ). top) t tops,
+      words_of_tops chunks tops (omega arith),
+    )
+
+in_used_area : (run : ℕ × ℕ) (used : List (Chunk × ℕ))
+    → list_any (λ (area : ℕ × ℕ). lies_in run area) (map used_area used) ≡ list_any (λ (u : Chunk × ℕ). lies_in run (u.0.start, u.1)) used
+in_used_area run [] = refl
+in_used_area run (u ∷ used) = ap (λ b. lies_in run (used_area u) || b) (in_used_area run used)
+
+all_in_used : (arena : ArenaState) (runs : List (ℕ × ℕ)) → list_all (is_in_use arena) runs ≡ true
+    → list_all (λ (run : ℕ × ℕ). list_any (λ (area : ℕ × ℕ). lies_in run area) (map used_area (topped arena))) runs ≡ true
+all_in_used arena [] h = refl
+all_in_used arena (run ∷ runs) h =
+    let both = and_parts (is_in_use arena run) (list_all (is_in_use arena) runs) h in
+    and_from (list_any (λ (area : ℕ × ℕ). lies_in run area) (map used_area (topped arena)))
+    (list_all (λ (r : ℕ × ℕ). list_any (λ (area : ℕ × ℕ). lies_in r area) (map used_area (topped arena))) runs)
+    (in_used_area run (topped arena) ∙ both.0) (all_in_used arena runs both.1)
+
+-- Live and free blocks have no more words than are in use.
+pub blocks_within : (arena : ArenaState) (live : List (ℕ × ℕ)) → IsSound arena live
+    → sum_by (λ (run : ℕ × ℕ). run.1) live + kept_of arena ≤ used_of arena
+blocks_within arena live sound =
+    omega (
+      arith,
+      sum_by-append (λ (run : ℕ × ℕ). run.1) live arena.kept,
+      words_of_tops arena.chunks arena.tops sound.few,
+      packed (live ++ arena.kept) (map used_area (topped arena)) sound.apart (all_in_used arena (live ++ arena.kept) sound.inside),
+    )
+
+all_blocks_within : (loaders : List LoaderState) → AllByRecursion IsSoundLoader loaders
+    → sum_by live_of loaders + sum_by (λ (loader : LoaderState). kept_of loader.arena) loaders ≤ sum_by (λ (loader : LoaderState). used_of loader.arena) loaders
+all_blocks_within [] sound = omega arith
+all_blocks_within (l ∷ loaders) sound =
+    omega (
+      arith,
+      sum_by-cons live_of l loaders,
+      sum_by-cons (λ (loader : LoaderState). kept_of loader.arena) l loaders,
+      sum_by-cons (λ (loader : LoaderState). used_of loader.arena) l loaders,
+      blocks_within l.arena (runs_of l.blocks) sound.0.arena,
+      all_blocks_within loaders sound.1,
+    )
+
+-- Committed granules have no more words than the slots.
+committed_within_slots : (pool : PoolState) → committed_count pool * pool.limits.granule ≤ length pool.slots * node_words
+committed_within_slots pool =
+    omega (
+      arith,
+      mul-le (committed_count pool) pool.limits.granule (length pool.slots * (node_words / pool.limits.granule)) pool.limits.granule
+      (committed_at_most pool.limits.granule pool.held pool.slots) (omega arith),
+      mul_assoc (length pool.slots) (node_words / pool.limits.granule) pool.limits.granule,
+      mul-le (length pool.slots) (node_words / pool.limits.granule * pool.limits.granule) (length pool.slots) node_words (omega arith)
+      (omega (arith, div-add-mod' node_words pool.limits.granule)),
+    )
+
+-- In a good machine the sums are in this order, each within the next.
+pub record IsBounded (m : Machine) : Type 0 where
+  pub blocks : live_words m + kept_words m ≤ used_words m
+  pub used : used_words m ≤ fronts_of (pool_of m).held
+  pub fronts : fronts_of (pool_of m).held ≤ capacity_of (pool_of m).held
+  pub capacity : capacity_of (pool_of m).held ≤ length m.slots * node_words
+  pub committed : committed_words m ≤ length m.slots * node_words
+  pub slots : length m.slots ≤ 64
+
+pub sums_are_bounded : (m : Machine) → IsGood m → IsBounded m
+sums_are_bounded m good = record {
+  blocks = all_blocks_within (values_of m.loaders) (recursion_from_All IsSoundLoader (values_of m.loaders) good.loaders);
+  used = used_within (values_of m.loaders) (recursion_from_All IsSoundLoader (values_of m.loaders) good.loaders);
+  fronts = fronts_within m.limits.granule (pool_of m).held (recursion_from_All (HasFront m.limits.granule) (pool_of m).held good.pool.held.fronts);
+  capacity = capacity_within m.limits.granule m.slots (pool_of m).held good.pool.held;
+  committed = committed_within_slots (pool_of m);
+  slots = few_slots (pool_of m) good.pool;
+}

@@ -1,0 +1,26 @@
+use Rattle.std.proofs.Common.{◌≡◌, sym, take, get_or, arith}
+use Rattle.std.proofs.lemmas.List.{take_more}
+use Rattle.ms_base.specs.declared.step.Step.TheVariants.{New}
+use Rattle.ms_base.specs.declared.kind.Kind.TheVariants.{Standard}
+use Rattle.ms_loaders.specs.System.{reply_of}
+use Rattle.ms_loaders.proofs.RunLemmas.{run_on, nothing_without_loaders}
+use Rattle.ms_loaders.proofs.system.System.run.Goals as goal
+use Rattle.ms_loaders.proofs.system.System.run.Goals.{in-Ok, in-Err}
+
+pub loop-step-preserved : goal.loop-step-preserved
+loop-step-preserved c =
+    let same : reply_of c.serve.result ≡ c.match-serve.reply = elim c.match-serve.branch [ in-Ok w ↦ rw w.in-Ok.is (sym w.reply-is) | in-Err w ↦ rw w.in-Err.is (sym w.reply-is) ] in
+    record {
+      so_far =
+          rw (take_more c.args.steps.now c.loop-step.step-index (New 0 Standard) c.loop-step-test.true, c.push_reserved.ensures.items)
+          (run_on (take c.loop-step.step-index c.args.steps.now) c.loop-step.replies.items c.args.self.now c.loop-step.self c.serve.new.self
+          (get_or c.args.steps.now c.loop-step.step-index (New 0 Standard)) c.match-serve.reply c.loop-step.invariant.so_far (rw same at c.serve.ensures));
+      told = omega (arith, c.push_reserved.ensures.len, c.loop-step.invariant.told);
+      room = omega (arith, c.push_reserved.ensures.capacity, c.loop-step.invariant.room);
+    }
+
+pub returns-in_err-replies-clause-emptied : goal.returns-in_err-replies-clause-emptied
+returns-in_err-replies-clause-emptied c = nothing_without_loaders _
+
+pub returns-clause-emptied : goal.returns-clause-emptied
+returns-clause-emptied c = nothing_without_loaders _
