@@ -21,11 +21,15 @@ pub outputs_append : (addresses : Bool) (old mid new : Machine) (lines more : Li
     → Outputs addresses old lines text mid → Outputs addresses mid more added new → Outputs addresses old (lines ++ more) (text ++ added) new
 outputs_append addresses old mid new [] more text added first second =
     subst (λ (m : Machine). Outputs addresses m more (text ++ added) new) first.1 (rw first.0 second)
-outputs_append addresses old mid new (line ∷ lines) more text added first second =
-    (first.0, first.1 ++ added, first.2, first.3,
-    ap (λ (bytes : List ℕ). bytes ++ added) first.4
-    ∙ append_assoc (reply_line addresses line.number first.0 ++ report_of line.command first.2) first.1 added,
-    outputs_append addresses first.2 mid new lines more first.1 added first.5 second)
+outputs_append addresses old mid new (line ∷ lines) more text added first second = (
+  first.0,
+  first.1 ++ added,
+  first.2,
+  first.3,
+  ap (λ (bytes : List ℕ). bytes ++ added) first.4
+      ∙ append_assoc (reply_line addresses line.number first.0 ++ report_of line.command first.2) first.1 added,
+  outputs_append addresses first.2 mid new lines more first.1 added first.5 second,
+)
 
 -- A command that asks a step has no report.
 no_report : (command : Command) (asked : Step) (m : Machine) → step_of command ≡ Some asked → report_of command m ≡ []
@@ -51,11 +55,14 @@ outputs_first : (addresses : Bool) (old new : Machine) (line : Line) (lines : Li
 outputs_first addresses old new line lines later None asks [] run = (refl, run)
 outputs_first addresses old new line lines later None asks (reply ∷ replies) run = absurd run
 outputs_first addresses old new line lines later (Some asked) asks [] run = absurd run
-outputs_first addresses old new line lines later (Some asked) asks (reply ∷ replies) run =
-    (reply, reply_lines addresses lines replies, run.0,
-    subst (λ (o : Option Step). Advances o old reply run.0) (sym asks) run.1,
-    rw (no_report line.command asked run.0 asks, append-nil (reply_line addresses line.number reply)) refl,
-    later run.0 replies run.2)
+outputs_first addresses old new line lines later (Some asked) asks (reply ∷ replies) run = (
+  reply,
+  reply_lines addresses lines replies,
+  run.0,
+  subst (λ (o : Option Step). Advances o old reply run.0) (sym asks) run.1,
+  rw (no_report line.command asked run.0 asks, append-nil (reply_line addresses line.number reply)) refl,
+  later run.0 replies run.2,
+)
 
 -- What is written for the first lines, whose steps the machine ran.
 pub outputs_of_steps : (addresses : Bool) (new : Machine) (lines : List Line) → Later addresses new lines
@@ -86,11 +93,13 @@ leading_stops (first ∷ lines) line found =
 pub outputs_of_one : (addresses : Bool) (m : Machine) (line : Line) → step_of line.command ≡ None
     → Outputs addresses m (line ∷ []) (reply_line addresses line.number Done ++ report_of line.command m) m
 outputs_of_one addresses m line asks = (
-    Done, [], m,
-    subst (λ (o : Option Step). Advances o m Done m) (sym asks) (refl, refl),
-    sym (append-nil (reply_line addresses line.number Done ++ report_of line.command m)),
-    (refl, refl),
-  )
+  Done,
+  [],
+  m,
+  subst (λ (o : Option Step). Advances o m Done m) (sym asks) (refl, refl),
+  sym (append-nil (reply_line addresses line.number Done ++ report_of line.command m)),
+  (refl, refl),
+)
 
 -- A run has a reply for each step.
 pub length_of_run : (steps : List Step) (replies : List Reply) (old new : Machine) → Run old steps replies new → length replies ≡ length steps
@@ -119,24 +128,26 @@ pub answers_more : (addresses : Bool) (old mid new : Machine) (lines : List Line
     → AnswersFirst addresses old lines (at + count) whole new
 answers_more addresses old mid new lines at count text whole first within more =
     let fits = rw (take_rest lines at, length-drop at lines) at within in
-    let rest = rw (take_rest lines at) at more.2 in
-    (omega (arith, fits, first.0),
-    rw (more.1, take-add at count lines) (outputs_append addresses old mid new (take at lines) (take count (drop at lines)) text more.0 first.1 rest))
+    let rest = rw (take_rest lines at) at more.2 in (
+      omega (arith, fits, first.0),
+      rw (more.1, take-add at count lines) (outputs_append addresses old mid new (take at lines) (take count (drop at lines)) text more.0 first.1 rest),
+    )
 
 -- And the next one.
 pub answers_next : (addresses : Bool) (old mid : Machine) (lines : List Line) (at : ℕ) (line : Line) (text whole : List ℕ)
     → AnswersFirst addresses old lines at text mid → at < length lines
     → Adds addresses mid (get_or lines at line ∷ []) text whole mid → AnswersFirst addresses old lines (at + 1) whole mid
-answers_next addresses old mid lines at line text whole first more next =
-    (omega (arith, more),
-    rw (next.1, take_more lines at line more) (outputs_append addresses old mid mid (take at lines) (get_or lines at line ∷ []) text next.0 first.1 next.2))
+answers_next addresses old mid lines at line text whole first more next = (
+  omega (arith, more),
+  rw (next.1, take_more lines at line more) (outputs_append addresses old mid mid (take at lines) (get_or lines at line ∷ []) text next.0 first.1 next.2),
+)
 
 -- A report follows the reply to its command.
 pub adds_report : (addresses : Bool) (m : Machine) (line : Line) (number committed used : ℕ) (text replied whole : List ℕ)
     → line.command ≡ Report → number ≡ line.number → committed ≡ committed_words m → used ≡ used_words m
     → replied ≡ text ++ reply_line addresses number Done → whole ≡ replied ++ short_lines committed used → Adds addresses m (line ∷ []) text whole m
 adds_report addresses m line number committed used text replied whole asks same now_committed now_used first more = (
-    reply_line addresses line.number Done ++ report_of line.command m,
-    rw (more, first, same, now_committed, now_used, asks) (append_assoc text (reply_line addresses line.number Done) (short_lines (committed_words m) (used_words m))),
-    outputs_of_one addresses m line (rw asks refl),
-  )
+  reply_line addresses line.number Done ++ report_of line.command m,
+  rw (more, first, same, now_committed, now_used, asks) (append_assoc text (reply_line addresses line.number Done) (short_lines (committed_words m) (used_words m))),
+  outputs_of_one addresses m line (rw asks refl),
+)

@@ -7,13 +7,12 @@ ghost use Rattle.ms_loaders.specs.System.{limits_of};
 ghost use Rattle.ms_trace.specs.declared.trace.Line.{Line};
 ghost use Rattle.metarun.specs.Session.{step_of, leading_steps, reply_lines, Outputs};
 
+use crate::options::Options;
+use crate::texts::{push_reply_line, push_short_report};
 use ms_base::{Reply, Step};
 use ms_loaders::System;
 use ms_trace::{Command, Line};
 use std::alloc::{AllocError, Global};
-
-use crate::options::Options;
-use crate::texts::{push_reply_line, push_short_report};
 
 /// Answers the commands in their order, from a system without loaders on.
 pub fn answer_all(alloc: Global, options: &Options, lines: &[Line]) -> Result<String, AllocError>
@@ -25,7 +24,13 @@ pub fn answer_all(alloc: Global, options: &Options, lines: &[Line]) -> Result<St
     let mut text = String::new(alloc);
     let mut at = 0;
     while at < lines.len() {
-        at += answer_steps(alloc, &mut system, options.addresses, &lines[at..], &mut text)?;
+        at += answer_steps(
+            alloc,
+            &mut system,
+            options.addresses,
+            &lines[at..],
+            &mut text,
+        )?;
         if at < lines.len() {
             answer_between(&system, options.addresses, &lines[at], &mut text)?;
             at += 1;

@@ -2,11 +2,10 @@
 ghost use Rattle.std.specs.Prelude.{◌≡◌};
 ghost use Rattle.metarun.specs.Failure.{status_of};
 
+use crate::devices::ReadFault;
 use ms_trace::{ParseFault, TraceFault};
 use std::alloc::AllocError;
 use thiserror::Error;
-
-use crate::devices::ReadFault;
 
 /// Why a session ends without an answer to each line. Its text is the line on standard error.
 #[derive(Debug, Drop, Error)]

@@ -15,10 +15,9 @@ mod options;
 mod session;
 mod texts;
 
-use std::process::ExitCode;
-
 use crate::options::Options;
 use crate::session::session;
+use std::process::ExitCode;
 
 fn main(rt: HostRuntime) -> ExitCode {
     let status = session(

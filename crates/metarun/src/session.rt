@@ -6,14 +6,13 @@ ghost use Rattle.ms_trace.specs.Faults.{HasFault};
 ghost use Rattle.metarun.specs.Failure.{Blames};
 ghost use Rattle.metarun.specs.Session.{IsOutput};
 
-use ms_trace::parse;
-use std::alloc::Global;
-use std::io::{Read, Write};
-
 use crate::answering::answer_all;
 use crate::devices::{read_text, write_text};
 use crate::failure::Failure;
 use crate::options::Options;
+use ms_trace::parse;
+use std::alloc::Global;
+use std::io::{Read, Write};
 
 /// Reads a trace, runs it, and writes the answer to each of its lines; answers the exit status.
 ///
@@ -50,11 +49,7 @@ pub fn session<R: Read, W: Write, E: Write>(
 }
 
 /// Reads a trace, runs it, and gives the text that answers it.
-fn answer_to<R: Read>(
-    alloc: Global,
-    options: &Options,
-    input: &mut R,
-) -> Result<String, Failure>
+fn answer_to<R: Read>(alloc: Global, options: &Options, input: &mut R) -> Result<String, Failure>
     requires { 128 * options.now.settings.nodes ≤ options.now.settings.max_granules }
     ensures ok { IfOk result (λ text. IfSome (R.remaining input.old)
         (λ bytes. IsOutput options.now.addresses options.now.settings bytes (string_bytes text))) }

@@ -63,7 +63,12 @@ fn push_reply(text: &mut String, addresses: bool, reply: Reply) -> Result<(), Al
 }
 
 /// Appends the line that answers the command on a line of the trace.
-pub fn push_reply_line(text: &mut String, addresses: bool, number: u64, reply: Reply) -> Result<(), AllocError>
+pub fn push_reply_line(
+    text: &mut String,
+    addresses: bool,
+    number: u64,
+    reply: Reply,
+) -> Result<(), AllocError>
     ensures { OnOk result (string_bytes text.new ≡ string_bytes text.old ++ reply_line addresses number reply) }
 {
     push_number(text, number)?;

@@ -26,7 +26,8 @@ pub returns-clause-outputs : goal.returns-clause-outputs
 returns-clause-outputs c =
     let count : c.len.result ≡ length (leading_steps c.args.lines.now) = c.len.ensures ∙ c.in_ok-steps.steps.ok.0 ∙ ap length c.in_ok-steps.ensures in
     let ran : Run c.args.system.now (leading_steps c.args.lines.now) c.in_ok-replies.replies.items c.run.new.self =
-    subst (λ (steps : List Step). Run c.args.system.now steps c.in_ok-replies.replies.items c.run.new.self) (c.deref.ensures.value ∙ c.in_ok-steps.ensures) c.in_ok-replies.ensures.run in
-    (reply_lines c.args.addresses c.args.lines.now c.in_ok-replies.replies.items,
-    c.in_ok-push_replies.ensures ∙ ap (λ (replies : List Reply). string_bytes c.args.text.now ++ reply_lines c.args.addresses c.args.lines.now replies) c.deref-2.ensures.value,
-    rw count (outputs_of_steps c.args.addresses _ c.args.lines.now c.args.system.now c.in_ok-replies.replies.items ran))
+    subst (λ (steps : List Step). Run c.args.system.now steps c.in_ok-replies.replies.items c.run.new.self) (c.deref.ensures.value ∙ c.in_ok-steps.ensures) c.in_ok-replies.ensures.run in (
+      reply_lines c.args.addresses c.args.lines.now c.in_ok-replies.replies.items,
+      c.in_ok-push_replies.ensures ∙ ap (λ (replies : List Reply). string_bytes c.args.text.now ++ reply_lines c.args.addresses c.args.lines.now replies) c.deref-2.ensures.value,
+      rw count (outputs_of_steps c.args.addresses _ c.args.lines.now c.args.system.now c.in_ok-replies.replies.items ran),
+    )
