@@ -1,0 +1,4 @@
+pub mod DeviceLemmas
+pub mod SessionLemmas
+pub mod LengthLemmas
+pub mod ReadingLemmas

@@ -1,0 +1,30 @@
+-- How a session ends without an answer to each line (this project's choice).
+use Rattle.std.specs.Prelude.{ℕ, List, ⊤}
+use Rattle.ms_trace.specs.declared.fault.ParseFault.{ParseFault}
+use Rattle.ms_trace.specs.declared.fault.ParseFault.TheVariants as parse
+use Rattle.ms_trace.specs.Faults.{HasFault}
+use Rattle.metarun.specs.declared.devices.ReadFault.{ReadFault}
+use Rattle.metarun.specs.declared.devices.ReadFault.TheVariants as read
+use Rattle.metarun.specs.declared.failure.Failure.{Failure}
+use Rattle.metarun.specs.declared.failure.Failure.TheVariants.{Fault, OutOfMemory, Input, Output}
+
+-- The exit status: 1 for a faulty trace, 3 for want of memory, 5 for a device.
+abbrev pub status_of : Failure → ℕ
+status_of (Fault fault) = 1
+status_of OutOfMemory = 3
+status_of Input = 5
+status_of Output = 5
+
+-- What a fault of reading or of parsing makes of a session.
+abbrev pub failure_of_reading : ReadFault → Failure
+failure_of_reading read.Device = Input
+failure_of_reading read.OutOfMemory = OutOfMemory
+
+abbrev pub failure_of_parsing : ParseFault → Failure
+failure_of_parsing (parse.Trace fault) = Fault fault
+failure_of_parsing parse.OutOfMemory = OutOfMemory
+
+-- A fault is one of the text's.
+abbrev pub Blames : List ℕ → Failure → Type 0
+Blames text (Fault fault) = HasFault text fault.line fault.kind
+Blames text _ = ⊤

@@ -1,0 +1,3 @@
+pub mod ReplyText
+pub mod Failure
+pub mod Session

@@ -1,0 +1,71 @@
+-- What a session writes for a trace (this project's choice).
+use Rattle.std.specs.Prelude.{◌≡◌, ℕ, Bool, List, [], ◌∷◌, ◌++◌, Option, Some, None}
+use Rattle.ms_base.specs.declared.step.Step.{Step}
+use Rattle.ms_base.specs.declared.step.Step.TheVariants as step
+use Rattle.ms_base.specs.declared.step.Reply.{Reply}
+use Rattle.ms_base.specs.declared.step.Reply.TheVariants.{Ok as Done}
+use Rattle.ms_base.specs.declared.settings.Settings.{Settings}
+use Rattle.ms_base.specs.State.{Machine, empty_machine}
+use Rattle.ms_base.specs.Transition.{Transition}
+use Rattle.ms_loaders.specs.System.{limits_of}
+use Rattle.ms_trace.specs.declared.trace.Command.{Command}
+use Rattle.ms_trace.specs.declared.trace.Command.TheVariants.{New, Alloc, Write, Read, Free, Unload, Purge, Sync, Report}
+use Rattle.ms_trace.specs.declared.trace.Line.{Line}
+use Rattle.ms_trace.specs.declared.trace.Trace.{Trace}
+use Rattle.ms_trace.specs.Spelling.{ReadsAs}
+use Rattle.metarun.specs.ReplyText.{reply_line, short_report}
+
+-- The step that a command asks of the machine; a sync and a report ask none.
+abbrev pub step_of : Command → Option Step
+step_of (New loader kind) = Some (step.New loader kind)
+step_of (Alloc loader block words) = Some (step.Alloc loader block words)
+step_of (Write loader block index value) = Some (step.Write loader block index value)
+step_of (Read loader block index) = Some (step.Read loader block index)
+step_of (Free loader block) = Some (step.Free loader block)
+step_of (Unload loader) = Some (step.Unload loader)
+step_of Purge = Some step.Purge
+step_of Sync = None
+step_of Report = None
+
+-- A step is answered by a transition of the machine; where none is asked, all is well and nothing
+-- changes.
+abbrev pub Advances : Option Step → Machine → Reply → Machine → Type 0
+Advances (Some asked) old reply new = Transition old asked reply new
+Advances None old reply new = (reply ≡ Done) × (new ≡ old)
+
+-- What follows the reply to a command: the report of the machine where one is asked for.
+abbrev pub report_of : Command → Machine → List ℕ
+report_of Report m = short_report m
+report_of _ m = []
+
+-- The output for the lines of a trace: the machine runs from old to new, and each command has its
+-- reply's line, a report after it.
+abbrev pub Outputs : Bool → Machine → List Line → List ℕ → Machine → Type 0
+Outputs addresses old [] output new = (output ≡ []) × (new ≡ old)
+Outputs addresses old (line ∷ lines) output new =
+    (reply : Reply) × (rest : List ℕ) × (mid : Machine)
+    × Advances (step_of line.command) old reply mid
+    × (output ≡ reply_line addresses line.number reply ++ report_of line.command mid ++ rest)
+    × Outputs addresses mid lines rest new
+
+-- The output is what a session with these settings writes for the text: the text reads as a trace,
+-- and the machine runs through its commands from the empty state.
+pub record IsOutput (addresses : Bool) (settings : Settings) (text output : List ℕ) : Type 0 where
+  pub trace : Trace
+  pub last : Machine
+  pub reads : ReadsAs text trace
+  pub outputs : Outputs addresses (empty_machine (limits_of settings)) trace.lines output last
+
+-- The steps that the first lines ask, up to the first line that asks none.
+abbrev pub steps_first : Option Step → List Step → List Step
+steps_first None later = []
+steps_first (Some asked) later = asked ∷ later
+
+abbrev pub leading_steps : List Line → List Step
+leading_steps [] = []
+leading_steps (line ∷ lines) = steps_first (step_of line.command) (leading_steps lines)
+
+-- The lines that answer commands with these replies.
+abbrev pub reply_lines : Bool → List Line → List Reply → List ℕ
+reply_lines addresses (line ∷ lines) (reply ∷ replies) = reply_line addresses line.number reply ++ reply_lines addresses lines replies
+reply_lines addresses _ _ = []

@@ -1,0 +1,77 @@
+//! Why a session ends without an answer to each line.
+ghost use Rattle.std.specs.Prelude.{◌≡◌};
+ghost use Rattle.metarun.specs.Failure.{status_of};
+
+use crate::devices::ReadFault;
+use ms_trace::{ParseFault, TraceFault};
+use std::alloc::AllocError;
+use thiserror::Error;
+
+/// Why a session ends without an answer to each line. Its text is the line on standard error.
+#[derive(Debug, Drop, Error)]
+pub enum Failure {
+    /// The trace has a fault.
+    #[error("metarun: {0}")]
+    Fault(TraceFault),
+    /// A growth was refused.
+    #[error("metarun: out of memory")]
+    OutOfMemory,
+    /// The input's device answered an error.
+    #[error("metarun: input failed")]
+    Input,
+    /// The output's device answered an error, or took nothing.
+    #[error("metarun: output failed")]
+    Output,
+}
+
+impl Failure {
+    /// Tells the exit status.
+    pub fn status(&self) -> u8
+        ensures { result ≡ status_of self.now }
+    {
+        match self {
+            Failure::Fault(_) => 1,
+            Failure::OutOfMemory => 3,
+            Failure::Input | Failure::Output => 5,
+        }
+    }
+}
+
+impl From<AllocError> for Failure {
+    ghost use Rattle.std.specs.Prelude.{◌≡◌};
+    ghost use Rattle.metarun.specs.declared.failure.Failure.TheVariants.{OutOfMemory};
+
+    ghost from_gives = { λ _ failure. failure ≡ OutOfMemory };
+
+    fn from(_error: AllocError) -> Failure {
+        Failure::OutOfMemory
+    }
+}
+
+impl From<ReadFault> for Failure {
+    ghost use Rattle.std.specs.Prelude.{◌≡◌};
+    ghost use Rattle.metarun.specs.Failure.{failure_of_reading};
+
+    ghost from_gives = { λ fault failure. failure ≡ failure_of_reading fault };
+
+    fn from(fault: ReadFault) -> Failure {
+        match fault {
+            ReadFault::Device => Failure::Input,
+            ReadFault::OutOfMemory => Failure::OutOfMemory,
+        }
+    }
+}
+
+impl From<ParseFault> for Failure {
+    ghost use Rattle.std.specs.Prelude.{◌≡◌};
+    ghost use Rattle.metarun.specs.Failure.{failure_of_parsing};
+
+    ghost from_gives = { λ fault failure. failure ≡ failure_of_parsing fault };
+
+    fn from(fault: ParseFault) -> Failure {
+        match fault {
+            ParseFault::Trace(fault) => Failure::Fault(fault),
+            ParseFault::OutOfMemory => Failure::OutOfMemory,
+        }
+    }
+}

@@ -1,0 +1,65 @@
+//! A session: the whole input is read and parsed, then run, then answered.
+ghost use Rattle.std.specs.Prelude.{◌≡◌, ◌*◌, ◌≤◌, ◌<◌, ◌⊎◌, ℕ, List, IfOk, IfErr, IfSome, take, string_bytes};
+ghost use Rattle.std.specs.Io.KnownBytes.{Appends, Keeps};
+ghost use Rattle.ms_trace.specs.declared.fault.FaultKind.{FaultKind};
+ghost use Rattle.ms_trace.specs.Faults.{HasFault};
+ghost use Rattle.metarun.specs.Failure.{Blames};
+ghost use Rattle.metarun.specs.Session.{IsOutput};
+
+use crate::answering::answer_all;
+use crate::devices::{read_text, write_text};
+use crate::failure::Failure;
+use crate::options::Options;
+use ms_trace::parse;
+use std::alloc::Global;
+use std::io::{Read, Write};
+
+/// Reads a trace, runs it, and writes the answer to each of its lines; answers the exit status.
+///
+/// 0: each line is answered. 1: the trace has a fault, told on `errors`; 3: memory was wanting; in
+/// both cases nothing was written to `output`. 5: a device failed. Nothing runs before the whole
+/// trace is read. This project's choice.
+pub fn session<R: Read, W: Write, E: Write>(
+    alloc: Global,
+    options: &Options,
+    input: &mut R,
+    output: &mut W,
+    errors: &mut E,
+) -> u8
+    requires { 128 * options.now.settings.nodes ≤ options.now.settings.max_granules }
+    ensures answered { result ≡ 0 → IfSome (R.remaining input.old) (λ bytes. (written : List ℕ)
+        × IsOutput options.now.addresses options.now.settings bytes written
+        × Appends (W.contents output.old) (W.contents output.new) written) }
+    ensures faulty { result ≡ 1 → IfSome (R.remaining input.old) (λ bytes. (line : ℕ)
+        × (kind : FaultKind) × HasFault (take 8100001 bytes) line kind) }
+    ensures untouched { (result ≡ 1) ⊎ (result ≡ 3)
+        → Keeps (W.contents output.old) (W.contents output.new) }
+    ensures statuses { (result ≡ 0) ⊎ (result ≡ 1) ⊎ (result ≡ 3) ⊎ (result ≡ 5) }
+{
+    let failure = match answer_to(alloc, options, input) {
+        Ok(text) => match write_text(output, text.as_bytes()) {
+            Ok(()) => return 0,
+            Err(_) => Failure::Output,
+        },
+        Err(failure) => failure,
+    };
+    // Whether the line comes out changes no status.
+    let _ = writeln!(errors, "{failure}");
+    failure.status()
+}
+
+/// Reads a trace, runs it, and gives the text that answers it.
+fn answer_to<R: Read>(alloc: Global, options: &Options, input: &mut R) -> Result<String, Failure>
+    requires { 128 * options.now.settings.nodes ≤ options.now.settings.max_granules }
+    ensures ok { IfOk result (λ text. IfSome (R.remaining input.old)
+        (λ bytes. IsOutput options.now.addresses options.now.settings bytes (string_bytes text))) }
+    ensures err { IfErr result (λ failure. IfSome (R.remaining input.old)
+        (λ bytes. Blames (take 8100001 bytes) failure)) }
+{
+    let text = read_text(alloc, input)?;
+    let trace = parse(alloc, &text)?;
+    Ok(answer_all(alloc, options, trace.lines.as_slice())?)
+}
+
+#[cfg(test)]
+mod tests;
