@@ -11,7 +11,6 @@ use Rattle.ms_base.specs.Transition.{Transition}
 use Rattle.ms_base.specs.Run.{Run}
 use Rattle.ms_base.specs.Totals.{used_words, committed_words}
 use Rattle.ms_base.proofs.EmptyLemmas.{nothing_is_committed}
-use Rattle.ms_base.proofs.SumLemmas.{sums_are_bounded}
 use Rattle.ms_loaders.specs.System.{HoldsNothing}
 
 pub run_on : (steps : List Step) (replies : List Reply) (old mid new : Machine) (step : Step) (reply : Reply)
@@ -27,7 +26,3 @@ nothing_without_loaders m none = record {
   used = rw none refl;
   committed = rw (none, nothing_is_committed m.limits.granule m.slots) (zero-mul m.limits.granule);
 }
-
--- The words in use are at most those of 64 nodes.
-pub used_is_small : (m : Machine) → IsGood m → used_words m ≤ 67108864
-used_is_small m good = let bounds = sums_are_bounded m good in omega (arith, bounds.used, bounds.fronts, bounds.capacity, bounds.slots)
