@@ -7,7 +7,6 @@ pub mod Front
 pub mod Held
 pub mod FreeParts
 pub mod Committed
-pub mod Slots
 pub mod State
 pub mod Live
 pub mod Good
