@@ -1,5 +1,6 @@
 pub mod SizeExamples
 pub mod PoolExamples
+pub mod AloneExamples
 pub mod ArenaExamples
 pub mod StepExamples
 pub mod FreeExamples
