@@ -21,6 +21,11 @@ pub enum ReadFault {
 }
 
 impl From<AllocError> for ReadFault {
+    ghost use Rattle.std.specs.Prelude.{◌≡◌};
+    ghost use Rattle.metarun.specs.declared.devices.ReadFault.TheVariants.{OutOfMemory};
+
+    ghost from_gives = { λ _ fault. fault ≡ OutOfMemory };
+
     fn from(_: AllocError) -> ReadFault {
         ReadFault::OutOfMemory
     }
