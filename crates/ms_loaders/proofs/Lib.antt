@@ -1,7 +1,10 @@
 mod CommittedLemmas
+mod FoundLemmas
 mod HeldLemmas
+mod LastWrittenExamples
 mod LendLemmas
 mod PlaceLemmas
+mod ReadLemmas
 mod RunLemmas
 mod SlotLemmas
 mod StepLemmas

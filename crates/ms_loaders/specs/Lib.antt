@@ -1,4 +1,5 @@
 pub mod Loader
+pub mod LastWritten
 pub mod Placing
 pub mod System
 pub mod Inside

@@ -13,6 +13,7 @@
 
 mod committing;
 mod held;
+pub mod laws;
 mod loader;
 mod placing;
 mod slots;
