@@ -1,8 +1,7 @@
 -- Each step of the machine leaves the word of a block that is told by the requests; for the law on
 -- reads.
-use Rattle.std.proofs.Common.{◌≡◌, ◌≢◌, ◌⊎◌, ◌<◌, ℕ, true, false, Bool, cond, ◌&&◌, None, Some, List, [], ◌∷◌, length, replicate, refl, sym, ap, subst, ◌∙◌, inl, inr, arith}
+use Rattle.std.proofs.Common.{◌≡◌, ◌≢◌, ℕ, true, false, Bool, ◌&&◌, Some, List, [], ◌∷◌, refl, sym, ap, subst, inl, inr, arith}
 use Rattle.std.specs.Prelude.{◌==◌, slice_get, slice_set}
-use Rattle.std.specs.Map.{values_of}
 use Rattle.std.proofs.lemmas.Bool.Decides.{nat_tests}
 use Rattle.ms_base.specs.declared.words.LiveBlock.{LiveBlock}
 use Rattle.ms_base.specs.declared.kind.Kind.{Kind}
@@ -12,15 +11,15 @@ use Rattle.ms_base.specs.declared.step.Reply.{Reply}
 use Rattle.ms_base.specs.declared.step.Reply.TheVariants.{Ok as Done, At, Value, Refused}
 use Rattle.ms_base.specs.declared.refusal.Refusal.{Refusal}
 use Rattle.ms_base.specs.declared.refusal.Refusal.TheVariants.{OutOfMemory}
-use Rattle.ms_base.specs.Names.{named, with_changed}
+use Rattle.ms_base.specs.Names.{named}
 use Rattle.ms_base.specs.State.{LoaderState, Limits, Machine, empty_loader, empty_machine}
 use Rattle.ms_base.specs.Good.{IsGood}
 use Rattle.ms_base.specs.Live.{block_words}
-use Rattle.ms_base.specs.Transition.{HasBlock, Transition, Cause, Leaves, Makes, Allocates, Writes, Frees, Unloads, with_block, zeroed}
+use Rattle.ms_base.specs.Transition.{Transition, Cause, Leaves, Makes, Allocates, Writes, Frees, Unloads, with_block, zeroed}
 use Rattle.ms_base.specs.Run.{Run}
 use Rattle.ms_base.proofs.GoodLemmas.{loader_is_sound, good_with_number_used}
 use Rattle.ms_loaders.specs.LastWritten.{word_after, last_written}
-use Rattle.ms_loaders.proofs.FoundLemmas.{IsFound, changed_found, new_found, gone_found, zeros_read, set_read}
+use Rattle.ms_loaders.proofs.FoundLemmas.{changed_found, new_found, gone_found, zeros_read, set_read}
 
 -- Where the loaders have the block and the word, it is this one.
 abbrev pub Tells : List (ℕ × LoaderState) → ℕ → ℕ → ℕ → ℕ → Type 0

@@ -1,15 +1,14 @@
 -- Runs of the machine, for System::run: one goes on by a step, and where no loader is left nothing
 -- is held.
-use Rattle.std.proofs.Common.{◌≡◌, ◌≤◌, List, [], ◌∷◌, ◌++◌, length, refl, subst, arith}
+use Rattle.std.proofs.Common.{◌≡◌, ◌≤◌, List, [], ◌∷◌, ◌++◌, refl, subst, arith}
 use Rattle.std.proofs.Math.Nat.{zero-mul}
 use Rattle.ms_base.specs.declared.step.Step.{Step}
 use Rattle.ms_base.specs.declared.step.Reply.{Reply}
-use Rattle.ms_base.specs.State.{Machine, chunks_held}
-use Rattle.ms_base.specs.Committed.{committed_granules}
+use Rattle.ms_base.specs.State.{Machine}
 use Rattle.ms_base.specs.Good.{IsGood}
 use Rattle.ms_base.specs.Transition.{Transition}
 use Rattle.ms_base.specs.Run.{Run}
-use Rattle.ms_base.specs.Totals.{used_words, committed_words}
+use Rattle.ms_base.specs.Totals.{used_words}
 use Rattle.ms_base.proofs.EmptyLemmas.{nothing_is_committed}
 use Rattle.ms_base.proofs.SumLemmas.{sums_are_bounded}
 use Rattle.ms_loaders.specs.System.{HoldsNothing}

@@ -1,6 +1,6 @@
 -- The word last written to a block, told by requests and replies alone, and the law that a read
 -- answers it.
-use Rattle.std.specs.Prelude.{◌≡◌, ℕ, ◌==◌, ◌&&◌, if◌then◌else◌, List, [], ◌∷◌}
+use Rattle.std.specs.Prelude.{◌≡◌, ℕ, ◌==◌, ◌&&◌, if◌then◌else◌, List, ◌∷◌}
 use Rattle.ms_base.specs.declared.step.Step.{Step}
 use Rattle.ms_base.specs.declared.step.Step.TheVariants.{Alloc, Write, Read}
 use Rattle.ms_base.specs.declared.step.Reply.{Reply}
