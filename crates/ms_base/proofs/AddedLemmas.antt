@@ -1,8 +1,9 @@
 -- The machine stays good where a loader takes a chunk, and a block at its start.
 use Rattle.std.proofs.Common.{◌≡◌, ◌≤◌, ◌<◌, ℕ, true, false, None, List, [], ◌∷◌, ◌++◌, length, refl, sym, ap, ◌∙◌, subst}
 use Rattle.std.specs.Ordering.{nat_cmp}
-use Rattle.std.specs.List.{All, list_any, list_all}
+use Rattle.std.specs.List.{All, list_all}
 use Rattle.std.specs.BTreeMap.{is_at}
+use Rattle.std.specs.BTreeSet.{insert_key}
 use Rattle.std.proofs.lemmas.Bool.{and_parts, and_from}
 use Rattle.std.proofs.lemmas.List.{append_assoc, length-replicate}
 use Rattle.std.proofs.lemmas.Map.Views.{All-values-set_value, All-insert_key}
@@ -39,12 +40,13 @@ pub record IsAddable (m : Machine) (chunk : Chunk) : Type 0 where
   pub nodes : length (slots_with m.slots chunk.start) ≤ m.limits.nodes
 
 -- The slots of chunks stay reserved with another.
-still_reserved : (slots : List ℕ) (slot : ℕ) (held : List Chunk) → list_all (λ (chunk : Chunk). is_reserved slots (slot_of chunk.start)) held ≡ true
-    → list_all (λ (chunk : Chunk). is_reserved (Rattle.std.specs.BTreeSet.insert_key nat_cmp slots slot) (slot_of chunk.start)) held ≡ true
+still_reserved : (slots : List ℕ) (slot : ℕ) (held : List Chunk)
+    → list_all (λ (chunk : Chunk). is_reserved slots (slot_of chunk.start)) held ≡ true
+    → list_all (λ (chunk : Chunk). is_reserved (insert_key nat_cmp slots slot) (slot_of chunk.start)) held ≡ true
 still_reserved slots slot [] h = refl
 still_reserved slots slot (c ∷ held) h =
     let both = and_parts (is_reserved slots (slot_of c.start)) (list_all (λ (d : Chunk). is_reserved slots (slot_of d.start)) held) h in
-    let more = Rattle.std.specs.BTreeSet.insert_key nat_cmp slots slot in
+    let more = insert_key nat_cmp slots slot in
     and_from (is_reserved more (slot_of c.start)) (list_all (λ (d : Chunk). is_reserved more (slot_of d.start)) held)
     (reserved_still slots slot (slot_of c.start) both.0) (still_reserved slots slot held both.1)
 
@@ -52,7 +54,8 @@ still_reserved slots slot (c ∷ held) h =
 pub good_with_chunk : (m : Machine) (name : ℕ) (before other : LoaderState) (chunk : Chunk) → HasLoader m name before
     → other.arena.chunks ≡ before.arena.chunks ++ chunk ∷ [] → IsSoundLoader other → IsAddable m chunk
     → length (committed_granules m.limits.granule (chunks_held (with_changed m.loaders name other)) (slots_with m.slots chunk.start)) ≤ m.limits.granules
-    → IsGood m → IsGood (record m { loaders = with_changed m.loaders name other; slots = slots_with m.slots chunk.start })
+    → IsGood m
+    → IsGood (record m { loaders = with_changed m.loaders name other; slots = slots_with m.slots chunk.start })
 good_with_chunk m name before other chunk found chunks sound addable committed good = record {
   loaders = All-values-set_value (is_at (nat_cmp name)) IsSoundLoader m.loaders other good.loaders sound;
   names = rises_with_changed m.loaders name other good.names;
@@ -90,7 +93,8 @@ good_with_chunk m name before other chunk found chunks sound addable committed g
         ∙ sym (append_assoc b before.arena.chunks (chunk ∷ a))
 
 -- What holds of all chunks holds of a loader's.
-pub fronts_of_loader : (m : Machine) (name : ℕ) (loader : LoaderState) → HasLoader m name loader → IsGood m → All (HasFront m.limits.granule) loader.arena.chunks
+pub fronts_of_loader : (m : Machine) (name : ℕ) (loader : LoaderState) → HasLoader m name loader → IsGood m
+    → All (HasFront m.limits.granule) loader.arena.chunks
 fronts_of_loader m name loader found good =
     let split = split_at m.loaders name loader found in
     All-middle_of (HasFront m.limits.granule) (chunks_held split.before) loader.arena.chunks (chunks_held split.after)
@@ -109,9 +113,11 @@ abbrev pub with_block_in_chunk : LoaderState → ArenaState → Chunk → ℕ �
 with_block_in_chunk before arena chunk block n =
     record before { arena = with_chunk_used arena chunk n; blocks = with_new before.blocks block (zeroed chunk.start n) }
 
-pub sound_with_block_in_chunk : (granule : ℕ) (before : LoaderState) (arena : ArenaState) (chunk : Chunk) (block n : ℕ) → named before.blocks block ≡ None
-    → IsSoundLoader before → IsSound arena (runs_of before.blocks) → All (HasFront granule) arena.chunks → meets_chunk arena.chunks chunk.start chunk.level ≡ false
-    → 2 ≤ n → n ≤ chunk.front → chunk.front ≤ size_of chunk.level → IsSoundLoader (with_block_in_chunk before arena chunk block n)
+pub sound_with_block_in_chunk : (granule : ℕ) (before : LoaderState) (arena : ArenaState) (chunk : Chunk) (block n : ℕ)
+    → named before.blocks block ≡ None → IsSoundLoader before → IsSound arena (runs_of before.blocks)
+    → All (HasFront granule) arena.chunks → meets_chunk arena.chunks chunk.start chunk.level ≡ false → 2 ≤ n
+    → n ≤ chunk.front → chunk.front ≤ size_of chunk.level
+    → IsSoundLoader (with_block_in_chunk before arena chunk block n)
 sound_with_block_in_chunk granule before arena chunk block n unused sound arena_sound fronts clear long within whole = record {
   arena = rw new (sound_with_chunk granule arena (runs_of gap.before) (runs_of gap.after) chunk n fronts clear long within whole (rw old at arena_sound));
   names = rises_with_new before.blocks block (zeroed chunk.start n) sound.names;
@@ -128,11 +134,12 @@ sound_with_block_in_chunk granule before arena chunk block n unused sound arena_
         ∙ ap (λ (k : ℕ). runs_of gap.before ++ (chunk.start, k) ∷ runs_of gap.after) (length-replicate n 0)
 
 -- A loader takes a chunk for a block, its arena being sound before.
-pub good_with_block_in_chunk : (m : Machine) (name : ℕ) (before : LoaderState) (arena : ArenaState) (chunk : Chunk) (block n : ℕ) → HasLoader m name before
-    → named before.blocks block ≡ None → arena.chunks ≡ before.arena.chunks → IsSound arena (runs_of before.blocks) → 2 ≤ n → n ≤ chunk.front
-    → IsAddable m chunk
+pub good_with_block_in_chunk : (m : Machine) (name : ℕ) (before : LoaderState) (arena : ArenaState) (chunk : Chunk)
+    (block n : ℕ) → HasLoader m name before → named before.blocks block ≡ None → arena.chunks ≡ before.arena.chunks
+    → IsSound arena (runs_of before.blocks) → 2 ≤ n → n ≤ chunk.front → IsAddable m chunk
     → length (committed_granules m.limits.granule (chunks_held (with_changed m.loaders name (with_block_in_chunk before arena chunk block n))) (slots_with m.slots chunk.start)) ≤ m.limits.granules
-    → IsGood m → IsGood (record m { loaders = with_changed m.loaders name (with_block_in_chunk before arena chunk block n); slots = slots_with m.slots chunk.start })
+    → IsGood m
+    → IsGood (record m { loaders = with_changed m.loaders name (with_block_in_chunk before arena chunk block n); slots = slots_with m.slots chunk.start })
 good_with_block_in_chunk m name before arena chunk block n found unused same arena_sound long within addable committed good =
     good_with_chunk m name before (with_block_in_chunk before arena chunk block n) chunk found (ap (λ (l : List Chunk). l ++ chunk ∷ []) same)
     (sound_with_block_in_chunk m.limits.granule before arena chunk block n unused (loader_is_sound m name before found good) arena_sound

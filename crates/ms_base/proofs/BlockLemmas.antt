@@ -22,7 +22,8 @@ pub runs_joined : (before after : List (ℕ × LiveBlock)) → runs_of (before +
 runs_joined before after = ap (map run_of) (values_joined before after) ∙ map-append run_of (values_of before) (values_of after)
 
 -- A block that stays where it is changes no run.
-pub runs_with_same : (blocks : List (ℕ × LiveBlock)) (name : ℕ) (found other : LiveBlock) → named blocks name ≡ Some found → run_of other ≡ run_of found
+pub runs_with_same : (blocks : List (ℕ × LiveBlock)) (name : ℕ) (found other : LiveBlock)
+    → named blocks name ≡ Some found → run_of other ≡ run_of found
     → runs_of (with_changed blocks name other) ≡ runs_of blocks
 runs_with_same blocks name found other has same =
     let split = split_at blocks name found has in
@@ -31,16 +32,18 @@ runs_with_same blocks name found other has same =
     ∙ sym (runs_split split.before split.after name found) ∙ sym (ap runs_of split.is)
 
 -- A word written.
-pub sound_with_write : (loader : LoaderState) (block : ℕ) (found : LiveBlock) (index value : ℕ) → named loader.blocks block ≡ Some found
-    → IsSoundLoader loader → IsSoundLoader (with_block loader block (record found { contents = slice_set found.contents index value }))
+pub sound_with_write : (loader : LoaderState) (block : ℕ) (found : LiveBlock) (index value : ℕ)
+    → named loader.blocks block ≡ Some found → IsSoundLoader loader
+    → IsSoundLoader (with_block loader block (record found { contents = slice_set found.contents index value }))
 sound_with_write loader block found index value has sound = record {
   arena = rw (runs_with_same loader.blocks block found (record found { contents = slice_set found.contents index value }) has
       (ap (λ (n : ℕ). (found.start, n)) (length-set found.contents index value))) sound.arena;
   names = rises_with_changed loader.blocks block _ sound.names;
 }
 
-pub good_with_write : (m : Machine) (name block : ℕ) (loader : LoaderState) (found : LiveBlock) (index value : ℕ) → HasBlock m name block loader found
-    → IsGood m → IsGood (with_loader m name (with_block loader block (record found { contents = slice_set found.contents index value })))
+pub good_with_write : (m : Machine) (name block : ℕ) (loader : LoaderState) (found : LiveBlock) (index value : ℕ)
+    → HasBlock m name block loader found → IsGood m
+    → IsGood (with_loader m name (with_block loader block (record found { contents = slice_set found.contents index value })))
 good_with_write m name block loader found index value has good =
     good_with_loader m name loader _ has.loader_is refl
     (sound_with_write loader block found index value has.block_is (loader_is_sound m name loader has.loader_is good)) good
@@ -78,15 +81,17 @@ sound_with_free loader block found has sound = record {
     gone : runs_of (without loader.blocks block) ++ kept ≡ b ++ (a ++ kept)
     gone = ap (λ l. l ++ kept) (ap runs_of split.gone ∙ runs_joined split.before split.after) ∙ append_assoc b a kept
 
-pub good_with_free : (m : Machine) (name block : ℕ) (loader : LoaderState) (found : LiveBlock) → HasBlock m name block loader found
-    → IsGood m → IsGood (with_loader m name (record loader { blocks = without loader.blocks block }))
+pub good_with_free : (m : Machine) (name block : ℕ) (loader : LoaderState) (found : LiveBlock)
+    → HasBlock m name block loader found → IsGood m
+    → IsGood (with_loader m name (record loader { blocks = without loader.blocks block }))
 good_with_free m name block loader found has good =
     good_with_loader m name loader _ has.loader_is refl
     (sound_with_free loader block found has.block_is (loader_is_sound m name loader has.loader_is good)) good
 
 -- A block freed, where other words are kept than before.
-pub good_with_kept : (m : Machine) (name block : ℕ) (loader : LoaderState) (kept : List (ℕ × ℕ)) → HasLoader m name loader
-    → IsSound (record loader.arena { kept = kept }) (runs_of (without loader.blocks block)) → IsGood m
+pub good_with_kept : (m : Machine) (name block : ℕ) (loader : LoaderState) (kept : List (ℕ × ℕ))
+    → HasLoader m name loader → IsSound (record loader.arena { kept = kept }) (runs_of (without loader.blocks block))
+    → IsGood m
     → IsGood (with_loader m name (record loader { arena = record loader.arena { kept = kept }; blocks = without loader.blocks block }))
 good_with_kept m name block loader kept has sound good =
     good_with_loader m name loader _ has refl

@@ -1,9 +1,8 @@
 -- A granule that meets a free part is committed exactly where the part is smaller than it. The laws
 -- on free parts and granules use this.
-use Rattle.std.proofs.Common.{◌≡◌, ◌≤◌, ◌<◌, ℕ, zero, suc, ◌+◌, ◌-◌, ◌*◌, ◌/◌, ◌%◌, Bool, true, false, ◌&&◌, ◌||◌, List, [], ◌∷◌, refl, sym, ap, subst, ◌∙◌, inl, inr, arith, length, get_or}
-use Rattle.std.specs.Prelude.{◌==◌, nat_lt, nat_le, IsTrue, IsFalse}
-use Rattle.std.specs.List.{All, Any, Contains, list_any, list_all, range_with_len}
-use Rattle.std.proofs.lemmas.Nat.{mul-le, div-add-mod', mod_below, le-div}
+use Rattle.std.proofs.Common.{◌≡◌, ◌≤◌, ◌<◌, ℕ, ◌+◌, ◌-◌, ◌*◌, ◌%◌, true, false, List, sym, ap, ◌∙◌, inl, inr, arith, length, get_or}
+use Rattle.std.specs.Prelude.{◌==◌, nat_lt}
+use Rattle.std.specs.List.{All, Any}
 use Rattle.std.proofs.lemmas.Bool.{cases_lt, or_cases, and_parts, both_ways, false_from_ne_true, eqb-true, ltb-true, lt-ltb, le-ltb}
 use Rattle.std.proofs.lemmas.Bool.Decides.{nat_tests}
 use Rattle.std.proofs.lemmas.List.Elements.{All-contains}
@@ -11,30 +10,29 @@ use Rattle.std.proofs.lemmas.List.Folds.{list_any_at, list_any_none, Any-from_li
 use Rattle.std.proofs.Math.Nat.{mul-mod_left}
 use Rattle.ms_base.specs.declared.span.Chunk.{Chunk}
 use Rattle.ms_base.specs.declared.span.Span.{Span}
-use Rattle.ms_base.specs.Interval.{meet, lies_in}
+use Rattle.ms_base.specs.Interval.{meet}
 use Rattle.ms_base.specs.Level.{size_of}
 use Rattle.ms_base.specs.Part.{IsPart, parent_start}
 use Rattle.ms_base.specs.Front.{HasFront}
 use Rattle.ms_base.specs.Held.{AreHeld, meets_chunk}
-use Rattle.ms_base.specs.FreeParts.{IsFreePart, free_parts}
+use Rattle.ms_base.specs.FreeParts.{IsFreePart}
 use Rattle.ms_base.specs.Committed.{is_committed}
-use Rattle.ms_base.specs.State.{PoolState}
-use Rattle.ms_base.specs.Pick.{has_committed, is_committed_enough}
 use Rattle.ms_base.specs.FreeLaws.{IsGranule}
 use Rattle.ms_base.proofs.PartLemmas.{parts_are_nested_or_apart}
 use Rattle.ms_base.proofs.HalvesLemmas.{size_some, size_falls, size_falls_strictly}
 use Rattle.ms_base.proofs.RoomLemmas.{clear_within}
-use Rattle.ms_base.proofs.LargestLemmas.{inside_bounds, parent_is_whole, parent_around, parent_is_twice, ends_in_parent}
+use Rattle.ms_base.proofs.LargestLemmas.{inside_bounds, parent_is_whole, parent_around, ends_in_parent}
 
 -- Runs that meet start below each other's ends, and the other way round.
-meets_bounds : (a m b n : ℕ) → meet a m b n ≡ true → (a < b + n) × (b < a + m)
+pub meets_bounds : (a m b n : ℕ) → meet a m b n ≡ true → (a < b + n) × (b < a + m)
 meets_bounds a m b n e = let both = and_parts (nat_lt a (b + n)) (nat_lt b (a + m)) e in (ltb-true a (b + n) both.0, ltb-true b (a + m) both.1)
 
-bounds_meet : (a m b n : ℕ) → a < b + n → b < a + m → meet a m b n ≡ true
+pub bounds_meet : (a m b n : ℕ) → a < b + n → b < a + m → meet a m b n ≡ true
 bounds_meet a m b n h k = grind (arith, nat_tests)
 
 -- Of two parts that meet, one of a greater level lies in the other.
-meeting_lies_in : (a l b k : ℕ) → IsPart a l → IsPart b k → l ≤ k → meet a (size_of l) b (size_of k) ≡ true → (a ≤ b) × (b + size_of k ≤ a + size_of l)
+pub meeting_lies_in : (a l b k : ℕ) → IsPart a l → IsPart b k → l ≤ k → meet a (size_of l) b (size_of k) ≡ true
+    → (a ≤ b) × (b + size_of k ≤ a + size_of l)
 meeting_lies_in a l b k first second h meets = elim (parts_are_nested_or_apart a l b k first second h) [
   | inl inside ↦ inside_bounds b (size_of k) a (size_of l) inside
   | inr apart ↦ absurd (both_ways (meet a (size_of l) b (size_of k)) apart meets)
@@ -47,8 +45,9 @@ one_is_apart held b k i d h clear = false_from_ne_true (meet (get_or held i d).s
     (λ meets. both_ways (meets_chunk held b k) clear (list_any_at (λ (chunk : Chunk). meet chunk.start (size_of chunk.level) b (size_of k)) held i d h meets))
 
 -- A granule that meets no chunk holds no word of a front.
-clear_is_uncommitted : (granule : ℕ) (held : List Chunk) (number k : ℕ) → granule ≡ size_of k → All (HasFront granule) held
-    → meets_chunk held (number * granule) k ≡ false → is_committed granule held number ≡ false
+clear_is_uncommitted : (granule : ℕ) (held : List Chunk) (number k : ℕ) → granule ≡ size_of k
+    → All (HasFront granule) held → meets_chunk held (number * granule) k ≡ false
+    → is_committed granule held number ≡ false
 clear_is_uncommitted granule held number k e fronts clear = list_any_none (λ (chunk : Chunk). meet chunk.start chunk.front (number * granule) granule) held
     (λ i d h. shorter (get_or held i d).start (size_of (get_or held i d).level) (get_or held i d).front (number * granule) granule (fronts i d h).within
     (ap (λ (n : ℕ). meet (get_or held i d).start (size_of (get_or held i d).level) (number * granule) n) e ∙ one_is_apart held (number * granule) k i d h clear))
@@ -57,9 +56,10 @@ clear_is_uncommitted granule held number k e fronts clear = list_any_none (λ (c
     shorter c t f b n h m = grind (arith, nat_tests)
 
 -- A granule that meets a free part of its size or more is not committed.
-pub large_is_uncommitted : (granule : ℕ) (held : List Chunk) (slots : List ℕ) (part : Span) (number k : ℕ) → granule ≡ size_of k → k ≤ 12
-    → AreHeld granule slots held → IsFreePart held slots part → meet part.start (size_of part.level) (number * granule) granule ≡ true
-    → part.level ≤ k → is_committed granule held number ≡ false
+pub large_is_uncommitted : (granule : ℕ) (held : List Chunk) (slots : List ℕ) (part : Span) (number k : ℕ)
+    → granule ≡ size_of k → k ≤ 12 → AreHeld granule slots held → IsFreePart held slots part
+    → meet part.start (size_of part.level) (number * granule) granule ≡ true → part.level ≤ k
+    → is_committed granule held number ≡ false
 large_is_uncommitted granule held slots part number k e small good free meets large =
     clear_is_uncommitted granule held number k e good.fronts (clear_within held part.start part.level (number * granule) k inside.0 inside.1 free.empty)
   where
@@ -72,7 +72,8 @@ large_is_uncommitted granule held slots part number k e small good free meets la
 
 -- The chunk that keeps a free part from being larger lies in the part's parent, and is no larger
 -- than the part.
-keeper_in_parent : (part : Span) (chunk : Chunk) → IsPart part.start part.level → 1 ≤ part.level → IsPart chunk.start chunk.level
+keeper_in_parent : (part : Span) (chunk : Chunk) → IsPart part.start part.level → 1 ≤ part.level
+    → IsPart chunk.start chunk.level
     → meet chunk.start (size_of chunk.level) (parent_start part.start part.level) (size_of (part.level - 1)) ≡ true
     → meet chunk.start (size_of chunk.level) part.start (size_of part.level) ≡ false
     → (part.level ≤ chunk.level) × (parent_start part.start part.level ≤ chunk.start)
@@ -95,9 +96,10 @@ keeper_in_parent part chunk placed below held meets apart = elim (cases_lt (part
     parent_placed = (omega (arith, placed.0), parent_is_whole part.start part.level)
 
 -- A granule that meets a free part smaller than it is committed.
-pub small_is_committed : (granule : ℕ) (held : List Chunk) (slots : List ℕ) (part : Span) (number k : ℕ) → granule ≡ size_of k → k ≤ 12
-    → AreHeld granule slots held → IsFreePart held slots part → meet part.start (size_of part.level) (number * granule) granule ≡ true
-    → k < part.level → is_committed granule held number ≡ true
+pub small_is_committed : (granule : ℕ) (held : List Chunk) (slots : List ℕ) (part : Span) (number k : ℕ)
+    → granule ≡ size_of k → k ≤ 12 → AreHeld granule slots held → IsFreePart held slots part
+    → meet part.start (size_of part.level) (number * granule) granule ≡ true → k < part.level
+    → is_committed granule held number ≡ true
 small_is_committed granule held slots part number k e small good free meets less = list_any_at (λ (chunk : Chunk). meet chunk.start chunk.front (number * granule) granule)
     held keeper.0 keeper.1 keeper.2 (ap (λ (chunk : Chunk). meet chunk.start chunk.front (number * granule) granule) keeper.3
     ∙ bounds_meet chunk.start chunk.front (number * granule) granule (omega (arith, inside.2, around.1, size_some chunk.level, e)) (omega (arith, around.0, inside.1, front.some)))
@@ -140,8 +142,9 @@ small_is_committed granule held slots part number k e small good free meets less
         (omega (arith, bounds.0, e, (parent_around part.start part.level).0)))
 
 -- A granule that meets a free part is committed exactly where the part is smaller.
-pub committed_where_small : (granule : ℕ) (held : List Chunk) (slots : List ℕ) (part : Span) (number : ℕ) → IsGranule granule → AreHeld granule slots held
-    → IsFreePart held slots part → meet part.start (size_of part.level) (number * granule) granule ≡ true
+pub committed_where_small : (granule : ℕ) (held : List Chunk) (slots : List ℕ) (part : Span) (number : ℕ)
+    → IsGranule granule → AreHeld granule slots held → IsFreePart held slots part
+    → meet part.start (size_of part.level) (number * granule) granule ≡ true
     → is_committed granule held number ≡ nat_lt (size_of part.level) granule
 committed_where_small granule held slots part number of_level good free meets = elim (cases_lt of_level.level part.level) [
   | inl less ↦ small_is_committed granule held slots part number of_level.level of_level.is of_level.below good free meets less
@@ -149,50 +152,3 @@ committed_where_small granule held slots part number of_level good free meets = 
   | inr large ↦ large_is_uncommitted granule held slots part number of_level.level of_level.is of_level.below good free meets large
       ∙ sym (le-ltb (size_of part.level) granule (omega (arith, size_falls part.level of_level.level large of_level.below, of_level.is)))
 ]
-
--- A test that gives one answer at each number of a range gives it of all.
-all_alike : (p : ℕ → Bool) (b : Bool) (low n : ℕ) → ((k : ℕ) → low ≤ k → k < low + suc n → p k ≡ b) → list_all p (range_with_len low (suc n)) ≡ b
-all_alike p b low zero each = ap (λ x. x && true) (each low (omega arith) (omega arith)) ∙ with_true b
-  where
-    with_true : (b : Bool) → (b && true) ≡ b
-    with_true true = refl
-    with_true false = refl
-all_alike p b low (suc n) each = ap (λ x. x && list_all p (range_with_len (low + 1) (suc n))) (each low (omega arith) (omega arith))
-    ∙ ap (λ x. b && x) (all_alike p b (low + 1) n (λ k h m. each k (omega arith) (omega arith))) ∙ with_itself b
-  where
-    with_itself : (b : Bool) → (b && b) ≡ b
-    with_itself true = refl
-    with_itself false = refl
-
--- The granules that meet the first words of a run meet the run.
-first_words_meet : (granule start words size k : ℕ) → 1 ≤ granule → 1 ≤ words → words ≤ size → start / granule ≤ k → k ≤ (start + words - 1) / granule
-    → meet start size (k * granule) granule ≡ true
-first_words_meet granule start words size k some few within low high = bounds_meet start size (k * granule) granule
-    (omega (arith, div-add-mod' start granule, mod_below start granule (omega arith), mul-le (start / granule) granule k granule low (omega arith)))
-    (omega (arith, div-add-mod' (start + words - 1) granule, mul-le k granule ((start + words - 1) / granule) granule high (omega arith)))
-
--- A free part is committed enough for words that it can hold exactly where it is smaller than a
--- granule.
-pub enough_where_small : (pool : PoolState) (part : Span) (words : ℕ) → IsGranule pool.limits.granule → AreHeld pool.limits.granule pool.slots pool.held
-    → IsFreePart pool.held pool.slots part → 1 ≤ words → words ≤ size_of part.level
-    → is_committed_enough pool words part ≡ nat_lt (size_of part.level) pool.limits.granule
-enough_where_small pool part words of_level good free some few =
-    ap (λ (n : ℕ). list_all (has_committed pool) (range_with_len (part.start / granule) n)) count
-    ∙ all_alike (has_committed pool) (nat_lt (size_of part.level) granule) (part.start / granule) more
-    (λ k h m. committed_where_small granule pool.held pool.slots part k of_level good free
-    (first_words_meet granule part.start words (size_of part.level) k granule_some some few h (omega (arith, rises))))
-  where
-    granule : ℕ
-    granule = pool.limits.granule
-
-    granule_some : 1 ≤ granule
-    granule_some = omega (arith, of_level.is, size_some of_level.level)
-
-    more : ℕ
-    more = (part.start + words - 1) / granule - part.start / granule
-
-    rises : part.start / granule ≤ (part.start + words - 1) / granule
-    rises = le-div (part.start / granule) (part.start + words - 1) granule (omega (arith, granule_some)) (omega (arith, div-add-mod' part.start granule))
-
-    count : (part.start + words - 1) / granule + 1 - part.start / granule ≡ suc more
-    count = omega (arith, rises)

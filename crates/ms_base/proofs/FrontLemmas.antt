@@ -10,7 +10,8 @@ use Rattle.ms_base.specs.Front.{granules_for, front_for, HasFront}
 rounds_up : (granule words : ℕ) → 1 ≤ granule → words ≤ granules_for granule words * granule
 rounds_up granule words some = omega (arith, div-add-mod' (words + granule - 1) granule)
 
-rounds_within : (granule words c : ℕ) → 1 ≤ granule → words ≤ c * granule → granules_for granule words * granule ≤ c * granule
+rounds_within : (granule words c : ℕ) → 1 ≤ granule → words ≤ c * granule
+    → granules_for granule words * granule ≤ c * granule
 rounds_within granule words c some h = elim (cases_lt c (granules_for granule words)) [
   | inl k ↦ absurd (omega (arith, div-add-mod' (words + granule - 1) granule, add-mul c 1 granule, mul-le (c + 1) granule (granules_for granule words) granule (omega arith) (omega arith)))
   | inr k ↦ mul-le (granules_for granule words) granule c granule k (omega arith)
@@ -32,7 +33,8 @@ makes_up power level h = ap (λ (n : ℕ). 2 ^ n) exponent ∙ pow-add 2 (19 - l
 front_small : (granule size words : ℕ) → size < granule → front_for granule size words ≡ size
 front_small granule size words h = rw (lt-ltb size granule h) refl
 
-front_whole : (granule size words : ℕ) → granule ≤ size → front_for granule size words ≡ granules_for granule words * granule
+front_whole : (granule size words : ℕ) → granule ≤ size
+    → front_for granule size words ≡ granules_for granule words * granule
 front_whole granule size words h = rw (le-ltb size granule h) refl
 
 -- The front reaches as far as was asked.

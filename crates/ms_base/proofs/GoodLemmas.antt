@@ -7,6 +7,7 @@ use Rattle.std.specs.Map.{values_of}
 use Rattle.std.specs.BTreeMap.{is_at}
 use Rattle.std.specs.Option.{IfSome}
 use Rattle.std.proofs.lemmas.List.Concat.{flat_map-append}
+use Rattle.std.proofs.lemmas.List.Sums.{length-filter, count_by-le-length}
 use Rattle.std.proofs.lemmas.List.Elements.{All-filter}
 use Rattle.std.proofs.lemmas.List.Kept.{IsStrictlyIncreasing-filter}
 use Rattle.std.proofs.lemmas.Map.Views.{All-values-insert_entry, All-map-remove_entry, All-values-set_value, IfSome-lookup_from_All}
@@ -30,14 +31,15 @@ chunks_split before after name loader =
     ap (flat_map (λ (l : LoaderState). l.arena.chunks)) (values_split before after name loader)
     ∙ flat_map-append (λ (l : LoaderState). l.arena.chunks) (values_of before) (loader ∷ values_of after)
 
-pub chunks_joined : (before after : List (ℕ × LoaderState)) → chunks_held (before ++ after) ≡ chunks_held before ++ chunks_held after
+pub chunks_joined : (before after : List (ℕ × LoaderState))
+    → chunks_held (before ++ after) ≡ chunks_held before ++ chunks_held after
 chunks_joined before after =
     ap (flat_map (λ (l : LoaderState). l.arena.chunks)) (values_joined before after)
     ∙ flat_map-append (λ (l : LoaderState). l.arena.chunks) (values_of before) (values_of after)
 
 -- A new loader holds nothing.
-pub chunks_with_new : (loaders : List (ℕ × LoaderState)) (name : ℕ) (loader : LoaderState) → named loaders name ≡ None → loader.arena.chunks ≡ []
-    → chunks_held (with_new loaders name loader) ≡ chunks_held loaders
+pub chunks_with_new : (loaders : List (ℕ × LoaderState)) (name : ℕ) (loader : LoaderState) → named loaders name ≡ None
+    → loader.arena.chunks ≡ [] → chunks_held (with_new loaders name loader) ≡ chunks_held loaders
 chunks_with_new loaders name loader none empty =
     let gap = gap_at loaders name none in
     ap chunks_held (gap.made loader) ∙ chunks_split gap.before gap.after name loader
@@ -45,8 +47,9 @@ chunks_with_new loaders name loader none empty =
     ∙ sym (chunks_joined gap.before gap.after) ∙ sym (ap chunks_held gap.is)
 
 -- A loader that keeps its chunks changes nothing of what is held.
-pub chunks_with_same : (loaders : List (ℕ × LoaderState)) (name : ℕ) (loader other : LoaderState) → named loaders name ≡ Some loader
-    → other.arena.chunks ≡ loader.arena.chunks → chunks_held (with_changed loaders name other) ≡ chunks_held loaders
+pub chunks_with_same : (loaders : List (ℕ × LoaderState)) (name : ℕ) (loader other : LoaderState)
+    → named loaders name ≡ Some loader → other.arena.chunks ≡ loader.arena.chunks
+    → chunks_held (with_changed loaders name other) ≡ chunks_held loaders
 chunks_with_same loaders name loader other found same =
     let split = split_at loaders name loader found in
     ap chunks_held (split.changed other) ∙ chunks_split split.before split.after name other
@@ -54,7 +57,8 @@ chunks_with_same loaders name loader other found same =
     ∙ sym (chunks_split split.before split.after name loader) ∙ sym (ap chunks_held split.is)
 
 -- A pool with the same chunks is as sound.
-pub sound_with : (pool : PoolState) (held : List Chunk) → held ≡ pool.held → IsSoundPool pool → IsSoundPool (record pool { held = held })
+pub sound_with : (pool : PoolState) (held : List Chunk) → held ≡ pool.held → IsSoundPool pool
+    → IsSoundPool (record pool { held = held })
 sound_with pool held same sound = rw same sound
 
 pub sound_when_empty : (kind : Kind) → IsSoundLoader (empty_loader kind)
@@ -64,7 +68,8 @@ sound_when_empty kind = record {
 }
 
 -- Each loader of a good machine is sound.
-pub loader_is_sound : (m : Machine) (name : ℕ) (loader : LoaderState) → named m.loaders name ≡ Some loader → IsGood m → IsSoundLoader loader
+pub loader_is_sound : (m : Machine) (name : ℕ) (loader : LoaderState) → named m.loaders name ≡ Some loader → IsGood m
+    → IsSoundLoader loader
 loader_is_sound m name loader found good =
     subst (λ (o : Option LoaderState). IfSome o IsSoundLoader) found (IfSome-lookup_from_All IsSoundLoader (is_at (nat_cmp name)) m.loaders good.loaders)
 
@@ -83,8 +88,8 @@ pub good_with_number_used : (m : Machine) → m.given < 2 ^ 32 - 1 → IsGood m 
 good_with_number_used m few good = record { loaders = good.loaders; names = good.names; pool = good.pool; given = omega arith }
 
 -- A sound loader in the place of one with the same chunks.
-pub good_with_loader : (m : Machine) (name : ℕ) (loader other : LoaderState) → HasLoader m name loader → other.arena.chunks ≡ loader.arena.chunks
-    → IsSoundLoader other → IsGood m → IsGood (with_loader m name other)
+pub good_with_loader : (m : Machine) (name : ℕ) (loader other : LoaderState) → HasLoader m name loader
+    → other.arena.chunks ≡ loader.arena.chunks → IsSoundLoader other → IsGood m → IsGood (with_loader m name other)
 good_with_loader m name loader other found same sound good = record {
   loaders = All-values-set_value (is_at (nat_cmp name)) IsSoundLoader m.loaders other good.loaders sound;
   names = rises_with_changed m.loaders name other good.names;
@@ -133,7 +138,7 @@ good_when_purged m good = record {
     slots = IsStrictlyIncreasing-filter (has_chunk_in held) m.slots good.pool.slots;
     below = All-filter (has_chunk_in held) (λ slot. slot < 64) m.slots good.pool.below;
     committed = omega (arith, good.pool.committed, committed_in_fewer m.limits.granule held (has_chunk_in held) m.slots);
-    reserved = omega (arith, good.pool.reserved, Rattle.std.proofs.lemmas.List.Sums.length-filter (has_chunk_in held) m.slots, Rattle.std.proofs.lemmas.List.Sums.count_by-le-length (has_chunk_in held) m.slots);
+    reserved = omega (arith, good.pool.reserved, length-filter (has_chunk_in held) m.slots, count_by-le-length (has_chunk_in held) m.slots);
   };
   given = good.given;
 }

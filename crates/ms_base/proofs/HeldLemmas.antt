@@ -15,7 +15,8 @@ abbrev IsPlaced : Chunk → Type 0
 IsPlaced chunk = IsPart chunk.start chunk.level
 
 -- Chunks that are given back leave the others held.
-pub held_rest : (granule : ℕ) (slots : List ℕ) (b mid a : List Chunk) → AreHeld granule slots (b ++ (mid ++ a)) → AreHeld granule slots (b ++ a)
+pub held_rest : (granule : ℕ) (slots : List ℕ) (b mid a : List Chunk) → AreHeld granule slots (b ++ (mid ++ a))
+    → AreHeld granule slots (b ++ a)
 held_rest granule slots b mid a h = record {
   parts = All-rest_of IsPlaced b mid a h.parts;
   fronts = All-rest_of (HasFront granule) b mid a h.fronts;
@@ -25,16 +26,18 @@ held_rest granule slots b mid a h = record {
 }
 
 -- A part that meets no chunk meets none of their runs.
-meets_none : (chunk : Chunk) (held : List Chunk) → meets_chunk held chunk.start chunk.level ≡ false → meets_any (words_of chunk) (map words_of held) ≡ false
+meets_none : (chunk : Chunk) (held : List Chunk) → meets_chunk held chunk.start chunk.level ≡ false
+    → meets_any (words_of chunk) (map words_of held) ≡ false
 meets_none chunk [] h = refl
 meets_none chunk (c ∷ held) h =
     let both = or_parts (meet c.start (size_of c.level) chunk.start (size_of chunk.level)) (meets_chunk held chunk.start chunk.level) h in
     rw (meet_turned chunk.start (size_of chunk.level) c.start (size_of c.level) ∙ both.0) (meets_none chunk held both.1)
 
 -- A chunk that meets none is held with the others.
-pub held_with : (granule : ℕ) (slots : List ℕ) (b : List Chunk) (chunk : Chunk) (a : List Chunk) → IsPart chunk.start chunk.level → HasFront granule chunk
-    → is_reserved slots (slot_of chunk.start) ≡ true → meets_chunk (b ++ a) chunk.start chunk.level ≡ false
-    → AreHeld granule slots (b ++ a) → AreHeld granule slots (b ++ chunk ∷ a)
+pub held_with : (granule : ℕ) (slots : List ℕ) (b : List Chunk) (chunk : Chunk) (a : List Chunk)
+    → IsPart chunk.start chunk.level → HasFront granule chunk → is_reserved slots (slot_of chunk.start) ≡ true
+    → meets_chunk (b ++ a) chunk.start chunk.level ≡ false → AreHeld granule slots (b ++ a)
+    → AreHeld granule slots (b ++ chunk ∷ a)
 held_with granule slots b chunk a part front reserved clear h = record {
   parts = All-with IsPlaced b chunk a part h.parts;
   fronts = All-with (HasFront granule) b chunk a front h.fronts;
@@ -44,6 +47,7 @@ held_with granule slots b chunk a part front reserved clear h = record {
 }
 
 -- Held chunks stay so in slots that have theirs.
-pub held_in : (granule : ℕ) (slots others : List ℕ) (held : List Chunk) → list_all (λ (chunk : Chunk). is_reserved others (slot_of chunk.start)) held ≡ true
-    → AreHeld granule slots held → AreHeld granule others held
+pub held_in : (granule : ℕ) (slots others : List ℕ) (held : List Chunk)
+    → list_all (λ (chunk : Chunk). is_reserved others (slot_of chunk.start)) held ≡ true → AreHeld granule slots held
+    → AreHeld granule others held
 held_in granule slots others held reserved h = record { parts = h.parts; fronts = h.fronts; reserved = reserved; apart = h.apart }

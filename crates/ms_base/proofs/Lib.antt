@@ -12,6 +12,8 @@ pub mod LargestLemmas
 pub mod RisingLemmas
 pub mod LevelLemmas
 pub mod FreeGranuleLemmas
+pub mod CommittedRoomLemmas
+pub mod CoverLemmas
 pub mod GranuleLemmas
 pub mod IntervalLemmas
 pub mod NameLemmas
@@ -27,3 +29,13 @@ pub mod FrontLemmas
 pub mod AddedLemmas
 pub mod PackingLemmas
 pub mod SumLemmas
+pub mod FrontSumLemmas
+pub mod BackedLemmas
+pub mod AllBlocksLemmas
+pub mod KeptLemmas
+pub mod FreeBlockLemmas
+pub mod RaisedLemmas
+pub mod PlacedLemmas
+pub mod GrownLemmas
+pub mod LookupLemmas
+pub mod WordLemmas

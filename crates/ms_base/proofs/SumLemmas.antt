@@ -1,30 +1,33 @@
 -- Sums are bounded: held chunks have no more words than the reserved slots, and used, live, kept and
 -- committed words no more than 64 nodes.
-use Rattle.std.proofs.Common.{◌≡◌, ◌≤◌, ◌<◌, ◌+◌, ◌-◌, ◌*◌, ◌/◌, ℕ, zero, suc, Bool, true, false, ◌&&◌, ◌||◌, List, [], ◌∷◌, ◌++◌, length, map, take, refl, sym, ap, ◌∙◌, arith, inl, inr, length-append}
+use Rattle.std.proofs.Common.{◌≡◌, ◌≤◌, ◌+◌, ◌*◌, ◌/◌, ℕ, true, ◌||◌, List, [], ◌∷◌, ◌++◌, length, map, take, subst, Some, refl, sym, ap, ◌∙◌, arith, inl, inr}
 use Rattle.std.specs.Prelude.{nat_le, sum, ◌==◌}
-use Rattle.std.specs.List.{All, AllByRecursion, list_any, list_all, sum_by, flat_map, zip}
+use Rattle.std.specs.List.{AllByRecursion, list_any, list_all, sum_by, flat_map, zip}
 use Rattle.std.specs.Map.{values_of}
 use Rattle.std.proofs.lemmas.Nat.{mul-le, div-add-mod'}
-use Rattle.std.proofs.Math.Nat.{add-mul, mul_assoc}
+use Rattle.std.proofs.Math.Nat.{mul_assoc}
+use Rattle.std.proofs.lemmas.List.{take-map}
 use Rattle.std.proofs.lemmas.Bool.{and_parts, and_from, or_left, or_right, or_cases, le-leb, leb-true, eqb-true}
 use Rattle.std.proofs.lemmas.List.Sums.{sum_by-cons, sum_by-append, sum_by-take-le}
 use Rattle.std.proofs.lemmas.List.Elements.{recursion_from_All}
 use Rattle.std.proofs.lemmas.Map.Views.{length-le_from_below}
 use Rattle.std.proofs.lemmas.Map.Keys.{sorted_from_strictly_increasing}
 use Rattle.ms_base.specs.declared.span.Chunk.{Chunk}
-use Rattle.ms_base.specs.Interval.{are_apart, lies_in}
+use Rattle.ms_base.specs.Interval.{lies_in}
 use Rattle.ms_base.specs.Level.{size_of}
 use Rattle.ms_base.specs.Part.{IsPart, slot_of, is_reserved, node_words}
 use Rattle.ms_base.specs.Front.{HasFront}
 use Rattle.ms_base.specs.Held.{AreHeld, words_of}
 use Rattle.ms_base.specs.Causes.{committed_count}
-use Rattle.ms_base.specs.State.{ArenaState, LoaderState, Machine, PoolState, chunks_held, pool_of}
+use Rattle.ms_base.specs.State.{ArenaState, LoaderState, Machine, PoolState, pool_of}
+use Rattle.ms_base.specs.Names.{named}
 use Rattle.ms_base.specs.Live.{runs_of}
 use Rattle.ms_base.specs.Good.{topped, is_in_use, IsSound, IsSoundLoader, IsSoundPool, IsGood}
 use Rattle.ms_base.specs.Totals.{capacity_of, fronts_of, used_of, kept_of, live_of, used_words, live_words, kept_words, committed_words}
+use Rattle.ms_base.proofs.EntryLemmas.{split_at, values_split}
 use Rattle.ms_base.proofs.GranuleLemmas.{ends_in_node}
 use Rattle.ms_base.proofs.CommittedLemmas.{committed_at_most}
-use Rattle.ms_base.proofs.PackingLemmas.{packed}
+use Rattle.ms_base.proofs.PackingLemmas.{packed, covered_one_by_one}
 
 -- The words of a slot.
 abbrev area_of : ℕ → ℕ × ℕ
@@ -72,13 +75,15 @@ words_of_slots [] = refl
 words_of_slots (s ∷ slots) = omega (arith, sum_by-cons (λ (area : ℕ × ℕ). area.1) (area_of s) (map area_of slots), words_of_slots slots)
 
 -- Held chunks have no more words than the reserved slots.
-pub capacity_within : (granule : ℕ) (slots : List ℕ) (held : List Chunk) → AreHeld granule slots held → capacity_of held ≤ length slots * node_words
+pub capacity_within : (granule : ℕ) (slots : List ℕ) (held : List Chunk) → AreHeld granule slots held
+    → capacity_of held ≤ length slots * node_words
 capacity_within granule slots held good =
     omega (
       arith,
       words_of_chunks held,
       words_of_slots slots,
-      packed (map words_of held) (map area_of slots) good.apart (all_in_slots slots held (recursion_from_All IsPlaced held good.parts) good.reserved),
+      packed (map words_of held) (map area_of slots) good.apart
+          (covered_one_by_one (map words_of held) (map area_of slots) (all_in_slots slots held (recursion_from_All IsPlaced held good.parts) good.reserved)),
     )
 
 -- A sound pool has at most 64 slots.
@@ -86,7 +91,8 @@ pub few_slots : (pool : PoolState) → IsSoundPool pool → length pool.slots �
 few_slots pool sound = length-le_from_below 64 pool.slots (sorted_from_strictly_increasing pool.slots sound.slots) sound.below
 
 -- Fronts are within their chunks, and tops within fronts.
-pub fronts_within : (granule : ℕ) (held : List Chunk) → AllByRecursion (HasFront granule) held → fronts_of held ≤ capacity_of held
+pub fronts_within : (granule : ℕ) (held : List Chunk) → AllByRecursion (HasFront granule) held
+    → fronts_of held ≤ capacity_of held
 fronts_within granule [] fronts = omega arith
 fronts_within granule (c ∷ held) fronts =
     omega (
@@ -166,10 +172,11 @@ blocks_within arena live sound =
       arith,
       sum_by-append (λ (run : ℕ × ℕ). run.1) live arena.kept,
       words_of_tops arena.chunks arena.tops sound.few,
-      packed (live ++ arena.kept) (map used_area (topped arena)) sound.apart (all_in_used arena (live ++ arena.kept) sound.inside),
+      packed (live ++ arena.kept) (map used_area (topped arena)) sound.apart
+          (covered_one_by_one (live ++ arena.kept) (map used_area (topped arena)) (all_in_used arena (live ++ arena.kept) sound.inside)),
     )
 
-all_blocks_within : (loaders : List LoaderState) → AllByRecursion IsSoundLoader loaders
+pub all_blocks_within : (loaders : List LoaderState) → AllByRecursion IsSoundLoader loaders
     → sum_by live_of loaders + sum_by (λ (loader : LoaderState). kept_of loader.arena) loaders ≤ sum_by (λ (loader : LoaderState). used_of loader.arena) loaders
 all_blocks_within [] sound = omega arith
 all_blocks_within (l ∷ loaders) sound =
@@ -183,32 +190,52 @@ all_blocks_within (l ∷ loaders) sound =
     )
 
 -- Committed granules have no more words than the slots.
-committed_within_slots : (pool : PoolState) → committed_count pool * pool.limits.granule ≤ length pool.slots * node_words
+pub committed_within_slots : (pool : PoolState)
+    → committed_count pool * pool.limits.granule ≤ length pool.slots * node_words
 committed_within_slots pool =
     omega (
       arith,
       mul-le (committed_count pool) pool.limits.granule (length pool.slots * (node_words / pool.limits.granule)) pool.limits.granule
-      (committed_at_most pool.limits.granule pool.held pool.slots) (omega arith),
+          (committed_at_most pool.limits.granule pool.held pool.slots) (omega arith),
       mul_assoc (length pool.slots) (node_words / pool.limits.granule) pool.limits.granule,
       mul-le (length pool.slots) (node_words / pool.limits.granule * pool.limits.granule) (length pool.slots) node_words (omega arith)
-      (omega (arith, div-add-mod' node_words pool.limits.granule)),
+          (omega (arith, div-add-mod' node_words pool.limits.granule)),
     )
 
--- In a good machine the sums are in this order, each within the next.
-pub record IsBounded (m : Machine) : Type 0 where
-  pub blocks : live_words m + kept_words m ≤ used_words m
-  pub used : used_words m ≤ fronts_of (pool_of m).held
-  pub fronts : fronts_of (pool_of m).held ≤ capacity_of (pool_of m).held
-  pub capacity : capacity_of (pool_of m).held ≤ length m.slots * node_words
-  pub committed : committed_words m ≤ length m.slots * node_words
-  pub slots : length m.slots ≤ 64
+-- A loader's part of a sum is at most the whole.
+pub part_of_sum : (amount : LoaderState → ℕ) (loaders : List (ℕ × LoaderState)) (name : ℕ) (loader : LoaderState)
+    → named loaders name ≡ Some loader → amount loader ≤ sum_by amount (values_of loaders)
+part_of_sum amount loaders name loader found =
+    let split = split_at loaders name loader found in
+    omega (
+      arith,
+      ap (λ (es : List (ℕ × LoaderState)). sum_by amount (values_of es)) split.is,
+      ap (sum_by amount) (values_split split.before split.after name loader),
+      sum_by-append amount (values_of split.before) (loader ∷ values_of split.after),
+      sum_by-cons amount loader (values_of split.after),
+    )
 
-pub sums_are_bounded : (m : Machine) → IsGood m → IsBounded m
-sums_are_bounded m good = record {
-  blocks = all_blocks_within (values_of m.loaders) (recursion_from_All IsSoundLoader (values_of m.loaders) good.loaders);
-  used = used_within (values_of m.loaders) (recursion_from_All IsSoundLoader (values_of m.loaders) good.loaders);
-  fronts = fronts_within m.limits.granule (pool_of m).held (recursion_from_All (HasFront m.limits.granule) (pool_of m).held good.pool.held.fronts);
-  capacity = capacity_within m.limits.granule m.slots (pool_of m).held good.pool.held;
-  committed = committed_within_slots (pool_of m);
-  slots = few_slots (pool_of m) good.pool;
-}
+-- So each sum is at most the words of 64 nodes.
+pub capacity_below : (m : Machine) → IsGood m → capacity_of (pool_of m).held ≤ 67108864
+capacity_below m good = omega (arith, capacity_within m.limits.granule m.slots (pool_of m).held good.pool.held, few_slots (pool_of m) good.pool)
+
+pub used_below : (m : Machine) → IsGood m → used_words m ≤ 67108864
+used_below m good =
+    omega (
+      arith,
+      used_within (values_of m.loaders) (recursion_from_All IsSoundLoader (values_of m.loaders) good.loaders),
+      fronts_within m.limits.granule (pool_of m).held (recursion_from_All (HasFront m.limits.granule) (pool_of m).held good.pool.held.fronts),
+      capacity_below m good,
+    )
+
+pub blocks_below : (m : Machine) → IsGood m → live_words m + kept_words m ≤ 67108864
+blocks_below m good =
+    omega (arith, all_blocks_within (values_of m.loaders) (recursion_from_All IsSoundLoader (values_of m.loaders) good.loaders), used_below m good)
+
+pub committed_below : (m : Machine) → IsGood m → committed_words m ≤ 67108864
+committed_below m good = omega (arith, committed_within_slots (pool_of m), few_slots (pool_of m) good.pool)
+
+-- A sum over the first loaders is at most the sum over all.
+pub first_loaders : (amount : LoaderState → ℕ) (loaders : List (ℕ × LoaderState)) (k : ℕ)
+    → sum_by amount (values_of (take k loaders)) ≤ sum_by amount (values_of loaders)
+first_loaders amount loaders k = subst (λ (l : List LoaderState). sum_by amount l ≤ sum_by amount (values_of loaders)) (take-map (λ (e : ℕ × LoaderState). e.1) k loaders) (sum_by-take-le amount (values_of loaders) k)

@@ -20,8 +20,9 @@ abbrev with_top_at : List Chunk → List ℕ → Chunk → ℕ → List (Chunk �
 with_top_at chunks tops chunk n = zip (chunks ++ chunk ∷ []) (tops_with tops (length chunks) n)
 
 -- What some chunk with its top passed, one passes still.
-any_still : (p : Chunk × ℕ → Bool) (chunks : List Chunk) (tops : List ℕ) (chunk : Chunk) (n : ℕ) → length tops ≤ length chunks
-    → list_any p (zip chunks tops) ≡ true → list_any p (with_top_at chunks tops chunk n) ≡ true
+any_still : (p : Chunk × ℕ → Bool) (chunks : List Chunk) (tops : List ℕ) (chunk : Chunk) (n : ℕ)
+    → length tops ≤ length chunks → list_any p (zip chunks tops) ≡ true
+    → list_any p (with_top_at chunks tops chunk n) ≡ true
 any_still p [] [] chunk n few h = absurd (cc)
 any_still p [] (t ∷ tops) chunk n few h = absurd (omega arith)
 any_still p (c ∷ chunks) [] chunk n few h = absurd (cc)
@@ -31,8 +32,8 @@ any_still p (c ∷ chunks) (t ∷ tops) chunk n few h = elim (or_cases (p (c, t)
 ]
 
 -- What the new one with its top passes, one passes.
-any_new : (p : Chunk × ℕ → Bool) (chunks : List Chunk) (tops : List ℕ) (chunk : Chunk) (n : ℕ) → length tops ≤ length chunks
-    → p (chunk, n) ≡ true → list_any p (with_top_at chunks tops chunk n) ≡ true
+any_new : (p : Chunk × ℕ → Bool) (chunks : List Chunk) (tops : List ℕ) (chunk : Chunk) (n : ℕ)
+    → length tops ≤ length chunks → p (chunk, n) ≡ true → list_any p (with_top_at chunks tops chunk n) ≡ true
 any_new p [] [] chunk n few h = or_left (p (chunk, n)) false h
 any_new p [] (t ∷ tops) chunk n few h = absurd (omega arith)
 any_new p (c ∷ chunks) [] chunk n few h = or_right (p (c, 0)) (list_any p (with_top_at chunks [] chunk n)) (any_new p chunks [] chunk n (omega arith) h)
@@ -44,8 +45,9 @@ none_topped p [] = refl
 none_topped p (c ∷ chunks) = refl
 
 -- What all passed, and the new one passes, and any with the top 0, all pass.
-all_still : (p : Chunk × ℕ → Bool) (chunks : List Chunk) (tops : List ℕ) (chunk : Chunk) (n : ℕ) → length tops ≤ length chunks
-    → ((c : Chunk) → p (c, 0) ≡ true) → p (chunk, n) ≡ true → list_all p (zip chunks tops) ≡ true → list_all p (with_top_at chunks tops chunk n) ≡ true
+all_still : (p : Chunk × ℕ → Bool) (chunks : List Chunk) (tops : List ℕ) (chunk : Chunk) (n : ℕ)
+    → length tops ≤ length chunks → ((c : Chunk) → p (c, 0) ≡ true) → p (chunk, n) ≡ true
+    → list_all p (zip chunks tops) ≡ true → list_all p (with_top_at chunks tops chunk n) ≡ true
 all_still p [] [] chunk n few none new h = and_from (p (chunk, n)) true new refl
 all_still p [] (t ∷ tops) chunk n few none new h = absurd (omega arith)
 all_still p (c ∷ chunks) [] chunk n few none new h =
@@ -67,13 +69,17 @@ tops_pushed [] top = refl
 tops_pushed (t ∷ tops) top = ap (λ l. t ∷ l) (tops_pushed tops top)
 
 -- A run in a chunk meets no run in another chunk that the first doesn't meet.
-inside_apart : (a s b t r m u n : ℕ) → meet a s b t ≡ false → lies_in (r, m) (a, u) ≡ true → u ≤ s → n ≤ t → meet b n r m ≡ false
+inside_apart : (a s b t r m u n : ℕ) → meet a s b t ≡ false → lies_in (r, m) (a, u) ≡ true → u ≤ s → n ≤ t
+    → meet b n r m ≡ false
 inside_apart a s b t r m u n h k i j = grind (arith, nat_tests)
 
 -- A run that is in use meets no part that meets none of the chunks.
-in_use_apart : (granule : ℕ) (chunks : List Chunk) (tops : List ℕ) (start level n : ℕ) (run : ℕ × ℕ) → AllByRecursion (HasFront granule) chunks
-    → list_all (λ (used : Chunk × ℕ). nat_le used.1 used.0.front) (zip chunks tops) ≡ true → meets_chunk chunks start level ≡ false → n ≤ size_of level
-    → list_any (λ (used : Chunk × ℕ). lies_in run (used.0.start, used.1)) (zip chunks tops) ≡ true → meet start n run.0 run.1 ≡ false
+in_use_apart : (granule : ℕ) (chunks : List Chunk) (tops : List ℕ) (start level n : ℕ) (run : ℕ × ℕ)
+    → AllByRecursion (HasFront granule) chunks
+    → list_all (λ (used : Chunk × ℕ). nat_le used.1 used.0.front) (zip chunks tops) ≡ true
+    → meets_chunk chunks start level ≡ false → n ≤ size_of level
+    → list_any (λ (used : Chunk × ℕ). lies_in run (used.0.start, used.1)) (zip chunks tops) ≡ true
+    → meet start n run.0 run.1 ≡ false
 in_use_apart granule [] tops start level n run fronts tops_in clear within used = absurd (cc)
 in_use_apart granule (c ∷ chunks) [] start level n run fronts tops_in clear within used = absurd (cc)
 in_use_apart granule (c ∷ chunks) (t ∷ tops) start level n run fronts tops_in clear within used =
@@ -85,9 +91,11 @@ in_use_apart granule (c ∷ chunks) (t ∷ tops) start level n run fronts tops_i
     ]
 
 -- So it meets none of those in use.
-clear_of_used : (granule : ℕ) (arena : ArenaState) (start level n : ℕ) (runs : List (ℕ × ℕ)) → AllByRecursion (HasFront granule) arena.chunks
-    → list_all (λ (used : Chunk × ℕ). nat_le used.1 used.0.front) (zip arena.chunks arena.tops) ≡ true → meets_chunk arena.chunks start level ≡ false
-    → n ≤ size_of level → list_all (is_in_use arena) runs ≡ true → meets_any (start, n) runs ≡ false
+clear_of_used : (granule : ℕ) (arena : ArenaState) (start level n : ℕ) (runs : List (ℕ × ℕ))
+    → AllByRecursion (HasFront granule) arena.chunks
+    → list_all (λ (used : Chunk × ℕ). nat_le used.1 used.0.front) (zip arena.chunks arena.tops) ≡ true
+    → meets_chunk arena.chunks start level ≡ false → n ≤ size_of level → list_all (is_in_use arena) runs ≡ true
+    → meets_any (start, n) runs ≡ false
 clear_of_used granule arena start level n [] fronts tops_in clear within inside = refl
 clear_of_used granule arena start level n (run ∷ runs) fronts tops_in clear within inside =
     let both = and_parts (is_in_use arena run) (list_all (is_in_use arena) runs) inside in
@@ -98,8 +106,9 @@ clear_of_used granule arena start level n (run ∷ runs) fronts tops_in clear wi
 abbrev pub with_chunk_used : ArenaState → Chunk → ℕ → ArenaState
 with_chunk_used arena chunk n = record arena { chunks = arena.chunks ++ chunk ∷ []; tops = tops_with arena.tops (length arena.chunks) n }
 
-still_in_use : (arena : ArenaState) (chunk : Chunk) (n : ℕ) (runs : List (ℕ × ℕ)) → length arena.tops ≤ length arena.chunks
-    → list_all (is_in_use arena) runs ≡ true → list_all (is_in_use (with_chunk_used arena chunk n)) runs ≡ true
+still_in_use : (arena : ArenaState) (chunk : Chunk) (n : ℕ) (runs : List (ℕ × ℕ))
+    → length arena.tops ≤ length arena.chunks → list_all (is_in_use arena) runs ≡ true
+    → list_all (is_in_use (with_chunk_used arena chunk n)) runs ≡ true
 still_in_use arena chunk n [] few h = refl
 still_in_use arena chunk n (run ∷ runs) few h =
     let both = and_parts (is_in_use arena run) (list_all (is_in_use arena) runs) h in
@@ -109,9 +118,10 @@ still_in_use arena chunk n (run ∷ runs) few h =
 lies_in_itself : (a n : ℕ) → lies_in (a, n) (a, n) ≡ true
 lies_in_itself a n = grind (arith, nat_tests)
 
-pub sound_with_chunk : (granule : ℕ) (arena : ArenaState) (b a : List (ℕ × ℕ)) (chunk : Chunk) (n : ℕ) → All (HasFront granule) arena.chunks
-    → meets_chunk arena.chunks chunk.start chunk.level ≡ false → 2 ≤ n → n ≤ chunk.front → chunk.front ≤ size_of chunk.level
-    → IsSound arena (b ++ a) → IsSound (with_chunk_used arena chunk n) (b ++ (chunk.start, n) ∷ a)
+pub sound_with_chunk : (granule : ℕ) (arena : ArenaState) (b a : List (ℕ × ℕ)) (chunk : Chunk) (n : ℕ)
+    → All (HasFront granule) arena.chunks → meets_chunk arena.chunks chunk.start chunk.level ≡ false → 2 ≤ n
+    → n ≤ chunk.front → chunk.front ≤ size_of chunk.level → IsSound arena (b ++ a)
+    → IsSound (with_chunk_used arena chunk n) (b ++ (chunk.start, n) ∷ a)
 sound_with_chunk granule arena b a chunk n fronts clear long within whole sound = record {
   apart = rw runs_new (apart-with b run (a ++ arena.kept)
       (clear_of_used granule arena chunk.start chunk.level n (b ++ (a ++ arena.kept)) (recursion_from_All (HasFront granule) arena.chunks fronts) sound.tops clear (omega arith) (rw runs_old at sound.inside))

@@ -1,18 +1,22 @@
 -- What the list of free parts amounts to: laws about it, each the contract of a function of `laws`.
-use Rattle.std.specs.Prelude.{◌≡◌, ℕ, ◌*◌, nat_lt, ◌≤◌, List, map, IsTrue, IsFalse}
-use Rattle.std.specs.List.{All, Contains}
+use Rattle.std.specs.Prelude.{◌≡◌, ℕ, ◌*◌, nat_lt, ◌≤◌, Bool, cond, List, ◌++◌, map, IsTrue, IsFalse}
+use Rattle.std.specs.List.{All, Contains, count_by}
 use Rattle.std.specs.List.Sorted.{IsStrictlyIncreasing}
 use Rattle.ms_base.specs.declared.span.Chunk.{Chunk}
 use Rattle.ms_base.specs.declared.span.Span.{Span}
 use Rattle.ms_base.specs.Interval.{meet, lies_in}
 use Rattle.ms_base.specs.Level.{size_of}
 use Rattle.ms_base.specs.Part.{IsPart, buddy_start, slot_of, is_reserved}
-use Rattle.ms_base.specs.Held.{AreHeld, meets_chunk}
+use Rattle.ms_base.specs.Held.{AreHeld, words_of, meets_chunk}
 use Rattle.ms_base.specs.FreeParts.{IsFreePart, free_parts}
 use Rattle.ms_base.specs.Committed.{is_committed}
 use Rattle.ms_base.specs.State.{PoolState}
 use Rattle.ms_base.specs.Pick.{is_committed_enough}
-use Rattle.ms_base.specs.Causes.{has_room}
+use Rattle.ms_base.specs.Causes.{has_room, has_committed_room}
+
+-- The part of a level that starts at a word.
+abbrev pub part_at : ℕ → ℕ → Span
+part_at start level = record { start = start; level = level }
 
 -- A clear part is a part of a reserved root that meets no held chunk.
 pub record IsClear (held : List Chunk) (slots : List ℕ) (part : Span) : Type 0 where
@@ -37,15 +41,19 @@ pub record ClearIsFree (held : List Chunk) (slots : List ℕ) : Type 0 where
   pub inside : (part : Span) → IsClear held slots part → LiesInFree held slots part
   pub lowest :
       (part : Span) (m : ℕ) → Contains (free_parts held slots) part → part.level ≤ m → m ≤ 12
-      → IsClear held slots (record { start = part.start; level = m })
+      → IsClear held slots (part_at part.start m)
 
 abbrev pub ClearPartsAreFree : Type 0
 ClearPartsAreFree = (held : List Chunk) (slots : List ℕ) → ClearIsFree held slots
 
+-- The part of the pool of a level that starts at a word is clear.
+abbrev pub IsClearIn : PoolState → ℕ → ℕ → Type 0
+IsClearIn pool start level = IsClear pool.held pool.slots (part_at start level)
+
 -- There is room for a level exactly where a part of that level is clear.
 pub record HasRoomWhereClear (pool : PoolState) (m : ℕ) : Type 0 where
-  pub room : (start : ℕ) → IsClear pool.held pool.slots (record { start = start; level = m }) → IsTrue (has_room pool m)
-  pub clear : IsTrue (has_room pool m) → (start : ℕ) × IsClear pool.held pool.slots (record { start = start; level = m })
+  pub room : (start : ℕ) → IsClearIn pool start m → IsTrue (has_room pool m)
+  pub clear : IsTrue (has_room pool m) → (start : ℕ) × IsClearIn pool start m
   pub full :
       ((start : ℕ) → IsPart start m → IsTrue (is_reserved pool.slots (slot_of start)) → IsTrue (meets_chunk pool.held start m))
       → IsFalse (has_room pool m)
@@ -53,11 +61,15 @@ pub record HasRoomWhereClear (pool : PoolState) (m : ℕ) : Type 0 where
 abbrev pub RoomIsClear : Type 0
 RoomIsClear = (pool : PoolState) (m : ℕ) → m ≤ 12 → HasRoomWhereClear pool m
 
+-- Where a part starts.
+abbrev pub start_of : Span → ℕ
+start_of part = part.start
+
 -- The list has exactly the free parts, in rising order where the slots rise.
 pub record ListsFreeParts (held : List Chunk) (slots : List ℕ) : Type 0 where
   pub only : All (IsFreePart held slots) (free_parts held slots)
   pub all : (part : Span) → IsFreePart held slots part → Contains (free_parts held slots) part
-  pub rising : IsStrictlyIncreasing slots → IsStrictlyIncreasing (map (λ (part : Span). part.start) (free_parts held slots))
+  pub rising : IsStrictlyIncreasing slots → IsStrictlyIncreasing (map start_of (free_parts held slots))
 
 abbrev pub FreePartsAreListed : Type 0
 FreePartsAreListed = (held : List Chunk) (slots : List ℕ) → ListsFreeParts held slots
@@ -70,8 +82,8 @@ pub record AreBuddies (part other : Span) : Type 0 where
 
 abbrev pub NoFreeBuddies : Type 0
 NoFreeBuddies =
-    (held : List Chunk) (slots : List ℕ) (part other : Span) → Contains (free_parts held slots) part → Contains (free_parts held slots) other
-    → AreBuddies part other → ⊥
+    (held : List Chunk) (slots : List ℕ) (part other : Span) → Contains (free_parts held slots) part
+    → Contains (free_parts held slots) other → AreBuddies part other → ⊥
 
 -- A granule has the words of a level.
 pub record IsGranule (granule : ℕ) : Type 0 where
@@ -83,14 +95,47 @@ pub record IsGranule (granule : ℕ) : Type 0 where
 -- So a part as large as a granule has none that is committed, and a smaller one has its own.
 abbrev pub FreePartsAreCommittedBySize : Type 0
 FreePartsAreCommittedBySize =
-    (granule number : ℕ) (held : List Chunk) (slots : List ℕ) (part : Span) → IsGranule granule → AreHeld granule slots held
-    → Contains (free_parts held slots) part → IsTrue (meet part.start (size_of part.level) (number * granule) granule)
+    (granule number : ℕ) (held : List Chunk) (slots : List ℕ) (part : Span) → IsGranule granule
+    → AreHeld granule slots held → Contains (free_parts held slots) part
+    → IsTrue (meet part.start (size_of part.level) (number * granule) granule)
     → is_committed granule held number ≡ nat_lt (size_of part.level) granule
 
 -- A free part is committed enough for words that it can hold exactly where it is smaller than a
 -- granule.
 abbrev pub EnoughIsBySize : Type 0
 EnoughIsBySize =
-    (pool : PoolState) (part : Span) (words : ℕ) → IsGranule pool.limits.granule → AreHeld pool.limits.granule pool.slots pool.held
-    → Contains (free_parts pool.held pool.slots) part → 1 ≤ words → words ≤ size_of part.level
+    (pool : PoolState) (part : Span) (words : ℕ) → IsGranule pool.limits.granule
+    → AreHeld pool.limits.granule pool.slots pool.held → Contains (free_parts pool.held pool.slots) part
+    → 1 ≤ words → words ≤ size_of part.level
     → is_committed_enough pool words part ≡ nat_lt (size_of part.level) pool.limits.granule
+
+-- The part of the pool of a level that starts at a word is committed enough for words.
+abbrev pub is_enough_at : PoolState → ℕ → ℕ → ℕ → Bool
+is_enough_at pool start level words = is_committed_enough pool words (part_at start level)
+
+-- There is committed room for words at a level exactly where a clear part of that level is
+-- committed enough for them.
+pub record HasCommittedRoomWhereClear (pool : PoolState) (m words : ℕ) : Type 0 where
+  pub room : (start : ℕ) → IsClearIn pool start m → IsTrue (is_enough_at pool start m words) → IsTrue (has_committed_room pool m words)
+  pub clear : IsTrue (has_committed_room pool m words) → (start : ℕ) × IsClearIn pool start m × IsTrue (is_enough_at pool start m words)
+  pub full : ((start : ℕ) → IsClearIn pool start m → IsFalse (is_enough_at pool start m words)) → IsFalse (has_committed_room pool m words)
+
+abbrev pub CommittedRoomIsClear : Type 0
+CommittedRoomIsClear =
+    (pool : PoolState) (m words : ℕ) → m ≤ 12 → 1 ≤ words → words ≤ size_of m → IsGranule pool.limits.granule
+    → AreHeld pool.limits.granule pool.slots pool.held → HasCommittedRoomWhereClear pool m words
+
+-- The words of a part.
+abbrev pub words_in : Span → ℕ × ℕ
+words_in part = (part.start, size_of part.level)
+
+-- The runs of words that the held chunks and the free parts have.
+abbrev pub runs_in_roots : List Chunk → List ℕ → List (ℕ × ℕ)
+runs_in_roots held slots = map words_of held ++ map words_in (free_parts held slots)
+
+-- Each word of a reserved node lies in exactly one held chunk or free part, and any other word in
+-- none.
+abbrev pub RootsAreCoveredOnce : Type 0
+RootsAreCoveredOnce =
+    (granule word : ℕ) (held : List Chunk) (slots : List ℕ) → AreHeld granule slots held → IsStrictlyIncreasing slots
+    → count_by (λ run. lies_in (word, 1) run) (runs_in_roots held slots) ≡ cond (is_reserved slots (slot_of word)) 1 0

@@ -24,3 +24,6 @@ pub mod Alone
 pub mod Laws
 pub mod FreeLaws
 pub mod LevelLaws
+pub mod SumLaws
+pub mod BlockLaws
+pub mod WordLaws

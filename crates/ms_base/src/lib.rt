@@ -17,6 +17,8 @@ mod refusal;
 mod settings;
 mod span;
 mod step;
+#[cfg(test)]
+mod tests;
 mod words;
 
 pub use kind::{Kind, Space, growth};

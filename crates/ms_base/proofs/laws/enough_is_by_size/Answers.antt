@@ -1,7 +1,7 @@
 use Rattle.std.proofs.lemmas.List.Elements.{All-contains}
 use Rattle.ms_base.specs.FreeParts.{IsFreePart, free_parts}
 use Rattle.ms_base.proofs.RoomLemmas.{listed_is_free}
-use Rattle.ms_base.proofs.FreeGranuleLemmas.{enough_where_small}
+use Rattle.ms_base.proofs.CommittedRoomLemmas.{enough_where_small}
 use Rattle.ms_base.proofs.laws.enough_is_by_size.Goals as goal
 
 pub returns : goal.returns
