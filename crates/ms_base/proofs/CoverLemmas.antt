@@ -19,7 +19,7 @@ use Rattle.ms_base.specs.Level.{size_of}
 use Rattle.ms_base.specs.Part.{IsPart, slot_of, is_reserved, node_words}
 use Rattle.ms_base.specs.Held.{AreHeld, words_of, meets_chunk}
 use Rattle.ms_base.specs.FreeParts.{free_within, free_in_slot, free_parts}
-use Rattle.ms_base.specs.FreeLaws.{words_in, runs_in_roots}
+use Rattle.ms_base.specs.FreeLaws.{words_of_part, runs_in_roots}
 use Rattle.ms_base.proofs.HalvesLemmas.{words_over, IsStart, size_of_halves}
 use Rattle.ms_base.proofs.FreeLemmas.{part_over, meets_over, by_halves}
 use Rattle.ms_base.proofs.RoomLemmas.{root_of, roots_are_whole}
@@ -99,8 +99,8 @@ meeting_has_word (chunk ∷ held) word start parts whole meets here =
 
 -- The words of parts that stand in two lists.
 times_joined : (word : ℕ) (xs ys : List Span)
-    → times word (map words_in (xs ++ ys)) ≡ times word (map words_in xs) + times word (map words_in ys)
-times_joined word xs ys = ap (times word) (map-append words_in xs ys) ∙ sum_by-append (λ r. one_if (has_word word r)) (map words_in xs) (map words_in ys)
+    → times word (map words_of_part (xs ++ ys)) ≡ times word (map words_of_part xs) + times word (map words_of_part ys)
+times_joined word xs ys = ap (times word) (map-append words_of_part xs ys) ∙ sum_by-append (λ r. one_if (has_word word r)) (map words_of_part xs) (map words_of_part ys)
 
 -- The word lies in the run, and in no held chunk.
 abbrev is_free : ℕ → List Chunk → ℕ × ℕ → Bool
@@ -113,7 +113,7 @@ free_in_halves word start half size b e = grind (arith, nat_tests)
 -- The parts have the word once where it lies in the part with so many levels below it and in no
 -- held chunk, and else not at all.
 abbrev CoverOver : List Chunk → ℕ → ℕ → ℕ → List Span → Type 0
-CoverOver held word below start parts = times word (map words_in parts) ≡ one_if (is_free word held (start, words_over below))
+CoverOver held word below start parts = times word (map words_of_part parts) ≡ one_if (is_free word held (start, words_over below))
 
 -- A part that meets no chunk covers its words.
 itself_covers : (held : List Chunk) (word below start : ℕ) → meets_over held below start ≡ false
@@ -169,7 +169,7 @@ in_node word slot = elim (cases_eq slot (slot_of word)) [
 
 -- The free parts of a slot cover each word of its node that lies in no held chunk.
 covered_in_slot : (held : List Chunk) (word slot : ℕ) → AreParts held
-    → times word (map words_in (free_in_slot held slot)) ≡ one_if ((slot == slot_of word) && not (is_held word held))
+    → times word (map words_of_part (free_in_slot held slot)) ≡ one_if ((slot == slot_of word) && not (is_held word held))
 covered_in_slot held word slot parts = times_joined word (free_within held 12 (root_of slot)) (free_within held 12 (root_of slot + size_of 0))
     ∙ omega (
       arith,
@@ -189,11 +189,11 @@ not_among slot other (y ∷ slots) e above = or_from (y == other) (is_reserved s
     differs a b y e h = grind (arith, nat_tests)
 
 covered_in_slots : (held : List Chunk) (word : ℕ) (slots : List ℕ) → AreParts held → IsStrictlySortedBy nat_cmp slots
-    → times word (map words_in (flat_map (free_in_slot held) slots)) ≡ one_if (is_reserved slots (slot_of word) && not (is_held word held))
+    → times word (map words_of_part (flat_map (free_in_slot held) slots)) ≡ one_if (is_reserved slots (slot_of word) && not (is_held word held))
 unfolding IsStrictlySortedBy
 covered_in_slots held word [] parts sorted = refl
 covered_in_slots held word (slot ∷ slots) parts sorted = times_joined word (free_in_slot held slot) (flat_map (free_in_slot held) slots)
-    ∙ elim (slot == slot_of word) as (λ b. (slot == slot_of word) ≡ b → times word (map words_in (free_in_slot held slot)) + times word (map words_in (flat_map (free_in_slot held) slots)) ≡ one_if ((b || is_reserved slots (slot_of word)) && not (is_held word held))) [
+    ∙ elim (slot == slot_of word) as (λ b. (slot == slot_of word) ≡ b → times word (map words_of_part (free_in_slot held slot)) + times word (map words_of_part (flat_map (free_in_slot held) slots)) ≡ one_if ((b || is_reserved slots (slot_of word)) && not (is_held word held))) [
       | true ↦ λ here. omega (
         arith,
         covered_in_slot held word slot parts,
@@ -225,8 +225,8 @@ held_is_reserved word slots (chunk ∷ held) parts reserved here =
 -- Held chunks and free parts together have each word of a reserved node once, and no other word.
 pub covered_once : (granule word : ℕ) (held : List Chunk) (slots : List ℕ) → AreHeld granule slots held
     → IsStrictlyIncreasing slots → times word (runs_in_roots held slots) ≡ one_if (is_reserved slots (slot_of word))
-covered_once granule word held slots good rising = sum_by-append (λ r. one_if (has_word word r)) (map words_of held) (map words_in (free_parts held slots))
-    ∙ elim (is_held word held) as (λ b. is_held word held ≡ b → times word (map words_of held) + times word (map words_in (free_parts held slots)) ≡ one_if (is_reserved slots (slot_of word))) [
+covered_once granule word held slots good rising = sum_by-append (λ r. one_if (has_word word r)) (map words_of held) (map words_of_part (free_parts held slots))
+    ∙ elim (is_held word held) as (λ b. is_held word held ≡ b → times word (map words_of held) + times word (map words_of_part (free_parts held slots)) ≡ one_if (is_reserved slots (slot_of word))) [
       | true ↦ λ here. omega (
         arith,
         once_where_apart word (map words_of held) good.apart,
@@ -246,7 +246,7 @@ covered_once granule word held slots good rising = sum_by-append (λ r. one_if (
       )
     ] refl
   where
-    free_times : times word (map words_in (free_parts held slots)) ≡ one_if (is_reserved slots (slot_of word) && not (is_held word held))
+    free_times : times word (map words_of_part (free_parts held slots)) ≡ one_if (is_reserved slots (slot_of word) && not (is_held word held))
     free_times = covered_in_slots held word slots good.parts (sorted_from_strictly_increasing slots rising)
 
     both_false : (b : Bool) → (b && false) ≡ false

@@ -2,6 +2,7 @@ pub mod SizeExamples
 pub mod PoolExamples
 pub mod ArenaExamples
 pub mod StepExamples
+pub mod FreeExamples
 pub mod EmptyLemmas
 pub mod PickLemmas
 pub mod PartLemmas
@@ -14,6 +15,7 @@ pub mod LevelLemmas
 pub mod FreeGranuleLemmas
 pub mod CommittedRoomLemmas
 pub mod CoverLemmas
+pub mod AlikeLemmas
 pub mod GranuleLemmas
 pub mod IntervalLemmas
 pub mod NameLemmas

@@ -1,6 +1,6 @@
 -- What the list of free parts amounts to: laws about it, each the contract of a function of `laws`.
 use Rattle.std.specs.Prelude.{◌≡◌, ℕ, ◌*◌, nat_lt, ◌≤◌, Bool, cond, List, ◌++◌, map, IsTrue, IsFalse}
-use Rattle.std.specs.List.{All, Contains, count_by}
+use Rattle.std.specs.List.{All, Contains, list_any, count_by}
 use Rattle.std.specs.List.Sorted.{IsStrictlyIncreasing}
 use Rattle.ms_base.specs.declared.span.Chunk.{Chunk}
 use Rattle.ms_base.specs.declared.span.Span.{Span}
@@ -9,7 +9,7 @@ use Rattle.ms_base.specs.Level.{size_of}
 use Rattle.ms_base.specs.Part.{IsPart, buddy_start, slot_of, is_reserved}
 use Rattle.ms_base.specs.Held.{AreHeld, words_of, meets_chunk}
 use Rattle.ms_base.specs.FreeParts.{IsFreePart, free_parts}
-use Rattle.ms_base.specs.Committed.{is_committed}
+use Rattle.ms_base.specs.Committed.{is_committed, committed_granules}
 use Rattle.ms_base.specs.State.{PoolState}
 use Rattle.ms_base.specs.Pick.{is_committed_enough}
 use Rattle.ms_base.specs.Causes.{has_room, has_committed_room}
@@ -126,12 +126,12 @@ CommittedRoomIsClear =
     → AreHeld pool.limits.granule pool.slots pool.held → HasCommittedRoomWhereClear pool m words
 
 -- The words of a part.
-abbrev pub words_in : Span → ℕ × ℕ
-words_in part = (part.start, size_of part.level)
+abbrev pub words_of_part : Span → ℕ × ℕ
+words_of_part part = (part.start, size_of part.level)
 
 -- The runs of words that the held chunks and the free parts have.
 abbrev pub runs_in_roots : List Chunk → List ℕ → List (ℕ × ℕ)
-runs_in_roots held slots = map words_of held ++ map words_in (free_parts held slots)
+runs_in_roots held slots = map words_of held ++ map words_of_part (free_parts held slots)
 
 -- Each word of a reserved node lies in exactly one held chunk or free part, and any other word in
 -- none.
@@ -139,3 +139,16 @@ abbrev pub RootsAreCoveredOnce : Type 0
 RootsAreCoveredOnce =
     (granule word : ℕ) (held : List Chunk) (slots : List ℕ) → AreHeld granule slots held → IsStrictlyIncreasing slots
     → count_by (λ run. lies_in (word, 1) run) (runs_in_roots held slots) ≡ cond (is_reserved slots (slot_of word)) 1 0
+
+-- Two lists of chunks are alike where each test that some chunk of the one passes, some chunk of
+-- the other passes: as where they have the same chunks in another order.
+abbrev pub AreAlike : List Chunk → List Chunk → Type 0
+AreAlike held other = (test : Chunk → Bool) → list_any test held ≡ list_any test other
+
+-- Alike chunks leave the same free parts and the same granules committed.
+pub record LeavesTheSame (granule : ℕ) (slots : List ℕ) (held other : List Chunk) : Type 0 where
+  pub free : free_parts held slots ≡ free_parts other slots
+  pub committed : committed_granules granule held slots ≡ committed_granules granule other slots
+
+abbrev pub AlikeChunksLeaveTheSame : Type 0
+AlikeChunksLeaveTheSame = (granule : ℕ) (slots : List ℕ) (held other : List Chunk) → AreAlike held other → LeavesTheSame granule slots held other

@@ -111,6 +111,11 @@ fn words_are_read_as_they_were_written(rt: HostRuntime) -> Result<(), Fail> {
 }
 
 #[test]
+fn more_words_than_memory_has_are_refused(rt: HostRuntime) {
+    assert!(rt; Words::zeros(rt.alloc(), usize::MAX).is_err());
+}
+
+#[test]
 fn a_refusal_says_why_with_its_numbers(rt: HostRuntime) -> Result<(), Fail> {
     let rows = [
         (Refusal::ZeroWords, "zero words were asked for"),
