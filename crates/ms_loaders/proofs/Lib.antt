@@ -1,10 +1,7 @@
 mod CommittedLemmas
-mod FoundLemmas
 mod HeldLemmas
-mod LastWrittenExamples
 mod LendLemmas
 mod PlaceLemmas
-mod ReadLemmas
 mod RunLemmas
 mod SlotLemmas
 mod StepLemmas

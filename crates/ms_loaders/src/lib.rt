@@ -13,7 +13,6 @@
 
 mod committing;
 mod held;
-pub mod laws;
 mod loader;
 mod placing;
 mod slots;

@@ -7,14 +7,15 @@
 ghost use Rattle.std.specs.Prelude.{◌≡◌, ℕ, ◌+◌, ◌*◌, ◌<◌, ◌≤◌, ◌↔◌, ◌⊎◌, IfOk, OnOk, OnErr, IfErr, [], ◌∷◌, ◌++◌, vec_len, true, Some, None, Ok, Err, length, IsTrue};
 ghost use Rattle.ms_base.specs.Level.{size_of};
 ghost use Rattle.ms_base.specs.Part.{is_reserved, slot_of};
-ghost use Rattle.ms_base.specs.State.{LoaderState, Machine, empty_machine, chunks_held};
+ghost use Rattle.ms_base.specs.State.{LoaderState, Machine, empty_machine};
 ghost use Rattle.ms_base.specs.Totals.{committed_words, used_words};
 ghost use Rattle.ms_base.specs.Names.{named};
 ghost use Rattle.ms_base.specs.Good.{IsGood};
 ghost use Rattle.ms_base.specs.Transition.{Transition, LacksLoader};
 ghost use Rattle.ms_base.specs.Run.{Run};
+ghost use Rattle.ms_base.specs.SumLaws.{IsGivenBack};
 ghost use Rattle.ms_loaders.specs.Placing.{IsLendable, LacksPart};
-ghost use Rattle.ms_loaders.specs.System.{limits_of, chunk_at, with_lent, reply_of, HoldsNothing};
+ghost use Rattle.ms_loaders.specs.System.{limits_of, chunk_at, with_lent, reply_of};
 
 use crate::committing::{GRANULE_WORDS, NODE_GRANULES, count_committed, front};
 use crate::held::{Loaders, NODE_WORDS, is_held_in};
@@ -341,7 +342,7 @@ impl System {
         ensures run { IfOk result (λ replies. Run self.old steps.now replies.items self.new) }
         ensures before { IsGood self.old }
         ensures after { IsGood self.new }
-        ensures emptied { self.new.loaders ≡ [] → HoldsNothing self.new }
+        ensures emptied { self.new.loaders ≡ [] → IsGivenBack self.new }
         ensures unchanged { OnErr result (self.new ≡ self.old) }
     {
         let mut replies = Vec::with_capacity(self.alloc, steps.len())?;
