@@ -1,18 +1,13 @@
 -- A chunk lent at a part that was found for it, with a block of zeros: the machine stays good, and
 -- has served an allocation; for System::allocate.
-use Rattle.std.proofs.Common.{◌≡◌, ◌≤◌, ◌<◌, ◌+◌, ◌*◌, ℕ, zero, suc, None, List, [], ◌∷◌, ◌++◌, length, replicate, get_or, refl, sym, ap, subst, ◌∙◌, inl, inr, max, arith}
-use Rattle.std.specs.Prelude.{◌==◌}
-use Rattle.std.specs.Ordering.{nat_cmp}
-use Rattle.std.specs.List.Sorted.{IsStrictlyIncreasing}
-use Rattle.std.specs.BTreeSet.{insert_key}
-use Rattle.std.proofs.lemmas.Bool.{or_cases, eqb-true}
+use Rattle.std.proofs.Common.{◌≡◌, ◌≤◌, ◌*◌, ℕ, None, List, [], ◌∷◌, ◌++◌, length, replicate, refl, sym, ap, subst, inl, inr, arith}
 use Rattle.std.proofs.lemmas.List.{length-replicate}
 use Rattle.ms_base.specs.declared.span.Span.{Span}
 use Rattle.ms_base.specs.Level.{size_of, level_that_holds}
-use Rattle.ms_base.specs.Part.{slot_of, is_reserved}
+use Rattle.ms_base.specs.Part.{slot_of}
 use Rattle.ms_base.specs.Names.{named}
 use Rattle.ms_base.specs.PoolSteps.{slots_with}
-use Rattle.ms_base.specs.State.{LoaderState, Machine, chunks_held}
+use Rattle.ms_base.specs.State.{LoaderState, Machine}
 use Rattle.ms_base.specs.Live.{block_words}
 use Rattle.ms_base.specs.Good.{IsGood}
 use Rattle.ms_base.specs.Transition.{HasLoader, Allocates}

@@ -1,17 +1,10 @@
--- Runs of the machine, for System::run: one goes on by a step, and where no loader is left nothing
--- is held.
-use Rattle.std.proofs.Common.{◌≡◌, ◌≤◌, List, [], ◌∷◌, ◌++◌, length, refl, subst, arith}
-use Rattle.std.proofs.Math.Nat.{zero-mul}
+-- A run of the machine goes on by a step; for System::run.
+use Rattle.std.proofs.Common.{List, [], ◌∷◌, ◌++◌, refl, subst}
 use Rattle.ms_base.specs.declared.step.Step.{Step}
 use Rattle.ms_base.specs.declared.step.Reply.{Reply}
-use Rattle.ms_base.specs.State.{Machine, chunks_held}
-use Rattle.ms_base.specs.Committed.{committed_granules}
-use Rattle.ms_base.specs.Good.{IsGood}
+use Rattle.ms_base.specs.State.{Machine}
 use Rattle.ms_base.specs.Transition.{Transition}
 use Rattle.ms_base.specs.Run.{Run}
-use Rattle.ms_base.specs.Totals.{used_words, committed_words}
-use Rattle.ms_base.proofs.EmptyLemmas.{nothing_is_committed}
-use Rattle.ms_loaders.specs.System.{HoldsNothing}
 
 pub run_on : (steps : List Step) (replies : List Reply) (old mid new : Machine) (step : Step) (reply : Reply)
     → Run old steps replies mid → Transition mid step reply new → Run old (steps ++ step ∷ []) (replies ++ reply ∷ []) new
@@ -19,10 +12,3 @@ run_on [] [] old mid new step reply run next = (new, subst (λ m. Transition m s
 run_on [] (r ∷ replies) old mid new step reply run next = absurd run
 run_on (s ∷ steps) [] old mid new step reply run next = absurd run
 run_on (s ∷ steps) (r ∷ replies) old mid new step reply run next = (run.0, run.1, run_on steps replies run.0 mid new step reply run.2 next)
-
-pub nothing_without_loaders : (m : Machine) → m.loaders ≡ [] → HoldsNothing m
-nothing_without_loaders m none = record {
-  chunks = rw none refl;
-  used = rw none refl;
-  committed = rw (none, nothing_is_committed m.limits.granule m.slots) (zero-mul m.limits.granule);
-}

@@ -1,9 +1,8 @@
 -- What a loader's call does to its machine: a step is served or refused, and the machine stays good.
-use Rattle.std.proofs.Common.{◌≡◌, ◌<◌, ℕ, true, false, None, Some, Option, refl, ap, subst}
+use Rattle.std.proofs.Common.{◌≡◌, ℕ, true, false, None, Some, Option, refl, ap}
 use Rattle.std.specs.Option.{is_some}
 use Rattle.ms_base.specs.declared.refusal.Refusal.{Refusal}
-use Rattle.ms_base.specs.declared.refusal.Refusal.TheVariants.{OutOfRange, NoBlock, ZeroWords, TooLarge, CommitLimit, ReserveLimit, NotLive, OutOfMemory, NoLoader, LoaderExists, BlockExists, IdsUsedUp, Unsettled, NoRoom}
-use Rattle.ms_base.specs.Names.{without}
+use Rattle.ms_base.specs.declared.refusal.Refusal.TheVariants.{OutOfRange, NoBlock}
 use Rattle.ms_base.specs.State.{LoaderState, Machine}
 use Rattle.ms_base.specs.Good.{IsGood}
 use Rattle.ms_base.specs.Transition.{HasLoader, with_loader, Writes, Frees, BlockCause, WordCause}

@@ -1,5 +1,5 @@
 -- What the fields of a system stand for, and what holds of them.
-use Rattle.std.specs.Prelude.{◌≡◌, ℕ, ◌*◌, ◌≤◌}
+use Rattle.std.specs.Prelude.{◌*◌, ◌≤◌}
 use Rattle.std.specs.Vec.{vec_capacity}
 use Rattle.ms_base.specs.State.{Machine}
 use Rattle.ms_base.specs.Good.{IsGood}

@@ -1,5 +1,5 @@
 -- What a system's calls give and change.
-use Rattle.std.specs.Prelude.{◌≡◌, ℕ, List, [], Result, Ok, Err}
+use Rattle.std.specs.Prelude.{ℕ, List, Result, Ok, Err}
 use Rattle.ms_base.specs.declared.span.Chunk.{Chunk}
 use Rattle.ms_base.specs.declared.span.Span.{Span}
 use Rattle.ms_base.specs.Level.{size_of}
@@ -10,19 +10,12 @@ use Rattle.ms_base.specs.declared.step.Reply.TheVariants.{Refused}
 use Rattle.ms_base.specs.declared.refusal.Refusal.{Refusal}
 use Rattle.ms_base.specs.Names.{with_changed}
 use Rattle.ms_base.specs.PoolSteps.{slots_with}
-use Rattle.ms_base.specs.State.{LoaderState, Limits, Machine, chunks_held}
-use Rattle.ms_base.specs.Totals.{committed_words, used_words}
+use Rattle.ms_base.specs.State.{LoaderState, Limits, Machine}
 use Rattle.ms_loaders.specs.Loader.{with_chunk}
 
 -- The limits that settings give; a granule has 8192 words.
 abbrev pub limits_of : Settings → Limits
 limits_of settings = record { nodes = settings.nodes; granules = settings.max_granules; granule = 8192 }
-
--- Nothing is left: no loader holds a chunk, no word is in use and none is committed.
-pub record HoldsNothing (m : Machine) : Type 0 where
-  pub chunks : chunks_held m.loaders ≡ []
-  pub used : used_words m ≡ 0
-  pub committed : committed_words m ≡ 0
 
 -- The chunk at a part whose front is for so many words.
 abbrev pub chunk_at : Span → ℕ → Chunk

@@ -98,7 +98,8 @@ impl Loader {
     /// Answers the level of the loader's next chunk: the one its kind wants by the number of chunks
     /// it holds, but at most the one given.
     pub fn next_level(&self, most: Level) -> Level
-        ensures most { result ≤ most }
+        ensures level { result
+            ≡ min (growth_level self.now.kind Space.NonClass (length self.now.arena.chunks)) most }
         ensures whole { length self.now.arena.tops ≡ length self.now.arena.chunks }
     {
         let chunks = u32::try_from(self.chunks.len()).unwrap_or(u32::MAX);

@@ -1,15 +1,21 @@
 //! The system: loaders by name, reserved slots, and the steps of the machine.
+//!
+//! Kept true: the machine that a system stands for is good, all nodes of its settings may be
+//! committed whole, and there is room for the slot of each. A step looks for its refusals in the
+//! machine's order, then makes all room, and changes something only then: so a refusal changes
+//! nothing. Takes memory for loaders, chunks, blocks and replies; nothing waits.
 ghost use Rattle.std.specs.Prelude.{◌≡◌, ℕ, ◌+◌, ◌*◌, ◌<◌, ◌≤◌, ◌↔◌, ◌⊎◌, IfOk, OnOk, OnErr, IfErr, [], ◌∷◌, ◌++◌, vec_len, true, Some, None, Ok, Err, length, IsTrue};
 ghost use Rattle.ms_base.specs.Level.{size_of};
 ghost use Rattle.ms_base.specs.Part.{is_reserved, slot_of};
-ghost use Rattle.ms_base.specs.State.{LoaderState, Machine, empty_machine, chunks_held};
+ghost use Rattle.ms_base.specs.State.{LoaderState, Machine, empty_machine};
 ghost use Rattle.ms_base.specs.Totals.{committed_words, used_words};
 ghost use Rattle.ms_base.specs.Names.{named};
 ghost use Rattle.ms_base.specs.Good.{IsGood};
 ghost use Rattle.ms_base.specs.Transition.{Transition, LacksLoader};
 ghost use Rattle.ms_base.specs.Run.{Run};
+ghost use Rattle.ms_base.specs.SumLaws.{IsGivenBack};
 ghost use Rattle.ms_loaders.specs.Placing.{IsLendable, LacksPart};
-ghost use Rattle.ms_loaders.specs.System.{limits_of, chunk_at, with_lent, reply_of, HoldsNothing};
+ghost use Rattle.ms_loaders.specs.System.{limits_of, chunk_at, with_lent, reply_of};
 
 use crate::committing::{GRANULE_WORDS, NODE_GRANULES, count_committed, front};
 use crate::held::{Loaders, NODE_WORDS, is_held_in};
@@ -63,7 +69,7 @@ impl System {
 
     /// Makes a loader with nothing of its own but an owner number: a step of the machine. Takes
     /// memory. Refused with `LoaderExists`, with `IdsUsedUp` where all owner numbers were given
-    /// out, and with `OutOfMemory`, in that order; a refusal changes nothing.
+    /// out, and with `OutOfMemory`, in that order; a refusal changes nothing. This project's choice.
     pub fn new_loader(&mut self, name: u16, kind: Kind) -> Result<(), Refusal>
         ensures served { OnOk result (Transition self.old (Step.New name kind) Reply.Ok self.new) }
         ensures refused { IfErr result
@@ -142,8 +148,8 @@ impl System {
         })
     }
 
-    /// Lends a loader a chunk at the part, committed for the words of its block. Fails only where
-    /// memory is refused.
+    /// Lends the loader of that name, where there is one, a chunk at the part, committed for the
+    /// words of its block. Fails only where memory is refused.
     fn lend(&mut self, name: u16, part: Span, block: u32, contents: Words) -> Result<(), AllocError>
         requires fits { length contents ≤ size_of part.level }
         requires below { slot_of part.start < 64 }
@@ -266,7 +272,9 @@ impl System {
         granules * GRANULE_WORDS
     }
 
-    /// One step of the machine. Takes memory for a new loader and for a block.
+    /// Takes one step of the machine: answers what it is done with, or why it is refused, which
+    /// changes nothing. Words and indices are in words of 8 bytes. Takes memory for a new loader, a
+    /// block and its chunk. This project's choice, as are the machine and its refusals.
     pub fn step(&mut self, step: Step) -> Reply
         ensures step { Transition self.old step result self.new }
         ensures good { IsGood self.new }
@@ -279,7 +287,7 @@ impl System {
         reply
     }
 
-    /// One step of the machine.
+    /// Takes one step of the machine, with a refusal as an error.
     fn serve(&mut self, step: Step) -> Result<Reply, Refusal>
         ensures { Transition self.old step (reply_of result) self.new }
     {
@@ -334,7 +342,7 @@ impl System {
         ensures run { IfOk result (λ replies. Run self.old steps.now replies.items self.new) }
         ensures before { IsGood self.old }
         ensures after { IsGood self.new }
-        ensures emptied { self.new.loaders ≡ [] → HoldsNothing self.new }
+        ensures emptied { self.new.loaders ≡ [] → IsGivenBack self.new }
         ensures unchanged { OnErr result (self.new ≡ self.old) }
     {
         let mut replies = Vec::with_capacity(self.alloc, steps.len())?;

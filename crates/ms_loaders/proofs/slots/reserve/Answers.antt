@@ -1,4 +1,4 @@
-use Rattle.std.proofs.Common.{◌≡◌, ◌≤◌, ℕ, Ok, Err, length, get_or, true, false, sym, inl, inr, arith, ◌∙◌}
+use Rattle.std.proofs.Common.{Ok, Err, sym, inl, inr, arith, ◌∙◌}
 use Rattle.std.proofs.lemmas.List.Sorted.{searched}
 use Rattle.ms_loaders.proofs.SlotLemmas.{slots_rise, slots_do_not_fall, not_reserved_between, insert_key_between, insert_key_there}
 use Rattle.ms_loaders.proofs.slots.reserve.Goals as goal

@@ -1,8 +1,7 @@
-use Rattle.std.proofs.Common.{◌≡◌, ◌≤◌, ℕ, Some, length, sym, subst, ◌∙◌, arith}
+use Rattle.std.proofs.Common.{◌≡◌, ℕ, Some, length, sym, subst, ◌∙◌, arith}
 use Rattle.std.proofs.lemmas.List.{length-replicate}
 use Rattle.ms_base.specs.State.{LoaderState, Machine}
 use Rattle.ms_base.specs.Names.{named}
-use Rattle.ms_base.specs.Level.{size_of}
 use Rattle.ms_base.specs.Good.{IsGood}
 use Rattle.ms_loaders.specs.System.{chunk_at, with_lent}
 use Rattle.ms_loaders.proofs.LendLemmas.{level_serves, lent_is_good, lent_allocates, machine_is_ample}

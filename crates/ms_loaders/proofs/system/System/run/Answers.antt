@@ -2,8 +2,9 @@ use Rattle.std.proofs.Common.{◌≡◌, sym, take, get_or, arith}
 use Rattle.std.proofs.lemmas.List.{take_more}
 use Rattle.ms_base.specs.declared.step.Step.TheVariants.{New}
 use Rattle.ms_base.specs.declared.kind.Kind.TheVariants.{Standard}
+use Rattle.ms_base.proofs.FrontSumLemmas.{nothing_is_left}
 use Rattle.ms_loaders.specs.System.{reply_of}
-use Rattle.ms_loaders.proofs.RunLemmas.{run_on, nothing_without_loaders}
+use Rattle.ms_loaders.proofs.RunLemmas.{run_on}
 use Rattle.ms_loaders.proofs.system.System.run.Goals as goal
 use Rattle.ms_loaders.proofs.system.System.run.Goals.{in-Ok, in-Err}
 
@@ -20,7 +21,7 @@ loop-step-preserved c =
     }
 
 pub returns-in_err-replies-clause-emptied : goal.returns-in_err-replies-clause-emptied
-returns-in_err-replies-clause-emptied c = nothing_without_loaders _
+returns-in_err-replies-clause-emptied c = nothing_is_left _
 
 pub returns-clause-emptied : goal.returns-clause-emptied
-returns-clause-emptied c = nothing_without_loaders _
+returns-clause-emptied c = nothing_is_left _

@@ -1,4 +1,4 @@
-use Rattle.std.proofs.Common.{refl, sym, ap, ◌∙◌}
+use Rattle.std.proofs.Common.{refl, sym}
 use Rattle.ms_base.proofs.GoodLemmas.{good_without_loader}
 use Rattle.ms_loaders.proofs.system.System.unload.Goals as goal
 use Rattle.ms_loaders.proofs.system.System.unload.Goals.{in-Some, in-None}
