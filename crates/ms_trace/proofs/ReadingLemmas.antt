@@ -1,18 +1,17 @@
 -- The loop of reading: the lines cut off so far read as the lines kept so far.
-use Rattle.std.proofs.Common.{◌≡◌, ℕ, ◌⊎◌, inl, inr, IsTrue, suc, ◌+◌, ◌<◌, ◌≤◌, Bool, true, false, eqb, List, [], ◌∷◌, ◌++◌, length, refl, sym, ◌∙◌, ap, arith, add-zero, append_assoc, length-append, append-nil, Option, Some, None, unwrap_or}
+use Rattle.std.proofs.Common.{◌≡◌, ℕ, inl, inr, suc, ◌+◌, ◌<◌, ◌≤◌, eqb, List, [], ◌∷◌, ◌++◌, length, refl, sym, ◌∙◌, ap, arith, add-zero, append_assoc, length-append, append-nil, Option, Some, None}
 use Rattle.std.proofs.lemmas.List.Splits.{length-slice_split, join_with_byte-slice_split}
 use Rattle.std.specs.Borrow.{Bor}
-use Rattle.std.specs.List.{join_with_byte, slice_split, count_by}
+use Rattle.std.specs.List.{join_with_byte}
 use Rattle.ms_trace.specs.declared.fault.FaultKind.{FaultKind}
 use Rattle.ms_trace.specs.declared.fault.ParseFault.{ParseFault}
 use Rattle.ms_trace.specs.declared.fault.ParseFault.TheVariants.{Trace, OutOfMemory}
-use Rattle.ms_trace.specs.declared.trace.Command.{Command}
 use Rattle.ms_trace.specs.declared.trace.Line.{Line}
 use Rattle.ms_trace.specs.Cutting.{parts_after, parts_of}
-use Rattle.ms_trace.specs.Grammar.{is_silent, lines_of, without_empty_end, most_lines, most_bytes}
-use Rattle.ms_trace.specs.Faults.{fault_of, AreFaultless, HasFault, BlamesText}
+use Rattle.ms_trace.specs.Grammar.{lines_of, without_empty_end, most_lines}
+use Rattle.ms_trace.specs.Faults.{fault_of, HasFault, BlamesText}
 use Rattle.ms_trace.specs.Keeping.{Keeps, BlamesLine}
-use Rattle.ms_trace.specs.Spelling.{spelling_of, IsValid, Gives, ReadsFrom, ReadsAs}
+use Rattle.ms_trace.specs.Spelling.{ReadsFrom}
 use Rattle.ms_trace.proofs.SpellingLemmas.{IsAllowed, allowed_from_no_fault}
 use Rattle.ms_trace.proofs.TraceLemmas.{Says, faultless_from_reads}
 

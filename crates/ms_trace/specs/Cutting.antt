@@ -1,5 +1,5 @@
 -- What a text is cut into, the first part at a time, and how many fields there are to be.
-use Rattle.std.specs.Prelude.{ℕ, ◌==◌, Bool, List, [], length, Option, Some, None, if◌then◌else◌}
+use Rattle.std.specs.Prelude.{ℕ, ◌==◌, List, [], length, Option, Some, None, if◌then◌else◌}
 use Rattle.std.specs.Borrow.{Bor}
 use Rattle.std.specs.List.{slice_split}
 use Rattle.ms_trace.specs.declared.fault.FaultKind.{FaultKind}

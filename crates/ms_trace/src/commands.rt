@@ -69,7 +69,7 @@ fn read_command(line: &[u8]) -> Result<Command, FaultKind>
 /// Reads what follows `new`: a loader and its kind.
 fn read_new(rest: Option<&[u8]>) -> Result<Command, FaultKind>
     ensures fault { result_err result ≡ command_fault (codes "new" ∷ fields_in rest.entry) }
-    ensures fields { IfOk result (λ command. command_fields command ≡ codes "new" ∷ fields_in rest.entry) }
+    ensures fields { IfOk result (λ c. command_fields c ≡ codes "new" ∷ fields_in rest.entry) }
     ensures valid { IfOk result IsValid }
 {
     let (loader, kind) = two_fields(rest)?;
@@ -82,7 +82,7 @@ fn read_new(rest: Option<&[u8]>) -> Result<Command, FaultKind>
 /// Reads what follows `alloc`: a loader, a block and its words.
 fn read_alloc(rest: Option<&[u8]>) -> Result<Command, FaultKind>
     ensures fault { result_err result ≡ command_fault (codes "alloc" ∷ fields_in rest.entry) }
-    ensures fields { IfOk result (λ command. command_fields command ≡ codes "alloc" ∷ fields_in rest.entry) }
+    ensures fields { IfOk result (λ c. command_fields c ≡ codes "alloc" ∷ fields_in rest.entry) }
     ensures valid { IfOk result IsValid }
 {
     let (loader, block, words) = three_fields(rest)?;
@@ -96,7 +96,7 @@ fn read_alloc(rest: Option<&[u8]>) -> Result<Command, FaultKind>
 /// Reads what follows `write`: a loader, a block, an index and a value.
 fn read_write(rest: Option<&[u8]>) -> Result<Command, FaultKind>
     ensures fault { result_err result ≡ command_fault (codes "write" ∷ fields_in rest.entry) }
-    ensures fields { IfOk result (λ command. command_fields command ≡ codes "write" ∷ fields_in rest.entry) }
+    ensures fields { IfOk result (λ c. command_fields c ≡ codes "write" ∷ fields_in rest.entry) }
     ensures valid { IfOk result IsValid }
 {
     let (loader, block, index, value) = four_fields(rest)?;
@@ -111,7 +111,7 @@ fn read_write(rest: Option<&[u8]>) -> Result<Command, FaultKind>
 /// Reads what follows `read`: a loader, a block and an index.
 fn read_read(rest: Option<&[u8]>) -> Result<Command, FaultKind>
     ensures fault { result_err result ≡ command_fault (codes "read" ∷ fields_in rest.entry) }
-    ensures fields { IfOk result (λ command. command_fields command ≡ codes "read" ∷ fields_in rest.entry) }
+    ensures fields { IfOk result (λ c. command_fields c ≡ codes "read" ∷ fields_in rest.entry) }
     ensures valid { IfOk result IsValid }
 {
     let (loader, block, index) = three_fields(rest)?;
@@ -125,7 +125,7 @@ fn read_read(rest: Option<&[u8]>) -> Result<Command, FaultKind>
 /// Reads what follows `free`: a loader and a block.
 fn read_free(rest: Option<&[u8]>) -> Result<Command, FaultKind>
     ensures fault { result_err result ≡ command_fault (codes "free" ∷ fields_in rest.entry) }
-    ensures fields { IfOk result (λ command. command_fields command ≡ codes "free" ∷ fields_in rest.entry) }
+    ensures fields { IfOk result (λ c. command_fields c ≡ codes "free" ∷ fields_in rest.entry) }
     ensures valid { IfOk result IsValid }
 {
     let (loader, block) = two_fields(rest)?;
@@ -138,7 +138,7 @@ fn read_free(rest: Option<&[u8]>) -> Result<Command, FaultKind>
 /// Reads what follows `unload`: a loader.
 fn read_unload(rest: Option<&[u8]>) -> Result<Command, FaultKind>
     ensures fault { result_err result ≡ command_fault (codes "unload" ∷ fields_in rest.entry) }
-    ensures fields { IfOk result (λ command. command_fields command ≡ codes "unload" ∷ fields_in rest.entry) }
+    ensures fields { IfOk result (λ c. command_fields c ≡ codes "unload" ∷ fields_in rest.entry) }
     ensures valid { IfOk result IsValid }
 {
     let loader = one_field(rest)?;
@@ -150,7 +150,7 @@ fn read_unload(rest: Option<&[u8]>) -> Result<Command, FaultKind>
 /// Reads what follows `purge`: nothing.
 fn read_purge(rest: Option<&[u8]>) -> Result<Command, FaultKind>
     ensures fault { result_err result ≡ command_fault (codes "purge" ∷ fields_in rest.entry) }
-    ensures fields { IfOk result (λ command. command_fields command ≡ codes "purge" ∷ fields_in rest.entry) }
+    ensures fields { IfOk result (λ c. command_fields c ≡ codes "purge" ∷ fields_in rest.entry) }
     ensures valid { IfOk result IsValid }
 {
     no_fields(rest)?;
@@ -160,7 +160,7 @@ fn read_purge(rest: Option<&[u8]>) -> Result<Command, FaultKind>
 /// Reads what follows `sync`: nothing.
 fn read_sync(rest: Option<&[u8]>) -> Result<Command, FaultKind>
     ensures fault { result_err result ≡ command_fault (codes "sync" ∷ fields_in rest.entry) }
-    ensures fields { IfOk result (λ command. command_fields command ≡ codes "sync" ∷ fields_in rest.entry) }
+    ensures fields { IfOk result (λ c. command_fields c ≡ codes "sync" ∷ fields_in rest.entry) }
     ensures valid { IfOk result IsValid }
 {
     no_fields(rest)?;
@@ -170,7 +170,7 @@ fn read_sync(rest: Option<&[u8]>) -> Result<Command, FaultKind>
 /// Reads what follows `report`: nothing.
 fn read_report(rest: Option<&[u8]>) -> Result<Command, FaultKind>
     ensures fault { result_err result ≡ command_fault (codes "report" ∷ fields_in rest.entry) }
-    ensures fields { IfOk result (λ command. command_fields command ≡ codes "report" ∷ fields_in rest.entry) }
+    ensures fields { IfOk result (λ c. command_fields c ≡ codes "report" ∷ fields_in rest.entry) }
     ensures valid { IfOk result IsValid }
 {
     no_fields(rest)?;

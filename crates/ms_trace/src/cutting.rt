@@ -94,7 +94,7 @@ pub(crate) fn two_fields(rest: Option<&[u8]>) -> Result<(&[u8], &[u8]), FaultKin
 /// Cuts off the three fields that are left.
 pub(crate) fn three_fields(rest: Option<&[u8]>) -> Result<(&[u8], &[u8], &[u8]), FaultKind>
     ensures fault { result_err result ≡ count_fault 3 (fields_in rest.entry) }
-    ensures fields { IfOk result (λ fields. fields_in rest.entry ≡ fields.0.now ∷ fields.1.now ∷ fields.2.now ∷ []) }
+    ensures fields { IfOk result (λ f. fields_in rest.entry ≡ f.0.now ∷ f.1.now ∷ f.2.now ∷ []) }
 {
     let Some(rest) = rest else {
         return Err(FaultKind::FieldCount);
@@ -107,7 +107,7 @@ pub(crate) fn three_fields(rest: Option<&[u8]>) -> Result<(&[u8], &[u8], &[u8]),
 /// Cuts off the four fields that are left.
 pub(crate) fn four_fields(rest: Option<&[u8]>) -> Result<(&[u8], &[u8], &[u8], &[u8]), FaultKind>
     ensures fault { result_err result ≡ count_fault 4 (fields_in rest.entry) }
-    ensures fields { IfOk result (λ fields. fields_in rest.entry ≡ fields.0.now ∷ fields.1.now ∷ fields.2.now ∷ fields.3.now ∷ []) }
+    ensures fields { IfOk result (λ f. fields_in rest.entry ≡ f.0.now ∷ f.1.now ∷ f.2.now ∷ f.3.now ∷ []) }
 {
     let Some(rest) = rest else {
         return Err(FaultKind::FieldCount);

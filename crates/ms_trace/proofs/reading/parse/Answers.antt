@@ -1,12 +1,10 @@
 -- Each line cut off is kept, or has the first fault.
-use Rattle.std.proofs.Common.{◌≡◌, ◌+◌, ◌<◌, ◌≤◌, ◌∷◌, [], IsTrue, true, Some, None, List, ℕ, arith, refl, sym, ◌∙◌, ap, length, Option, unwrap_or}
+use Rattle.std.proofs.Common.{◌≡◌, ◌+◌, ◌<◌, [], Some, None, List, ℕ, arith, refl, ◌∙◌, ap, length, Option, unwrap_or}
 use Rattle.std.proofs.lemmas.Bool.Decides.{nat_tests}
 use Rattle.std.proofs.lemmas.Result.{err_from_is_err_and}
 use Rattle.std.specs.Borrow.{Bor}
-use Rattle.std.specs.Option.{option_copied}
 use Rattle.ms_trace.specs.Grammar.{lines_of}
-use Rattle.ms_trace.specs.Spelling.{ReadsFrom}
-use Rattle.ms_trace.proofs.ReadingLemmas.{text_after, IsRead, lines_of-cut, line_more, kept_number, blames_text, all_read}
+use Rattle.ms_trace.proofs.ReadingLemmas.{text_after, lines_of-cut, line_more, kept_number, blames_text, all_read}
 use Rattle.ms_trace.proofs.TraceLemmas.{numbers_rise}
 use Rattle.ms_trace.proofs.reading.parse.Goals as goal
 
