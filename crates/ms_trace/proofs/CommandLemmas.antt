@@ -1,20 +1,13 @@
 -- Fields have no fault exactly where they are those of a valid command, and of one command only.
-use Rattle.std.proofs.Common.{◌≡◌, ℕ, ◌+◌, ◌-◌, ◌^◌, ◌<◌, ◌≤◌, Bool, true, false, cond, List, [], ◌∷◌, length, refl, sym, ◌∙◌, ap, arith, Option, Some, None, codes}
+use Rattle.std.proofs.Common.{◌≡◌, ℕ, ◌-◌, ◌^◌, ◌<◌, Bool, true, false, cond, List, [], ◌∷◌, refl, arith, Option, Some, None, codes}
 use Rattle.std.proofs.lemmas.Slice.Eq.{bytes_eq-Decides}
 use Rattle.std.specs.Fmt.{decimal}
-use Rattle.std.specs.Map.{lookup}
 use Rattle.std.specs.Str.{bytes_eq}
-use Rattle.std.specs.Str.Parse.{digits_value}
-use Rattle.ms_base.specs.declared.kind.Kind.{Kind}
-use Rattle.ms_base.specs.declared.kind.Kind.TheVariants.{Standard, Boot, Reflection, Hidden}
-use Rattle.ms_trace.specs.declared.fault.FaultKind.{FaultKind}
-use Rattle.ms_trace.specs.declared.fault.FaultKind.TheVariants.{UnknownCommand}
 use Rattle.ms_trace.specs.declared.trace.Command.{Command}
 use Rattle.ms_trace.specs.declared.trace.Command.TheVariants.{New, Alloc, Write, Read, Free, Unload, Purge, Sync, Report}
-use Rattle.ms_trace.specs.Grammar.{Field, kind_field, number_field, loader_field, block_field, word_field, kind_word, commands}
-use Rattle.ms_trace.specs.Faults.{field_fault, after_word_fault, command_fault}
+use Rattle.ms_trace.specs.Grammar.{Field, kind_field, loader_field, block_field, word_field}
+use Rattle.ms_trace.specs.Faults.{after_word_fault, command_fault}
 use Rattle.ms_trace.specs.Spelling.{command_fields, IsValid}
-use Rattle.ms_trace.proofs.DigitLemmas.{value-decimal}
 use Rattle.ms_trace.proofs.FieldLemmas.{number_passes, number_read, kind_passes, kind_read, IsNumeral, IsKindWord, Passes, Pass, none, more, no_fault_from_pass, pass_from_no_fault}
 
 -- Fields of numbers within their bounds pass.

@@ -1,20 +1,20 @@
 -- Fields without a fault: each is the text of a number or a kind, and there are as many as the word
 -- has.
-use Rattle.std.proofs.Common.{◌≡◌, ℕ, ◌⊎◌, get_or, zero, suc, ◌+◌, ◌^◌, ◌<◌, ◌≤◌, Bool, true, false, cond, not, ◌&&◌, ◌||◌, eqb, ltb, List, [], ◌∷◌, length, refl, sym, ◌∙◌, ap, arith, Option, Some, None}
+use Rattle.std.proofs.Common.{◌≡◌, ℕ, ◌⊎◌, get_or, suc, ◌^◌, ◌<◌, ◌≤◌, Bool, true, false, cond, not, ◌||◌, eqb, ltb, List, [], ◌∷◌, length, refl, sym, ap, arith, Option, Some, None}
 use Rattle.std.proofs.lemmas.Bool.{both_ways, lt-ltb}
 use Rattle.std.proofs.lemmas.Bool.Decides.{nat_tests}
 use Rattle.std.proofs.lemmas.Slice.Eq.{bytes_eq-Decides}
 use Rattle.std.specs.Fmt.{decimal}
 use Rattle.std.specs.Char.{is_ascii_digit}
 use Rattle.std.specs.List.{list_all}
-use Rattle.std.specs.Str.{all_ascii_digits, bytes_eq}
+use Rattle.std.specs.Str.{all_ascii_digits}
 use Rattle.std.specs.Str.Parse.{digits_value}
 use Rattle.ms_base.specs.declared.kind.Kind.{Kind}
 use Rattle.ms_base.specs.declared.kind.Kind.TheVariants.{Standard, Boot, Reflection, Hidden}
 use Rattle.ms_trace.specs.declared.fault.FaultKind.{FaultKind}
 use Rattle.ms_trace.specs.declared.fault.FaultKind.TheVariants.{FieldCount, BadKind, BadNumber, NumberTooLarge}
 use Rattle.ms_trace.specs.Grammar.{Field, kind_field, number_field, kind_word}
-use Rattle.ms_trace.specs.Faults.{is_number, is_kind, field_fault, first_of_two, fields_fault, after_word_fault}
+use Rattle.ms_trace.specs.Faults.{is_number, field_fault, first_of_two, fields_fault, after_word_fault}
 use Rattle.ms_trace.proofs.DigitLemmas.{is_number-decimal, value-decimal, decimal-value, is_number_from_digits, plain_from_is_number, list_all-digits}
 
 -- The text has no fault at this field.

@@ -2,7 +2,7 @@
 use Rattle.std.proofs.Common.{◌≡◌, [], ◌∷◌, refl, Some, None, inl, inr, arith, codes}
 use Rattle.std.specs.Prelude.{replicate, ◌++◌}
 use Rattle.ms_trace.specs.declared.fault.FaultKind.TheVariants.{TooManyLines, LineTooLong, UnknownCommand, FieldCount, BadKind, BadNumber, NumberTooLarge}
-use Rattle.ms_trace.specs.declared.trace.Command.TheVariants.{New, Alloc, Write, Read, Free, Unload, Purge, Sync, Report}
+use Rattle.ms_trace.specs.declared.trace.Command.TheVariants.{Purge, Sync}
 use Rattle.ms_trace.specs.Grammar.{lines_of, fields_of}
 use Rattle.ms_trace.specs.Faults.{fault_of}
 use Rattle.ms_trace.specs.Spelling.{ReadsAs, text_of}

@@ -1,17 +1,17 @@
 -- The loop of reading: the lines cut off so far read as the lines kept so far.
-use Rattle.std.proofs.Common.{◌≡◌, ℕ, ◌⊎◌, inl, inr, IsTrue, suc, ◌+◌, ◌<◌, ◌≤◌, Bool, true, false, eqb, List, [], ◌∷◌, ◌++◌, length, refl, sym, ◌∙◌, ap, arith, add-zero, append_assoc, length-append, append-nil, Option, Some, None, unwrap_or}
+use Rattle.std.proofs.Common.{◌≡◌, ℕ, inl, inr, suc, ◌+◌, ◌<◌, ◌≤◌, eqb, List, [], ◌∷◌, ◌++◌, length, refl, sym, ◌∙◌, ap, arith, add-zero, append_assoc, length-append, append-nil, Option, Some, None}
 use Rattle.std.proofs.lemmas.List.Splits.{length-slice_split, join_with_byte-slice_split}
-use Rattle.std.specs.List.{join_with_byte, slice_split, count_by}
+use Rattle.std.specs.Borrow.{Bor}
+use Rattle.std.specs.List.{join_with_byte}
 use Rattle.ms_trace.specs.declared.fault.FaultKind.{FaultKind}
 use Rattle.ms_trace.specs.declared.fault.ParseFault.{ParseFault}
 use Rattle.ms_trace.specs.declared.fault.ParseFault.TheVariants.{Trace, OutOfMemory}
-use Rattle.ms_trace.specs.declared.trace.Command.{Command}
 use Rattle.ms_trace.specs.declared.trace.Line.{Line}
-use Rattle.ms_trace.specs.Cutting.{parts_after}
-use Rattle.ms_trace.specs.Grammar.{is_silent, lines_of, without_empty_end, most_lines, most_bytes}
-use Rattle.ms_trace.specs.Faults.{fault_of, AreFaultless, HasFault, BlamesText}
+use Rattle.ms_trace.specs.Cutting.{parts_after, parts_of}
+use Rattle.ms_trace.specs.Grammar.{lines_of, without_empty_end, most_lines}
+use Rattle.ms_trace.specs.Faults.{fault_of, HasFault, BlamesText}
 use Rattle.ms_trace.specs.Keeping.{Keeps, BlamesLine}
-use Rattle.ms_trace.specs.Spelling.{spelling_of, IsValid, Gives, ReadsFrom, ReadsAs}
+use Rattle.ms_trace.specs.Spelling.{ReadsFrom}
 use Rattle.ms_trace.proofs.SpellingLemmas.{IsAllowed, allowed_from_no_fault}
 use Rattle.ms_trace.proofs.TraceLemmas.{Says, faultless_from_reads}
 
@@ -26,13 +26,18 @@ last_line : (part : List ℕ) → 0 < length part → without_empty_end (part �
 last_line [] some = absurd (omega arith)
 last_line (byte ∷ bytes) some = refl
 
+-- What stands after a separator, if one came.
+abbrev pub text_after : Option (Bor (List ℕ)) → List ℕ
+text_after None = []
+text_after (Some text) = text.now
+
 -- What is cut off a text that isn't empty is its first line.
-pub lines_of-cut : (rest line : List ℕ) (after : Option (List ℕ)) → 0 < length rest → slice_split (λ byte. eqb byte 10) rest ≡ line ∷ parts_after 10 after → lines_of rest ≡ line ∷ lines_of (unwrap_or after [])
+pub lines_of-cut : (rest line : List ℕ) (after : Option (Bor (List ℕ))) → 0 < length rest → parts_of 10 rest ≡ line ∷ parts_after 10 after → lines_of rest ≡ line ∷ lines_of (text_after after)
 lines_of-cut rest line None some cut =
     let same : line ≡ rest = sym (ap (join_with_byte 10) cut) ∙ join_with_byte-slice_split 10 rest in
     ap without_empty_end cut ∙ last_line line (rw same some)
 lines_of-cut rest line (Some text) some cut =
-    ap without_empty_end cut ∙ line_first line (slice_split (λ byte. eqb byte 10) text) (omega (arith, length-slice_split (λ byte. eqb byte 10) text))
+    ap without_empty_end cut ∙ line_first line (parts_of 10 text.now) (omega (arith, length-slice_split (λ byte. eqb byte 10) text.now))
 
 -- Lines read as a trace with one more line.
 says_more : (number : ℕ) (line : List ℕ) (trace rest said : List Line) → Says number line trace rest → Says number line (trace ++ said) (rest ++ said)

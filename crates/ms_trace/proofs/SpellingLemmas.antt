@@ -1,6 +1,6 @@
 -- The spelling of a valid command is cut into its fields, is no silent line, and is that of no other
 -- command. So a line has no fault exactly where it is silent or spells a valid command.
-use Rattle.std.proofs.Common.{◌≡◌, ℕ, ◌⊎◌, inl, inr, ⊎_elim, IsTrue, get_or, length-append, ◌+◌, ◌-◌, ◌^◌, ◌<◌, ◌≤◌, Bool, not, true, false, cond, ltb, eqb, List, [], ◌∷◌, ◌++◌, length, refl, sym, ◌∙◌, ap, arith, Option, Some, None, codes}
+use Rattle.std.proofs.Common.{◌≡◌, ℕ, ◌⊎◌, inl, inr, ⊎_elim, IsTrue, get_or, length-append, ◌^◌, ◌<◌, ◌≤◌, Bool, not, true, false, cond, ltb, eqb, List, [], ◌∷◌, length, refl, sym, ◌∙◌, ap, arith, Option, Some, None, codes}
 use Rattle.std.proofs.lemmas.Bool.Decides.{nat_tests}
 use Rattle.std.proofs.lemmas.Fmt.{length-decimal-le}
 use Rattle.std.proofs.lemmas.List.Elements.{All-from_recursion}

@@ -1,14 +1,14 @@
 -- Lines that read as a trace against lines without a fault: the laws, and the steps of reading.
-use Rattle.std.proofs.Common.{◌≡◌, ℕ, ◌⊎◌, inl, inr, ⊎_elim, IsTrue, suc, ◌+◌, ◌-◌, ◌^◌, ◌<◌, ◌≤◌, Bool, true, false, cond, ltb, leb, ◌&&◌, List, [], ◌∷◌, ◌++◌, length, refl, sym, ◌∙◌, ap, arith, add-zero, Option, Some, None}
+use Rattle.std.proofs.Common.{◌≡◌, ℕ, ◌⊎◌, inl, inr, ⊎_elim, IsTrue, suc, ◌+◌, ◌<◌, ◌≤◌, true, List, [], ◌∷◌, ◌++◌, length, refl, sym, ◌∙◌, ap, arith, add-zero, Option, Some, None}
 use Rattle.std.proofs.lemmas.Bool.{both_ways, and_from, lt-ltb, le-leb}
 use Rattle.ms_trace.specs.declared.fault.FaultKind.{FaultKind}
 use Rattle.ms_trace.specs.declared.trace.Command.{Command}
 use Rattle.ms_trace.specs.declared.trace.Line.{Line}
-use Rattle.ms_trace.specs.Grammar.{is_silent, lines_of, most_lines, most_bytes}
-use Rattle.ms_trace.specs.Faults.{fault_of, AreFaultless, HasFault}
-use Rattle.ms_trace.specs.Spelling.{spelling_of, IsValid, Gives, ReadsFrom, rises_above}
+use Rattle.ms_trace.specs.Grammar.{is_silent, most_lines}
+use Rattle.ms_trace.specs.Faults.{fault_of, AreFaultless}
+use Rattle.ms_trace.specs.Spelling.{spelling_of, Gives, ReadsFrom, rises_above}
 use Rattle.ms_trace.specs.Laws.{IsSameFault}
-use Rattle.ms_trace.proofs.SpellingLemmas.{IsSpelledLine, IsAllowed, allowed_from_no_fault, no_fault_from_allowed, one_command, spelling_is_not_silent}
+use Rattle.ms_trace.proofs.SpellingLemmas.{IsAllowed, allowed_from_no_fault, no_fault_from_allowed, one_command, spelling_is_not_silent}
 
 -- Lines that read as a trace have no fault.
 pub faultless_from_reads : (number : ℕ) (lines : List (List ℕ)) (trace : List Line) → ReadsFrom number lines trace → AreFaultless number lines

@@ -1,9 +1,11 @@
 -- What the grammar amounts to: laws about it, each the contract of a function of `laws`.
 use Rattle.std.specs.Prelude.{◌≡◌, ℕ, ◌⊎◌, List, IsTrue}
+use Rattle.std.specs.List.{All}
 use Rattle.ms_trace.specs.declared.fault.FaultKind.{FaultKind}
+use Rattle.ms_trace.specs.declared.trace.Line.{Line}
 use Rattle.ms_trace.specs.declared.trace.Trace.{Trace}
 use Rattle.ms_trace.specs.Faults.{HasFault}
-use Rattle.ms_trace.specs.Spelling.{ReadsAs, rises_above}
+use Rattle.ms_trace.specs.Spelling.{IsValid, ReadsAs, rises_above, text_of}
 
 -- A text that reads as a trace has no fault.
 abbrev pub NeverBoth : Type 0
@@ -31,3 +33,7 @@ OneFault =
 -- The lines of a trace that a text reads as have rising numbers from 1 to the greatest.
 abbrev pub NumbersRise : Type 0
 NumbersRise = (text : List ℕ) (trace : Trace) → ReadsAs text trace → IsTrue (rises_above 0 trace.lines)
+
+-- A trace of valid commands whose line numbers rise is read back from what it is printed as.
+abbrev pub PrintedReads : Type 0
+PrintedReads = (trace : Trace) → All (λ (line : Line). IsValid line.command) trace.lines → IsTrue (rises_above 0 trace.lines) → ReadsAs (text_of trace) trace

@@ -2,11 +2,11 @@
 //!
 //!     alloc 1 10          the word decides how many fields follow and what each of them is;
 //!     ----- - --          their number is checked before the first of them is read
-ghost use Rattle.std.specs.Prelude.{◌≡◌, ◌∷◌, [], Some, IfOk, IfSome, IsNone, IsTrue, codes, option_copied};
+ghost use Rattle.std.specs.Prelude.{◌≡◌, ◌∷◌, IfOk, IfSome, IsNone, IsTrue, codes};
 ghost use Rattle.std.specs.Result.{result_err};
-ghost use Rattle.ms_trace.specs.Cutting.{parts_after};
-ghost use Rattle.ms_trace.specs.Faults.{after_word_fault, command_fault, fault_of};
-ghost use Rattle.ms_trace.specs.Grammar.{fields_of, is_silent, loader_field, block_field, word_field, kind_field};
+ghost use Rattle.ms_trace.specs.Cutting.{fields_in};
+ghost use Rattle.ms_trace.specs.Faults.{command_fault, fault_of};
+ghost use Rattle.ms_trace.specs.Grammar.{fields_of, is_silent};
 ghost use Rattle.ms_trace.specs.Spelling.{IsValid, command_fields, spelling_of};
 
 use crate::cutting::{cut_field, four_fields, no_fields, one_field, three_fields, two_fields};
@@ -68,8 +68,8 @@ fn read_command(line: &[u8]) -> Result<Command, FaultKind>
 
 /// Reads what follows `new`: a loader and its kind.
 fn read_new(rest: Option<&[u8]>) -> Result<Command, FaultKind>
-    ensures fault { result_err result ≡ after_word_fault (Some (loader_field ∷ kind_field ∷ [])) (parts_after 32 (option_copied rest.entry)) }
-    ensures fields { IfOk result (λ command. command_fields command ≡ codes "new" ∷ parts_after 32 (option_copied rest.entry)) }
+    ensures fault { result_err result ≡ command_fault (codes "new" ∷ fields_in rest.entry) }
+    ensures fields { IfOk result (λ c. command_fields c ≡ codes "new" ∷ fields_in rest.entry) }
     ensures valid { IfOk result IsValid }
 {
     let (loader, kind) = two_fields(rest)?;
@@ -81,8 +81,8 @@ fn read_new(rest: Option<&[u8]>) -> Result<Command, FaultKind>
 
 /// Reads what follows `alloc`: a loader, a block and its words.
 fn read_alloc(rest: Option<&[u8]>) -> Result<Command, FaultKind>
-    ensures fault { result_err result ≡ after_word_fault (Some (loader_field ∷ block_field ∷ word_field ∷ [])) (parts_after 32 (option_copied rest.entry)) }
-    ensures fields { IfOk result (λ command. command_fields command ≡ codes "alloc" ∷ parts_after 32 (option_copied rest.entry)) }
+    ensures fault { result_err result ≡ command_fault (codes "alloc" ∷ fields_in rest.entry) }
+    ensures fields { IfOk result (λ c. command_fields c ≡ codes "alloc" ∷ fields_in rest.entry) }
     ensures valid { IfOk result IsValid }
 {
     let (loader, block, words) = three_fields(rest)?;
@@ -95,8 +95,8 @@ fn read_alloc(rest: Option<&[u8]>) -> Result<Command, FaultKind>
 
 /// Reads what follows `write`: a loader, a block, an index and a value.
 fn read_write(rest: Option<&[u8]>) -> Result<Command, FaultKind>
-    ensures fault { result_err result ≡ after_word_fault (Some (loader_field ∷ block_field ∷ word_field ∷ word_field ∷ [])) (parts_after 32 (option_copied rest.entry)) }
-    ensures fields { IfOk result (λ command. command_fields command ≡ codes "write" ∷ parts_after 32 (option_copied rest.entry)) }
+    ensures fault { result_err result ≡ command_fault (codes "write" ∷ fields_in rest.entry) }
+    ensures fields { IfOk result (λ c. command_fields c ≡ codes "write" ∷ fields_in rest.entry) }
     ensures valid { IfOk result IsValid }
 {
     let (loader, block, index, value) = four_fields(rest)?;
@@ -110,8 +110,8 @@ fn read_write(rest: Option<&[u8]>) -> Result<Command, FaultKind>
 
 /// Reads what follows `read`: a loader, a block and an index.
 fn read_read(rest: Option<&[u8]>) -> Result<Command, FaultKind>
-    ensures fault { result_err result ≡ after_word_fault (Some (loader_field ∷ block_field ∷ word_field ∷ [])) (parts_after 32 (option_copied rest.entry)) }
-    ensures fields { IfOk result (λ command. command_fields command ≡ codes "read" ∷ parts_after 32 (option_copied rest.entry)) }
+    ensures fault { result_err result ≡ command_fault (codes "read" ∷ fields_in rest.entry) }
+    ensures fields { IfOk result (λ c. command_fields c ≡ codes "read" ∷ fields_in rest.entry) }
     ensures valid { IfOk result IsValid }
 {
     let (loader, block, index) = three_fields(rest)?;
@@ -124,8 +124,8 @@ fn read_read(rest: Option<&[u8]>) -> Result<Command, FaultKind>
 
 /// Reads what follows `free`: a loader and a block.
 fn read_free(rest: Option<&[u8]>) -> Result<Command, FaultKind>
-    ensures fault { result_err result ≡ after_word_fault (Some (loader_field ∷ block_field ∷ [])) (parts_after 32 (option_copied rest.entry)) }
-    ensures fields { IfOk result (λ command. command_fields command ≡ codes "free" ∷ parts_after 32 (option_copied rest.entry)) }
+    ensures fault { result_err result ≡ command_fault (codes "free" ∷ fields_in rest.entry) }
+    ensures fields { IfOk result (λ c. command_fields c ≡ codes "free" ∷ fields_in rest.entry) }
     ensures valid { IfOk result IsValid }
 {
     let (loader, block) = two_fields(rest)?;
@@ -137,8 +137,8 @@ fn read_free(rest: Option<&[u8]>) -> Result<Command, FaultKind>
 
 /// Reads what follows `unload`: a loader.
 fn read_unload(rest: Option<&[u8]>) -> Result<Command, FaultKind>
-    ensures fault { result_err result ≡ after_word_fault (Some (loader_field ∷ [])) (parts_after 32 (option_copied rest.entry)) }
-    ensures fields { IfOk result (λ command. command_fields command ≡ codes "unload" ∷ parts_after 32 (option_copied rest.entry)) }
+    ensures fault { result_err result ≡ command_fault (codes "unload" ∷ fields_in rest.entry) }
+    ensures fields { IfOk result (λ c. command_fields c ≡ codes "unload" ∷ fields_in rest.entry) }
     ensures valid { IfOk result IsValid }
 {
     let loader = one_field(rest)?;
@@ -149,8 +149,8 @@ fn read_unload(rest: Option<&[u8]>) -> Result<Command, FaultKind>
 
 /// Reads what follows `purge`: nothing.
 fn read_purge(rest: Option<&[u8]>) -> Result<Command, FaultKind>
-    ensures fault { result_err result ≡ after_word_fault (Some ([])) (parts_after 32 (option_copied rest.entry)) }
-    ensures fields { IfOk result (λ command. command_fields command ≡ codes "purge" ∷ parts_after 32 (option_copied rest.entry)) }
+    ensures fault { result_err result ≡ command_fault (codes "purge" ∷ fields_in rest.entry) }
+    ensures fields { IfOk result (λ c. command_fields c ≡ codes "purge" ∷ fields_in rest.entry) }
     ensures valid { IfOk result IsValid }
 {
     no_fields(rest)?;
@@ -159,8 +159,8 @@ fn read_purge(rest: Option<&[u8]>) -> Result<Command, FaultKind>
 
 /// Reads what follows `sync`: nothing.
 fn read_sync(rest: Option<&[u8]>) -> Result<Command, FaultKind>
-    ensures fault { result_err result ≡ after_word_fault (Some ([])) (parts_after 32 (option_copied rest.entry)) }
-    ensures fields { IfOk result (λ command. command_fields command ≡ codes "sync" ∷ parts_after 32 (option_copied rest.entry)) }
+    ensures fault { result_err result ≡ command_fault (codes "sync" ∷ fields_in rest.entry) }
+    ensures fields { IfOk result (λ c. command_fields c ≡ codes "sync" ∷ fields_in rest.entry) }
     ensures valid { IfOk result IsValid }
 {
     no_fields(rest)?;
@@ -169,8 +169,8 @@ fn read_sync(rest: Option<&[u8]>) -> Result<Command, FaultKind>
 
 /// Reads what follows `report`: nothing.
 fn read_report(rest: Option<&[u8]>) -> Result<Command, FaultKind>
-    ensures fault { result_err result ≡ after_word_fault (Some ([])) (parts_after 32 (option_copied rest.entry)) }
-    ensures fields { IfOk result (λ command. command_fields command ≡ codes "report" ∷ parts_after 32 (option_copied rest.entry)) }
+    ensures fault { result_err result ≡ command_fault (codes "report" ∷ fields_in rest.entry) }
+    ensures fields { IfOk result (λ c. command_fields c ≡ codes "report" ∷ fields_in rest.entry) }
     ensures valid { IfOk result IsValid }
 {
     no_fields(rest)?;

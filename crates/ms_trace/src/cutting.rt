@@ -3,10 +3,10 @@
 //!     alloc 1 10      cut at a space
 //!     -----           the part
 //!           ----      what is left, until nothing is: a last part may be empty
-ghost use Rattle.std.specs.Prelude.{◌≡◌, ◌==◌, ◌∷◌, ◌<◌, [], length, Some, None, IfSome, if◌then◌else◌, option_copied, IfOk, position};
-ghost use Rattle.std.specs.List.{slice_split};
+ghost use Rattle.std.specs.Prelude.{◌≡◌, ◌==◌, ◌∷◌, ◌<◌, [], length, IfOk, IfSome, position};
 ghost use Rattle.std.specs.Result.{result_err};
-ghost use Rattle.ms_trace.specs.Cutting.{parts_after};
+ghost use Rattle.ms_trace.specs.Cutting.{count_fault, fields_in, parts_after, parts_of};
+ghost use Rattle.ms_trace.specs.Grammar.{fields_of};
 
 use crate::fault::FaultKind;
 use memchr::memchr;
@@ -14,7 +14,7 @@ use memchr::memchr;
 /// Cuts off the first line: what stands before the first newline, and what stands after it where
 /// there is one. Lines may be long, so the search is by blocks.
 pub(crate) fn cut_line(text: &[u8]) -> (&[u8], Option<&[u8]>)
-    ensures parts { slice_split (λ byte. byte == 10) text.now ≡ result.0.now ∷ parts_after 10 (option_copied result.1) }
+    ensures parts { parts_of 10 text.now ≡ result.0.now ∷ parts_after 10 result.1 }
     ensures shorter { IfSome result.1 (λ rest. length rest.now < length text.now) }
 {
     cut_at(text, b'\n', first_newline(text))
@@ -23,7 +23,7 @@ pub(crate) fn cut_line(text: &[u8]) -> (&[u8], Option<&[u8]>)
 /// Cuts off the first field, as `cut_line` does at spaces. Fields are short, so the search is by
 /// bytes.
 pub(crate) fn cut_field(text: &[u8]) -> (&[u8], Option<&[u8]>)
-    ensures parts { slice_split (λ byte. byte == 32) text.now ≡ result.0.now ∷ parts_after 32 (option_copied result.1) }
+    ensures parts { fields_of text.now ≡ result.0.now ∷ fields_in result.1 }
 {
     cut_at(text, b' ', first_space(text))
 }
@@ -31,7 +31,7 @@ pub(crate) fn cut_field(text: &[u8]) -> (&[u8], Option<&[u8]>)
 /// Cuts a text at its first separator, which is at that place.
 fn cut_at(text: &[u8], separator: u8, place: Option<usize>) -> (&[u8], Option<&[u8]>)
     requires { place ≡ position (λ byte. byte == separator) text.now }
-    ensures parts { slice_split (λ byte. byte == separator) text.now ≡ result.0.now ∷ parts_after separator (option_copied result.1) }
+    ensures parts { parts_of separator text.now ≡ result.0.now ∷ parts_after separator result.1 }
     ensures shorter { IfSome result.1 (λ rest. length rest.now < length text.now) }
 {
     match place {
@@ -56,8 +56,8 @@ fn first_space(text: &[u8]) -> Option<usize>
 
 /// Answers no fields, where none are left.
 pub(crate) fn no_fields(rest: Option<&[u8]>) -> Result<(), FaultKind>
-    ensures fault { result_err result ≡ (if length (parts_after 32 (option_copied rest.entry)) == 0 then None else Some FaultKind.FieldCount) }
-    ensures fields { IfOk result (λ _. parts_after 32 (option_copied rest.entry) ≡ []) }
+    ensures fault { result_err result ≡ count_fault 0 (fields_in rest.entry) }
+    ensures fields { IfOk result (λ _. fields_in rest.entry ≡ []) }
 {
     match rest {
         None => Ok(()),
@@ -67,8 +67,8 @@ pub(crate) fn no_fields(rest: Option<&[u8]>) -> Result<(), FaultKind>
 
 /// Cuts off the one field that is left.
 pub(crate) fn one_field(rest: Option<&[u8]>) -> Result<&[u8], FaultKind>
-    ensures fault { result_err result ≡ (if length (parts_after 32 (option_copied rest.entry)) == 1 then None else Some FaultKind.FieldCount) }
-    ensures fields { IfOk result (λ field. parts_after 32 (option_copied rest.entry) ≡ field.now ∷ []) }
+    ensures fault { result_err result ≡ count_fault 1 (fields_in rest.entry) }
+    ensures fields { IfOk result (λ field. fields_in rest.entry ≡ field.now ∷ []) }
 {
     let Some(rest) = rest else {
         return Err(FaultKind::FieldCount);
@@ -80,8 +80,8 @@ pub(crate) fn one_field(rest: Option<&[u8]>) -> Result<&[u8], FaultKind>
 
 /// Cuts off the two fields that are left.
 pub(crate) fn two_fields(rest: Option<&[u8]>) -> Result<(&[u8], &[u8]), FaultKind>
-    ensures fault { result_err result ≡ (if length (parts_after 32 (option_copied rest.entry)) == 2 then None else Some FaultKind.FieldCount) }
-    ensures fields { IfOk result (λ fields. parts_after 32 (option_copied rest.entry) ≡ fields.0.now ∷ fields.1.now ∷ []) }
+    ensures fault { result_err result ≡ count_fault 2 (fields_in rest.entry) }
+    ensures fields { IfOk result (λ fields. fields_in rest.entry ≡ fields.0.now ∷ fields.1.now ∷ []) }
 {
     let Some(rest) = rest else {
         return Err(FaultKind::FieldCount);
@@ -93,8 +93,8 @@ pub(crate) fn two_fields(rest: Option<&[u8]>) -> Result<(&[u8], &[u8]), FaultKin
 
 /// Cuts off the three fields that are left.
 pub(crate) fn three_fields(rest: Option<&[u8]>) -> Result<(&[u8], &[u8], &[u8]), FaultKind>
-    ensures fault { result_err result ≡ (if length (parts_after 32 (option_copied rest.entry)) == 3 then None else Some FaultKind.FieldCount) }
-    ensures fields { IfOk result (λ fields. parts_after 32 (option_copied rest.entry) ≡ fields.0.now ∷ fields.1.now ∷ fields.2.now ∷ []) }
+    ensures fault { result_err result ≡ count_fault 3 (fields_in rest.entry) }
+    ensures fields { IfOk result (λ f. fields_in rest.entry ≡ f.0.now ∷ f.1.now ∷ f.2.now ∷ []) }
 {
     let Some(rest) = rest else {
         return Err(FaultKind::FieldCount);
@@ -106,8 +106,8 @@ pub(crate) fn three_fields(rest: Option<&[u8]>) -> Result<(&[u8], &[u8], &[u8]),
 
 /// Cuts off the four fields that are left.
 pub(crate) fn four_fields(rest: Option<&[u8]>) -> Result<(&[u8], &[u8], &[u8], &[u8]), FaultKind>
-    ensures fault { result_err result ≡ (if length (parts_after 32 (option_copied rest.entry)) == 4 then None else Some FaultKind.FieldCount) }
-    ensures fields { IfOk result (λ fields. parts_after 32 (option_copied rest.entry) ≡ fields.0.now ∷ fields.1.now ∷ fields.2.now ∷ fields.3.now ∷ []) }
+    ensures fault { result_err result ≡ count_fault 4 (fields_in rest.entry) }
+    ensures fields { IfOk result (λ f. fields_in rest.entry ≡ f.0.now ∷ f.1.now ∷ f.2.now ∷ f.3.now ∷ []) }
 {
     let Some(rest) = rest else {
         return Err(FaultKind::FieldCount);

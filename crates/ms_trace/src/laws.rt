@@ -1,6 +1,6 @@
 //! Laws about the grammar: its two halves, reading and faults, fit. Each is the contract of a
 //! function that does nothing.
-ghost use Rattle.ms_trace.specs.Laws.{NeverBoth, OneOfTheTwo, OneTrace, OneFault, NumbersRise};
+ghost use Rattle.ms_trace.specs.Laws.{NeverBoth, OneOfTheTwo, OneTrace, OneFault, NumbersRise, PrintedReads};
 
 /// A text that reads as a trace has no fault.
 pub fn never_both()
@@ -25,4 +25,9 @@ pub fn one_fault()
 /// The numbers of the lines that a text reads as rise, from 1 to 100000 at most.
 pub fn numbers_rise()
     ensures { NumbersRise }
+{}
+
+/// What a trace of valid commands with rising line numbers is printed as reads as that trace.
+pub fn printed_reads()
+    ensures { PrintedReads }
 {}

@@ -455,4 +455,5 @@ fn each_law_stands(_rt: HostRuntime) {
     laws::one_trace();
     laws::one_fault();
     laws::numbers_rise();
+    laws::printed_reads();
 }

@@ -79,7 +79,8 @@ impl Lines {
     pub fn into_vec(self) -> Vec<Line>
         ensures { result.items ≡ self }
     {
-        self.items
+        let Lines { items } = self;
+        items
     }
 
     /// Lends the lines as a slice.

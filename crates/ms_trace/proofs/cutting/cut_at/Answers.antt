@@ -1,5 +1,5 @@
 -- The first separator's place cuts the text.
-use Rattle.std.proofs.Common.{◌+◌, ◌≡◌, nat_eq, sym, ◌∙◌}
+use Rattle.std.proofs.Common.{◌+◌, nat_eq, sym, ◌∙◌}
 use Rattle.std.proofs.lemmas.List.{take_rest}
 use Rattle.ms_trace.proofs.CutLemmas.{cut_nowhere, cut_there}
 use Rattle.ms_trace.proofs.cutting.cut_at.Goals as goal

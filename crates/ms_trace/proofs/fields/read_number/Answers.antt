@@ -1,5 +1,5 @@
 -- A byte that is no digit decides, and a digit that no longer fits; else the value goes on.
-use Rattle.std.proofs.Common.{◌≡◌, ◌<◌, ◌≤◌, ◌^◌, ℕ, List, true, arith, take, sym, ◌∙◌, ap, length, get_or, refl, Some}
+use Rattle.std.proofs.Common.{◌≡◌, ◌<◌, ◌≤◌, ◌^◌, ℕ, List, true, arith, take, sym, ◌∙◌, length, get_or, refl}
 use Rattle.std.proofs.lemmas.Grind.{common_steps}
 use Rattle.std.proofs.lemmas.Bool.Decides.{nat_tests}
 use Rattle.std.specs.Char.{is_ascii_digit}

@@ -1,5 +1,5 @@
 -- Where a text reads as a trace, its faulty line would have no fault.
-use Rattle.std.proofs.Common.{◌≡◌, ℕ, ◌+◌, List, ◌∷◌, ◌++◌, length, arith, None}
+use Rattle.std.proofs.Common.{◌≡◌, ◌+◌, ◌∷◌, ◌++◌, length, arith}
 use Rattle.ms_trace.specs.Grammar.{lines_of}
 use Rattle.ms_trace.specs.Faults.{fault_of, AreFaultless}
 use Rattle.ms_trace.proofs.TraceLemmas.{faultless_from_reads, no_fault_among, clash}

@@ -1,7 +1,7 @@
 -- The lines have no fault, and then read as a trace, or they have a first one.
-use Rattle.std.proofs.Common.{◌≡◌, ℕ, ◌+◌, List, inl, inr, ⊎_elim, refl, add_comm}
+use Rattle.std.proofs.Common.{inl, inr, ⊎_elim, add_comm}
 use Rattle.ms_trace.specs.Grammar.{lines_of}
-use Rattle.ms_trace.proofs.TraceLemmas.{Reads, HasFirst, reads_from_faultless, faultless_or_first}
+use Rattle.ms_trace.proofs.TraceLemmas.{Reads, reads_from_faultless, faultless_or_first}
 use Rattle.ms_trace.proofs.laws.one_of_the_two.Goals as goal
 
 pub returns : goal.returns

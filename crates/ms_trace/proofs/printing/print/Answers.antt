@@ -1,5 +1,5 @@
 -- Each line prints the next part of the text, which reads as the trace.
-use Rattle.std.proofs.Common.{◌≡◌, ◌++◌, ◌∷◌, [], List, ℕ, true, length, take, drop, append-nil, get_or, replicate, arith, rules, sym, ◌∙◌, ap}
+use Rattle.std.proofs.Common.{◌≡◌, [], List, take, drop, append-nil, arith, sym, ◌∙◌}
 use Rattle.std.proofs.lemmas.Grind.{common_steps}
 use Rattle.std.proofs.lemmas.List.Elements.{All-more, recursion_from_All}
 use Rattle.std.specs.List.{All}

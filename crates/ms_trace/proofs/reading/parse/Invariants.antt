@@ -1,5 +1,5 @@
 -- The lines cut off so far read as the lines kept so far; what is left gets shorter.
-use Rattle.std.proofs.Common.{ℕ, ◌≤◌, length}
+use Rattle.std.proofs.Common.{◌≤◌, length}
 use Rattle.ms_trace.proofs.ReadingLemmas.{IsRead}
 use Rattle.ms_trace.proofs.reading.parse.Given as goal
 
