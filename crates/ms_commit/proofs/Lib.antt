@@ -1,0 +1,3 @@
+pub mod RangeLemmas
+pub mod CountLemmas
+pub mod MaskLemmas

@@ -1,0 +1,16 @@
+-- A mask: words of 64 bits, each bit standing for a number.
+use Rattle.std.specs.Prelude.{ℕ, ◌*◌, ◌/◌, ◌%◌, Bool, ◌==◌, List, length, slice_index}
+use Rattle.std.specs.List.{filter, range_with_len}
+use Rattle.std.specs.Int.{bit_at}
+
+-- The bit at a place of a word is set.
+abbrev pub is_one : ℕ → ℕ → Bool
+is_one word place = bit_at word place == 1
+
+-- The bit of a number is set: the one at the place number % 64 of the word number / 64.
+abbrev pub is_set : List ℕ → ℕ → Bool
+is_set words number = is_one (slice_index words (number / 64)) (number % 64)
+
+-- The numbers whose bits are set, in rising order.
+abbrev pub members_of : List ℕ → List ℕ
+members_of words = filter (is_set words) (range_with_len 0 (64 * length words))
