@@ -12,7 +12,7 @@ use Rattle.std.proofs.lemmas.List.Elements.{filter-append}
 use Rattle.std.proofs.lemmas.Nat.Bits.{bit_at_lowest, bit_at-suc, bit_at-lt}
 use Rattle.ms_commit.specs.Mask.{is_one, is_set}
 use Rattle.ms_commit.proofs.RangeLemmas.{filter-cut, filter_agree_in}
-use Rattle.ms_commit.proofs.MaskLemmas.{is_one-and}
+use Rattle.ms_commit.proofs.MaskLemmas.{is_one-and, is_set-place}
 
 pub length-kept : {X : Type 0} (b : Bool) (x : X) (rest : List X) → length (cond b (x ∷ rest) rest) ≡ cond b 1 0 + length rest
 length-kept b x rest = elim b as (λ v. length (cond v (x ∷ rest) rest) ≡ cond v 1 0 + length rest) [ true ↦ omega arith | false ↦ omega arith ]
@@ -56,12 +56,6 @@ ones_are_counted (suc places) word h =
     moved =
         ap length (filter_agree_in (is_one (word / 2)) (λ k. is_one word (1 + k)) 0 places (λ k low high. ap (λ bit. bit == 1) (next k)))
         ∙ sym (count_moved (is_one word) 1 0 places)
-
--- The numbers of a word are those of its places, moved up.
-is_set-place : (words : List ℕ) (index place : ℕ) → place < 64 → is_set words (64 * index + place) ≡ is_one (get_or words index 0) place
-is_set-place words index place within =
-    let row : (64 * index + place) / 64 ≡ index = omega arith in let column : (64 * index + place) % 64 ≡ place = omega arith in
-    ap₂ (λ at spot. is_one (get_or words at 0) spot) row column
 
 -- One more word is counted: the bits of a word that stand for numbers that pass.
 pub counted_more : (p : ℕ → Bool) (words : List ℕ) (index run count : ℕ) → run < 2 ^ 64

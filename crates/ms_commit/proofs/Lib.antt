@@ -1,3 +1,6 @@
 pub mod RangeLemmas
-pub mod CountLemmas
 pub mod MaskLemmas
+pub mod CountLemmas
+pub mod OrderLemmas
+pub mod SetLemmas
+pub mod MemberLemmas

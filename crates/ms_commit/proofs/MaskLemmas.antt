@@ -2,14 +2,14 @@
 -- does to the set that the mask stands for.
 use Rattle.std.proofs.Common.{◌≡◌, ◌≢◌, ◌≤◌, ◌<◌, ℕ, ◌+◌, ◌-◌, ◌*◌, ◌/◌, ◌%◌, ◌^◌, Bool, true, false, cond, ◌&&◌, ◌||◌, not, List, length, get_or, refl, sym, ap, ap₂, ◌∙◌, inl, inr, arith, min, max, bit_and, bit_or, w64}
 use Rattle.std.specs.Prelude.{◌==◌, nat_lt, nat_le, slice_set}
-use Rattle.std.specs.Int.{bit_at, bit_not}
+use Rattle.std.specs.Int.{bit_at, bit_not, trailing_ones}
 use Rattle.std.specs.List.{filter, range_with_len}
 use Rattle.std.proofs.lemmas.Bool.{cases_lt, cases_eq}
 use Rattle.std.proofs.lemmas.Bool.Decides.{nat_tests}
 use Rattle.std.proofs.lemmas.List.{get_or_past, get_or-set_same, get_or-set_other, length-set}
-use Rattle.std.proofs.lemmas.Nat.Bits.{bit_at_and, bit_at_or, bit_at_not, bit_at-lt, bit_at-zero, bit_at_ones, bit_at_ones_above, bit_at_mask_inside, bit_at_mask_below, ones_shl, ones_shr, shr_and_one}
+use Rattle.std.proofs.lemmas.Nat.Bits.{bit_at_and, bit_at_or, bit_at_not, bit_at-lt, bit_at-zero, bit_at_ones, bit_at_ones_above, bit_at_mask_inside, bit_at_mask_below, bit_at-trailing_ones, ones_shl, ones_shr, shr_and_one}
 use Rattle.ms_commit.specs.NumberSet.{is_among, is_in_range}
-use Rattle.ms_commit.specs.Mask.{is_one, is_set, members_of}
+use Rattle.ms_commit.specs.Mask.{is_one, is_set, members_of, IsLowestClear}
 use Rattle.ms_commit.proofs.RangeLemmas.{is_among-filter, is_among-range}
 
 -- The bits of two words together.
@@ -53,6 +53,12 @@ is_one-between low high place rise within at =
       | inl under ↦ ap (λ bit. bit == 1) (bit_at_ones high place under) ∙ grind (arith, nat_tests)
       | inr over ↦ ap (λ bit. bit == 1) (bit_at_ones_above high place over) ∙ grind (arith, nat_tests)
     ]
+
+-- The numbers of a word are those of its places, moved up.
+pub is_set-place : (words : List ℕ) (index place : ℕ) → place < 64 → is_set words (64 * index + place) ≡ is_one (get_or words index 0) place
+is_set-place words index place within =
+    let row : (64 * index + place) / 64 ≡ index = omega arith in let column : (64 * index + place) % 64 ≡ place = omega arith in
+    ap₂ (λ at spot. is_one (get_or words at 0) spot) row column
 
 -- A word of a mask is changed: its numbers have their bits in the new word, the others as before.
 pub is_set-here : (words : List ℕ) (index word k : ℕ) → index < length words → k / 64 ≡ index → is_set (slice_set words index word) k ≡ is_one word (k % 64)
@@ -109,3 +115,32 @@ is_among-members words k =
     kept : (a b : Bool) → b ≡ true → (a && b) ≡ a
     kept true b e = e
     kept false b e = refl
+
+-- The words below an index have no clear bit, and the word there has none, or one.
+pub full_more : (words : List ℕ) (index : ℕ) → get_or words index 0 ≡ 2 ^ 64 - 1 → ((k : ℕ) → k < 64 * index → is_set words k ≡ true)
+    → (k : ℕ) → k < 64 * (index + 1) → is_set words k ≡ true
+full_more words index full before k under = elim (cases_lt k (64 * index)) [
+  | inl earlier ↦ before k earlier
+  | inr here ↦
+    let row : k / 64 ≡ index = omega arith in
+    ap (λ at. is_one (get_or words at 0) (k % 64)) row ∙ ap (λ word. is_one word (k % 64)) full ∙ ap (λ bit. bit == 1) (bit_at_ones 64 (k % 64) (omega arith))
+]
+
+pub lowest_in_word : (words : List ℕ) (index : ℕ) → index < length words → get_or words index 0 + 1 < 2 ^ 64
+    → ((k : ℕ) → k < 64 * index → is_set words k ≡ true) → IsLowestClear words (64 * index + trailing_ones w64 (get_or words index 0))
+lowest_in_word words index within fits before = record {
+  within = omega (arith, place.0);
+  clear = is_set-place words index (trailing_ones w64 word) place.0 ∙ ap (λ bit. bit == 1) place.1;
+  below = λ k under. elim (cases_lt k (64 * index)) [
+    | inl earlier ↦ before k earlier
+    | inr here ↦
+      let moved : k ≡ 64 * index + (k - 64 * index) = omega arith in
+      ap (is_set words) moved ∙ is_set-place words index (k - 64 * index) (omega (arith, place.0)) ∙ ap (λ bit. bit == 1) (place.2 (k - 64 * index) (omega arith))
+  ];
+}
+  where
+    word : ℕ
+    word = get_or words index 0
+
+    place : (trailing_ones w64 word < 64) × (bit_at word (trailing_ones w64 word) ≡ 0) × ((i : ℕ) → i < trailing_ones w64 word → bit_at word i ≡ 1)
+    place = bit_at-trailing_ones w64 word fits

@@ -95,8 +95,16 @@ pub and_true : (a b : Bool) → b ≡ true → (a && b) ≡ a
 and_true true b e = e
 and_true false b e = refl
 
+pub or_false : (a b : Bool) → b ≡ false → (a || b) ≡ a
+or_false true b e = refl
+or_false false b e = e
+
+pub or_true : (a b : Bool) → b ≡ true → (a || b) ≡ true
+or_true true b e = refl
+or_true false b e = e
+
 -- What passes from first up to end, of the numbers below n, is all that passes there, where nothing does from n on.
-pub filter-window : (p : ℕ → Bool) (first end n : ℕ) → ((k : ℕ) → n ≤ k → k < end → p k ≡ false)
+pub filter-window : (p : ℕ → Bool) (first end n : ℕ) → ((k : ℕ) → n ≤ k → first ≤ k → k < end → p k ≡ false)
     → filter (λ k. p k && (nat_le first k && nat_lt k end)) (range_with_len 0 n) ≡ filter p (range_with_len first (end - first))
 filter-window p first end n none = elim (cases_lt end first) [
   | inl empty ↦
@@ -125,6 +133,9 @@ filter-window p first end n none = elim (cases_lt end first) [
 
     past : (k : ℕ) → n ≤ k → k < n + end → q k ≡ false
     past k low high = elim (cases_lt k end) [
-      | inl under ↦ ap (λ b. b && in_run k) (none k low under)
+      | inl under ↦ elim (cases_lt k first) [
+        | inl before ↦ outside k (grind (arith, nat_tests))
+        | inr from ↦ ap (λ b. b && in_run k) (none k low from under)
+      ]
       | inr over ↦ outside k (grind (arith, nat_tests))
     ]

@@ -32,4 +32,4 @@ pub returns : goal.returns
 returns c =
     c.loop-index.invariant
     ∙ ap length (filter-window (is_set c.args.words.now) c.args.first c.args.end (64 * c.loop-index.index)
-      (λ k past under. is_set-past c.args.words.now k (omega arith)))
+      (λ k past from under. is_set-past c.args.words.now k (omega arith)))
