@@ -4,3 +4,5 @@ pub mod CountLemmas
 pub mod OrderLemmas
 pub mod SetLemmas
 pub mod MemberLemmas
+pub mod NodesLemmas
+pub mod KeepingLemmas

@@ -1,2 +1,4 @@
 pub mod NumberSet
 pub mod Mask
+pub mod Nodes
+pub mod Keeping
