@@ -33,16 +33,22 @@ need_is_missing kept now first count present seen counted =
     rest : count - present ≡ count_missing kept.granules first count
     rest = omega (arith, counted, count_missing-within kept.granules first count)
 
-pub total_with : (kept : Inside) (now : NodesState) (first count present : ℕ) → AreKept kept → state_of kept ≡ now
-    → present ≡ count_within kept.granules first count → granules_with now first count ≡ kept.committed + (count - present)
-total_with kept now first count present holds seen counted =
-    omega (arith, holds.committed, ap (λ nodes. length nodes.granules) seen, need_is_missing kept now first count present seen counted)
+pub total_with : (kept : Inside) (now : NodesState) (first count need : ℕ) → AreKept kept → state_of kept ≡ now
+    → need ≡ count_missing now.granules first count → granules_with now first count ≡ kept.committed + need
+total_with kept now first count need holds seen needed = omega (arith, holds.committed, ap (λ nodes. length nodes.granules) seen, needed)
+
+-- With the missing numbers of a range the members are as many more.
+pub counted_with_missing : (kept : Inside) (now : NodesState) (first count need after : ℕ) → AreKept kept → state_of kept ≡ now
+    → need ≡ count_missing now.granules first count → after + count_within kept.granules first count ≡ length kept.granules + count
+    → kept.committed + need ≡ after
+counted_with_missing kept now first count need after holds seen needed counted =
+    omega (arith, holds.committed, needed, counted, count_missing-within kept.granules first count, ap (λ nodes. count_missing nodes.granules first count) seen)
 
 -- The numbers that CommitLimit carries.
-pub commit_limit_is : (kept : Inside) (now : NodesState) (first count present : ℕ) → AreKept kept → state_of kept ≡ now
-    → present ≡ count_within kept.granules first count
-    → CommitLimit kept.committed kept.granule_limit (count - present) ≡ CommitLimit (length now.granules) now.limits.granules (count_missing now.granules first count)
-commit_limit_is kept now first count present holds seen counted =
-    ap (λ committed. CommitLimit committed kept.granule_limit (count - present)) holds.committed
-    ∙ ap (λ nodes. CommitLimit (length nodes.granules) nodes.limits.granules (count - present)) seen
-    ∙ ap (CommitLimit (length now.granules) now.limits.granules) (need_is_missing kept now first count present seen counted)
+pub commit_limit_is : (kept : Inside) (now : NodesState) (first count need : ℕ) → AreKept kept → state_of kept ≡ now
+    → need ≡ count_missing now.granules first count
+    → CommitLimit kept.committed kept.granule_limit need ≡ CommitLimit (length now.granules) now.limits.granules (count_missing now.granules first count)
+commit_limit_is kept now first count need holds seen needed =
+    ap (λ committed. CommitLimit committed kept.granule_limit need) holds.committed
+    ∙ ap (λ nodes. CommitLimit (length nodes.granules) nodes.limits.granules need) seen
+    ∙ ap (CommitLimit (length now.granules) now.limits.granules) needed

@@ -52,7 +52,7 @@ impl Model for Nodes {
 }
 
 impl Nodes {
-    ghost use Rattle.std.specs.Prelude.{◌≡◌, ◌<◌, ◌≤◌, ◌↔◌, IsTrue, IsErr, IfOk, IfErr, OnOk, OnErr, length};
+    ghost use Rattle.std.specs.Prelude.{◌≡◌, ◌+◌, ◌^◌, ◌<◌, ◌≤◌, ◌↔◌, IsTrue, IsErr, IfOk, IfErr, OnOk, OnErr, length};
     ghost use Rattle.ms_base.specs.Part.{is_reserved};
     ghost use Rattle.ms_base.specs.Pick.{lowest_unreserved};
     ghost use Rattle.ms_commit.specs.NumberSet.{is_among, count_missing};
@@ -145,8 +145,7 @@ impl Nodes {
         }
         ensures unchanged { OnErr result (self.new ≡ self.old) }
     {
-        let present = self.granules.count(first as usize, count as usize);
-        let need = count - present as u64;
+        let need = self.missing(first, count);
         if need > self.granule_limit - self.committed {
             return Err(Refusal::CommitLimit {
                 committed: self.committed,
@@ -157,6 +156,15 @@ impl Nodes {
         self.granules.insert_range(first as usize, count as usize);
         self.committed += need;
         Ok(need)
+    }
+
+    /// Tells how many granules of a range, given by its first and how many they are, aren't
+    /// committed; those of unreserved slots aren't.
+    pub fn missing(&self, first: u64, count: u64) -> u64
+        requires { first + count < 2 ^ 64 }
+        ensures { result ≡ count_missing self.now.granules first count }
+    {
+        count - self.granules.count(first as usize, count as usize) as u64
     }
 
     /// Uncommits a range of granules of reserved slots, given by its first and how many they are;
@@ -185,6 +193,20 @@ impl Nodes {
         self.committed
     }
 
+    /// Tells the limit of committed granules.
+    pub fn granule_limit(&self) -> u64
+        ensures { result ≡ self.now.limits.granules }
+    {
+        self.granule_limit
+    }
+
+    /// Tells the words of a granule.
+    pub fn granule(&self) -> u64
+        ensures { result ≡ self.now.limits.granule }
+    {
+        self.granule
+    }
+
     /// Tells whether a slot is reserved; none from 64 on is.
     pub fn is_reserved(&self, slot: u32) -> bool
         ensures { result ≡ is_reserved self.now.slots slot }
@@ -198,5 +220,12 @@ impl Nodes {
         ensures sound { AreSound self.now }
     {
         self.reserved
+    }
+
+    /// Tells the limit of reserved slots, 1 to 64.
+    pub fn node_limit(&self) -> u32
+        ensures { result ≡ self.now.limits.nodes }
+    {
+        self.node_limit
     }
 }
