@@ -76,10 +76,10 @@ pub changed_more : (op : Bool → Bool → Bool) (p : ℕ → Bool) (old new : L
     → (k : ℕ) → k < 64 * length (slice_set new index word) → is_set (slice_set new index word) k ≡ op (is_set old k) (p k && nat_lt k (64 * (index + 1)))
 changed_more op p old new index word stays within places so_far k inside = elim (cases_eq (k / 64) index) [
   | inl here ↦
-    is_set-here new index word k within here
-    ∙ places (k % 64) (omega arith)
-    ∙ ap₂ op (ap (λ at. is_one (get_or new at 0) (k % 64)) (sym here) ∙ so_far k unchanged ∙ ap (op (is_set old k)) (fails (p k) (nat_lt k (64 * index)) (grind (arith, nat_tests))) ∙ stays (is_set old k)) (let e : 64 * index + k % 64 ≡ k = omega arith in ap p e)
-    ∙ ap (op (is_set old k)) (passes (p k) (nat_lt k (64 * (index + 1))) (grind (arith, nat_tests)))
+      is_set-here new index word k within here
+      ∙ places (k % 64) (omega arith)
+      ∙ ap₂ op (ap (λ at. is_one (get_or new at 0) (k % 64)) (sym here) ∙ so_far k unchanged ∙ ap (op (is_set old k)) (fails (p k) (nat_lt k (64 * index)) (grind (arith, nat_tests))) ∙ stays (is_set old k)) (let e : 64 * index + k % 64 ≡ k = omega arith in ap p e)
+      ∙ ap (op (is_set old k)) (passes (p k) (nat_lt k (64 * (index + 1))) (grind (arith, nat_tests)))
   | inr elsewhere ↦ is_set-other new index word k elsewhere ∙ so_far k unchanged ∙ ap (λ b. op (is_set old k) (p k && b)) (same_side k index elsewhere)
 ]
   where
@@ -122,8 +122,8 @@ pub full_more : (words : List ℕ) (index : ℕ) → get_or words index 0 ≡ 2 
 full_more words index full before k under = elim (cases_lt k (64 * index)) [
   | inl earlier ↦ before k earlier
   | inr here ↦
-    let row : k / 64 ≡ index = omega arith in
-    ap (λ at. is_one (get_or words at 0) (k % 64)) row ∙ ap (λ word. is_one word (k % 64)) full ∙ ap (λ bit. bit == 1) (bit_at_ones 64 (k % 64) (omega arith))
+      let row : k / 64 ≡ index = omega arith in
+      ap (λ at. is_one (get_or words at 0) (k % 64)) row ∙ ap (λ word. is_one word (k % 64)) full ∙ ap (λ bit. bit == 1) (bit_at_ones 64 (k % 64) (omega arith))
 ]
 
 pub lowest_in_word : (words : List ℕ) (index : ℕ) → index < length words → get_or words index 0 + 1 < 2 ^ 64
@@ -134,8 +134,8 @@ lowest_in_word words index within fits before = record {
   below = λ k under. elim (cases_lt k (64 * index)) [
     | inl earlier ↦ before k earlier
     | inr here ↦
-      let moved : k ≡ 64 * index + (k - 64 * index) = omega arith in
-      ap (is_set words) moved ∙ is_set-place words index (k - 64 * index) (omega (arith, place.0)) ∙ ap (λ bit. bit == 1) (place.2 (k - 64 * index) (omega arith))
+        let moved : k ≡ 64 * index + (k - 64 * index) = omega arith in
+        ap (is_set words) moved ∙ is_set-place words index (k - 64 * index) (omega (arith, place.0)) ∙ ap (λ bit. bit == 1) (place.2 (k - 64 * index) (omega arith))
   ];
 }
   where

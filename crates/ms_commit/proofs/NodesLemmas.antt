@@ -107,8 +107,8 @@ sound_reserve nodes slots slot sound after set within = record {
 other_slot : (slot n granule : ℕ) → 0 < n → not (is_in_range (slot * n) n granule) ≡ true → not (granule / n == slot) ≡ true
 other_slot slot n granule some outside = elim (cases_eq (granule / n) slot) [
   | inl same ↦
-    let row = ap (λ s. s * n) same in
-    absurd (contradiction (omega (arith, div-add-mod' granule n, row)) (omega (arith, div-add-mod' granule n, row, mod_below granule n some)))
+      let row = ap (λ s. s * n) same in
+      absurd (contradiction (omega (arith, div-add-mod' granule n, row)) (omega (arith, div-add-mod' granule n, row, mod_below granule n some)))
   | inr other ↦ grind (arith, nat_tests)
 ]
   where
@@ -135,4 +135,3 @@ sound_unreserve nodes slots granules slot sound some slots_after granules_after 
   where
     n : ℕ
     n = slot_granules nodes
-

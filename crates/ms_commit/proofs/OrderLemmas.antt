@@ -51,14 +51,14 @@ pub insert_key-filter : (p : ℕ → Bool) (number from n : ℕ) → from ≤ nu
 insert_key-filter p number from zero low high = absurd (omega arith)
 insert_key-filter p number from (suc n) low high = elim (cases_eq from number) [
   | inl here ↦
-    ap (λ k. insert_key nat_cmp (cond (p from) (k ∷ rest) rest) number) here
-    ∙ insert_here (p from) number rest (insert_front p number (from + 1) n (omega arith))
-    ∙ ap (λ k. k ∷ rest) (sym here)
-    ∙ ap (λ more. from ∷ more) (sym (filter_agree_in either p (from + 1) n (λ k l h. or_false (p k) (is_in_range number 1 k) (grind (arith, nat_tests)))))
-    ∙ ap (λ b. cond b (from ∷ filter either (range_with_len (from + 1) n)) (filter either (range_with_len (from + 1) n))) (sym (or_true (p from) (is_in_range number 1 from) (grind (arith, nat_tests))))
+      ap (λ k. insert_key nat_cmp (cond (p from) (k ∷ rest) rest) number) here
+      ∙ insert_here (p from) number rest (insert_front p number (from + 1) n (omega arith))
+      ∙ ap (λ k. k ∷ rest) (sym here)
+      ∙ ap (λ more. from ∷ more) (sym (filter_agree_in either p (from + 1) n (λ k l h. or_false (p k) (is_in_range number 1 k) (grind (arith, nat_tests)))))
+      ∙ ap (λ b. cond b (from ∷ filter either (range_with_len (from + 1) n)) (filter either (range_with_len (from + 1) n))) (sym (or_true (p from) (is_in_range number 1 from) (grind (arith, nat_tests))))
   | inr later ↦
-    insert_later (p from) from number rest (filter either (range_with_len (from + 1) n)) (omega arith) (insert_key-filter p number (from + 1) n (omega arith) (omega arith))
-    ∙ ap (λ b. cond b (from ∷ filter either (range_with_len (from + 1) n)) (filter either (range_with_len (from + 1) n))) (sym (or_false (p from) (is_in_range number 1 from) (grind (arith, nat_tests))))
+      insert_later (p from) from number rest (filter either (range_with_len (from + 1) n)) (omega arith) (insert_key-filter p number (from + 1) n (omega arith) (omega arith))
+      ∙ ap (λ b. cond b (from ∷ filter either (range_with_len (from + 1) n)) (filter either (range_with_len (from + 1) n))) (sym (or_false (p from) (is_in_range number 1 from) (grind (arith, nat_tests))))
 ]
   where
     either : ℕ → Bool
@@ -74,8 +74,8 @@ find_first p from zero number low high passes none = absurd (omega arith)
 find_first p from (suc n) number low high passes none = elim (cases_eq from number) [
   | inl here ↦ ap (λ b. cond b (Some from) (find p (range_with_len (from + 1) n))) (ap p here ∙ passes) ∙ ap Some here
   | inr later ↦
-    ap (λ b. cond b (Some from) (find p (range_with_len (from + 1) n))) (none from (omega arith))
-    ∙ find_first p (from + 1) n number (omega arith) (omega arith) passes none
+      ap (λ b. cond b (Some from) (find p (range_with_len (from + 1) n))) (none from (omega arith))
+      ∙ find_first p (from + 1) n number (omega arith) (omega arith) passes none
 ]
 
 pub lowest_unreserved-is : (members : List ℕ) (number : ℕ) → is_among members number ≡ false → ((k : ℕ) → k < number → is_among members k ≡ true)

@@ -82,9 +82,9 @@ pub length-filter-below : (p : ℕ → Bool) (n end : ℕ) → ((k : ℕ) → en
 length-filter-below p n end ends = elim (cases_lt n end) [
   | inl under ↦ omega (arith, length-filter-range p 0 n)
   | inr over ↦
-    let whole : n ≡ end + (n - end) = omega arith in
-    let cut = filter-cut p 0 end (n - end) end (omega arith) ∙ ap (λ rest. filter p (range_with_len 0 end) ++ rest) (filter_none_in p end (n - end) (λ k low high. ends k low)) ∙ append-nil (filter p (range_with_len 0 end)) in
-    omega (arith, length-filter-range p 0 end, ap (λ m. length (filter p (range_with_len 0 m))) whole, ap length cut)
+      let whole : n ≡ end + (n - end) = omega arith in
+      let cut = filter-cut p 0 end (n - end) end (omega arith) ∙ ap (λ rest. filter p (range_with_len 0 end) ++ rest) (filter_none_in p end (n - end) (λ k low high. ends k low)) ∙ append-nil (filter p (range_with_len 0 end)) in
+      omega (arith, length-filter-range p 0 end, ap (λ m. length (filter p (range_with_len 0 m))) whole, ap length cut)
 ]
 
 pub and_false : (a b : Bool) → b ≡ false → (a && b) ≡ false
@@ -108,18 +108,18 @@ pub filter-window : (p : ℕ → Bool) (first end n : ℕ) → ((k : ℕ) → n 
     → filter (λ k. p k && (nat_le first k && nat_lt k end)) (range_with_len 0 n) ≡ filter p (range_with_len first (end - first))
 filter-window p first end n none = elim (cases_lt end first) [
   | inl empty ↦
-    let nothing : end - first ≡ 0 = omega arith in
-    filter_none_in q 0 n (λ k low high. outside k (grind (arith, nat_tests))) ∙ ap (λ m. filter p (range_with_len first m)) (sym nothing)
+      let nothing : end - first ≡ 0 = omega arith in
+      filter_none_in q 0 n (λ k low high. outside k (grind (arith, nat_tests))) ∙ ap (λ m. filter p (range_with_len first m)) (sym nothing)
   | inr run ↦
-    let later : n + end ≡ first + ((end - first) + n) = omega arith in
-    sym (append-nil (filter q (range_with_len 0 n)))
-    ∙ ap (λ rest. filter q (range_with_len 0 n) ++ rest) (sym (filter_none_in q n end past))
-    ∙ sym (filter-cut q 0 n end n (omega arith))
-    ∙ ap (λ m. filter q (range_with_len 0 m)) later
-    ∙ filter-cut q 0 first ((end - first) + n) first (omega arith)
-    ∙ ap₂ (λ a b. a ++ b) (filter_none_in q 0 first (λ k low high. outside k (grind (arith, nat_tests)))) (filter-cut q first (end - first) n end (omega arith))
-    ∙ ap₂ (λ a b. a ++ b) (filter_agree_in q p first (end - first) (λ k low high. and_true (p k) (in_run k) (grind (arith, nat_tests)))) (filter_none_in q end n (λ k low high. outside k (grind (arith, nat_tests))))
-    ∙ append-nil (filter p (range_with_len first (end - first)))
+      let later : n + end ≡ first + ((end - first) + n) = omega arith in
+      sym (append-nil (filter q (range_with_len 0 n)))
+      ∙ ap (λ rest. filter q (range_with_len 0 n) ++ rest) (sym (filter_none_in q n end past))
+      ∙ sym (filter-cut q 0 n end n (omega arith))
+      ∙ ap (λ m. filter q (range_with_len 0 m)) later
+      ∙ filter-cut q 0 first ((end - first) + n) first (omega arith)
+      ∙ ap₂ (λ a b. a ++ b) (filter_none_in q 0 first (λ k low high. outside k (grind (arith, nat_tests)))) (filter-cut q first (end - first) n end (omega arith))
+      ∙ ap₂ (λ a b. a ++ b) (filter_agree_in q p first (end - first) (λ k low high. and_true (p k) (in_run k) (grind (arith, nat_tests)))) (filter_none_in q end n (λ k low high. outside k (grind (arith, nat_tests))))
+      ∙ append-nil (filter p (range_with_len first (end - first)))
 ]
   where
     in_run : ℕ → Bool

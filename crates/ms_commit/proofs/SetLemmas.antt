@@ -125,9 +125,9 @@ length-without_range members first count =
 pub count_within-filter : (p : ℕ → Bool) (n first count : ℕ) → ((k : ℕ) → first ≤ k → k < first + count → k < n)
     → length (filter (is_in_range first count) (filter p (range_with_len 0 n))) ≡ length (filter p (range_with_len first count))
 count_within-filter p n first count within = ap length (
-  filter-filter p (is_in_range first count) (range_with_len 0 n)
-  ∙ filter-window p first (first + count) n (λ k past from under. absurd (omega (arith, within k from under)))
-  ∙ ap (λ m. filter p (range_with_len first m)) (let e : first + count - first ≡ count = omega arith in e))
+    filter-filter p (is_in_range first count) (range_with_len 0 n)
+    ∙ filter-window p first (first + count) n (λ k past from under. absurd (omega (arith, within k from under)))
+    ∙ ap (λ m. filter p (range_with_len first m)) (let e : first + count - first ≡ count = omega arith in e))
 
 -- The numbers of a range are members or not.
 pub count_missing-within : (members : List ℕ) (first count : ℕ) → count_within members first count + count_missing members first count ≡ count

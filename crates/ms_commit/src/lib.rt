@@ -7,5 +7,7 @@
 
 mod mask;
 mod nodes;
+#[cfg(test)]
+mod tests;
 
 pub use nodes::Nodes;

@@ -98,9 +98,7 @@ impl<const WORDS: usize> Mask<WORDS> {
         requires within { (k : ℕ) → first ≤ k → k < first + count → k < 64 * WORDS }
         requires fits { first + count < 2 ^ 64 }
         ensures added { self.new ≡ with_range self.old first count }
-        ensures counted {
-            length self.new + count_within self.old first count ≡ length self.old + count
-        }
+        ensures counted { length self.new + count_within self.old first count ≡ length self.old + count }
         ensures set { IsSetBelow (64 * WORDS) self.new }
     {
         set_bits(&mut self.words, first, first + count);
@@ -121,10 +119,8 @@ impl<const WORDS: usize> Mask<WORDS> {
 /// The bits of a word, whose first has the number `base`, that stand for the numbers from `first`
 /// up to `end`.
 fn bits_between(first: usize, end: usize, base: usize) -> u64
-    ensures {
-        (place : ℕ) → place < 64
-        → is_one result place ≡ (nat_le first (base + place) && nat_lt (base + place) end)
-    }
+    ensures { (place : ℕ) → place < 64
+        → is_one result place ≡ (nat_le first (base + place) && nat_lt (base + place) end) }
 {
     let low = first.saturating_sub(base).min(64);
     let high = end.saturating_sub(base).min(64);
@@ -148,10 +144,8 @@ fn count_bits(words: &[u64], first: usize, end: usize) -> usize
 
 /// Sets the bits of the numbers from `first` up to `end`, as far as there are words.
 fn set_bits(words: &mut [u64], first: usize, end: usize)
-    ensures {
-        (k : ℕ) → k < 64 * length words.old
-        → is_set words.new k ≡ (is_set words.old k || (nat_le first k && nat_lt k end))
-    }
+    ensures { (k : ℕ) → k < 64 * length words.old
+        → is_set words.new k ≡ (is_set words.old k || (nat_le first k && nat_lt k end)) }
 {
     for index in first / 64..end.div_ceil(64).min(words.len()) {
         words[index] |= bits_between(first, end, 64 * index);
@@ -160,10 +154,8 @@ fn set_bits(words: &mut [u64], first: usize, end: usize)
 
 /// Clears the bits of the numbers from `first` up to `end`.
 fn clear_bits(words: &mut [u64], first: usize, end: usize)
-    ensures {
-        (k : ℕ) → k < 64 * length words.old
-        → is_set words.new k ≡ (is_set words.old k && not (nat_le first k && nat_lt k end))
-    }
+    ensures { (k : ℕ) → k < 64 * length words.old
+        → is_set words.new k ≡ (is_set words.old k && not (nat_le first k && nat_lt k end)) }
 {
     for index in first / 64..end.div_ceil(64).min(words.len()) {
         words[index] &= !bits_between(first, end, 64 * index);

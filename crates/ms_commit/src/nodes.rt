@@ -64,10 +64,8 @@ impl Nodes {
         requires some { 1 ≤ node_limit }
         requires few { node_limit ≤ 64 }
         requires granule_size { granule ≡ 8192 }
-        ensures {
-            result
-            ≡ no_nodes (record { nodes = node_limit; granules = granule_limit; granule = granule })
-        }
+        ensures { result
+            ≡ no_nodes (record { nodes = node_limit; granules = granule_limit; granule = granule }) }
     {
         Nodes {
             slots: Mask::empty(),
@@ -88,13 +86,9 @@ impl Nodes {
         ensures within { IfOk result (λ slot. slot < 64) }
         ensures added { IfOk result (λ slot. self.new ≡ with_slot self.old slot) }
         ensures granted { OnOk result (length self.old.slots < self.old.limits.nodes) }
-        ensures reserve_limit {
-            IsErr result ↔ (length self.old.slots ≡ self.old.limits.nodes)
-        }
-        ensures numbers {
-            IfErr result (λ refusal.
-                refusal ≡ Refusal.ReserveLimit (length self.old.slots) self.old.limits.nodes)
-        }
+        ensures reserve_limit { IsErr result ↔ (length self.old.slots ≡ self.old.limits.nodes) }
+        ensures numbers { IfErr result (λ refusal.
+            refusal ≡ Refusal.ReserveLimit (length self.old.slots) self.old.limits.nodes) }
         ensures unchanged { OnErr result (self.new ≡ self.old) }
     {
         match self.slots.lowest_missing() {
@@ -117,9 +111,9 @@ impl Nodes {
     {
         let count = self.slot_granules as usize;
         let first = slot as usize * count;
-        let present = self.granules.count(first, count);
+        let cleared = self.granules.count(first, count);
         self.granules.remove_range(first, count);
-        self.committed -= present as u64;
+        self.committed -= cleared as u64;
         self.slots.remove(slot as usize);
         self.reserved -= 1;
     }
@@ -131,18 +125,12 @@ impl Nodes {
         requires { AreInReserved self.old first count }
         ensures newly { IfOk result (λ newly. newly ≡ count_missing self.old.granules first count) }
         ensures added { OnOk result (self.new ≡ with_granules self.old first count) }
-        ensures granted {
-            OnOk result (granules_with self.old first count ≤ self.old.limits.granules)
-        }
-        ensures commit_limit {
-            IsErr result ↔ (self.old.limits.granules < granules_with self.old first count)
-        }
-        ensures numbers {
-            IfErr result (λ refusal.
-                refusal
-                ≡ Refusal.CommitLimit (length self.old.granules) self.old.limits.granules
-                    (count_missing self.old.granules first count))
-        }
+        ensures granted { OnOk result (granules_with self.old first count ≤ self.old.limits.granules) }
+        ensures commit_limit { IsErr result ↔ (self.old.limits.granules < granules_with self.old first count) }
+        ensures numbers { IfErr result (λ refusal.
+            refusal
+            ≡ Refusal.CommitLimit (length self.old.granules) self.old.limits.granules
+            (count_missing self.old.granules first count)) }
         ensures unchanged { OnErr result (self.new ≡ self.old) }
     {
         let need = self.missing(first, count);

@@ -8,11 +8,10 @@ use Rattle.ms_commit.proofs.MaskLemmas.{is_set-past}
 use Rattle.ms_commit.proofs.CountLemmas.{counted_more}
 use Rattle.ms_commit.proofs.mask.count_bits.Goals as goal
 
-
 pub loop-index-init : goal.loop-index-init
 loop-index-init c =
     ap length (sym (filter_none_in (λ k. is_set c.args.words.now k && (nat_le c.args.first k && nat_lt k c.args.end)) 0 (64 * (c.args.first / 64))
-      (λ k low high. and_false (is_set c.args.words.now k) (nat_le c.args.first k && nat_lt k c.args.end) (grind (arith, nat_tests)))))
+    (λ k low high. and_false (is_set c.args.words.now k) (nat_le c.args.first k && nat_lt k c.args.end) (grind (arith, nat_tests)))))
 
 pub loop-index-preserved : goal.loop-index-preserved
 loop-index-preserved c =
@@ -25,11 +24,11 @@ overflow_add-count c =
       arith,
       loop-index-preserved c,
       length-filter-below (λ k. is_set c.args.words.now k && (nat_le c.args.first k && nat_lt k c.args.end)) (64 * (c.loop-index.index + 1)) c.args.end
-      (λ k past. and_false (is_set c.args.words.now k) (nat_le c.args.first k && nat_lt k c.args.end) (grind (arith, nat_tests))),
+          (λ k past. and_false (is_set c.args.words.now k) (nat_le c.args.first k && nat_lt k c.args.end) (grind (arith, nat_tests))),
     )
 
 pub returns : goal.returns
 returns c =
     c.loop-index.invariant
     ∙ ap length (filter-window (is_set c.args.words.now) c.args.first c.args.end (64 * c.loop-index.index)
-      (λ k past from under. is_set-past c.args.words.now k (omega arith)))
+    (λ k past from under. is_set-past c.args.words.now k (omega arith)))

@@ -33,7 +33,7 @@ invariant_of-self c =
           c.remove.ensures.set c.remove_range.ensures.set.rising
           (omega (arith, one_less, c.self.invariant.sound.reserved)) (omega (arith, c.remove_range.ensures.counted, c.self.invariant.sound.committed));
       reserved = omega (arith, one_less, c.self.invariant.reserved);
-      committed = omega (arith, c.remove_range.ensures.counted, c.count-present.ensures, c.self.invariant.committed);
+      committed = omega (arith, c.remove_range.ensures.counted, c.count-cleared.ensures, c.self.invariant.committed);
       nodes = c.self.invariant.nodes;
       slot_is = c.self.invariant.slot_is;
       slot_some = c.self.invariant.slot_some;
