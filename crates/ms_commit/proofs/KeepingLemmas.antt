@@ -1,7 +1,6 @@
 -- What the code of `Nodes` keeps, and what callers see of it: ranges, the number that is missing,
 -- and the limit.
-use Rattle.std.proofs.Common.{◌≡◌, ◌≤◌, ◌<◌, ℕ, ◌+◌, ◌-◌, ◌*◌, ◌/◌, ◌^◌, List, length, refl, sym, ap, ◌∙◌, subst, arith}
-use Rattle.ms_base.specs.declared.refusal.Refusal.{Refusal}
+use Rattle.std.proofs.Common.{◌≡◌, ◌≤◌, ◌<◌, ℕ, ◌+◌, ◌-◌, ◌^◌, length, ap, ◌∙◌, arith}
 use Rattle.ms_base.specs.declared.refusal.Refusal.TheVariants.{CommitLimit}
 use Rattle.ms_commit.specs.declared.nodes.Nodes.TheInside.{Inside}
 use Rattle.ms_commit.specs.NumberSet.{count_within, count_missing}

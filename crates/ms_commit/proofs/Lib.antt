@@ -6,3 +6,4 @@ pub mod SetLemmas
 pub mod MemberLemmas
 pub mod NodesLemmas
 pub mod KeepingLemmas
+pub mod SameLemmas

@@ -1,10 +1,9 @@
 -- The words of a mask against the set of its members: what changed bits do to the set.
-use Rattle.std.proofs.Common.{◌≡◌, ◌≤◌, ◌<◌, ℕ, zero, suc, ◌+◌, ◌-◌, ◌*◌, Bool, true, false, cond, ◌&&◌, ◌||◌, not, List, [], ◌∷◌, ◌++◌, length, refl, sym, ap, ap₂, ◌∙◌, subst, inl, inr, arith}
-use Rattle.std.specs.Prelude.{◌==◌, nat_lt, nat_le}
+use Rattle.std.proofs.Common.{◌≡◌, ◌≤◌, ◌<◌, ℕ, ◌+◌, ◌*◌, Bool, true, false, cond, ◌&&◌, ◌||◌, not, List, [], ◌∷◌, length, refl, sym, ap, ap₂, ◌∙◌, subst, arith}
+use Rattle.std.specs.Prelude.{◌==◌}
 use Rattle.std.specs.Ordering.{nat_cmp}
 use Rattle.std.specs.BTreeSet.{insert_key}
 use Rattle.std.specs.List.{filter, range_with_len}
-use Rattle.std.proofs.lemmas.Bool.{cases_lt, cases_eq}
 use Rattle.std.proofs.lemmas.Bool.Decides.{nat_tests}
 use Rattle.std.proofs.lemmas.List.Elements.{filter_agree}
 use Rattle.std.proofs.lemmas.List.FromFn.{length-range_with_len}
@@ -13,7 +12,6 @@ use Rattle.ms_base.specs.Pick.{lowest_unreserved}
 use Rattle.ms_commit.specs.Mask.{is_set, members_of, IsLowestClear}
 use Rattle.ms_commit.proofs.RangeLemmas.{filter_agree_in, filter_all_in, filter-filter}
 use Rattle.ms_commit.proofs.MaskLemmas.{is_among-members}
-use Rattle.ms_commit.proofs.CountLemmas.{length-kept}
 use Rattle.ms_commit.proofs.OrderLemmas.{insert_key-filter, lowest_unreserved-is, length_from_full}
 use Rattle.ms_commit.proofs.SetLemmas.{IsSetBelow-filter, with_range-filter, length-with_range, length-without_range, count_within-filter}
 

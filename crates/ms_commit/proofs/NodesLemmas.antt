@@ -1,20 +1,19 @@
 -- Sound nodes stay sound: a slot comes or goes, granules are committed or uncommitted.
-use Rattle.std.proofs.Common.{◌≡◌, ◌≤◌, ◌<◌, ℕ, zero, suc, ◌+◌, ◌-◌, ◌*◌, ◌/◌, ◌%◌, ◌^◌, Bool, true, false, ◌&&◌, ◌||◌, not, List, [], ◌∷◌, length, get_or, refl, sym, ap, ◌∙◌, subst, inl, inr, arith}
-use Rattle.std.specs.Prelude.{◌==◌, IsTrue}
-use Rattle.std.specs.List.{All, list_any}
+use Rattle.std.proofs.Common.{◌≡◌, ◌≤◌, ◌<◌, ℕ, zero, suc, ◌+◌, ◌*◌, ◌/◌, ◌^◌, Bool, true, false, ◌&&◌, ◌||◌, not, List, length, refl, sym, ap, ◌∙◌, subst, inl, inr, arith}
+use Rattle.std.specs.Prelude.{◌==◌}
+use Rattle.std.specs.List.{All}
 use Rattle.std.specs.List.Sorted.{IsStrictlyIncreasing}
-use Rattle.std.specs.Ordering.{nat_cmp, match_ordering}
-use Rattle.std.specs.declared.cmp.Ordering.TheVariants.{Less, Equal, Greater}
+use Rattle.std.specs.Ordering.{nat_cmp}
 use Rattle.std.specs.BTreeSet.{insert_key}
 use Rattle.std.proofs.lemmas.Bool.{cases_eq}
 use Rattle.std.proofs.lemmas.Bool.Decides.{nat_tests}
 use Rattle.std.proofs.lemmas.List.Folds.{Any-from_list_any}
-use Rattle.std.proofs.lemmas.Nat.{div-add-mod', mod_below, mul-le}
+use Rattle.std.proofs.lemmas.Nat.{div-add-mod', mod_below}
 use Rattle.std.proofs.Math.Nat.{div-lt_iff_lt-mul}
-use Rattle.ms_base.specs.Part.{is_reserved}
 use Rattle.ms_commit.specs.NumberSet.{is_among, is_in_range, with_range, without_range, without_number, IsSetBelow}
 use Rattle.ms_commit.specs.Nodes.{NodesState, slot_granules, IsInReserved, AreInReserved, AreSound}
 use Rattle.ms_commit.proofs.RangeLemmas.{is_among-filter}
+use Rattle.ms_commit.proofs.SameLemmas.{is_among-insert_key}
 use Rattle.ms_commit.proofs.SetLemmas.{is_among-with_range, is_among-without_range}
 
 -- A member of a set below a bound is below it.
@@ -72,33 +71,18 @@ sound_without nodes granules first count sound after rising within = record {
   committed = within;
 }
 
--- A slot is reserved: those reserved before stay so.
 or_here : (a b : Bool) → a ≡ true → (a || b) ≡ true
 or_here a b e = ap (λ v. v || b) e
 
-or_later : (a b : Bool) → b ≡ true → (a || b) ≡ true
-or_later true b e = refl
-or_later false b e = e
-
-is_among-insert_key : (members : List ℕ) (number k : ℕ) → is_among members k ≡ true → is_among (insert_key nat_cmp members number) k ≡ true
-is_among-insert_key [] number k member = absurd (cc)
-is_among-insert_key (x ∷ members) number k member =
-    elim (nat_cmp number x) as (λ o. is_among (match_ordering o (number ∷ x ∷ members) (x ∷ members) (x ∷ insert_key nat_cmp members number)) k ≡ true) [
-      | Less ↦ or_later (number == k) ((x == k) || is_among members k) member
-      | Equal ↦ member
-      | Greater ↦ elim (x == k) as (λ b. (b || is_among members k) ≡ true → (b || is_among (insert_key nat_cmp members number) k) ≡ true) [
-        | true ↦ λ e. refl
-        | false ↦ λ e. is_among-insert_key members number k e
-      ] member
-    ]
-
+-- A slot is reserved: those reserved before stay so.
 pub sound_reserve : (nodes : NodesState) (slots : List ℕ) (slot : ℕ) → AreSound nodes → slots ≡ insert_key nat_cmp nodes.slots slot
     → IsSetBelow 64 slots → length slots ≤ nodes.limits.nodes → AreSound (record nodes { slots = slots })
 sound_reserve nodes slots slot sound after set within = record {
   slots = set;
   granules = sound.granules;
   inside = λ granule member. ap (λ members. is_among members (granule / slot_granules nodes)) after
-      ∙ is_among-insert_key nodes.slots slot (granule / slot_granules nodes) (sound.inside granule member);
+      ∙ is_among-insert_key nodes.slots slot (granule / slot_granules nodes)
+      ∙ or_here (is_among nodes.slots (granule / slot_granules nodes)) (slot == granule / slot_granules nodes) (sound.inside granule member);
   reserved = within;
   committed = sound.committed;
 }

@@ -5,6 +5,7 @@
 //! answers and whose limits its model has. Nothing here takes memory, and nothing waits.
 #![tactic(auto)]
 
+pub mod laws;
 mod mask;
 mod nodes;
 #[cfg(test)]

@@ -1,4 +1,4 @@
-use Rattle.std.proofs.Common.{◌≡◌, ℕ, ◌-◌, ◌^◌, ◌&&◌, not, true, false, refl, get_or, ap, ◌∙◌, arith}
+use Rattle.std.proofs.Common.{◌≡◌, ◌-◌, ◌^◌, ◌&&◌, not, true, false, refl, get_or, ap, ◌∙◌, arith}
 use Rattle.std.specs.Prelude.{nat_le, nat_lt}
 use Rattle.ms_commit.specs.Mask.{is_one}
 use Rattle.ms_commit.proofs.MaskLemmas.{is_one-and, is_one-not, changed_more}

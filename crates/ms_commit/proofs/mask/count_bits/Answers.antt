@@ -1,8 +1,7 @@
-use Rattle.std.proofs.Common.{◌≡◌, ℕ, Bool, false, ◌<◌, ◌≤◌, ◌*◌, ◌/◌, ◌+◌, ◌&&◌, refl, ap, ◌∙◌, sym, length, arith, inl, inr}
+use Rattle.std.proofs.Common.{◌*◌, ◌/◌, ◌+◌, ◌&&◌, ap, ◌∙◌, sym, length, arith}
 use Rattle.std.specs.Prelude.{nat_le, nat_lt}
-use Rattle.std.proofs.lemmas.Bool.{cases_lt}
 use Rattle.std.proofs.lemmas.Bool.Decides.{nat_tests}
-use Rattle.ms_commit.specs.Mask.{is_one, is_set}
+use Rattle.ms_commit.specs.Mask.{is_set}
 use Rattle.ms_commit.proofs.RangeLemmas.{and_false, filter_none_in, length-filter-below, filter-window}
 use Rattle.ms_commit.proofs.MaskLemmas.{is_set-past}
 use Rattle.ms_commit.proofs.CountLemmas.{counted_more}

@@ -1,4 +1,4 @@
-use Rattle.std.proofs.Common.{◌≡◌, ℕ, ◌*◌, ◌<◌, ◌&&◌, length}
+use Rattle.std.proofs.Common.{◌≡◌, ◌*◌, ◌&&◌, length}
 use Rattle.std.specs.Prelude.{nat_le, nat_lt}
 use Rattle.std.specs.List.{filter, range_with_len}
 use Rattle.ms_commit.specs.Mask.{is_set}

@@ -1,4 +1,4 @@
-use Rattle.std.proofs.Common.{◌≡◌, ℕ, ◌+◌, ◌*◌, sym, subst, arith}
+use Rattle.std.proofs.Common.{◌+◌, ◌*◌, sym, subst, arith}
 use Rattle.ms_commit.specs.Mask.{IsLowestClear}
 use Rattle.ms_commit.proofs.MaskLemmas.{full_more, lowest_in_word}
 use Rattle.ms_commit.proofs.mask.lowest_clear.Goals as goal

@@ -1,4 +1,4 @@
-use Rattle.std.proofs.Common.{◌≡◌, ℕ, ◌*◌, Option, Some, None, false, length, sym, ap, ◌∙◌, arith}
+use Rattle.std.proofs.Common.{◌*◌, Option, Some, None, length, sym, ap, ◌∙◌}
 use Rattle.std.specs.Option.{IfNone}
 use Rattle.std.proofs.lemmas.Option.{IfSome_then}
 use Rattle.ms_base.specs.Pick.{lowest_unreserved}

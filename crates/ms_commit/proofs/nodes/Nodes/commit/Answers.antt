@@ -1,6 +1,5 @@
-use Rattle.std.proofs.Common.{◌≡◌, ℕ, ◌<◌, ◌≤◌, ◌+◌, ◌-◌, false, true, length, refl, sym, ap, ◌∙◌, subst, arith}
+use Rattle.std.proofs.Common.{length, refl, sym, ap, subst, arith}
 use Rattle.std.proofs.lemmas.Bool.{false≢true}
-use Rattle.ms_commit.specs.NumberSet.{count_missing}
 use Rattle.ms_commit.specs.Nodes.{NodesState, AreInReserved}
 use Rattle.ms_commit.specs.Keeping.{state_of}
 use Rattle.ms_commit.proofs.NodesLemmas.{sound_with}

@@ -1,5 +1,4 @@
-use Rattle.std.proofs.Common.{◌≡◌, ℕ, ◌≤◌, ◌-◌, arith}
-use Rattle.ms_commit.specs.NumberSet.{count_missing}
+use Rattle.std.proofs.Common.{arith}
 use Rattle.ms_commit.proofs.SetLemmas.{count_missing-within}
 use Rattle.ms_commit.proofs.KeepingLemmas.{need_is_missing}
 use Rattle.ms_commit.proofs.nodes.Nodes.missing.Goals as goal

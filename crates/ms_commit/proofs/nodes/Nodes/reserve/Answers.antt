@@ -1,4 +1,4 @@
-use Rattle.std.proofs.Common.{◌≡◌, ℕ, ◌<◌, ◌≤◌, ◌+◌, length, arith}
+use Rattle.std.proofs.Common.{arith}
 use Rattle.ms_commit.specs.Keeping.{state_of}
 use Rattle.ms_commit.proofs.NodesLemmas.{sound_reserve}
 use Rattle.ms_commit.proofs.nodes.Nodes.reserve.Goals as goal

@@ -1,5 +1,4 @@
-use Rattle.std.proofs.Common.{◌≡◌, ℕ, ◌<◌, ◌≤◌, ◌+◌, ◌-◌, length, sym, ap, subst, arith}
-use Rattle.ms_commit.specs.NumberSet.{count_within}
+use Rattle.std.proofs.Common.{sym, subst, arith}
 use Rattle.ms_commit.specs.Nodes.{AreInReserved}
 use Rattle.ms_commit.specs.Keeping.{state_of}
 use Rattle.ms_commit.proofs.NodesLemmas.{sound_without}
