@@ -7,3 +7,4 @@ pub mod MemberLemmas
 pub mod NodesLemmas
 pub mod KeepingLemmas
 pub mod SameLemmas
+pub mod ModelLemmas

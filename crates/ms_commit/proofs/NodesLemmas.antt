@@ -5,11 +5,11 @@ use Rattle.std.specs.List.{All}
 use Rattle.std.specs.List.Sorted.{IsStrictlyIncreasing}
 use Rattle.std.specs.Ordering.{nat_cmp}
 use Rattle.std.specs.BTreeSet.{insert_key}
-use Rattle.std.proofs.lemmas.Bool.{cases_eq}
+use Rattle.std.proofs.lemmas.Bool.{cases_order}
 use Rattle.std.proofs.lemmas.Bool.Decides.{nat_tests}
 use Rattle.std.proofs.lemmas.List.Folds.{Any-from_list_any}
-use Rattle.std.proofs.lemmas.Nat.{div-add-mod', mod_below}
-use Rattle.std.proofs.Math.Nat.{div-lt_iff_lt-mul}
+use Rattle.std.proofs.lemmas.Nat.{div-add-mod', mod_below, mul-le}
+use Rattle.std.proofs.Math.Nat.{div-lt_iff_lt-mul, add-mul}
 use Rattle.ms_commit.specs.NumberSet.{is_among, is_in_range, with_range, without_range, without_number, IsSetBelow}
 use Rattle.ms_commit.specs.Nodes.{NodesState, slot_granules, IsInReserved, AreInReserved, AreSound}
 use Rattle.ms_commit.proofs.RangeLemmas.{is_among-filter}
@@ -87,17 +87,36 @@ sound_reserve nodes slots slot sound after set within = record {
   committed = sound.committed;
 }
 
--- A number outside the range of a slot's granules lies in another slot.
-other_slot : (slot n granule : ℕ) → 0 < n → not (is_in_range (slot * n) n granule) ≡ true → not (granule / n == slot) ≡ true
-other_slot slot n granule some outside = elim (cases_eq (granule / n) slot) [
+-- The granules of a slot end where those of the next begin.
+pub next_slot : (slot later n : ℕ) → slot < later → slot * n + n ≤ later * n
+next_slot slot later n h = omega (arith, mul-le (slot + 1) n later n (omega arith) (omega arith), add-mul slot 1 n)
+
+-- The granules of a slot are those whose slot it is.
+pub in_own_slot : (slot n k : ℕ) → 0 < n → is_in_range (slot * n) n k ≡ (slot == k / n)
+in_own_slot slot n k some = elim (cases_order slot (k / n)) [
   | inl same ↦
       let row = ap (λ s. s * n) same in
-      absurd (contradiction (omega (arith, div-add-mod' granule n, row)) (omega (arith, div-add-mod' granule n, row, mod_below granule n some)))
-  | inr other ↦ grind (arith, nat_tests)
+      inside (omega (arith, div-add-mod' k n, row)) (omega (arith, div-add-mod' k n, row, mod_below k n some)) same
+  | inr apart ↦ elim apart [
+    | inl lower ↦ past (omega (arith, div-add-mod' k n, next_slot slot (k / n) n lower)) lower
+    | inr higher ↦ before (omega (arith, div-add-mod' k n, mod_below k n some, next_slot (k / n) slot n higher)) higher
+  ]
 ]
   where
-    contradiction : slot * n ≤ granule → granule < slot * n + n → ⊥
-    contradiction low high = grind (arith, nat_tests)
+    inside : slot * n ≤ k → k < slot * n + n → slot ≡ k / n → is_in_range (slot * n) n k ≡ (slot == k / n)
+    inside low high same = grind (arith, nat_tests)
+
+    past : slot * n + n ≤ k → slot < k / n → is_in_range (slot * n) n k ≡ (slot == k / n)
+    past over lower = grind (arith, nat_tests)
+
+    before : k < slot * n → k / n < slot → is_in_range (slot * n) n k ≡ (slot == k / n)
+    before under higher = grind (arith, nat_tests)
+
+other_slot : (slot n k : ℕ) → 0 < n → not (is_in_range (slot * n) n k) ≡ true → not (k / n == slot) ≡ true
+other_slot slot n k some outside = turned slot (k / n) (ap not (sym (in_own_slot slot n k some)) ∙ outside)
+  where
+    turned : (a b : ℕ) → not (a == b) ≡ true → not (b == a) ≡ true
+    turned a b e = grind (arith, nat_tests)
 
 -- A slot is unreserved with its granules.
 pub sound_unreserve : (nodes : NodesState) (slots granules : List ℕ) (slot : ℕ) → AreSound nodes → 0 < slot_granules nodes

@@ -1,4 +1,4 @@
-use Rattle.std.proofs.Common.{false, true, refl, ap, arith}
+use Rattle.std.proofs.Common.{refl, ap, arith}
 use Rattle.std.proofs.lemmas.Bool.{false≢true}
 use Rattle.ms_commit.specs.Nodes.{NodesState}
 use Rattle.ms_commit.proofs.KeepingLemmas.{range_is_kept, total_with, commit_limit_is, kept_with}
