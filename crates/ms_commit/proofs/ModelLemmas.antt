@@ -1,19 +1,24 @@
 -- The nodes' granules against the model's: a set in rising order is the committed granules where
--- its members are those that hold a word of a front and lie in a reserved slot.
-use Rattle.std.proofs.Common.{◌≡◌, ◌≤◌, ◌<◌, ℕ, zero, suc, ◌+◌, ◌*◌, ◌/◌, ◌&&◌, ◌||◌, List, [], ◌∷◌, ◌++◌, refl, sym, ap, ap₂, ◌∙◌, arith}
+-- its members are those that hold a word of a front and lie in a reserved slot; and the range of
+-- granules that some words meet. For the crates above, and the law on committed granules.
+use Rattle.std.proofs.Common.{◌≡◌, ◌≤◌, ◌<◌, ℕ, zero, suc, ◌+◌, ◌-◌, ◌*◌, ◌/◌, ◌&&◌, ◌||◌, List, [], ◌∷◌, ◌++◌, refl, sym, ap, ap₂, ◌∙◌, inl, inr, arith}
 use Rattle.std.specs.Prelude.{◌==◌}
 use Rattle.std.specs.List.{AllByRecursion, flat_map, range_with_len}
 use Rattle.std.specs.List.Sorted.{IsStrictlyIncreasing, IsStrictlySortedBy}
 use Rattle.std.specs.Ordering.{nat_cmp}
 use Rattle.std.specs.declared.cmp.Ordering.TheVariants.{Less}
+use Rattle.std.proofs.lemmas.Bool.{cases_lt}
 use Rattle.std.proofs.lemmas.Bool.Decides.{nat_tests}
 use Rattle.std.proofs.lemmas.List.Folds.{list_any-append}
 use Rattle.std.proofs.lemmas.List.Kept.{IsStrictlyIncreasing-filter}
 use Rattle.std.proofs.lemmas.Map.Keys.{sorted_from_strictly_increasing, IsStrictlyIncreasing-from_sorted}
+use Rattle.std.proofs.lemmas.Nat.{div-add-mod', mod_below, mul-le, le-div}
+use Rattle.std.proofs.Math.Nat.{div-mul-le_self}
 use Rattle.ms_base.specs.declared.span.Chunk.{Chunk}
 use Rattle.ms_base.specs.Part.{node_words, is_reserved}
-use Rattle.ms_base.specs.Committed.{is_committed, granules_of, committed_granules}
-use Rattle.ms_commit.specs.NumberSet.{is_among}
+use Rattle.ms_base.specs.Interval.{meet}
+use Rattle.ms_base.specs.Committed.{is_committed, granules_of, granules_meeting, committed_granules}
+use Rattle.ms_commit.specs.NumberSet.{is_among, is_in_range}
 use Rattle.ms_commit.proofs.RangeLemmas.{is_among-filter, is_among-range}
 use Rattle.ms_commit.proofs.NodesLemmas.{next_slot, in_own_slot}
 use Rattle.ms_commit.proofs.SameLemmas.{same_sets}
@@ -89,3 +94,42 @@ granules_are_committed granule held slots members some rise rising same =
     same_sets members (committed_granules granule held slots) (sorted_from_strictly_increasing members rising)
     (sorted_from_strictly_increasing (committed_granules granule held slots) (committed_rise granule held slots rise))
     (λ k. same k ∙ sym (is_among-committed granule held slots k some))
+
+-- The granules that meet some words are those of which a word is among them.
+meet_by_ends : (first last k start words at granule : ℕ) → first ≤ last → 0 < words
+    → (k < first → at + granule ≤ start) → (first ≤ k → start < at + granule)
+    → (last < k → start + words ≤ at) → (k ≤ last → at < start + words)
+    → is_in_range first (last + 1 - first) k ≡ meet start words at granule
+meet_by_ends first last k start words at granule order some before from past upto = elim (cases_lt k first) [
+  | inl lower ↦ none_low lower (before lower)
+  | inr higher ↦ elim (cases_lt last k) [
+    | inl beyond ↦ none_high beyond (past beyond)
+    | inr inside ↦ both higher inside (from higher) (upto inside)
+  ]
+]
+  where
+    none_low : k < first → at + granule ≤ start → is_in_range first (last + 1 - first) k ≡ meet start words at granule
+    none_low h e = grind (arith, nat_tests)
+
+    none_high : last < k → start + words ≤ at → is_in_range first (last + 1 - first) k ≡ meet start words at granule
+    none_high h e = grind (arith, nat_tests)
+
+    both : first ≤ k → k ≤ last → start < at + granule → at < start + words → is_in_range first (last + 1 - first) k ≡ meet start words at granule
+    both h l e f = grind (arith, nat_tests)
+
+pub is_among-meeting : (granule start words k : ℕ) → 0 < granule → 0 < words
+    → is_among (granules_meeting granule start words) k ≡ meet start words (k * granule) granule
+is_among-meeting granule start words k some more =
+    is_among-range first (last + 1 - first) k
+    ∙ meet_by_ends first last k start words (k * granule) granule
+    (le-div first (start + words - 1) granule some (omega (arith, div-mul-le_self start granule))) more
+    (λ lower. omega (arith, next_slot k first granule lower, div-add-mod' start granule))
+    (λ higher. omega (arith, mul-le first granule k granule higher (omega arith), div-add-mod' start granule, mod_below start granule some))
+    (λ beyond. omega (arith, next_slot last k granule beyond, div-add-mod' (start + words - 1) granule, mod_below (start + words - 1) granule some))
+    (λ inside. omega (arith, mul-le k granule last granule inside (omega arith), div-add-mod' (start + words - 1) granule))
+  where
+    first : ℕ
+    first = start / granule
+
+    last : ℕ
+    last = (start + words - 1) / granule

@@ -1,4 +1,4 @@
--- A mask: words of 64 bits, each bit standing for a number.
+-- A mask: words of 64 bits, each bit standing for a number (after HotSpot's commitMask.hpp).
 use Rattle.std.specs.Prelude.{◌≡◌, ℕ, ◌*◌, ◌/◌, ◌%◌, ◌<◌, Bool, true, false, ◌==◌, List, length, slice_index}
 use Rattle.std.specs.List.{filter, range_with_len}
 use Rattle.std.specs.Int.{bit_at}

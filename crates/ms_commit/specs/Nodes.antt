@@ -1,4 +1,5 @@
--- The nodes: which slots are reserved, and which granules are committed.
+-- The nodes: which slots are reserved, and which granules are committed (this project's choice;
+-- HotSpot's virtualSpaceNode.hpp and commitLimiter.hpp have the parts).
 use Rattle.std.specs.Prelude.{ℕ, ◌+◌, ◌*◌, ◌/◌, ◌<◌, ◌≤◌, List, [], length, IsTrue}
 use Rattle.std.specs.Ordering.{nat_cmp}
 use Rattle.std.specs.BTreeSet.{insert_key}
@@ -30,7 +31,7 @@ IsInReserved nodes granule = IsTrue (is_reserved nodes.slots (granule / slot_gra
 abbrev pub AreInReserved : NodesState → ℕ → ℕ → Type 0
 AreInReserved nodes first count = (granule : ℕ) → first ≤ granule → granule < first + count → IsInReserved nodes granule
 
--- The nodes with a slot reserved: none of its granules is committed.
+-- The nodes with a slot reserved.
 abbrev pub with_slot : NodesState → ℕ → NodesState
 with_slot nodes slot = record nodes { slots = insert_key nat_cmp nodes.slots slot }
 
@@ -41,10 +42,11 @@ without_slot nodes slot = record nodes {
   granules = without_range nodes.granules (slot * slot_granules nodes) (slot_granules nodes);
 }
 
--- The nodes with a range of granules committed, and with none of it committed.
+-- The nodes with a range of granules committed.
 abbrev pub with_granules : NodesState → ℕ → ℕ → NodesState
 with_granules nodes first count = record nodes { granules = with_range nodes.granules first count }
 
+-- The nodes with a range of granules uncommitted.
 abbrev pub without_granules : NodesState → ℕ → ℕ → NodesState
 without_granules nodes first count = record nodes { granules = without_range nodes.granules first count }
 

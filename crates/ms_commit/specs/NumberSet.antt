@@ -1,4 +1,4 @@
--- Sets of numbers, as the lists of their members in rising order.
+-- Sets of numbers, as the lists of their members in rising order (this project's choice).
 use Rattle.std.specs.Prelude.{ℕ, ◌+◌, ◌<◌, Bool, not, ◌==◌, ◌&&◌, nat_lt, nat_le, List, ◌++◌, length}
 use Rattle.std.specs.List.{All, list_any, filter, range_with_len}
 use Rattle.std.specs.List.Sorted.{IsStrictlyIncreasing}
