@@ -11,8 +11,13 @@ use Rattle.ms_commit.specs.Mask.{is_one, is_set}
 use Rattle.ms_commit.proofs.RangeLemmas.{filter-cut, filter_agree_in}
 use Rattle.ms_commit.proofs.MaskLemmas.{is_one-and, is_set-place}
 
-pub length-kept : {X : Type 0} (b : Bool) (x : X) (rest : List X) → length (cond b (x ∷ rest) rest) ≡ cond b 1 0 + length rest
-length-kept b x rest = elim b as (λ v. length (cond v (x ∷ rest) rest) ≡ cond v 1 0 + length rest) [ true ↦ omega arith | false ↦ omega arith ]
+pub length-kept : {X : Type 0} (b : Bool) (x : X) (rest : List X)
+    → length (cond b (x ∷ rest) rest) ≡ cond b 1 0 + length rest
+length-kept b x rest =
+    elim b as (λ v. length (cond v (x ∷ rest) rest) ≡ cond v 1 0 + length rest) [
+      | true ↦ omega arith
+      | false ↦ omega arith
+    ]
 
 -- To count in a range is to count in the range moved down.
 pub count_moved : (p : ℕ → Bool) (by a n : ℕ)
@@ -36,7 +41,8 @@ unfolding ones
 no_ones = refl
 
 -- A word's set bits are counted place by place.
-pub ones_are_counted : (places word : ℕ) → word < 2 ^ places → ones word ≡ length (filter (is_one word) (range_with_len 0 places))
+pub ones_are_counted : (places word : ℕ) → word < 2 ^ places
+    → ones word ≡ length (filter (is_one word) (range_with_len 0 places))
 ones_are_counted zero word h = let e : word ≡ 0 = omega arith in ap ones e ∙ no_ones
 ones_are_counted (suc places) word h =
     ones_step word
@@ -49,21 +55,26 @@ ones_are_counted (suc places) word h =
     next : (k : ℕ) → bit_at (word / 2) k ≡ bit_at word (1 + k)
     next k = let e : suc k ≡ 1 + k = omega arith in sym (bit_at-suc word k) ∙ ap (bit_at word) e
 
-    moved : length (filter (is_one (word / 2)) (range_with_len 0 places)) ≡ length (filter (is_one word) (range_with_len 1 places))
+    moved : length (filter (is_one (word / 2)) (range_with_len 0 places))
+        ≡ length (filter (is_one word) (range_with_len 1 places))
     moved =
-        ap length (filter_agree_in (is_one (word / 2)) (λ k. is_one word (1 + k)) 0 places (λ k low high. ap (λ bit. bit == 1) (next k)))
+        ap length (filter_agree_in (is_one (word / 2)) (λ k. is_one word (1 + k)) 0 places
+        (λ k low high. ap (λ bit. bit == 1) (next k)))
         ∙ sym (count_moved (is_one word) 1 0 places)
 
 -- One more word is counted: the bits of a word that stand for numbers that pass.
 pub counted_more : (p : ℕ → Bool) (words : List ℕ) (index run count : ℕ) → run < 2 ^ 64
     → ((place : ℕ) → place < 64 → is_one run place ≡ p (64 * index + place))
     → count ≡ length (filter (λ k. is_set words k && p k) (range_with_len 0 (64 * index)))
-    → count + ones (bit_and (get_or words index 0) run) ≡ length (filter (λ k. is_set words k && p k) (range_with_len 0 (64 * (index + 1))))
+    → count + ones (bit_and (get_or words index 0) run)
+    ≡ length (filter (λ k. is_set words k && p k) (range_with_len 0 (64 * (index + 1))))
 counted_more p words index run count fits places so_far =
     ap₂ (λ below here. below + here) so_far
-    (ones_are_counted 64 word small ∙ ap length agree ∙ sym (count_moved q (64 * index) 0 64) ∙ ap (λ a. length (filter q (range_with_len a 64))) from)
+    (ones_are_counted 64 word small ∙ ap length agree ∙ sym (count_moved q (64 * index) 0 64)
+    ∙ ap (λ a. length (filter q (range_with_len a 64))) from)
     ∙ sym (length-append (filter q (range_with_len 0 (64 * index))) (filter q (range_with_len (64 * index) 64)))
-    ∙ ap length (sym (filter-cut q 0 (64 * index) 64 (64 * index) (omega arith)) ∙ ap (λ n. filter q (range_with_len 0 n)) next)
+    ∙ ap length (sym (filter-cut q 0 (64 * index) 64 (64 * index) (omega arith))
+    ∙ ap (λ n. filter q (range_with_len 0 n)) next)
   where
     q : ℕ → Bool
     q k = is_set words k && p k
@@ -76,7 +87,8 @@ counted_more p words index run count fits places so_far =
 
     agree : filter (is_one word) (range_with_len 0 64) ≡ filter (λ k. q (64 * index + k)) (range_with_len 0 64)
     agree = filter_agree_in (is_one word) (λ k. q (64 * index + k)) 0 64
-        (λ k low high. is_one-and (get_or words index 0) run k ∙ ap₂ (λ a b. a && b) (sym (is_set-place words index k (omega arith))) (places k (omega arith)))
+        (λ k low high. is_one-and (get_or words index 0) run k
+        ∙ ap₂ (λ a b. a && b) (sym (is_set-place words index k (omega arith))) (places k (omega arith)))
 
     from : 64 * index + 0 ≡ 64 * index
     from = omega arith

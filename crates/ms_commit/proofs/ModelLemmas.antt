@@ -1,7 +1,7 @@
 -- The nodes' granules against the model's: a set in rising order is the committed granules where
 -- its members are those that hold a word of a front and lie in a reserved slot; and the range of
 -- granules that some words meet. For the crates above, and the law on committed granules.
-use Rattle.std.proofs.Common.{◌≡◌, ◌≤◌, ◌<◌, ℕ, zero, suc, ◌+◌, ◌-◌, ◌*◌, ◌/◌, ◌&&◌, ◌||◌, List, [], ◌∷◌, ◌++◌, refl, sym, ap, ap₂, ◌∙◌, inl, inr, arith}
+use Rattle.std.proofs.Common.{◌≡◌, ◌≤◌, ◌<◌, ℕ, zero, suc, ◌+◌, ◌-◌, ◌*◌, ◌/◌, ◌%◌, ◌&&◌, ◌||◌, List, [], ◌∷◌, ◌++◌, refl, sym, ap, ap₂, ◌∙◌, inl, inr, arith}
 use Rattle.std.specs.Prelude.{◌==◌}
 use Rattle.std.specs.List.{AllByRecursion, flat_map, range_with_len}
 use Rattle.std.specs.List.Sorted.{IsStrictlyIncreasing, IsStrictlySortedBy}
@@ -24,14 +24,16 @@ use Rattle.ms_commit.proofs.NodesLemmas.{next_slot, in_own_slot}
 use Rattle.ms_commit.proofs.SameLemmas.{same_sets}
 
 -- The granules of slots are those whose slot is there.
-is_among-slots : (n : ℕ) (slots : List ℕ) (k : ℕ) → 0 < n → is_among (flat_map (λ slot. range_with_len (slot * n) n) slots) k ≡ is_reserved slots (k / n)
+is_among-slots : (n : ℕ) (slots : List ℕ) (k : ℕ) → 0 < n
+    → is_among (flat_map (λ slot. range_with_len (slot * n) n) slots) k ≡ is_reserved slots (k / n)
 is_among-slots n [] k some = refl
 is_among-slots n (slot ∷ slots) k some =
     list_any-append (λ other. other == k) (range_with_len (slot * n) n) (flat_map (λ s. range_with_len (s * n) n) slots)
     ∙ ap₂ (λ a b. a || b) (is_among-range (slot * n) n k ∙ in_own_slot slot n k some) (is_among-slots n slots k some)
 
 pub is_among-committed : (granule : ℕ) (held : List Chunk) (slots : List ℕ) (k : ℕ) → 0 < node_words / granule
-    → is_among (committed_granules granule held slots) k ≡ (is_committed granule held k && is_reserved slots (k / (node_words / granule)))
+    → is_among (committed_granules granule held slots) k
+    ≡ (is_committed granule held k && is_reserved slots (k / (node_words / granule)))
 is_among-committed granule held slots k some =
     is_among-filter (is_committed granule held) (flat_map (granules_of granule) slots) k
     ∙ ap (λ b. is_committed granule held k && b) (is_among-slots (node_words / granule) slots k some)
@@ -53,38 +55,49 @@ above low (k ∷ members) all = (less low k all.0, above low members all.1)
 
 range_from : (a n : ℕ) (later : List ℕ) → AreFrom (a + n) later → AreFrom a (range_with_len a n ++ later)
 range_from a zero later all = from_lower a (a + 0) later (omega arith) all
-range_from a (suc n) later all =
-    (omega arith, from_lower a (a + 1) (range_with_len (a + 1) n ++ later) (omega arith) (range_from (a + 1) n later (from_lower (a + 1 + n) (a + suc n) later (omega arith) all)))
+range_from a (suc n) later all = (
+  omega arith,
+  from_lower a (a + 1) (range_with_len (a + 1) n ++ later) (omega arith)
+      (range_from (a + 1) n later (from_lower (a + 1 + n) (a + suc n) later (omega arith) all)),
+)
 
-range_sorted : (a n : ℕ) (later : List ℕ) → AreFrom (a + n) later → IsStrictlySortedBy nat_cmp later → IsStrictlySortedBy nat_cmp (range_with_len a n ++ later)
+range_sorted : (a n : ℕ) (later : List ℕ) → AreFrom (a + n) later → IsStrictlySortedBy nat_cmp later
+    → IsStrictlySortedBy nat_cmp (range_with_len a n ++ later)
 unfolding IsStrictlySortedBy
 range_sorted a zero later all rise = rise
 range_sorted a (suc n) later all rise =
     let rest = from_lower (a + 1 + n) (a + suc n) later (omega arith) all in
-    (above a (range_with_len (a + 1) n ++ later) (range_from (a + 1) n later rest), range_sorted (a + 1) n later rest rise)
+    let above_all = above a (range_with_len (a + 1) n ++ later) (range_from (a + 1) n later rest) in
+    (above_all, range_sorted (a + 1) n later rest rise)
 
 -- The granules of rising slots rise.
-slots_from : (n low : ℕ) (slots : List ℕ) → AllByRecursion (λ slot. nat_cmp low slot ≡ Less) slots → IsStrictlySortedBy nat_cmp slots
+slots_from : (n low : ℕ) (slots : List ℕ) → AllByRecursion (λ slot. nat_cmp low slot ≡ Less) slots
+    → IsStrictlySortedBy nat_cmp slots
     → AreFrom (low * n + n) (flat_map (λ slot. range_with_len (slot * n) n) slots)
 unfolding IsStrictlySortedBy
 slots_from n low [] all rise = tt
 slots_from n low (slot ∷ slots) all rise =
-    from_lower (low * n + n) (slot * n) (range_with_len (slot * n) n ++ flat_map (λ s. range_with_len (s * n) n) slots) (next_slot low slot n (is_below low slot all.0))
+    from_lower (low * n + n) (slot * n) (range_with_len (slot * n) n ++ flat_map (λ s. range_with_len (s * n) n) slots)
+    (next_slot low slot n (is_below low slot all.0))
     (range_from (slot * n) n (flat_map (λ s. range_with_len (s * n) n) slots) (slots_from n slot slots rise.0 rise.1))
   where
     is_below : (a b : ℕ) → nat_cmp a b ≡ Less → a < b
     is_below a b e = grind (arith, nat_tests)
 
-slots_sorted : (n : ℕ) (slots : List ℕ) → IsStrictlySortedBy nat_cmp slots → IsStrictlySortedBy nat_cmp (flat_map (λ slot. range_with_len (slot * n) n) slots)
+slots_sorted : (n : ℕ) (slots : List ℕ) → IsStrictlySortedBy nat_cmp slots
+    → IsStrictlySortedBy nat_cmp (flat_map (λ slot. range_with_len (slot * n) n) slots)
 unfolding IsStrictlySortedBy
 slots_sorted n [] rise = tt
 slots_sorted n (slot ∷ slots) rise =
-    range_sorted (slot * n) n (flat_map (λ s. range_with_len (s * n) n) slots) (slots_from n slot slots rise.0 rise.1) (slots_sorted n slots rise.1)
+    range_sorted (slot * n) n (flat_map (λ s. range_with_len (s * n) n) slots) (slots_from n slot slots rise.0 rise.1)
+    (slots_sorted n slots rise.1)
 
-pub committed_rise : (granule : ℕ) (held : List Chunk) (slots : List ℕ) → IsStrictlyIncreasing slots → IsStrictlyIncreasing (committed_granules granule held slots)
+pub committed_rise : (granule : ℕ) (held : List Chunk) (slots : List ℕ) → IsStrictlyIncreasing slots
+    → IsStrictlyIncreasing (committed_granules granule held slots)
 committed_rise granule held slots rise =
     IsStrictlyIncreasing-filter (is_committed granule held) (flat_map (granules_of granule) slots)
-    (IsStrictlyIncreasing-from_sorted _ (slots_sorted (node_words / granule) slots (sorted_from_strictly_increasing slots rise)))
+    (IsStrictlyIncreasing-from_sorted _
+    (slots_sorted (node_words / granule) slots (sorted_from_strictly_increasing slots rise)))
 
 pub granules_are_committed : (granule : ℕ) (held : List Chunk) (slots members : List ℕ) → 0 < node_words / granule
     → IsStrictlyIncreasing slots → IsStrictlyIncreasing members
@@ -114,7 +127,8 @@ meet_by_ends first last k start words at granule order some before from past upt
     none_high : last < k → start + words ≤ at → is_in_range first (last + 1 - first) k ≡ meet start words at granule
     none_high h e = grind (arith, nat_tests)
 
-    both : first ≤ k → k ≤ last → start < at + granule → at < start + words → is_in_range first (last + 1 - first) k ≡ meet start words at granule
+    both : first ≤ k → k ≤ last → start < at + granule → at < start + words
+        → is_in_range first (last + 1 - first) k ≡ meet start words at granule
     both h l e f = grind (arith, nat_tests)
 
 pub is_among-meeting : (granule start words k : ℕ) → 0 < granule → 0 < words
@@ -122,14 +136,25 @@ pub is_among-meeting : (granule start words k : ℕ) → 0 < granule → 0 < wor
 is_among-meeting granule start words k some more =
     is_among-range first (last + 1 - first) k
     ∙ meet_by_ends first last k start words (k * granule) granule
-    (le-div first (start + words - 1) granule some (omega (arith, div-mul-le_self start granule))) more
-    (λ lower. omega (arith, next_slot k first granule lower, div-add-mod' start granule))
-    (λ higher. omega (arith, mul-le first granule k granule higher (omega arith), div-add-mod' start granule, mod_below start granule some))
-    (λ beyond. omega (arith, next_slot last k granule beyond, div-add-mod' (start + words - 1) granule, mod_below (start + words - 1) granule some))
-    (λ inside. omega (arith, mul-le k granule last granule inside (omega arith), div-add-mod' (start + words - 1) granule))
+    (le-div first end granule some (omega (arith, div-mul-le_self start granule))) more
+    (λ lower. omega (arith, next_slot k first granule lower, split start))
+    (λ higher. omega (
+      arith,
+      mul-le first granule k granule higher (omega arith),
+      split start,
+      mod_below start granule some,
+    ))
+    (λ beyond. omega (arith, next_slot last k granule beyond, split end, mod_below end granule some))
+    (λ inside. omega (arith, mul-le k granule last granule inside (omega arith), split end))
   where
     first : ℕ
     first = start / granule
 
+    end : ℕ
+    end = start + words - 1
+
     last : ℕ
-    last = (start + words - 1) / granule
+    last = end / granule
+
+    split : (n : ℕ) → n / granule * granule + n % granule ≡ n
+    split n = div-add-mod' n granule

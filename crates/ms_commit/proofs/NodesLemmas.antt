@@ -17,7 +17,8 @@ use Rattle.ms_commit.proofs.SameLemmas.{is_among-insert_key}
 use Rattle.ms_commit.proofs.SetLemmas.{is_among-with_range, is_among-without_range}
 
 -- A member of a set below a bound is below it.
-pub member_below : (bound : ℕ) (members : List ℕ) (k : ℕ) → All (λ m. m < bound) members → is_among members k ≡ true → k < bound
+pub member_below : (bound : ℕ) (members : List ℕ) (k : ℕ) → All (λ m. m < bound) members → is_among members k ≡ true
+    → k < bound
 member_below bound members k all member =
     let found = Any-from_list_any (λ other. other == k) members member in
     same found.1 k found.4 (subst (λ m. m < bound) found.3 (all found.0 found.1 found.2))
@@ -26,11 +27,13 @@ member_below bound members k all member =
     same other k e under = grind (arith, e)
 
 -- A granule of a reserved slot has a bit in a mask of 64 slots.
-pub granule_below : (nodes : NodesState) (granule : ℕ) → AreSound nodes → 0 < slot_granules nodes → IsInReserved nodes granule → granule < 64 * slot_granules nodes
+pub granule_below : (nodes : NodesState) (granule : ℕ) → AreSound nodes → 0 < slot_granules nodes
+    → IsInReserved nodes granule → granule < 64 * slot_granules nodes
 granule_below nodes granule sound some reserved =
     (div-lt_iff_lt-mul some).0 (member_below 64 nodes.slots (granule / slot_granules nodes) sound.slots.below reserved)
 
-pub range_fits : (nodes : NodesState) (first count : ℕ) → AreSound nodes → 0 < slot_granules nodes → slot_granules nodes ≤ 128 → AreInReserved nodes first count → first < 2 ^ 64 → first + count < 2 ^ 64
+pub range_fits : (nodes : NodesState) (first count : ℕ) → AreSound nodes → 0 < slot_granules nodes
+    → slot_granules nodes ≤ 128 → AreInReserved nodes first count → first < 2 ^ 64 → first + count < 2 ^ 64
 range_fits nodes first zero sound some few reserved fits = omega arith
 range_fits nodes first (suc count) sound some few reserved fits =
     omega (arith, granule_below nodes (first + count) sound some (reserved (first + count) (omega arith) (omega arith)))
@@ -41,32 +44,41 @@ both_hold true false e = absurd (cc)
 both_hold false b e = absurd (cc)
 
 -- Granules of reserved slots are committed.
-pub sound_with : (nodes : NodesState) (granules : List ℕ) (first count : ℕ) → AreSound nodes → AreInReserved nodes first count
-    → granules ≡ with_range nodes.granules first count → IsStrictlyIncreasing granules → length granules ≤ nodes.limits.granules
+pub sound_with : (nodes : NodesState) (granules : List ℕ) (first count : ℕ) → AreSound nodes
+    → AreInReserved nodes first count
+    → granules ≡ with_range nodes.granules first count → IsStrictlyIncreasing granules
+    → length granules ≤ nodes.limits.granules
     → AreSound (record nodes { granules = granules })
 sound_with nodes granules first count sound reserved after rising within = record {
   slots = sound.slots;
   granules = rising;
-  inside = λ granule member. from_either granule (is_among nodes.granules granule) (is_in_range first count granule) refl refl
-      (sym (is_among-with_range nodes.granules first count granule) ∙ ap (λ members. is_among members granule) (sym after) ∙ member);
+  inside =
+      λ granule member. from_either granule (is_among nodes.granules granule)
+      (is_in_range first count granule) refl refl
+      (sym (is_among-with_range nodes.granules first count granule)
+      ∙ ap (λ members. is_among members granule) (sym after) ∙ member);
   reserved = sound.reserved;
   committed = within;
 }
   where
-    from_either : (granule : ℕ) (old new : Bool) → is_among nodes.granules granule ≡ old → is_in_range first count granule ≡ new → (old || new) ≡ true → IsInReserved nodes granule
+    from_either : (granule : ℕ) (old new : Bool) → is_among nodes.granules granule ≡ old
+        → is_in_range first count granule ≡ new → (old || new) ≡ true → IsInReserved nodes granule
     from_either granule true new was is e = sound.inside granule was
     from_either granule false true was is e = reserved granule (grind (arith, nat_tests)) (grind (arith, nat_tests))
     from_either granule false false was is e = absurd (cc)
 
 -- Granules are uncommitted.
 pub sound_without : (nodes : NodesState) (granules : List ℕ) (first count : ℕ) → AreSound nodes
-    → granules ≡ without_range nodes.granules first count → IsStrictlyIncreasing granules → length granules ≤ nodes.limits.granules
+    → granules ≡ without_range nodes.granules first count → IsStrictlyIncreasing granules
+    → length granules ≤ nodes.limits.granules
     → AreSound (record nodes { granules = granules })
 sound_without nodes granules first count sound after rising within = record {
   slots = sound.slots;
   granules = rising;
   inside = λ granule member. sound.inside granule
-      (both_hold (not (is_in_range first count granule)) (is_among nodes.granules granule) (sym (is_among-without_range nodes.granules first count granule) ∙ ap (λ members. is_among members granule) (sym after) ∙ member)).1;
+      (both_hold (not (is_in_range first count granule)) (is_among nodes.granules granule)
+      (sym (is_among-without_range nodes.granules first count granule)
+      ∙ ap (λ members. is_among members granule) (sym after) ∙ member)).1;
   reserved = sound.reserved;
   committed = within;
 }
@@ -75,14 +87,16 @@ or_here : (a b : Bool) → a ≡ true → (a || b) ≡ true
 or_here a b e = ap (λ v. v || b) e
 
 -- A slot is reserved: those reserved before stay so.
-pub sound_reserve : (nodes : NodesState) (slots : List ℕ) (slot : ℕ) → AreSound nodes → slots ≡ insert_key nat_cmp nodes.slots slot
+pub sound_reserve : (nodes : NodesState) (slots : List ℕ) (slot : ℕ) → AreSound nodes
+    → slots ≡ insert_key nat_cmp nodes.slots slot
     → IsSetBelow 64 slots → length slots ≤ nodes.limits.nodes → AreSound (record nodes { slots = slots })
 sound_reserve nodes slots slot sound after set within = record {
   slots = set;
   granules = sound.granules;
   inside = λ granule member. ap (λ members. is_among members (granule / slot_granules nodes)) after
       ∙ is_among-insert_key nodes.slots slot (granule / slot_granules nodes)
-      ∙ or_here (is_among nodes.slots (granule / slot_granules nodes)) (slot == granule / slot_granules nodes) (sound.inside granule member);
+      ∙ or_here (is_among nodes.slots (granule / slot_granules nodes)) (slot == granule / slot_granules nodes)
+      (sound.inside granule member);
   reserved = within;
   committed = sound.committed;
 }
@@ -119,15 +133,20 @@ other_slot slot n k some outside = turned slot (k / n) (ap not (sym (in_own_slot
     turned a b e = grind (arith, nat_tests)
 
 -- A slot is unreserved with its granules.
-pub sound_unreserve : (nodes : NodesState) (slots granules : List ℕ) (slot : ℕ) → AreSound nodes → 0 < slot_granules nodes
-    → slots ≡ without_number nodes.slots slot → granules ≡ without_range nodes.granules (slot * slot_granules nodes) (slot_granules nodes)
-    → IsSetBelow 64 slots → IsStrictlyIncreasing granules → length slots ≤ nodes.limits.nodes → length granules ≤ nodes.limits.granules
+pub sound_unreserve : (nodes : NodesState) (slots granules : List ℕ) (slot : ℕ) → AreSound nodes
+    → 0 < slot_granules nodes
+    → slots ≡ without_number nodes.slots slot
+    → granules ≡ without_range nodes.granules (slot * slot_granules nodes) (slot_granules nodes)
+    → IsSetBelow 64 slots → IsStrictlyIncreasing granules → length slots ≤ nodes.limits.nodes
+    → length granules ≤ nodes.limits.granules
     → AreSound (record nodes { slots = slots; granules = granules })
 sound_unreserve nodes slots granules slot sound some slots_after granules_after set rising few within = record {
   slots = set;
   granules = rising;
   inside = λ granule member.
-      let kept = both_hold (not (is_in_range (slot * n) n granule)) (is_among nodes.granules granule) (sym (is_among-without_range nodes.granules (slot * n) n granule) ∙ ap (λ members. is_among members granule) (sym granules_after) ∙ member) in
+      let kept = both_hold (not (is_in_range (slot * n) n granule)) (is_among nodes.granules granule)
+      (sym (is_among-without_range nodes.granules (slot * n) n granule)
+      ∙ ap (λ members. is_among members granule) (sym granules_after) ∙ member) in
       ap (λ members. is_among members (granule / n)) slots_after
       ∙ is_among-filter (λ other. not (other == slot)) nodes.slots (granule / n)
       ∙ ap (λ b. b && is_among nodes.slots (granule / n)) (other_slot slot n granule some kept.0)

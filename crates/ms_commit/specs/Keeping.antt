@@ -9,7 +9,11 @@ abbrev pub state_of : Inside → NodesState
 state_of kept = record {
   slots = kept.slots;
   granules = kept.granules;
-  limits = record { nodes = kept.node_limit; granules = kept.granule_limit; granule = kept.granule };
+  limits = record {
+    nodes = kept.node_limit;
+    granules = kept.granule_limit;
+    granule = kept.granule;
+  };
 }
 
 -- The counts are those of the sets, a slot has as many granules as fit into a node, and at most

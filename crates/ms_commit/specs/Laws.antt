@@ -11,13 +11,18 @@ use Rattle.ms_commit.specs.NumberSet.{is_among, is_in_range, with_range, without
 
 -- A number is a member after each change exactly where it was one and stays, or is new.
 pub record AreSetWords (members : List ℕ) (first count number : ℕ) : Type 0 where
-  pub range_added : is_among (with_range members first count) number ≡ (is_among members number || is_in_range first count number)
-  pub range_out : is_among (without_range members first count) number ≡ (is_among members number && not (is_in_range first count number))
-  pub number_added : is_among (insert_key nat_cmp members first) number ≡ (is_among members number || (first == number))
-  pub number_out : is_among (without_number members first) number ≡ (is_among members number && not (number == first))
+  pub range_added : is_among (with_range members first count) number
+      ≡ (is_among members number || is_in_range first count number)
+  pub range_out : is_among (without_range members first count) number
+      ≡ (is_among members number && not (is_in_range first count number))
+  pub number_added : is_among (insert_key nat_cmp members first) number
+      ≡ (is_among members number || (first == number))
+  pub number_out : is_among (without_number members first) number
+      ≡ (is_among members number && not (number == first))
 
 abbrev pub ChangesAreByMembers : Type 0
-ChangesAreByMembers = (members : List ℕ) (first count number : ℕ) → AreSetWords members first count number
+ChangesAreByMembers =
+    (members : List ℕ) (first count number : ℕ) → AreSetWords members first count number
 
 -- Two sets in rising order with the same members are one list.
 abbrev pub SetsAreTheirMembers : Type 0
@@ -31,5 +36,6 @@ abbrev pub MembersAreCommitted : Type 0
 MembersAreCommitted =
     (granule : ℕ) (held : List Chunk) (slots members : List ℕ) → 0 < node_words / granule
     → IsStrictlyIncreasing slots → IsStrictlyIncreasing members
-    → ((k : ℕ) → is_among members k ≡ (is_committed granule held k && is_reserved slots (k / (node_words / granule))))
+    → ((k : ℕ) → is_among members k
+    ≡ (is_committed granule held k && is_reserved slots (k / (node_words / granule))))
     → members ≡ committed_granules granule held slots

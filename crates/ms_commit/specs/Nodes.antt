@@ -29,7 +29,8 @@ IsInReserved nodes granule = IsTrue (is_reserved nodes.slots (granule / slot_gra
 
 -- All granules of a range lie in reserved slots.
 abbrev pub AreInReserved : NodesState → ℕ → ℕ → Type 0
-AreInReserved nodes first count = (granule : ℕ) → first ≤ granule → granule < first + count → IsInReserved nodes granule
+AreInReserved nodes first count =
+    (granule : ℕ) → first ≤ granule → granule < first + count → IsInReserved nodes granule
 
 -- The nodes with a slot reserved.
 abbrev pub with_slot : NodesState → ℕ → NodesState
@@ -48,7 +49,8 @@ with_granules nodes first count = record nodes { granules = with_range nodes.gra
 
 -- The nodes with a range of granules uncommitted.
 abbrev pub without_granules : NodesState → ℕ → ℕ → NodesState
-without_granules nodes first count = record nodes { granules = without_range nodes.granules first count }
+without_granules nodes first count =
+    record nodes { granules = without_range nodes.granules first count }
 
 -- How many granules there would be with the range committed.
 abbrev pub granules_with : NodesState → ℕ → ℕ → ℕ

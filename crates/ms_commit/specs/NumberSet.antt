@@ -27,11 +27,13 @@ without_number members number = filter (λ other. not (other == number)) members
 
 -- How many numbers of a range are members.
 abbrev pub count_within : List ℕ → ℕ → ℕ → ℕ
-count_within members first count = length (filter (is_among members) (range_with_len first count))
+count_within members first count =
+    length (filter (is_among members) (range_with_len first count))
 
 -- How many numbers of a range are no members.
 abbrev pub count_missing : List ℕ → ℕ → ℕ → ℕ
-count_missing members first count = length (filter (λ number. not (is_among members number)) (range_with_len first count))
+count_missing members first count =
+    length (filter (λ number. not (is_among members number)) (range_with_len first count))
 
 -- The members rise, and lie below a bound.
 pub record IsSetBelow (bound : ℕ) (members : List ℕ) : Type 0 where

@@ -98,7 +98,8 @@ impl<const WORDS: usize> Mask<WORDS> {
         requires within { (k : ℕ) → first ≤ k → k < first + count → k < 64 * WORDS }
         requires fits { first + count < 2 ^ 64 }
         ensures added { self.new ≡ with_range self.old first count }
-        ensures counted { length self.new + count_within self.old first count ≡ length self.old + count }
+        ensures counted { length self.new + count_within self.old first count
+            ≡ length self.old + count }
         ensures set { IsSetBelow (64 * WORDS) self.new }
     {
         set_bits(&mut self.words, first, first + count);

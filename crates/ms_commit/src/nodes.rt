@@ -65,7 +65,11 @@ impl Nodes {
         requires few { node_limit ≤ 64 }
         requires granule_size { granule ≡ 8192 }
         ensures { result
-            ≡ no_nodes (record { nodes = node_limit; granules = granule_limit; granule = granule }) }
+            ≡ no_nodes (record {
+              nodes = node_limit;
+              granules = granule_limit;
+              granule = granule;
+            }) }
     {
         Nodes {
             slots: Mask::empty(),
@@ -125,8 +129,10 @@ impl Nodes {
         requires { AreInReserved self.old first count }
         ensures newly { IfOk result (λ newly. newly ≡ count_missing self.old.granules first count) }
         ensures added { OnOk result (self.new ≡ with_granules self.old first count) }
-        ensures granted { OnOk result (granules_with self.old first count ≤ self.old.limits.granules) }
-        ensures commit_limit { IsErr result ↔ (self.old.limits.granules < granules_with self.old first count) }
+        ensures granted { OnOk result
+            (granules_with self.old first count ≤ self.old.limits.granules) }
+        ensures commit_limit { IsErr result
+            ↔ (self.old.limits.granules < granules_with self.old first count) }
         ensures numbers { IfErr result (λ refusal.
             refusal
             ≡ Refusal.CommitLimit (length self.old.granules) self.old.limits.granules

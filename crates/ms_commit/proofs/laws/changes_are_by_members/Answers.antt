@@ -15,7 +15,11 @@ turned false false = refl
 pub returns : goal.returns
 returns c members first count number = record {
   range_added = is_among-with_range members first count number;
-  range_out = is_among-without_range members first count number ∙ turned (not (is_in_range first count number)) (is_among members number);
+  range_out =
+      is_among-without_range members first count number
+      ∙ turned (not (is_in_range first count number)) (is_among members number);
   number_added = is_among-insert_key members first number;
-  number_out = is_among-filter (λ other. not (other == first)) members number ∙ turned (not (number == first)) (is_among members number);
+  number_out =
+      is_among-filter (λ other. not (other == first)) members number
+      ∙ turned (not (number == first)) (is_among members number);
 }

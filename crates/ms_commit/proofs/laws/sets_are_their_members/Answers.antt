@@ -3,4 +3,5 @@ use Rattle.ms_commit.proofs.SameLemmas.{same_sets}
 use Rattle.ms_commit.proofs.laws.sets_are_their_members.Goals as goal
 
 pub returns : goal.returns
-returns c one other rise rising same = same_sets one other (sorted_from_strictly_increasing one rise) (sorted_from_strictly_increasing other rising) same
+returns c one other rise rising same =
+    same_sets one other (sorted_from_strictly_increasing one rise) (sorted_from_strictly_increasing other rising) same

@@ -6,7 +6,8 @@ use Rattle.ms_commit.proofs.mask.bits_between.Goals as goal
 
 -- The places of a range in a word are the range moved down and cut off at the word's ends.
 cut_to_word : (first end base place : ℕ) → place < 64
-    → (nat_le (min (first - base) 64) place && nat_lt place (min (end - base) 64)) ≡ (nat_le first (base + place) && nat_lt (base + place) end)
+    → (nat_le (min (first - base) 64) place && nat_lt place (min (end - base) 64))
+    ≡ (nat_le first (base + place) && nat_lt (base + place) end)
 cut_to_word first end base place within = grind (arith, nat_tests)
 
 pub returns-then-low-high : goal.returns-then-low-high

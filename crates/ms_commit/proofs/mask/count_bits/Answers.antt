@@ -9,12 +9,15 @@ use Rattle.ms_commit.proofs.mask.count_bits.Goals as goal
 
 pub loop-index-init : goal.loop-index-init
 loop-index-init c =
-    ap length (sym (filter_none_in (λ k. is_set c.args.words.now k && (nat_le c.args.first k && nat_lt k c.args.end)) 0 (64 * (c.args.first / 64))
-    (λ k low high. and_false (is_set c.args.words.now k) (nat_le c.args.first k && nat_lt k c.args.end) (grind (arith, nat_tests)))))
+    ap length (sym (filter_none_in (λ k. is_set c.args.words.now k && (nat_le c.args.first k && nat_lt k c.args.end)) 0
+    (64 * (c.args.first / 64))
+    (λ k low high. and_false (is_set c.args.words.now k) (nat_le c.args.first k && nat_lt k c.args.end)
+    (grind (arith, nat_tests)))))
 
 pub loop-index-preserved : goal.loop-index-preserved
 loop-index-preserved c =
-    counted_more (λ k. nat_le c.args.first k && nat_lt k c.args.end) c.args.words.now c.loop-index.index c.bits_between.result c.loop-index.count
+    counted_more (λ k. nat_le c.args.first k && nat_lt k c.args.end) c.args.words.now c.loop-index.index
+    c.bits_between.result c.loop-index.count
     (omega arith) c.bits_between.ensures c.loop-index.invariant
 
 pub overflow_add-count : goal.overflow_add-count
@@ -22,8 +25,10 @@ overflow_add-count c =
     omega (
       arith,
       loop-index-preserved c,
-      length-filter-below (λ k. is_set c.args.words.now k && (nat_le c.args.first k && nat_lt k c.args.end)) (64 * (c.loop-index.index + 1)) c.args.end
-          (λ k past. and_false (is_set c.args.words.now k) (nat_le c.args.first k && nat_lt k c.args.end) (grind (arith, nat_tests))),
+      length-filter-below (λ k. is_set c.args.words.now k && (nat_le c.args.first k && nat_lt k c.args.end))
+          (64 * (c.loop-index.index + 1)) c.args.end
+          (λ k past. and_false (is_set c.args.words.now k) (nat_le c.args.first k && nat_lt k c.args.end)
+          (grind (arith, nat_tests))),
     )
 
 pub returns : goal.returns

@@ -7,4 +7,5 @@ use Rattle.ms_commit.proofs.mask.count_bits.Given as goal
 -- The range's set numbers below the word reached are counted.
 abbrev pub invariant-loop-index : goal.invariant-loop-index
 invariant-loop-index l =
-    l.count ≡ length (filter (λ k. is_set l.words k && (nat_le l.first k && nat_lt k l.end)) (range_with_len 0 (64 * l.index)))
+    l.count ≡ length (filter (λ k. is_set l.words k && (nat_le l.first k && nat_lt k l.end))
+    (range_with_len 0 (64 * l.index)))

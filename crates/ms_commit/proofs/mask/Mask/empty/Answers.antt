@@ -15,4 +15,5 @@ zero_everywhere n index = elim (cases_lt index n) [
 
 pub returns : goal.returns
 returns g c = filter_none_in (is_set (replicate g.row.WORDS 0)) 0 (64 * length (replicate g.row.WORDS 0))
-    (λ k low high. ap (λ word. is_one word (k % 64)) (zero_everywhere g.row.WORDS (k / 64)) ∙ ap (λ bit. bit == 1) (bit_at-zero (k % 64)))
+    (λ k low high. ap (λ word. is_one word (k % 64)) (zero_everywhere g.row.WORDS (k / 64))
+    ∙ ap (λ bit. bit == 1) (bit_at-zero (k % 64)))

@@ -15,7 +15,8 @@ returns-clause-lowest g c =
 pub returns-clause-missing : goal.returns-clause-missing
 returns-clause-missing g c =
     IfSome_then c.lowest_clear.result c.lowest_clear.ensures.lowest
-    (λ number lowest. ap (λ members. is_among members number) (sym c.self.view_is) ∙ is_among-members c.self.inside.words number ∙ lowest.clear)
+    (λ number lowest. ap (λ members. is_among members number) (sym c.self.view_is)
+    ∙ is_among-members c.self.inside.words number ∙ lowest.clear)
 
 IfNone_then : {X : Type 0} {P Q : Type 0} (r : Option X) → IfNone r P → (P → Q) → IfNone r Q
 IfNone_then (Some x) none h = tt
@@ -24,4 +25,5 @@ IfNone_then None none h = h none
 pub returns-clause-full : goal.returns-clause-full
 returns-clause-full g c =
     IfNone_then c.lowest_clear.result c.lowest_clear.ensures.full
-    (λ full. ap length (sym c.self.view_is) ∙ length-members_full c.self.inside.words full ∙ ap (λ n. 64 * n) c.self.told)
+    (λ full. ap length (sym c.self.view_is) ∙ length-members_full c.self.inside.words full
+    ∙ ap (λ n. 64 * n) c.self.told)

@@ -6,15 +6,18 @@ use Rattle.ms_commit.proofs.mask.Mask.remove.Goals as goal
 
 pub returns-clause-removed : goal.returns-clause-removed
 returns-clause-removed g c =
-    members_remove c.self.inside.words c.clear_bits.new.words c.args.number (c.clear_bits.auto.words, c.clear_bits.ensures)
+    members_remove c.self.inside.words c.clear_bits.new.words c.args.number
+    (c.clear_bits.auto.words, c.clear_bits.ensures)
     ∙ ap (λ members. without_number members c.args.number) c.self.view_is
 
 pub returns-clause-counted : goal.returns-clause-counted
 returns-clause-counted g c =
-    let IsCounted : List ℕ → Type 0 = λ members. is_among members c.args.number ≡ true → length (members_of c.clear_bits.new.words) + 1 ≡ length members in
+    let IsCounted : List ℕ → Type 0 = λ members.
+    is_among members c.args.number ≡ true → length (members_of c.clear_bits.new.words) + 1 ≡ length members in
     subst IsCounted c.self.view_is (λ member. omega (
       arith,
-      counted_without c.self.inside.words c.clear_bits.new.words c.args.number 1 (λ k low high. omega (arith, c.self.told, c.requires.within)) (c.clear_bits.auto.words, c.clear_bits.ensures),
+      counted_without c.self.inside.words c.clear_bits.new.words c.args.number 1
+          (λ k low high. omega (arith, c.self.told, c.requires.within)) (c.clear_bits.auto.words, c.clear_bits.ensures),
       count_within-one (members_of c.self.inside.words) c.args.number true member,
     ))
 

@@ -6,7 +6,8 @@ use Rattle.ms_commit.proofs.nodes.Nodes.reserve.Goals as goal
 pub invariant_of-self : goal.invariant_of-self
 invariant_of-self c = record {
   sound = sound_reserve (state_of c.self.inside) c.insert.new.self c.in-Some.slot c.self.invariant.sound
-      c.insert.ensures.added c.insert.ensures.set (omega (arith, c.insert.ensures.counted c.in-Some.ensures.missing, c.self.invariant.reserved, c.if-self.true));
+      c.insert.ensures.added c.insert.ensures.set
+      (omega (arith, c.insert.ensures.counted c.in-Some.ensures.missing, c.self.invariant.reserved, c.if-self.true));
   reserved = omega (arith, c.insert.ensures.counted c.in-Some.ensures.missing, c.self.invariant.reserved);
   committed = c.self.invariant.committed;
   nodes = c.self.invariant.nodes;

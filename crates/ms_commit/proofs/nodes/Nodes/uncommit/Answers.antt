@@ -4,11 +4,15 @@ use Rattle.ms_commit.proofs.nodes.Nodes.uncommit.Goals as goal
 
 pub count-present-requires : goal.count-present-requires
 count-present-requires c =
-    (omega arith, (range_is_kept c.self.inside c.args.self.now c.args.first c.args.count c.self.invariant c.self.view_is c.requires (omega arith)).1)
+    let inside = range_is_kept c.self.inside c.args.self.now c.args.first c.args.count c.self.invariant c.self.view_is
+    c.requires (omega arith) in
+    (omega arith, inside.1)
 
 pub remove_range-requires : goal.remove_range-requires
 remove_range-requires c =
-    (omega arith, range_is_kept c.self.inside c.args.self.now c.args.first c.args.count c.self.invariant c.self.view_is c.requires (omega arith))
+    let inside = range_is_kept c.self.inside c.args.self.now c.args.first c.args.count c.self.invariant c.self.view_is
+    c.requires (omega arith) in
+    (omega arith, inside)
 
 pub invariant_of-self : goal.invariant_of-self
 invariant_of-self c =
