@@ -1,0 +1,16 @@
+use Rattle.std.proofs.Common.{◌≡◌, ◌-◌, ◌^◌, ◌&&◌, not, true, false, refl, get_or, ap, ◌∙◌, arith}
+use Rattle.std.specs.Prelude.{nat_le, nat_lt}
+use Rattle.ms_commit.specs.Mask.{is_one}
+use Rattle.ms_commit.proofs.MaskLemmas.{is_one-and, is_one-not, changed_more}
+use Rattle.ms_commit.proofs.mask.clear_bits.Goals as goal
+
+pub loop-index-preserved : goal.loop-index-preserved
+loop-index-preserved c =
+    let word = get_or c.loop-index.words c.loop-index.index 0 in
+    changed_more (λ a b. a && not b)
+    (λ k. nat_le c.args.first k && nat_lt k c.args.end) c.args.words.now c.loop-index.words c.loop-index.index _
+    (λ b. elim b as (λ v. (v && not false) ≡ v) [ true ↦ refl | false ↦ refl ]) (omega arith)
+    (λ place within. is_one-and word (2 ^ 64 - 1 - c.bits_between.result) place
+    ∙ ap (λ b. is_one word place && b) (is_one-not c.bits_between.result place (omega arith) within
+    ∙ ap not (c.bits_between.ensures place within)))
+    c.loop-index.invariant

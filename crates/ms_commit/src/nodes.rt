@@ -1,0 +1,225 @@
+//! The node slots, the commit mask and the limiter of both.
+//!
+//!      slot 0                slot 1                slot 2         ..   slot 63
+//!     +---------------------+---------------------+--------------
+//!     | reserved            | not reserved        | reserved
+//!     +---------------------+---------------------+--------------
+//!      ##.....#####......... ..................... ####..........      # a committed granule
+//!      0                 127 128               255 256
+//!
+//! Kept true: slots and granules are counted, both counts are within their limits, and each
+//! committed granule lies in a reserved slot. A slot has as many granules as fit into a node, so a
+//! smaller granule needs a longer mask and nothing else. Nothing here takes memory.
+//! After HotSpot's virtualSpaceNode.hpp and commitLimiter.hpp; there each node has a mask of its
+//! own, and here one mask has all slots.
+ghost use Rattle.std.specs.Prelude.{◌≡◌, ◌≤◌};
+
+use crate::mask::Mask;
+use ms_base::Refusal;
+use std::marker::Model;
+
+/// The words of a node: two root chunks.
+const NODE_WORDS: u64 = 1_048_576;
+/// Words of the mask of slots: 64 slots.
+const SLOT_MASK: usize = 1;
+/// Words of the mask of granules: 64 slots of 128 granules, as many as there are of 8192 words.
+const GRANULE_MASK: usize = 128;
+
+/// Which node slots are reserved and which granules are committed, each within its limit. The
+/// limits are this project's choice; HotSpot has them in CommitLimiter and as reserved sizes.
+#[derive(Drop)]
+pub struct Nodes {
+    slots: Mask<SLOT_MASK>,
+    granules: Mask<GRANULE_MASK>,
+    reserved: u32,
+    committed: u64,
+    node_limit: u32,
+    granule_limit: u64,
+    granule: u64,
+    slot_granules: u64,
+}
+
+impl Model for Nodes {
+    ghost use Rattle.ms_commit.specs.Nodes.{NodesState};
+
+    ghost Value = { NodesState };
+
+    ghost use Rattle.ms_commit.specs.Keeping.{state_of, AreKept};
+
+    ghost view = { state_of };
+
+    ghost invariant = { AreKept };
+}
+
+impl Nodes {
+    ghost use Rattle.std.specs.Prelude.{◌≡◌, ◌+◌, ◌^◌, ◌<◌, ◌≤◌, ◌↔◌, IsTrue, IsErr, IfOk, IfErr, OnOk, OnErr, length};
+    ghost use Rattle.ms_base.specs.Part.{is_reserved};
+    ghost use Rattle.ms_base.specs.Pick.{lowest_unreserved};
+    ghost use Rattle.ms_commit.specs.NumberSet.{is_among, count_missing};
+    ghost use Rattle.ms_commit.specs.Nodes.{no_nodes, AreInReserved, with_slot, without_slot, with_granules, without_granules, granules_with, AreSound};
+
+    /// Makes nodes of which none is reserved. The node limit is 1 to 64 nodes; the granule limit
+    /// is in granules, any number; a granule has 8192 words, 64 KB, the default of JEP 387.
+    pub fn new(node_limit: u32, granule_limit: u64, granule: u64) -> Nodes
+        requires some { 1 ≤ node_limit }
+        requires few { node_limit ≤ 64 }
+        requires granule_size { granule ≡ 8192 }
+        ensures { result
+            ≡ no_nodes (record {
+              nodes = node_limit;
+              granules = granule_limit;
+              granule = granule;
+            }) }
+    {
+        Nodes {
+            slots: Mask::empty(),
+            granules: Mask::empty(),
+            reserved: 0,
+            committed: 0,
+            node_limit,
+            granule_limit,
+            granule,
+            slot_granules: NODE_WORDS / granule,
+        }
+    }
+
+    /// Reserves the lowest slot that isn't reserved, and answers its number, 0 to 63.
+    /// ReserveLimit comes where as many slots are reserved as may be. Takes no memory.
+    pub fn reserve(&mut self) -> Result<u32, Refusal>
+        ensures lowest { IfOk result (λ slot. slot ≡ lowest_unreserved self.old.slots) }
+        ensures within { IfOk result (λ slot. slot < 64) }
+        ensures added { IfOk result (λ slot. self.new ≡ with_slot self.old slot) }
+        ensures granted { OnOk result (length self.old.slots < self.old.limits.nodes) }
+        ensures reserve_limit { IsErr result ↔ (length self.old.slots ≡ self.old.limits.nodes) }
+        ensures numbers { IfErr result (λ refusal.
+            refusal ≡ Refusal.ReserveLimit (length self.old.slots) self.old.limits.nodes) }
+        ensures unchanged { OnErr result (self.new ≡ self.old) }
+    {
+        match self.slots.lowest_missing() {
+            Some(slot) if self.reserved < self.node_limit => {
+                self.slots.insert(slot);
+                self.reserved += 1;
+                Ok(slot as u32)
+            }
+            _ => Err(Refusal::ReserveLimit {
+                nodes: self.reserved,
+                limit: self.node_limit,
+            }),
+        }
+    }
+
+    /// Unreserves a reserved slot and uncommits its granules. Takes no memory.
+    pub fn unreserve(&mut self, slot: u32)
+        requires { IsTrue (is_reserved self.old.slots slot) }
+        ensures { self.new ≡ without_slot self.old slot }
+    {
+        let count = self.slot_granules as usize;
+        let first = slot as usize * count;
+        let cleared = self.granules.count(first, count);
+        self.granules.remove_range(first, count);
+        self.committed -= cleared as u64;
+        self.slots.remove(slot as usize);
+        self.reserved -= 1;
+    }
+
+    /// Commits a range of granules of reserved slots, given by its first and how many they are,
+    /// and answers how many of them weren't committed. CommitLimit comes where these would pass
+    /// the granule limit, with their number as what is needed. Takes no memory.
+    pub fn commit(&mut self, first: u64, count: u64) -> Result<u64, Refusal>
+        requires { AreInReserved self.old first count }
+        ensures newly { IfOk result (λ newly. newly ≡ count_missing self.old.granules first count) }
+        ensures added { OnOk result (self.new ≡ with_granules self.old first count) }
+        ensures granted { OnOk result
+            (granules_with self.old first count ≤ self.old.limits.granules) }
+        ensures commit_limit { IsErr result
+            ↔ (self.old.limits.granules < granules_with self.old first count) }
+        ensures numbers { IfErr result (λ refusal.
+            refusal
+            ≡ Refusal.CommitLimit (length self.old.granules) self.old.limits.granules
+            (count_missing self.old.granules first count)) }
+        ensures unchanged { OnErr result (self.new ≡ self.old) }
+    {
+        let need = self.missing(first, count);
+        if need > self.granule_limit - self.committed {
+            return Err(Refusal::CommitLimit {
+                committed: self.committed,
+                limit: self.granule_limit,
+                need,
+            });
+        }
+        self.granules.insert_range(first as usize, count as usize);
+        self.committed += need;
+        Ok(need)
+    }
+
+    /// Tells how many granules of a range, given by its first and how many they are, aren't
+    /// committed; those of unreserved slots aren't.
+    pub fn missing(&self, first: u64, count: u64) -> u64
+        requires { first + count < 2 ^ 64 }
+        ensures { result ≡ count_missing self.now.granules first count }
+    {
+        count - self.granules.count(first as usize, count as usize) as u64
+    }
+
+    /// Uncommits a range of granules of reserved slots, given by its first and how many they are;
+    /// those that aren't committed stay so. Takes no memory.
+    pub fn uncommit(&mut self, first: u64, count: u64)
+        requires { AreInReserved self.old first count }
+        ensures { self.new ≡ without_granules self.old first count }
+    {
+        let present = self.granules.count(first as usize, count as usize);
+        self.granules.remove_range(first as usize, count as usize);
+        self.committed -= present as u64;
+    }
+
+    /// Tells whether a granule is committed; none of an unreserved slot is.
+    pub fn is_committed(&self, granule: u64) -> bool
+        ensures answer { result ≡ is_among self.now.granules granule }
+    {
+        self.granules.contains(granule as usize)
+    }
+
+    /// Tells how many granules are committed.
+    pub fn committed(&self) -> u64
+        ensures count { result ≡ length self.now.granules }
+        ensures sound { AreSound self.now }
+    {
+        self.committed
+    }
+
+    /// Tells the limit of committed granules.
+    pub fn granule_limit(&self) -> u64
+        ensures { result ≡ self.now.limits.granules }
+    {
+        self.granule_limit
+    }
+
+    /// Tells the words of a granule.
+    pub fn granule(&self) -> u64
+        ensures { result ≡ self.now.limits.granule }
+    {
+        self.granule
+    }
+
+    /// Tells whether a slot is reserved; none from 64 on is.
+    pub fn is_reserved(&self, slot: u32) -> bool
+        ensures { result ≡ is_reserved self.now.slots slot }
+    {
+        self.slots.contains(slot as usize)
+    }
+
+    /// Tells how many slots are reserved.
+    pub fn reserved(&self) -> u32
+        ensures count { result ≡ length self.now.slots }
+        ensures sound { AreSound self.now }
+    {
+        self.reserved
+    }
+
+    /// Tells the limit of reserved slots, 1 to 64.
+    pub fn node_limit(&self) -> u32
+        ensures { result ≡ self.now.limits.nodes }
+    {
+        self.node_limit
+    }
+}

@@ -1,0 +1,224 @@
+//! That the definitions are the ones meant, on a worked row and at the borders of mask words, and
+//! that each call does what it says when it is run. Everything else is in the clauses.
+use super::*;
+use ms_base::Refusal;
+use std::process::Abort;
+
+/// What a row of the table calls.
+#[derive(Clone, Copy, Debug)]
+enum Call {
+    Reserve,
+    Unreserve(u32),
+    Commit(u64, u64),
+    Uncommit(u64, u64),
+    Committed,
+    IsCommitted(u64),
+}
+
+/// What it is answered.
+#[derive(Clone, Copy, Debug, PartialEq, Eq)]
+enum Answer {
+    Slot(u32),
+    Newly(u64),
+    Refused(Refusal),
+    Done,
+    Count(u64),
+    Told(bool),
+}
+
+/// Commits a range that meets two slots at most, and sees first that they are reserved.
+fn commit(rt: &impl Abort, nodes: &mut Nodes, first: u64, count: u64) -> Result<u64, Refusal> {
+    assert_eq!(rt; nodes.granule(), 8192);
+    assert!(rt; 0 < count && count <= 129 && first < 8192);
+    assert!(rt; nodes.is_reserved((first / 128) as u32));
+    assert!(rt; nodes.is_reserved(((first + count - 1) / 128) as u32));
+    nodes.commit(first, count)
+}
+
+fn uncommit(rt: &impl Abort, nodes: &mut Nodes, first: u64, count: u64) {
+    assert_eq!(rt; nodes.granule(), 8192);
+    assert!(rt; 0 < count && count <= 129 && first < 8192);
+    assert!(rt; nodes.is_reserved((first / 128) as u32));
+    assert!(rt; nodes.is_reserved(((first + count - 1) / 128) as u32));
+    nodes.uncommit(first, count);
+}
+
+fn missing(rt: &impl Abort, nodes: &Nodes, first: u64, count: u64) -> u64 {
+    assert!(rt; first < 8192 && count < 8192);
+    nodes.missing(first, count)
+}
+
+fn unreserve(rt: &impl Abort, nodes: &mut Nodes, slot: u32) {
+    assert!(rt; nodes.is_reserved(slot));
+    nodes.unreserve(slot);
+}
+
+fn carry_out(rt: &impl Abort, nodes: &mut Nodes, call: Call) -> Answer {
+    match call {
+        Call::Reserve => match nodes.reserve() {
+            Ok(slot) => Answer::Slot(slot),
+            Err(refusal) => Answer::Refused(refusal),
+        },
+        Call::Unreserve(slot) => {
+            unreserve(rt, nodes, slot);
+            Answer::Done
+        }
+        Call::Commit(first, count) => match commit(rt, nodes, first, count) {
+            Ok(newly) => Answer::Newly(newly),
+            Err(refusal) => Answer::Refused(refusal),
+        },
+        Call::Uncommit(first, count) => {
+            uncommit(rt, nodes, first, count);
+            Answer::Done
+        }
+        Call::Committed => Answer::Count(nodes.committed()),
+        Call::IsCommitted(granule) => Answer::Told(nodes.is_committed(granule)),
+    }
+}
+
+#[test]
+fn two_nodes_share_three_granules(rt: HostRuntime) {
+    let rows = [
+        (Call::Reserve, Answer::Slot(0)),
+        (Call::Reserve, Answer::Slot(1)),
+        (
+            Call::Reserve,
+            Answer::Refused(Refusal::ReserveLimit { nodes: 2, limit: 2 }),
+        ),
+        (Call::Commit(0, 2), Answer::Newly(2)),
+        (Call::Commit(1, 2), Answer::Newly(1)),
+        (
+            Call::Commit(128, 1),
+            Answer::Refused(Refusal::CommitLimit {
+                committed: 3,
+                limit: 3,
+                need: 1,
+            }),
+        ),
+        (Call::Uncommit(0, 1), Answer::Done),
+        (Call::Committed, Answer::Count(2)),
+        (Call::Commit(128, 1), Answer::Newly(1)),
+        (Call::Unreserve(1), Answer::Done),
+        (Call::Committed, Answer::Count(2)),
+        (Call::Reserve, Answer::Slot(1)),
+        (Call::IsCommitted(128), Answer::Told(false)),
+    ];
+    let mut nodes = Nodes::new(2, 3, 8192);
+    for (call, want) in rows {
+        assert_eq!(rt; carry_out(&rt, &mut nodes, call), want, "at {call:?}");
+    }
+}
+
+#[test]
+fn ranges_may_start_and_end_anywhere_in_a_word(rt: HostRuntime) {
+    let rows = [
+        (0, 1),
+        (0, 63),
+        (0, 64),
+        (0, 65),
+        (0, 128),
+        (0, 129),
+        (1, 62),
+        (1, 63),
+        (1, 64),
+        (1, 128),
+        (62, 1),
+        (63, 1),
+        (63, 2),
+        (63, 65),
+        (63, 66),
+        (64, 1),
+        (64, 64),
+        (64, 65),
+        (127, 1),
+        (127, 2),
+        (127, 129),
+        (128, 128),
+        (191, 2),
+        (255, 1),
+    ];
+    for (first, count) in rows {
+        let mut nodes = Nodes::new(2, 8192, 8192);
+        assert_eq!(rt; nodes.reserve(), Ok(0));
+        assert_eq!(rt; nodes.reserve(), Ok(1));
+        assert_eq!(rt;
+            commit(&rt, &mut nodes, first, count),
+            Ok(count),
+            "{first}, {count}"
+        );
+        assert_eq!(rt; missing(&rt, &nodes, first, count), 0, "{first}, {count}");
+        assert_eq!(rt;
+            commit(&rt, &mut nodes, first, count),
+            Ok(0),
+            "{first}, {count}"
+        );
+        assert_eq!(rt; nodes.committed(), count, "{first}, {count}");
+        for granule in 0..256 {
+            assert_eq!(rt;
+                nodes.is_committed(granule),
+                first <= granule && granule - first < count,
+                "{first}, {count}, {granule}"
+            );
+        }
+        uncommit(&rt, &mut nodes, first, count);
+        assert_eq!(rt; nodes.committed(), 0, "{first}, {count}");
+        assert_eq!(rt;
+            missing(&rt, &nodes, first, count),
+            count,
+            "{first}, {count}"
+        );
+    }
+}
+
+#[test]
+fn the_first_and_last_granules_of_the_first_and_last_slots(rt: HostRuntime) {
+    let mut nodes = Nodes::new(64, 4, 8192);
+    for slot in 0..64 {
+        assert_eq!(rt; nodes.reserve(), Ok(slot));
+    }
+    for granule in [0, 127, 8064, 8191] {
+        assert_eq!(rt; commit(&rt, &mut nodes, granule, 1), Ok(1));
+        assert!(rt; nodes.is_committed(granule));
+    }
+    for granule in [1, 126, 128, 8063, 8065, 8190, 8192, 1_000_000] {
+        assert!(rt; !nodes.is_committed(granule), "{granule}");
+    }
+    let limit = Refusal::CommitLimit {
+        committed: 4,
+        limit: 4,
+        need: 1,
+    };
+    assert_eq!(rt; commit(&rt, &mut nodes, 8190, 2), Err(limit));
+    assert!(rt; nodes.is_reserved(63) && !nodes.is_reserved(64));
+    unreserve(&rt, &mut nodes, 63);
+    assert_eq!(rt; nodes.committed(), 2);
+    assert!(rt; nodes.is_committed(127) && !nodes.is_committed(8191));
+}
+
+#[test]
+fn everything_is_committed_and_taken_back(rt: HostRuntime) {
+    let mut nodes = Nodes::new(64, 40960, 8192);
+    assert_eq!(rt; nodes.node_limit(), 64);
+    assert_eq!(rt; nodes.granule_limit(), 40960);
+    for slot in 0..64 {
+        assert_eq!(rt; nodes.reserve(), Ok(slot));
+        assert_eq!(rt;
+            commit(&rt, &mut nodes, u64::from(slot) * 128, 128),
+            Ok(128)
+        );
+    }
+    assert_eq!(rt; nodes.reserved(), 64);
+    assert_eq!(rt; nodes.committed(), 8192);
+    assert_eq!(rt;
+        nodes.reserve(),
+        Err(Refusal::ReserveLimit {
+            nodes: 64,
+            limit: 64
+        })
+    );
+    for slot in 0..64 {
+        unreserve(&rt, &mut nodes, slot);
+    }
+    assert_eq!(rt; nodes.reserved(), 0);
+    assert_eq!(rt; nodes.committed(), 0);
+}
