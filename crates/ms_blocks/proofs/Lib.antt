@@ -1,0 +1,2 @@
+pub mod RankLemmas
+pub mod EntryLemmas

@@ -1,0 +1,34 @@
+-- The free blocks that are kept, as runs of words by start, beside the room for more.
+use Rattle.std.specs.Prelude.{◌≡◌, ℕ, ◌+◌, ◌^◌, ◌<◌, ◌≤◌, IsTrue, List, [], ◌∷◌, None}
+use Rattle.std.specs.List.{AllByRecursion}
+use Rattle.ms_base.specs.declared.span.Block.{Block}
+use Rattle.ms_base.specs.Interval.{are_apart}
+use Rattle.ms_base.specs.Names.{named, with_new, AreNamed}
+
+-- Kept runs in rising order of start, and how many more may be added.
+pub record KeptBlocks : Type 0 where
+  pub kept : List (ℕ × ℕ)
+  pub room : ℕ
+
+-- The blocks as runs, in rising order of start.
+abbrev pub by_start : List Block → List (ℕ × ℕ)
+by_start [] = []
+by_start (block ∷ blocks) = with_new (by_start blocks) block.start block.words
+
+-- No two of the blocks start at the same word.
+abbrev pub StartsDiffer : List Block → Type 0
+StartsDiffer [] = Unit {0}
+StartsDiffer (block ∷ blocks) = (named (by_start blocks) block.start ≡ None) × StartsDiffer blocks
+
+-- From the word low on the runs lie one behind another, each of at least two words, and end below
+-- 2 ^ 64.
+abbrev pub LieFrom : ℕ → List (ℕ × ℕ) → Type 0
+LieFrom low [] = low < 2 ^ 64
+LieFrom low (run ∷ runs) = (low ≤ run.0) × (2 ≤ run.1) × LieFrom (run.0 + run.1) runs
+
+-- What callers know of the kept runs: their starts rise, no two meet, and each has at least two
+-- words.
+pub record AreKept (kept : List (ℕ × ℕ)) : Type 0 where
+  pub rising : AreNamed kept
+  pub apart : IsTrue (are_apart kept)
+  pub sizes : AllByRecursion (λ (run : ℕ × ℕ). 2 ≤ run.1) kept

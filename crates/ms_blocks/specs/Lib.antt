@@ -1,0 +1,3 @@
+pub mod Ranking
+pub mod Tree
+pub mod FreeBlocks

@@ -1,0 +1,4 @@
+//! Free blocks
+#![tactic(auto)]
+
+mod tree;
