@@ -1,6 +1,6 @@
 -- The free blocks that are kept, as runs of words by start, beside the room for more.
 use Rattle.std.specs.Prelude.{◌≡◌, ℕ, ◌+◌, ◌^◌, ◌<◌, ◌≤◌, IsTrue, List, [], ◌∷◌, None}
-use Rattle.std.specs.List.{AllByRecursion}
+use Rattle.std.specs.List.{AllByRecursion, sum_by}
 use Rattle.ms_base.specs.declared.span.Block.{Block}
 use Rattle.ms_base.specs.Interval.{are_apart}
 use Rattle.ms_base.specs.Names.{named, with_new, AreNamed}
@@ -9,6 +9,10 @@ use Rattle.ms_base.specs.Names.{named, with_new, AreNamed}
 pub record KeptBlocks : Type 0 where
   pub kept : List (ℕ × ℕ)
   pub room : ℕ
+
+-- The words of the kept runs.
+abbrev pub words_in : List (ℕ × ℕ) → ℕ
+words_in kept = sum_by (λ (run : ℕ × ℕ). run.1) kept
 
 -- The blocks as runs, in rising order of start.
 abbrev pub by_start : List Block → List (ℕ × ℕ)
