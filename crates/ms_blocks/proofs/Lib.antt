@@ -3,3 +3,4 @@ pub mod EntryLemmas
 pub mod StartLemmas
 pub mod LaidLemmas
 pub mod BestFitLemmas
+pub mod TendedLemmas

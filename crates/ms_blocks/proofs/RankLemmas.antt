@@ -1,6 +1,6 @@
 -- Blocks in the order of best fit: where a block goes, and which one fits first, in a list that is
 -- joined of a tree's left side, its root and its right side. Used by the tree's functions.
-use Rattle.std.proofs.Common.{◌≡◌, ℕ, ◌<◌, ◌≤◌, Bool, true, false, not, ◌&&◌, ◌||◌, List, [], ◌∷◌, ◌++◌, Option, Some, None, refl, ap, sym, ◌∙◌, append_assoc, arith}
+use Rattle.std.proofs.Common.{◌≡◌, ◌≢◌, ℕ, ◌<◌, ◌≤◌, Bool, true, false, not, ◌&&◌, ◌||◌, List, [], ◌∷◌, ◌++◌, Option, Some, None, refl, ap, sym, ◌∙◌, append_assoc, arith}
 use Rattle.std.specs.Prelude.{nat_lt, nat_le, ◌==◌, if◌then◌else◌}
 use Rattle.std.specs.List.{find, AllByRecursion}
 use Rattle.std.proofs.lemmas.Bool.Decides.{nat_tests}
@@ -167,3 +167,44 @@ take_root left right rest joined root words ranked enough none e join =
 pub find_root : (left right : List Block) (root : Block) (words : ℕ) → IsRanked (left ++ root ∷ right) → words ≤ root.words
     → (IsRanked left → first_fit left words ≡ None) → first_fit (left ++ root ∷ right) words ≡ Some root
 find_root left right root words ranked enough none = first_fit-root left right root words (none (ranked_left left right root ranked)) enough
+
+-- An addition and a removal keep a list ranked.
+all_with : (P : Block → Type 0) (blocks : List Block) (block : Block) → AllByRecursion P blocks → P block → AllByRecursion P (with_ranked blocks block)
+all_with P [] block all here = (here, tt)
+all_with P (other ∷ blocks) block all here =
+    elim (ranks_before other block) as (λ b. AllByRecursion P (if b then other ∷ with_ranked blocks block else block ∷ other ∷ blocks)) [
+      | true ↦ (all.0, all_with P blocks block all.1 here)
+      | false ↦ (here, all)
+    ]
+
+all_without : (P : Block → Type 0) (blocks : List Block) (words : ℕ) → AllByRecursion P blocks → AllByRecursion P (without_fit blocks words)
+all_without P [] words all = tt
+all_without P (other ∷ blocks) words all =
+    elim (nat_le words other.words) as (λ b. AllByRecursion P (if b then blocks else other ∷ without_fit blocks words)) [
+      | true ↦ all.1
+      | false ↦ (all.0, all_without P blocks words all.1)
+    ]
+
+all_behind : (block other : Block) (blocks : List Block) → ranks_before block other ≡ true → AllByRecursion (λ later. ranks_before other later ≡ true) blocks
+    → AllByRecursion (λ later. ranks_before block later ≡ true) blocks
+all_behind block other [] before all = tt
+all_behind block other (later ∷ blocks) before all = (ranks_on block other later before all.0, all_behind block other blocks before all.1)
+
+other_way : (a b : Block) → ranks_before a b ≡ false → b.start ≢ a.start → ranks_before b a ≡ true
+other_way a b behind differ = grind (arith, nat_tests)
+
+pub ranked_with : (blocks : List Block) (block : Block) → IsRanked blocks → AllByRecursion (λ (other : Block). block.start ≢ other.start) blocks → IsRanked (with_ranked blocks block)
+ranked_with [] block ranked differ = (tt, tt)
+ranked_with (other ∷ blocks) block ranked differ =
+    elim (ranks_before other block) as (λ b. ranks_before other block ≡ b → IsRanked (if b then other ∷ with_ranked blocks block else block ∷ other ∷ blocks)) [
+      | true ↦ λ before. (all_with (λ later. ranks_before other later ≡ true) blocks block ranked.0 before, ranked_with blocks block ranked.1 differ.1)
+      | false ↦ λ behind. let before = other_way other block behind differ.0 in ((before, all_behind block other blocks before ranked.0), ranked)
+    ] refl
+
+pub ranked_without : (blocks : List Block) (words : ℕ) → IsRanked blocks → IsRanked (without_fit blocks words)
+ranked_without [] words ranked = tt
+ranked_without (other ∷ blocks) words ranked =
+    elim (nat_le words other.words) as (λ b. IsRanked (if b then blocks else other ∷ without_fit blocks words)) [
+      | true ↦ ranked.1
+      | false ↦ (all_without (λ later. ranks_before other later ≡ true) blocks words ranked.0, ranked_without blocks words ranked.1)
+    ]

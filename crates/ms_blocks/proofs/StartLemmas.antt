@@ -76,3 +76,9 @@ fit_is_named blocks words found differ e =
 pub all_by_start : (P : ℕ × ℕ → Type 0) (blocks : List Block) → StartsDiffer blocks → AllByRecursion (λ (block : Block). P (block.start, block.words)) blocks → AllByRecursion P (by_start blocks)
 all_by_start P [] differ all = tt
 all_by_start P (block ∷ blocks) differ all = all-with_new P (by_start blocks) block.start block.words differ.0 (all_by_start P blocks differ.1 all.1) all.0
+
+-- A start that no run has is no block's.
+pub new_is_other : (blocks : List Block) (start : ℕ) → named (by_start blocks) start ≡ None → AllByRecursion (λ (block : Block). start ≢ block.start) blocks
+new_is_other [] start new = tt
+new_is_other (block ∷ blocks) start new =
+    (unnamed_is_other (by_start blocks) block.start block.words start new, new_is_other blocks start (unnamed_before (by_start blocks) block.start block.words start new))

@@ -1,3 +1,4 @@
 pub mod Ranking
 pub mod Tree
 pub mod FreeBlocks
+pub mod Tended

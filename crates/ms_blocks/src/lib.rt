@@ -1,4 +1,7 @@
-//! Free blocks
+//! Free blocks.
 #![tactic(auto)]
 
+mod free_blocks;
 mod tree;
+
+pub use free_blocks::FreeBlocks;

@@ -18,8 +18,19 @@ pub enum Tree {
 #[derive(Drop)]
 pub struct Node {
     left: Tree,
-    block: Block,
+    pub block: Block,
     right: Tree,
+}
+
+impl Node {
+    /// Makes a node that is in no tree.
+    pub fn spare() -> Node {
+        Node {
+            left: Tree::Empty,
+            block: Block { start: 0, words: 0 },
+            right: Tree::Empty,
+        }
+    }
 }
 
 fn ranks_first(one: &Block, other: &Block) -> bool
@@ -72,7 +83,7 @@ fn split(tree: Tree, at: &Block) -> (Tree, Tree)
     }
 }
 
-fn insert(tree: Tree, mut node: Box<Node>) -> Tree
+pub fn insert(tree: Tree, mut node: Box<Node>) -> Tree
     ensures { IsRanked (blocks_of tree) → blocks_of result ≡ with_ranked (blocks_of tree) node.value.block }
 {
     match tree {
@@ -94,7 +105,7 @@ fn insert(tree: Tree, mut node: Box<Node>) -> Tree
     }
 }
 
-fn take_fit(tree: Tree, words: u64) -> (Tree, Option<Box<Node>>)
+pub fn take_fit(tree: Tree, words: u64) -> (Tree, Option<Box<Node>>)
     ensures found { IsRanked (blocks_of tree) → first_fit (blocks_of tree) words ≡ option_map (λ node. node.value.block) result.1 }
     ensures left { IsRanked (blocks_of tree) → blocks_of result.0 ≡ without_fit (blocks_of tree) words }
 {

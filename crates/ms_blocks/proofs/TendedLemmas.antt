@@ -1,0 +1,81 @@
+-- What is kept of free blocks, after an addition and after the removal of the first fit. Used by
+-- `FreeBlocks::add` and `FreeBlocks::remove`.
+use Rattle.std.proofs.Common.{◌≡◌, ℕ, ◌+◌, ◌-◌, ◌^◌, ◌≤◌, ◌<◌, false, List, length, Option, Some, None, ap, sym, subst, ◌∙◌, arith}
+use Rattle.ms_base.specs.declared.span.Block.{Block}
+use Rattle.ms_base.specs.Interval.{meets_any}
+use Rattle.ms_base.specs.Names.{named, with_new, without}
+use Rattle.ms_blocks.specs.Ranking.{with_ranked, first_fit, without_fit}
+use Rattle.ms_blocks.specs.FreeBlocks.{by_start, LieFrom, words_in}
+use Rattle.ms_blocks.specs.Tended.{AreTended}
+use Rattle.ms_blocks.proofs.RankLemmas.{ranked_with, ranked_without}
+use Rattle.ms_blocks.proofs.EntryLemmas.{length-with_new, sum-with_new}
+use Rattle.ms_blocks.proofs.StartLemmas.{by_start-with_ranked, starts_differ_with, by_start-without_fit, starts_differ_without, fit_splits, new_is_other}
+use Rattle.ms_blocks.proofs.LaidLemmas.{apart_is_new, laid_with, laid_without, words_fit}
+
+-- A block may be added: it has at least two words, ends below 2 ^ 64 and meets none.
+pub record MayCome (blocks : List Block) (block : Block) : Type 0 where
+  pub some : 2 ≤ block.words
+  pub ends : block.start + block.words < 2 ^ 64
+  pub apart : meets_any (block.start, block.words) (by_start blocks) ≡ false
+
+pub is_new : (blocks : List Block) (block : Block) → LieFrom 0 (by_start blocks) → MayCome blocks block → named (by_start blocks) block.start ≡ None
+is_new blocks block laid may = apart_is_new 0 block.start block.words (by_start blocks) laid may.some may.apart
+
+pub runs_with : (blocks : List Block) (block : Block) → LieFrom 0 (by_start blocks) → MayCome blocks block → by_start (with_ranked blocks block) ≡ with_new (by_start blocks) block.start block.words
+runs_with blocks block laid may = by_start-with_ranked blocks block (is_new blocks block laid may)
+
+laid_runs_with : (blocks : List Block) (block : Block) → LieFrom 0 (by_start blocks) → MayCome blocks block → LieFrom 0 (by_start (with_ranked blocks block))
+laid_runs_with blocks block laid may =
+    subst (LieFrom 0) (sym (runs_with blocks block laid may)) (laid_with 0 block.start block.words (by_start blocks) laid (omega arith) may.some may.ends may.apart)
+
+words_with : (blocks : List Block) (block : Block) → LieFrom 0 (by_start blocks) → MayCome blocks block → words_in (by_start (with_ranked blocks block)) ≡ words_in (by_start blocks) + block.words
+words_with blocks block laid may = ap words_in (runs_with blocks block laid may) ∙ sum-with_new (by_start blocks) block.start block.words (is_new blocks block laid may)
+
+-- The sum fits with one more.
+pub total_fits : (blocks : List Block) (room places count total : ℕ) (block : Block) → AreTended blocks room places count total → MayCome blocks block → total + block.words < 2 ^ 64
+total_fits blocks room places count total block tended may =
+    omega (arith, tended.summed, words_with blocks block tended.laid may, words_fit 0 (by_start (with_ranked blocks block)) (laid_runs_with blocks block tended.laid may))
+
+-- One block more, and one spare node less.
+pub tended_with : (blocks grown : List Block) (room left places count total : ℕ) (block : Block) → AreTended blocks room places count total → MayCome blocks block
+    → grown ≡ with_ranked blocks block → left + 1 ≡ room → AreTended grown left places (count + 1) (total + block.words)
+tended_with blocks grown room left places count total block tended may grows less =
+    let new = is_new blocks block tended.laid may in
+    subst (λ (blocks : List Block). AreTended blocks left places (count + 1) (total + block.words)) (sym grows) (record {
+      ranked = ranked_with blocks block tended.ranked (new_is_other blocks block.start new);
+      differ = starts_differ_with blocks block new tended.differ;
+      laid = laid_runs_with blocks block tended.laid may;
+      counted = omega (arith, tended.counted, ap length (runs_with blocks block tended.laid may), length-with_new (by_start blocks) block.start block.words new);
+      summed = omega (arith, tended.summed, words_with blocks block tended.laid may);
+      placed = omega (arith, tended.placed);
+    })
+
+-- The first fit was one of those counted and summed.
+length_without : (blocks : List Block) (n : ℕ) (found : Block) (room places count total : ℕ) → AreTended blocks room places count total → first_fit blocks n ≡ Some found
+    → length (by_start blocks) ≡ length (by_start (without_fit blocks n)) + 1
+length_without blocks n found room places count total tended e =
+    let split = fit_splits blocks n found tended.differ e in ap length split.0 ∙ length-with_new (by_start (without_fit blocks n)) found.start found.words split.1
+
+words_without : (blocks : List Block) (n : ℕ) (found : Block) (room places count total : ℕ) → AreTended blocks room places count total → first_fit blocks n ≡ Some found
+    → words_in (by_start blocks) ≡ words_in (by_start (without_fit blocks n)) + found.words
+words_without blocks n found room places count total tended e =
+    let split = fit_splits blocks n found tended.differ e in ap words_in split.0 ∙ sum-with_new (by_start (without_fit blocks n)) found.start found.words split.1
+
+pub some_counted : (blocks : List Block) (n : ℕ) (found : Block) (room places count total : ℕ) → AreTended blocks room places count total → first_fit blocks n ≡ Some found → 1 ≤ count
+some_counted blocks n found room places count total tended e = omega (arith, tended.counted, length_without blocks n found room places count total tended e)
+
+pub some_summed : (blocks : List Block) (n : ℕ) (found : Block) (room places count total : ℕ) → AreTended blocks room places count total → first_fit blocks n ≡ Some found → found.words ≤ total
+some_summed blocks n found room places count total tended e = omega (arith, tended.summed, words_without blocks n found room places count total tended e)
+
+-- One block less, and one spare node more.
+pub tended_without : (blocks rest : List Block) (n : ℕ) (found : Block) (room places after count total : ℕ) → AreTended blocks room places count total → first_fit blocks n ≡ Some found
+    → rest ≡ without_fit blocks n → places ≤ after → AreTended rest (room + 1) after (count - 1) (total - found.words)
+tended_without blocks rest n found room places after count total tended e shrinks more =
+    subst (λ (blocks : List Block). AreTended blocks (room + 1) after (count - 1) (total - found.words)) (sym shrinks) (record {
+      ranked = ranked_without blocks n tended.ranked;
+      differ = starts_differ_without blocks n found tended.differ e;
+      laid = subst (LieFrom 0) (sym (by_start-without_fit blocks n found tended.differ e)) (laid_without 0 found.start (by_start blocks) tended.laid);
+      counted = omega (arith, tended.counted, length_without blocks n found room places count total tended e);
+      summed = omega (arith, tended.summed, words_without blocks n found room places count total tended e);
+      placed = omega (arith, tended.placed, some_counted blocks n found room places count total tended e);
+    })
