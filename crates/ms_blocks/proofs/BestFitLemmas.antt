@@ -8,14 +8,10 @@ use Rattle.std.proofs.lemmas.Bool.Decides.{nat_tests}
 use Rattle.ms_base.specs.declared.span.Block.{Block}
 use Rattle.ms_base.specs.Names.{named}
 use Rattle.ms_base.specs.Place.{best_fit}
-use Rattle.ms_blocks.specs.Ranking.{ranks_before, IsRanked, first_fit}
-use Rattle.ms_blocks.specs.FreeBlocks.{by_start, StartsDiffer, LieFrom}
+use Rattle.ms_blocks.specs.Rank.{ranks_before, IsRanked, first_fit}
+use Rattle.ms_blocks.specs.FreeBlocks.{Yields, IsBestFit, NoneFits, run_of, by_start, StartsDiffer, LieFrom}
 use Rattle.ms_blocks.proofs.LaidLemmas.{named_from}
 use Rattle.ms_blocks.proofs.StartLemmas.{all_by_start, fit_is_named}
-
--- A run is too small, or the found one is smaller, or of as many words and not higher.
-abbrev Yields : ℕ → ℕ × ℕ → ℕ × ℕ → Type 0
-Yields n found run = (run.1 < n) ⊎ ((found.1 < run.1) ⊎ ((found.1 ≡ run.1) × (found.0 ≤ run.0)))
 
 all_so : (P Q : Block → Type 0) (blocks : List Block) → AllByRecursion P blocks → ((block : Block) → P block → Q block) → AllByRecursion Q blocks
 all_so P Q [] all so = tt
@@ -89,9 +85,9 @@ all_too_small (block ∷ blocks) n e =
       | false ↦ λ few e. (not_at_most n block.words few, all_too_small blocks n e)
     ] refl e
 
-none_fits : (runs : List (ℕ × ℕ)) (n : ℕ) → AllByRecursion (λ (run : ℕ × ℕ). run.1 < n) runs → filter (fits n) runs ≡ []
-none_fits [] n all = refl
-none_fits (run ∷ runs) n all = rw (fails n run.1 all.0) (none_fits runs n all.1)
+nothing_passes : (runs : List (ℕ × ℕ)) (n : ℕ) → NoneFits runs n → filter (fits n) runs ≡ []
+nothing_passes [] n all = refl
+nothing_passes (run ∷ runs) n all = rw (fails n run.1 all.0) (nothing_passes runs n all.1)
 
 -- A test passes on all that pass a filter.
 all_filtered : (pass test : ℕ × ℕ → Bool) (runs : List (ℕ × ℕ)) → AllByRecursion (λ run. pass run ≡ true → test run ≡ true) runs → list_all test (filter pass runs) ≡ true
@@ -140,18 +136,26 @@ picks test n low found (run ∷ runs) laid e enough all passed others =
     later lower (inr (inl more)) ih = skipped test (nat_le n run.1) run (filter (fits n) runs) (others run more) ∙ ih
     later lower (inr (inr tied)) ih = absurd (omega (arith, laid.1, tied.1, lower))
 
--- The best fit is the first fit.
-pub best_fit-found : (low : ℕ) (blocks : List Block) (n : ℕ) (found : Block) → IsRanked blocks → StartsDiffer blocks → LieFrom low (by_start blocks) → first_fit blocks n ≡ Some found
-    → best_fit (by_start blocks) n ≡ Some (found.start, found.words)
-best_fit-found low blocks n found ranked differ laid e =
-    let run : ℕ × ℕ = (found.start, found.words) in
-    let runs = by_start blocks in
-    let enough = fit_is_enough blocks n found e in
-    let there = fit_is_named blocks n found differ e in
-    let yield = all_by_start (Yields n run) blocks differ (all_yield blocks n found ranked e) in
-    picks (is_least n runs) n low run runs laid there enough yield
-    (all_filtered (fits n) (λ (other : ℕ × ℕ). nat_le run.1 other.1) runs (all_runs_so (Yields n run) (λ (other : ℕ × ℕ). nat_le n other.1 ≡ true → nat_le run.1 other.1 ≡ true) runs yield (λ other. is_least_of n run other)))
-    (λ other more. some_fails (fits n) (λ (another : ℕ × ℕ). nat_le other.1 another.1) run runs there (passes n run.1 enough) (fails other.1 run.1 more))
+-- The first fit among blocks by rank is the best fit among runs by start, in words and as the model
+-- finds it.
+pub fit_is_best : (blocks : List Block) (n : ℕ) (found : Block) → IsRanked blocks → StartsDiffer blocks → first_fit blocks n ≡ Some found
+    → IsBestFit (by_start blocks) n (run_of found)
+fit_is_best blocks n found ranked differ e = record {
+  is_kept = fit_is_named blocks n found differ e;
+  enough = fit_is_enough blocks n found e;
+  least = all_by_start (Yields n (run_of found)) blocks differ (all_yield blocks n found ranked e);
+}
 
-pub best_fit-none : (blocks : List Block) (n : ℕ) → StartsDiffer blocks → first_fit blocks n ≡ None → best_fit (by_start blocks) n ≡ None
-best_fit-none blocks n differ e = rw (none_fits (by_start blocks) n (all_by_start (λ (run : ℕ × ℕ). run.1 < n) blocks differ (all_too_small blocks n e))) refl
+pub best_fit-found : (low : ℕ) (runs : List (ℕ × ℕ)) (n : ℕ) (best : ℕ × ℕ) → LieFrom low runs → IsBestFit runs n best → best_fit runs n ≡ Some best
+best_fit-found low runs n best laid is_best =
+    picks (is_least n runs) n low best runs laid is_best.is_kept is_best.enough is_best.least
+    (all_filtered (fits n) (λ (other : ℕ × ℕ). nat_le best.1 other.1) runs
+    (all_runs_so (Yields n best) (λ (other : ℕ × ℕ). nat_le n other.1 ≡ true → nat_le best.1 other.1 ≡ true) runs is_best.least (λ other. is_least_of n best other)))
+    (λ other more.
+      some_fails (fits n) (λ (another : ℕ × ℕ). nat_le other.1 another.1) best runs is_best.is_kept (passes n best.1 is_best.enough) (fails other.1 best.1 more))
+
+pub none_fits : (blocks : List Block) (n : ℕ) → StartsDiffer blocks → first_fit blocks n ≡ None → NoneFits (by_start blocks) n
+none_fits blocks n differ e = all_by_start (λ (run : ℕ × ℕ). run.1 < n) blocks differ (all_too_small blocks n e)
+
+pub best_fit-none : (runs : List (ℕ × ℕ)) (n : ℕ) → NoneFits runs n → best_fit runs n ≡ None
+best_fit-none runs n none = rw (nothing_passes runs n none) refl

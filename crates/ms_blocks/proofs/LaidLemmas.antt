@@ -127,10 +127,18 @@ sizes : (low : ℕ) (runs : List (ℕ × ℕ)) → LieFrom low runs → AllByRec
 sizes low [] laid = tt
 sizes low (run ∷ runs) laid = (laid.1, sizes (run.0 + run.1) runs laid.2)
 
+lowest_fits : (low : ℕ) (runs : List (ℕ × ℕ)) → LieFrom low runs → low < 2 ^ 64
+lowest_fits low runs laid = omega (arith, words_fit low runs laid)
+
+ends : (low : ℕ) (runs : List (ℕ × ℕ)) → LieFrom low runs → AllByRecursion (λ (run : ℕ × ℕ). run.0 + run.1 < 2 ^ 64) runs
+ends low [] laid = tt
+ends low (run ∷ runs) laid = (lowest_fits (run.0 + run.1) runs laid.2, ends (run.0 + run.1) runs laid.2)
+
 -- What callers know of the kept runs.
 pub laid_are_kept : (low : ℕ) (runs : List (ℕ × ℕ)) → LieFrom low runs → AreKept runs
 laid_are_kept low runs laid = record {
   rising = IsStrictlyIncreasing-from_sorted _ (sorted low runs laid);
   apart = apart low runs laid;
   sizes = sizes low runs laid;
+  ends = ends low runs laid;
 }

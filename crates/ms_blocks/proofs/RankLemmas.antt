@@ -1,11 +1,11 @@
 -- Blocks in the order of best fit: where a block goes, and which one fits first, in a list that is
--- joined of a tree's left side, its root and its right side. Used by the tree's functions.
+-- joined of a tree's left side, its block in the middle, and its right side. Used by the tree's functions.
 use Rattle.std.proofs.Common.{◌≡◌, ◌≢◌, ℕ, ◌<◌, ◌≤◌, Bool, true, false, not, ◌&&◌, ◌||◌, List, [], ◌∷◌, ◌++◌, Option, Some, None, refl, ap, sym, ◌∙◌, append_assoc, arith}
 use Rattle.std.specs.Prelude.{nat_lt, nat_le, ◌==◌, if◌then◌else◌}
 use Rattle.std.specs.List.{find, AllByRecursion}
 use Rattle.std.proofs.lemmas.Bool.Decides.{nat_tests}
 use Rattle.ms_base.specs.declared.span.Block.{Block}
-use Rattle.ms_blocks.specs.Ranking.{ranks_before, IsRanked, with_ranked, first_fit, without_fit}
+use Rattle.ms_blocks.specs.Rank.{ranks_before, IsRanked, with_ranked, first_fit, without_fit}
 
 -- The order is transitive.
 pub ranks_on : (a b c : Block) → ranks_before a b ≡ true → ranks_before b c ≡ true → ranks_before a c ≡ true
@@ -16,37 +16,37 @@ pub words_rise : (a b : Block) → ranks_before a b ≡ true → a.words ≤ b.w
 words_rise a b h = grind (arith, nat_tests)
 
 -- The parts of a ranked list around one of its blocks are ranked.
-pub ranked_left : (left right : List Block) (root : Block) → IsRanked (left ++ root ∷ right) → IsRanked left
-ranked_left [] right root h = tt
-ranked_left (other ∷ left) right root h = (all_left _ left (root ∷ right) h.0, ranked_left left right root h.1)
+pub ranked_left : (left right : List Block) (middle : Block) → IsRanked (left ++ middle ∷ right) → IsRanked left
+ranked_left [] right middle h = tt
+ranked_left (other ∷ left) right middle h = (all_left _ left (middle ∷ right) h.0, ranked_left left right middle h.1)
   where
     all_left : (P : Block → Type 0) (left right : List Block) → AllByRecursion P (left ++ right) → AllByRecursion P left
     all_left P [] right h = tt
     all_left P (other ∷ left) right h = (h.0, all_left P left right h.1)
 
-pub ranked_right : (left right : List Block) (root : Block) → IsRanked (left ++ root ∷ right) → IsRanked right
-ranked_right [] right root h = h.1
-ranked_right (other ∷ left) right root h = ranked_right left right root h.1
+pub ranked_right : (left right : List Block) (middle : Block) → IsRanked (left ++ middle ∷ right) → IsRanked right
+ranked_right [] right middle h = h.1
+ranked_right (other ∷ left) right middle h = ranked_right left right middle h.1
 
--- What holds of all holds of the root.
-of_root : (P : Block → Type 0) (left right : List Block) (root : Block) → AllByRecursion P (left ++ root ∷ right) → P root
-of_root P [] right root h = h.0
-of_root P (other ∷ left) right root h = of_root P left right root h.1
+-- What holds of all holds of the middle.
+of_middle : (P : Block → Type 0) (left right : List Block) (middle : Block) → AllByRecursion P (left ++ middle ∷ right) → P middle
+of_middle P [] right middle h = h.0
+of_middle P (other ∷ left) right middle h = of_middle P left right middle h.1
 
--- A block goes to the right of a root that ranks before it, and else to the left.
-pub with_ranked-right : (left right : List Block) (root block : Block) → IsRanked (left ++ root ∷ right) → ranks_before root block ≡ true
-    → with_ranked (left ++ root ∷ right) block ≡ left ++ root ∷ with_ranked right block
-with_ranked-right [] right root block h before = rw before refl
-with_ranked-right (other ∷ left) right root block h before =
-    let past : ranks_before other block ≡ true = ranks_on other root block (of_root (λ later. ranks_before other later ≡ true) left right root h.0) before in
-    rw past (ap (λ blocks. other ∷ blocks) (with_ranked-right left right root block h.1 before))
+-- A block goes to the right of a middle that ranks before it, and else to the left.
+pub with_ranked-right : (left right : List Block) (middle block : Block) → IsRanked (left ++ middle ∷ right) → ranks_before middle block ≡ true
+    → with_ranked (left ++ middle ∷ right) block ≡ left ++ middle ∷ with_ranked right block
+with_ranked-right [] right middle block h before = rw before refl
+with_ranked-right (other ∷ left) right middle block h before =
+    let past : ranks_before other block ≡ true = ranks_on other middle block (of_middle (λ later. ranks_before other later ≡ true) left right middle h.0) before in
+    rw past (ap (λ blocks. other ∷ blocks) (with_ranked-right left right middle block h.1 before))
 
-pub with_ranked-left : (left right : List Block) (root block : Block) → ranks_before root block ≡ false
-    → with_ranked (left ++ root ∷ right) block ≡ with_ranked left block ++ root ∷ right
-with_ranked-left [] right root block behind = rw behind refl
-with_ranked-left (other ∷ left) right root block behind =
-    elim (ranks_before other block) as (λ b. (if b then other ∷ with_ranked (left ++ root ∷ right) block else block ∷ other ∷ (left ++ root ∷ right)) ≡ (if b then other ∷ with_ranked left block else block ∷ other ∷ left) ++ root ∷ right) [
-      | true ↦ ap (λ blocks. other ∷ blocks) (with_ranked-left left right root block behind)
+pub with_ranked-left : (left right : List Block) (middle block : Block) → ranks_before middle block ≡ false
+    → with_ranked (left ++ middle ∷ right) block ≡ with_ranked left block ++ middle ∷ right
+with_ranked-left [] right middle block behind = rw behind refl
+with_ranked-left (other ∷ left) right middle block behind =
+    elim (ranks_before other block) as (λ b. (if b then other ∷ with_ranked (left ++ middle ∷ right) block else block ∷ other ∷ (left ++ middle ∷ right)) ≡ (if b then other ∷ with_ranked left block else block ∷ other ∷ left) ++ middle ∷ right) [
+      | true ↦ ap (λ blocks. other ∷ blocks) (with_ranked-left left right middle block behind)
       | false ↦ refl
     ]
 
@@ -56,22 +56,22 @@ too_small few words h = grind (arith, nat_tests)
 large_enough : (words many : ℕ) → words ≤ many → nat_le words many ≡ true
 large_enough words many h = grind (arith, nat_tests)
 
--- Where the root is too small, so is all to its left.
-left_too_small : (left right : List Block) (root other : Block) (words : ℕ) → AllByRecursion (λ later. ranks_before other later ≡ true) (left ++ root ∷ right) → root.words < words
+-- Where the middle is too small, so is all to its left.
+left_too_small : (left right : List Block) (middle other : Block) (words : ℕ) → AllByRecursion (λ later. ranks_before other later ≡ true) (left ++ middle ∷ right) → middle.words < words
     → nat_le words other.words ≡ false
-left_too_small left right root other words h few =
-    let rise : other.words ≤ root.words = words_rise other root (of_root (λ later. ranks_before other later ≡ true) left right root h) in too_small other.words words (omega arith)
+left_too_small left right middle other words h few =
+    let rise : other.words ≤ middle.words = words_rise other middle (of_middle (λ later. ranks_before other later ≡ true) left right middle h) in too_small other.words words (omega arith)
 
-pub first_fit-right : (left right : List Block) (root : Block) (words : ℕ) → IsRanked (left ++ root ∷ right) → root.words < words
-    → first_fit (left ++ root ∷ right) words ≡ first_fit right words
-first_fit-right [] right root words h few = rw (too_small root.words words few) refl
-first_fit-right (other ∷ left) right root words h few = rw (left_too_small left right root other words h.0 few) (first_fit-right left right root words h.1 few)
+pub first_fit-right : (left right : List Block) (middle : Block) (words : ℕ) → IsRanked (left ++ middle ∷ right) → middle.words < words
+    → first_fit (left ++ middle ∷ right) words ≡ first_fit right words
+first_fit-right [] right middle words h few = rw (too_small middle.words words few) refl
+first_fit-right (other ∷ left) right middle words h few = rw (left_too_small left right middle other words h.0 few) (first_fit-right left right middle words h.1 few)
 
-pub without_fit-right : (left right : List Block) (root : Block) (words : ℕ) → IsRanked (left ++ root ∷ right) → root.words < words
-    → without_fit (left ++ root ∷ right) words ≡ left ++ root ∷ without_fit right words
-without_fit-right [] right root words h few = rw (too_small root.words words few) refl
-without_fit-right (other ∷ left) right root words h few =
-    rw (left_too_small left right root other words h.0 few) (ap (λ blocks. other ∷ blocks) (without_fit-right left right root words h.1 few))
+pub without_fit-right : (left right : List Block) (middle : Block) (words : ℕ) → IsRanked (left ++ middle ∷ right) → middle.words < words
+    → without_fit (left ++ middle ∷ right) words ≡ left ++ middle ∷ without_fit right words
+without_fit-right [] right middle words h few = rw (too_small middle.words words few) refl
+without_fit-right (other ∷ left) right middle words h few =
+    rw (left_too_small left right middle other words h.0 few) (ap (λ blocks. other ∷ blocks) (without_fit-right left right middle words h.1 few))
 
 -- What fits first to the left fits first of all.
 pub first_fit-left : (left rest : List Block) (words : ℕ) (found : Block) → first_fit left words ≡ Some found → first_fit (left ++ rest) words ≡ Some found
@@ -90,21 +90,21 @@ without_fit-left (other ∷ left) rest words found e =
       | false ↦ λ e. ap (λ blocks. other ∷ blocks) (without_fit-left left rest words found e)
     ] e
 
--- Where nothing to the left fits, a root that does is the first.
-pub first_fit-root : (left right : List Block) (root : Block) (words : ℕ) → first_fit left words ≡ None → words ≤ root.words → first_fit (left ++ root ∷ right) words ≡ Some root
-first_fit-root [] right root words e enough = rw (large_enough words root.words enough) refl
-first_fit-root (other ∷ left) right root words e enough =
-    elim (nat_le words other.words) as (λ b. (if b then Some other else first_fit left words) ≡ None → (if b then Some other else first_fit (left ++ root ∷ right) words) ≡ Some root) [
+-- Where nothing to the left fits, a middle that does is the first.
+pub first_fit-middle : (left right : List Block) (middle : Block) (words : ℕ) → first_fit left words ≡ None → words ≤ middle.words → first_fit (left ++ middle ∷ right) words ≡ Some middle
+first_fit-middle [] right middle words e enough = rw (large_enough words middle.words enough) refl
+first_fit-middle (other ∷ left) right middle words e enough =
+    elim (nat_le words other.words) as (λ b. (if b then Some other else first_fit left words) ≡ None → (if b then Some other else first_fit (left ++ middle ∷ right) words) ≡ Some middle) [
       | true ↦ λ e. absurd (cc)
-      | false ↦ λ e. first_fit-root left right root words e enough
+      | false ↦ λ e. first_fit-middle left right middle words e enough
     ] e
 
-pub without_fit-root : (left right : List Block) (root : Block) (words : ℕ) → first_fit left words ≡ None → words ≤ root.words → without_fit (left ++ root ∷ right) words ≡ left ++ right
-without_fit-root [] right root words e enough = rw (large_enough words root.words enough) refl
-without_fit-root (other ∷ left) right root words e enough =
-    elim (nat_le words other.words) as (λ b. (if b then Some other else first_fit left words) ≡ None → (if b then left ++ root ∷ right else other ∷ without_fit (left ++ root ∷ right) words) ≡ other ∷ (left ++ right)) [
+pub without_fit-middle : (left right : List Block) (middle : Block) (words : ℕ) → first_fit left words ≡ None → words ≤ middle.words → without_fit (left ++ middle ∷ right) words ≡ left ++ right
+without_fit-middle [] right middle words e enough = rw (large_enough words middle.words enough) refl
+without_fit-middle (other ∷ left) right middle words e enough =
+    elim (nat_le words other.words) as (λ b. (if b then Some other else first_fit left words) ≡ None → (if b then left ++ middle ∷ right else other ∷ without_fit (left ++ middle ∷ right) words) ≡ other ∷ (left ++ right)) [
       | true ↦ λ e. absurd (cc)
-      | false ↦ λ e. ap (λ blocks. other ∷ blocks) (without_fit-root left right root words e enough)
+      | false ↦ λ e. ap (λ blocks. other ∷ blocks) (without_fit-middle left right middle words e enough)
     ] e
 
 -- Where nothing fits, nothing goes.
@@ -116,57 +116,57 @@ without_fit-none (other ∷ blocks) words e =
       | false ↦ λ e. ap (λ rest. other ∷ rest) (without_fit-none blocks words e)
     ] e
 
--- A tree split at a block: on the root's right or on its left side.
-pub split_right : (left right below above : List Block) (root block : Block) → IsRanked (left ++ root ∷ right) → ranks_before root block ≡ true
-    → (IsRanked right → with_ranked right block ≡ below ++ block ∷ above) → with_ranked (left ++ root ∷ right) block ≡ (left ++ root ∷ below) ++ block ∷ above
-split_right left right below above root block ranked before e =
-    with_ranked-right left right root block ranked before ∙ ap (λ blocks. left ++ root ∷ blocks) (e (ranked_right left right root ranked)) ∙ sym (append_assoc left (root ∷ below) (block ∷ above))
+-- A tree cut at a block: on the right or on the left side.
+pub cut_right : (left right below above : List Block) (middle block : Block) → IsRanked (left ++ middle ∷ right) → ranks_before middle block ≡ true
+    → (IsRanked right → with_ranked right block ≡ below ++ block ∷ above) → with_ranked (left ++ middle ∷ right) block ≡ (left ++ middle ∷ below) ++ block ∷ above
+cut_right left right below above middle block ranked before e =
+    with_ranked-right left right middle block ranked before ∙ ap (λ blocks. left ++ middle ∷ blocks) (e (ranked_right left right middle ranked)) ∙ sym (append_assoc left (middle ∷ below) (block ∷ above))
 
-pub split_left : (left right below above : List Block) (root block : Block) → IsRanked (left ++ root ∷ right) → ranks_before root block ≡ false
-    → (IsRanked left → with_ranked left block ≡ below ++ block ∷ above) → with_ranked (left ++ root ∷ right) block ≡ below ++ block ∷ (above ++ root ∷ right)
-split_left left right below above root block ranked behind e =
-    with_ranked-left left right root block behind ∙ ap (λ blocks. blocks ++ root ∷ right) (e (ranked_left left right root ranked)) ∙ append_assoc below (block ∷ above) (root ∷ right)
+pub cut_left : (left right below above : List Block) (middle block : Block) → IsRanked (left ++ middle ∷ right) → ranks_before middle block ≡ false
+    → (IsRanked left → with_ranked left block ≡ below ++ block ∷ above) → with_ranked (left ++ middle ∷ right) block ≡ below ++ block ∷ (above ++ middle ∷ right)
+cut_left left right below above middle block ranked behind e =
+    with_ranked-left left right middle block behind ∙ ap (λ blocks. blocks ++ middle ∷ right) (e (ranked_left left right middle ranked)) ∙ append_assoc below (block ∷ above) (middle ∷ right)
 
--- A block inserted on the root's right or on its left side.
-pub insert_right : (left right grown : List Block) (root block : Block) → IsRanked (left ++ root ∷ right) → ranks_before root block ≡ true
-    → (IsRanked right → grown ≡ with_ranked right block) → left ++ root ∷ grown ≡ with_ranked (left ++ root ∷ right) block
-insert_right left right grown root block ranked before e =
-    ap (λ blocks. left ++ root ∷ blocks) (e (ranked_right left right root ranked)) ∙ sym (with_ranked-right left right root block ranked before)
+-- A block inserted on the right or on the left side.
+pub insert_right : (left right grown : List Block) (middle block : Block) → IsRanked (left ++ middle ∷ right) → ranks_before middle block ≡ true
+    → (IsRanked right → grown ≡ with_ranked right block) → left ++ middle ∷ grown ≡ with_ranked (left ++ middle ∷ right) block
+insert_right left right grown middle block ranked before e =
+    ap (λ blocks. left ++ middle ∷ blocks) (e (ranked_right left right middle ranked)) ∙ sym (with_ranked-right left right middle block ranked before)
 
-pub insert_left : (left right grown : List Block) (root block : Block) → IsRanked (left ++ root ∷ right) → ranks_before root block ≡ false
-    → (IsRanked left → grown ≡ with_ranked left block) → grown ++ root ∷ right ≡ with_ranked (left ++ root ∷ right) block
-insert_left left right grown root block ranked behind e =
-    ap (λ blocks. blocks ++ root ∷ right) (e (ranked_left left right root ranked)) ∙ sym (with_ranked-left left right root block behind)
+pub insert_left : (left right grown : List Block) (middle block : Block) → IsRanked (left ++ middle ∷ right) → ranks_before middle block ≡ false
+    → (IsRanked left → grown ≡ with_ranked left block) → grown ++ middle ∷ right ≡ with_ranked (left ++ middle ∷ right) block
+insert_left left right grown middle block ranked behind e =
+    ap (λ blocks. blocks ++ middle ∷ right) (e (ranked_left left right middle ranked)) ∙ sym (with_ranked-left left right middle block behind)
 
--- The first fit taken from the root's right side, from its left side, or the root itself.
-pub take_right : (left right rest : List Block) (root : Block) (words : ℕ) → IsRanked (left ++ root ∷ right) → root.words < words
-    → (IsRanked right → rest ≡ without_fit right words) → left ++ root ∷ rest ≡ without_fit (left ++ root ∷ right) words
-take_right left right rest root words ranked few e =
-    ap (λ blocks. left ++ root ∷ blocks) (e (ranked_right left right root ranked)) ∙ sym (without_fit-right left right root words ranked few)
+-- The first fit taken from the right side, from the left side, or from the middle.
+pub take_right : (left right rest : List Block) (middle : Block) (words : ℕ) → IsRanked (left ++ middle ∷ right) → middle.words < words
+    → (IsRanked right → rest ≡ without_fit right words) → left ++ middle ∷ rest ≡ without_fit (left ++ middle ∷ right) words
+take_right left right rest middle words ranked few e =
+    ap (λ blocks. left ++ middle ∷ blocks) (e (ranked_right left right middle ranked)) ∙ sym (without_fit-right left right middle words ranked few)
 
-pub find_right : (left right : List Block) (root : Block) (words : ℕ) (found : Option Block) → IsRanked (left ++ root ∷ right) → root.words < words
-    → (IsRanked right → first_fit right words ≡ found) → first_fit (left ++ root ∷ right) words ≡ found
-find_right left right root words found ranked few e = first_fit-right left right root words ranked few ∙ e (ranked_right left right root ranked)
+pub find_right : (left right : List Block) (middle : Block) (words : ℕ) (found : Option Block) → IsRanked (left ++ middle ∷ right) → middle.words < words
+    → (IsRanked right → first_fit right words ≡ found) → first_fit (left ++ middle ∷ right) words ≡ found
+find_right left right middle words found ranked few e = first_fit-right left right middle words ranked few ∙ e (ranked_right left right middle ranked)
 
-pub take_left : (left right rest : List Block) (root found : Block) (words : ℕ) → IsRanked (left ++ root ∷ right)
-    → (IsRanked left → first_fit left words ≡ Some found) → (IsRanked left → rest ≡ without_fit left words) → rest ++ root ∷ right ≡ without_fit (left ++ root ∷ right) words
-take_left left right rest root found words ranked found_is e =
-    let in_left = ranked_left left right root ranked in
-    ap (λ blocks. blocks ++ root ∷ right) (e in_left) ∙ sym (without_fit-left left (root ∷ right) words found (found_is in_left))
+pub take_left : (left right rest : List Block) (middle found : Block) (words : ℕ) → IsRanked (left ++ middle ∷ right)
+    → (IsRanked left → first_fit left words ≡ Some found) → (IsRanked left → rest ≡ without_fit left words) → rest ++ middle ∷ right ≡ without_fit (left ++ middle ∷ right) words
+take_left left right rest middle found words ranked found_is e =
+    let in_left = ranked_left left right middle ranked in
+    ap (λ blocks. blocks ++ middle ∷ right) (e in_left) ∙ sym (without_fit-left left (middle ∷ right) words found (found_is in_left))
 
-pub find_left : (left right : List Block) (root found : Block) (words : ℕ) → IsRanked (left ++ root ∷ right)
-    → (IsRanked left → first_fit left words ≡ Some found) → first_fit (left ++ root ∷ right) words ≡ Some found
-find_left left right root found words ranked found_is = first_fit-left left (root ∷ right) words found (found_is (ranked_left left right root ranked))
+pub find_left : (left right : List Block) (middle found : Block) (words : ℕ) → IsRanked (left ++ middle ∷ right)
+    → (IsRanked left → first_fit left words ≡ Some found) → first_fit (left ++ middle ∷ right) words ≡ Some found
+find_left left right middle found words ranked found_is = first_fit-left left (middle ∷ right) words found (found_is (ranked_left left right middle ranked))
 
-pub take_root : (left right rest joined : List Block) (root : Block) (words : ℕ) → IsRanked (left ++ root ∷ right) → words ≤ root.words
-    → (IsRanked left → first_fit left words ≡ None) → (IsRanked left → rest ≡ without_fit left words) → joined ≡ rest ++ right → joined ≡ without_fit (left ++ root ∷ right) words
-take_root left right rest joined root words ranked enough none e join =
-    let in_left = ranked_left left right root ranked in
-    join ∙ ap (λ blocks. blocks ++ right) (e in_left ∙ without_fit-none left words (none in_left)) ∙ sym (without_fit-root left right root words (none in_left) enough)
+pub take_middle : (left right rest joined : List Block) (middle : Block) (words : ℕ) → IsRanked (left ++ middle ∷ right) → words ≤ middle.words
+    → (IsRanked left → first_fit left words ≡ None) → (IsRanked left → rest ≡ without_fit left words) → joined ≡ rest ++ right → joined ≡ without_fit (left ++ middle ∷ right) words
+take_middle left right rest joined middle words ranked enough none e join =
+    let in_left = ranked_left left right middle ranked in
+    join ∙ ap (λ blocks. blocks ++ right) (e in_left ∙ without_fit-none left words (none in_left)) ∙ sym (without_fit-middle left right middle words (none in_left) enough)
 
-pub find_root : (left right : List Block) (root : Block) (words : ℕ) → IsRanked (left ++ root ∷ right) → words ≤ root.words
-    → (IsRanked left → first_fit left words ≡ None) → first_fit (left ++ root ∷ right) words ≡ Some root
-find_root left right root words ranked enough none = first_fit-root left right root words (none (ranked_left left right root ranked)) enough
+pub find_middle : (left right : List Block) (middle : Block) (words : ℕ) → IsRanked (left ++ middle ∷ right) → words ≤ middle.words
+    → (IsRanked left → first_fit left words ≡ None) → first_fit (left ++ middle ∷ right) words ≡ Some middle
+find_middle left right middle words ranked enough none = first_fit-middle left right middle words (none (ranked_left left right middle ranked)) enough
 
 -- An addition and a removal keep a list ranked.
 all_with : (P : Block → Type 0) (blocks : List Block) (block : Block) → AllByRecursion P blocks → P block → AllByRecursion P (with_ranked blocks block)

@@ -4,7 +4,7 @@ use Rattle.std.proofs.Common.{◌≡◌, ℕ, ◌+◌, ◌-◌, ◌^◌, ◌≤�
 use Rattle.ms_base.specs.declared.span.Block.{Block}
 use Rattle.ms_base.specs.Interval.{meets_any}
 use Rattle.ms_base.specs.Names.{named, with_new, without}
-use Rattle.ms_blocks.specs.Ranking.{with_ranked, first_fit, without_fit}
+use Rattle.ms_blocks.specs.Rank.{with_ranked, first_fit, without_fit}
 use Rattle.ms_blocks.specs.FreeBlocks.{by_start, LieFrom, words_in}
 use Rattle.ms_blocks.specs.Tended.{AreTended}
 use Rattle.ms_blocks.proofs.RankLemmas.{ranked_with, ranked_without}

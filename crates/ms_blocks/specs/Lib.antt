@@ -1,4 +1,4 @@
-pub mod Ranking
+pub mod Rank
 pub mod Tree
 pub mod FreeBlocks
 pub mod Tended

@@ -3,7 +3,7 @@ use Rattle.std.specs.Prelude.{◌≡◌, ℕ, ◌+◌, ◌≤◌, List, length, 
 use Rattle.ms_base.specs.declared.span.Block.{Block}
 use Rattle.ms_blocks.specs.declared.free_blocks.FreeBlocks.TheInside.{Inside}
 use Rattle.ms_blocks.specs.FreeBlocks.{KeptBlocks, by_start, StartsDiffer, LieFrom, words_in}
-use Rattle.ms_blocks.specs.Ranking.{IsRanked}
+use Rattle.ms_blocks.specs.Rank.{IsRanked}
 use Rattle.ms_blocks.specs.Tree.{blocks_of}
 
 -- The tree's blocks as runs, and as much room as there are spare nodes.

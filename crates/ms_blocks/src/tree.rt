@@ -1,31 +1,45 @@
-//! tree
-ghost use Rattle.std.specs.Prelude.{◌≡◌, ◌<◌, ◌≤◌, List, [], ◌∷◌, ◌++◌, IfSome, IfNone, Some, None};
+//! A search tree of blocks by rank, which no operation makes or frees memory for.
+//!
+//!                 fork             everything to the left ranks before the fork's block, and
+//!                /    \            everything to the right behind it
+//!            left      right
+//!
+//! A fork's block has a weight drawn from its start, and no fork below weighs more: the tree is the
+//! one that its blocks, added from the heaviest on, would make without any balancing. So its depth
+//! is about twice the logarithm of its blocks in base 2 for starts as they come. Nothing that is
+//! proved rests on the weights. Recursion goes as deep as the tree: only blocks whose weights fall
+//! as their ranks rise make it deep.
+//! Forks come from outside and go back whole. Each operation says which list of blocks the tree
+//! holds then, from left to right.
+ghost use Rattle.std.specs.Prelude.{◌≡◌, ◌<◌, ◌≤◌, ◌∷◌, ◌++◌};
 ghost use Rattle.std.specs.Option.{option_map};
-ghost use Rattle.ms_blocks.specs.Ranking.{IsRanked, ranks_before, with_ranked, first_fit, without_fit};
+ghost use Rattle.ms_blocks.specs.Rank.{IsRanked, ranks_before, with_ranked, first_fit, without_fit};
 ghost use Rattle.ms_blocks.specs.Tree.{blocks_of};
 
 use ms_base::Block;
 use std::mem;
 
+/// A tree of blocks: empty, or forked at one of them.
 #[cycle(tree)]
 #[derive(Drop)]
 pub enum Tree {
     Empty,
-    Fork(Box<Node>),
+    Forked(Box<Fork>),
 }
 
+/// A block, and the trees of those that rank before and behind it.
 #[cycle(tree)]
 #[derive(Drop)]
-pub struct Node {
+pub struct Fork {
     left: Tree,
     pub block: Block,
     right: Tree,
 }
 
-impl Node {
-    /// Makes a node that is in no tree.
-    pub fn spare() -> Node {
-        Node {
+impl Fork {
+    /// Makes a fork that is in no tree yet.
+    pub fn spare() -> Fork {
+        Fork {
             left: Tree::Empty,
             block: Block { start: 0, words: 0 },
             right: Tree::Empty,
@@ -33,99 +47,116 @@ impl Node {
     }
 }
 
+/// Adds the spare fork's block to those of a ranked tree.
+pub fn insert(tree: Tree, mut spare: Box<Fork>) -> Tree
+    ensures {
+        IsRanked (blocks_of tree) → blocks_of result ≡ with_ranked (blocks_of tree) spare.value.block
+    }
+{
+    match tree {
+        Tree::Forked(mut fork) if weight(&fork) >= weight(&spare) => {
+            if ranks_first(&fork.block, &spare.block) {
+                fork.right = insert(mem::replace(&mut fork.right, Tree::Empty), spare);
+                Tree::Forked(fork)
+            } else {
+                fork.left = insert(mem::replace(&mut fork.left, Tree::Empty), spare);
+                Tree::Forked(fork)
+            }
+        }
+        tree => {
+            let (left, right) = cut(tree, &spare.block);
+            spare.left = left;
+            spare.right = right;
+            Tree::Forked(spare)
+        }
+    }
+}
+
+/// Takes the first block of a ranked tree that has so many words, with its fork.
+pub fn take_fit(tree: Tree, words: u64) -> (Tree, Option<Box<Fork>>)
+    ensures found {
+        IsRanked (blocks_of tree) →
+            first_fit (blocks_of tree) words ≡ option_map (λ fork. fork.value.block) result.1
+    }
+    ensures left {
+        IsRanked (blocks_of tree) → blocks_of result.0 ≡ without_fit (blocks_of tree) words
+    }
+{
+    let Tree::Forked(mut fork) = tree else {
+        return (Tree::Empty, None);
+    };
+    if fork.block.words < words {
+        let (right, found) = take_fit(mem::replace(&mut fork.right, Tree::Empty), words);
+        fork.right = right;
+        return (Tree::Forked(fork), found);
+    }
+    let (left, found) = take_fit(mem::replace(&mut fork.left, Tree::Empty), words);
+    match found {
+        Some(found) => {
+            fork.left = left;
+            (Tree::Forked(fork), Some(found))
+        }
+        None => {
+            let right = mem::replace(&mut fork.right, Tree::Empty);
+            (join(left, right), Some(fork))
+        }
+    }
+}
+
+/// Cuts a ranked tree in two: the blocks that rank before the one at hand, and the others.
+fn cut(tree: Tree, at: &Block) -> (Tree, Tree)
+    ensures {
+        IsRanked (blocks_of tree) →
+            with_ranked (blocks_of tree) at.now ≡ blocks_of result.0 ++ at.now ∷ blocks_of result.1
+    }
+{
+    match tree {
+        Tree::Empty => (Tree::Empty, Tree::Empty),
+        Tree::Forked(mut fork) => {
+            if ranks_first(&fork.block, at) {
+                let (before, behind) = cut(mem::replace(&mut fork.right, Tree::Empty), at);
+                fork.right = before;
+                (Tree::Forked(fork), behind)
+            } else {
+                let (before, behind) = cut(mem::replace(&mut fork.left, Tree::Empty), at);
+                fork.left = behind;
+                (before, Tree::Forked(fork))
+            }
+        }
+    }
+}
+
+/// Joins two trees, the blocks of the first before those of the second.
+fn join(before: Tree, behind: Tree) -> Tree
+    ensures { blocks_of result ≡ blocks_of before ++ blocks_of behind }
+{
+    match (before, behind) {
+        (Tree::Empty, behind) => behind,
+        (before, Tree::Empty) => before,
+        (Tree::Forked(mut low), Tree::Forked(mut high)) => {
+            if weight(&low) >= weight(&high) {
+                let rest = mem::replace(&mut low.right, Tree::Empty);
+                low.right = join(rest, Tree::Forked(high));
+                Tree::Forked(low)
+            } else {
+                let rest = mem::replace(&mut high.left, Tree::Empty);
+                high.left = join(Tree::Forked(low), rest);
+                Tree::Forked(high)
+            }
+        }
+    }
+}
+
+/// Tells whether the first block ranks before the second.
 fn ranks_first(one: &Block, other: &Block) -> bool
     ensures { result ≡ ranks_before one.now other.now }
 {
     one.words < other.words || (one.words == other.words && one.start < other.start)
 }
 
-fn priority(node: &Node) -> u64 {
-    let mixed = node.block.start.wrapping_mul(0x9e37_79b9_7f4a_7c15);
-    (mixed ^ (mixed >> 32)).wrapping_mul(0xd6e8_feb8_6659_fd93)
-}
-
-fn merge(left: Tree, right: Tree) -> Tree
-    ensures { blocks_of result ≡ blocks_of left ++ blocks_of right }
-{
-    match (left, right) {
-        (Tree::Empty, right) => right,
-        (left, Tree::Empty) => left,
-        (Tree::Fork(mut low), Tree::Fork(mut high)) => {
-            if priority(&low) >= priority(&high) {
-                let rest = mem::replace(&mut low.right, Tree::Empty);
-                low.right = merge(rest, Tree::Fork(high));
-                Tree::Fork(low)
-            } else {
-                let rest = mem::replace(&mut high.left, Tree::Empty);
-                high.left = merge(Tree::Fork(low), rest);
-                Tree::Fork(high)
-            }
-        }
-    }
-}
-
-fn split(tree: Tree, at: &Block) -> (Tree, Tree)
-    ensures { IsRanked (blocks_of tree) → with_ranked (blocks_of tree) at.now ≡ blocks_of result.0 ++ at.now ∷ blocks_of result.1 }
-{
-    match tree {
-        Tree::Empty => (Tree::Empty, Tree::Empty),
-        Tree::Fork(mut node) => {
-            if ranks_first(&node.block, at) {
-                let (below, above) = split(mem::replace(&mut node.right, Tree::Empty), at);
-                node.right = below;
-                (Tree::Fork(node), above)
-            } else {
-                let (below, above) = split(mem::replace(&mut node.left, Tree::Empty), at);
-                node.left = above;
-                (below, Tree::Fork(node))
-            }
-        }
-    }
-}
-
-pub fn insert(tree: Tree, mut node: Box<Node>) -> Tree
-    ensures { IsRanked (blocks_of tree) → blocks_of result ≡ with_ranked (blocks_of tree) node.value.block }
-{
-    match tree {
-        Tree::Fork(mut root) if priority(&root) >= priority(&node) => {
-            if ranks_first(&root.block, &node.block) {
-                root.right = insert(mem::replace(&mut root.right, Tree::Empty), node);
-                Tree::Fork(root)
-            } else {
-                root.left = insert(mem::replace(&mut root.left, Tree::Empty), node);
-                Tree::Fork(root)
-            }
-        }
-        tree => {
-            let (left, right) = split(tree, &node.block);
-            node.left = left;
-            node.right = right;
-            Tree::Fork(node)
-        }
-    }
-}
-
-pub fn take_fit(tree: Tree, words: u64) -> (Tree, Option<Box<Node>>)
-    ensures found { IsRanked (blocks_of tree) → first_fit (blocks_of tree) words ≡ option_map (λ node. node.value.block) result.1 }
-    ensures left { IsRanked (blocks_of tree) → blocks_of result.0 ≡ without_fit (blocks_of tree) words }
-{
-    let Tree::Fork(mut root) = tree else {
-        return (Tree::Empty, None);
-    };
-    if root.block.words < words {
-        let (right, found) = take_fit(mem::replace(&mut root.right, Tree::Empty), words);
-        root.right = right;
-        return (Tree::Fork(root), found);
-    }
-    let (left, found) = take_fit(mem::replace(&mut root.left, Tree::Empty), words);
-    match found {
-        Some(found) => {
-            root.left = left;
-            (Tree::Fork(root), Some(found))
-        }
-        None => {
-            let right = mem::replace(&mut root.right, Tree::Empty);
-            (merge(left, right), Some(root))
-        }
-    }
+/// Draws a weight from the block's start. Two rounds of multiplying, since after one of them
+/// starts at even distances have weights that rise or fall in long runs.
+fn weight(fork: &Fork) -> u64 {
+    let spread = fork.block.start.wrapping_mul(0x9e37_79b9_7f4a_7c15);
+    (spread ^ (spread >> 32)).wrapping_mul(0xd6e8_feb8_6659_fd93)
 }

@@ -17,7 +17,7 @@ pub invariant_of-self : goal.invariant_of-self
 invariant_of-self c =
     let f = c.self.inside in
     let may : MayCome (blocks_of f.tree) c.args.block = record { some = c.requires.words; ends = c.requires.ends; apart = rw (← c.self.view_is) at c.requires.apart } in
-    let grown = rw c.replace-tree.ensures.value at c.insert.ensures in
+    let grown = rw c.replace.ensures.value at c.insert.ensures in
     rw c.pop.ensures.capacity
     (tended_with (blocks_of f.tree) (blocks_of c.insert.result) (vec_len f.spare) (vec_len c.pop.new.self) (vec_capacity f.spare) f.count f.total c.args.block c.self.invariant may
     (grown c.self.invariant.ranked) (omega (arith, c.in-Some.ensures.cases)))
@@ -26,5 +26,5 @@ pub returns-clause-kept : goal.returns-clause-kept
 returns-clause-kept c =
     let f = c.self.inside in
     let may : MayCome (blocks_of f.tree) c.args.block = record { some = c.requires.words; ends = c.requires.ends; apart = rw (← c.self.view_is) at c.requires.apart } in
-    let grown = rw c.replace-tree.ensures.value at c.insert.ensures in
+    let grown = rw c.replace.ensures.value at c.insert.ensures in
     rw (← c.self.view_is) (ap by_start (grown c.self.invariant.ranked) ∙ runs_with (blocks_of f.tree) c.args.block c.self.invariant.laid may)
