@@ -4,3 +4,4 @@ pub mod StartLemmas
 pub mod LaidLemmas
 pub mod BestFitLemmas
 pub mod TendedLemmas
+pub mod BoundLemmas

@@ -132,3 +132,23 @@ fn drained_blocks_rise_in_size_then_start(rt: HostRuntime) {
     }
     assert_eq!(rt; blocks.remove(2), None);
 }
+
+#[test]
+fn many_of_one_size_come_by_start(rt: HostRuntime) {
+    let mut rising = FreeBlocks::new(rt.alloc());
+    reserve_at_last(&rt, &mut rising, 100);
+    for place in 0..100 {
+        rising.add(block(place * 4, 4));
+    }
+    let mut falling = FreeBlocks::new(rt.alloc());
+    reserve_at_last(&rt, &mut falling, 100);
+    for place in 0..100 {
+        falling.add(block(400 - place * 4, 4));
+    }
+    for place in 0..100 {
+        assert_eq!(rt; rising.remove(3), Some(block(place * 4, 4)));
+        assert_eq!(rt; falling.remove(3), Some(block(place * 4 + 4, 4)));
+    }
+    assert_eq!(rt; rising.remove(3), None);
+    assert_eq!(rt; falling.remove(3), None);
+}
