@@ -152,7 +152,7 @@ best_fit-found low runs n best laid is_best =
     (all_filtered (fits n) (λ (other : ℕ × ℕ). nat_le best.1 other.1) runs
     (all_runs_so (Yields n best) (λ (other : ℕ × ℕ). nat_le n other.1 ≡ true → nat_le best.1 other.1 ≡ true) runs is_best.least (λ other. is_least_of n best other)))
     (λ other more.
-      some_fails (fits n) (λ (another : ℕ × ℕ). nat_le other.1 another.1) best runs is_best.is_kept (passes n best.1 is_best.enough) (fails other.1 best.1 more))
+    some_fails (fits n) (λ (another : ℕ × ℕ). nat_le other.1 another.1) best runs is_best.is_kept (passes n best.1 is_best.enough) (fails other.1 best.1 more))
 
 pub none_fits : (blocks : List Block) (n : ℕ) → StartsDiffer blocks → first_fit blocks n ≡ None → NoneFits (by_start blocks) n
 none_fits blocks n differ e = all_by_start (λ (run : ℕ × ℕ). run.1 < n) blocks differ (all_too_small blocks n e)

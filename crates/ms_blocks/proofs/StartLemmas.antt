@@ -28,7 +28,7 @@ starts_differ_with (other ∷ blocks) block new differ =
     let unlike : block.start ≢ other.start = unnamed_is_other (by_start blocks) other.start other.words block.start new in
     let new_before : named (by_start blocks) block.start ≡ None = unnamed_before (by_start blocks) other.start other.words block.start new in
     let still_new : named (by_start (with_ranked blocks block)) other.start ≡ None =
-        ap (λ runs. named runs other.start) (by_start-with_ranked blocks block new_before) ∙ named-with_new_other (by_start blocks) block.start block.words other.start (λ same. unlike (sym same)) ∙ differ.0 in
+    ap (λ runs. named runs other.start) (by_start-with_ranked blocks block new_before) ∙ named-with_new_other (by_start blocks) block.start block.words other.start (λ same. unlike (sym same)) ∙ differ.0 in
     elim (ranks_before other block) as (λ b. StartsDiffer (if b then other ∷ with_ranked blocks block else block ∷ other ∷ blocks)) [
       | true ↦ (still_new, starts_differ_with blocks block new_before differ.1)
       | false ↦ (new, differ)
@@ -48,9 +48,10 @@ fit_splits (other ∷ blocks) words found differ e =
     later : (by_start blocks ≡ with_new (by_start (without_fit blocks words)) found.start found.words) × (named (by_start (without_fit blocks words)) found.start ≡ None)
         → (by_start (other ∷ blocks) ≡ with_new (by_start (other ∷ without_fit blocks words)) found.start found.words) × (named (by_start (other ∷ without_fit blocks words)) found.start ≡ None)
     later ih =
-        let unlike : other.start ≢ found.start = unnamed_is_other (by_start (without_fit blocks words)) found.start found.words other.start (ap (λ runs. named runs other.start) (sym ih.0) ∙ differ.0) in
-        (ap (λ runs. with_new runs other.start other.words) ih.0 ∙ with_new-with_new (by_start (without_fit blocks words)) other.start other.words found.start found.words unlike,
-        named-with_new_other (by_start (without_fit blocks words)) other.start other.words found.start (λ same. unlike (sym same)) ∙ ih.1)
+        let unlike : other.start ≢ found.start = unnamed_is_other (by_start (without_fit blocks words)) found.start found.words other.start (ap (λ runs. named runs other.start) (sym ih.0) ∙ differ.0) in (
+          ap (λ runs. with_new runs other.start other.words) ih.0 ∙ with_new-with_new (by_start (without_fit blocks words)) other.start other.words found.start found.words unlike,
+          named-with_new_other (by_start (without_fit blocks words)) other.start other.words found.start (λ same. unlike (sym same)) ∙ ih.1,
+        )
 
 -- The first fit goes as the run of its start goes.
 pub by_start-without_fit : (blocks : List Block) (words : ℕ) (found : Block) → StartsDiffer blocks → first_fit blocks words ≡ Some found

@@ -16,9 +16,8 @@
 #![tactic(auto)]
 
 mod free_blocks;
-mod tree;
-
 #[cfg(test)]
 mod tests;
+mod tree;
 
 pub use free_blocks::FreeBlocks;

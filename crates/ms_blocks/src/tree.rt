@@ -49,9 +49,7 @@ impl Fork {
 
 /// Adds the spare fork's block to those of a ranked tree.
 pub fn insert(tree: Tree, mut spare: Box<Fork>) -> Tree
-    ensures {
-        IsRanked (blocks_of tree) → blocks_of result ≡ with_ranked (blocks_of tree) spare.value.block
-    }
+    ensures { IsRanked (blocks_of tree) → blocks_of result ≡ with_ranked (blocks_of tree) spare.value.block }
 {
     match tree {
         Tree::Forked(mut fork) if weight(&fork) >= weight(&spare) => {
@@ -74,13 +72,9 @@ pub fn insert(tree: Tree, mut spare: Box<Fork>) -> Tree
 
 /// Takes the first block of a ranked tree that has so many words, with its fork.
 pub fn take_fit(tree: Tree, words: u64) -> (Tree, Option<Box<Fork>>)
-    ensures found {
-        IsRanked (blocks_of tree) →
-            first_fit (blocks_of tree) words ≡ option_map (λ fork. fork.value.block) result.1
-    }
-    ensures left {
-        IsRanked (blocks_of tree) → blocks_of result.0 ≡ without_fit (blocks_of tree) words
-    }
+    ensures found { IsRanked (blocks_of tree) →
+        first_fit (blocks_of tree) words ≡ option_map (λ fork. fork.value.block) result.1 }
+    ensures left { IsRanked (blocks_of tree) → blocks_of result.0 ≡ without_fit (blocks_of tree) words }
 {
     let Tree::Forked(mut fork) = tree else {
         return (Tree::Empty, None);
@@ -105,10 +99,8 @@ pub fn take_fit(tree: Tree, words: u64) -> (Tree, Option<Box<Fork>>)
 
 /// Cuts a ranked tree in two: the blocks that rank before the one at hand, and the others.
 fn cut(tree: Tree, at: &Block) -> (Tree, Tree)
-    ensures {
-        IsRanked (blocks_of tree) →
-            with_ranked (blocks_of tree) at.now ≡ blocks_of result.0 ++ at.now ∷ blocks_of result.1
-    }
+    ensures { IsRanked (blocks_of tree) →
+        with_ranked (blocks_of tree) at.now ≡ blocks_of result.0 ++ at.now ∷ blocks_of result.1 }
 {
     match tree {
         Tree::Empty => (Tree::Empty, Tree::Empty),

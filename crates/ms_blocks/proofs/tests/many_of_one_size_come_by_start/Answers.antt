@@ -11,9 +11,11 @@ add-requires-clause-apart g c =
 
 pub loop-place-preserved : goal.loop-place-preserved
 loop-place-preserved g c =
-    let place = c.loop-place.place in
-    (omega (arith, c.add.ensures.room, c.loop-place.invariant.0), rw (c.add.ensures.kept, c.block.ensures.start, c.block.ensures.words)
-    (below_with (place * 4) 4 ((place + 1) * 4) c.loop-place.rising.kept c.loop-place.invariant.1 (omega arith) (omega arith)))
+    let place = c.loop-place.place in (
+      omega (arith, c.add.ensures.room, c.loop-place.invariant.0),
+      rw (c.add.ensures.kept, c.block.ensures.start, c.block.ensures.words)
+          (below_with (place * 4) 4 ((place + 1) * 4) c.loop-place.rising.kept c.loop-place.invariant.1 (omega arith) (omega arith)),
+    )
 
 pub loop-place-2-init : goal.loop-place-2-init
 loop-place-2-init g c = (omega (arith, c.reserve_at_last-2.ensures.room), rw (c.reserve_at_last-2.ensures.kept, c.new-falling.ensures) tt)
@@ -28,7 +30,9 @@ pub loop-place-2-preserved : goal.loop-place-2-preserved
 loop-place-2-preserved g c =
     let place = c.loop-place-2.place in
     let kept = c.add-in-loop-place-2.new.self.kept in
-    let next : 400 - place * 4 ≡ 404 - (place + 1) * 4 = omega (arith, c.loop-place-2-test.true) in
-    (omega (arith, c.add-in-loop-place-2.ensures.room, c.loop-place-2.invariant.0), subst (λ (word : ℕ). LieAbove word kept) next
-    (rw (c.add-in-loop-place-2.ensures.kept, c.block-in-loop-place-2.ensures.start, c.block-in-loop-place-2.ensures.words)
-    (above_with (400 - place * 4) 4 (404 - place * 4) c.loop-place-2.falling.kept c.loop-place-2.invariant.1 (omega (arith, c.loop-place-2-test.true)))))
+    let next : 400 - place * 4 ≡ 404 - (place + 1) * 4 = omega (arith, c.loop-place-2-test.true) in (
+      omega (arith, c.add-in-loop-place-2.ensures.room, c.loop-place-2.invariant.0),
+      subst (λ (word : ℕ). LieAbove word kept) next
+          (rw (c.add-in-loop-place-2.ensures.kept, c.block-in-loop-place-2.ensures.start, c.block-in-loop-place-2.ensures.words)
+          (above_with (400 - place * 4) 4 (404 - place * 4) c.loop-place-2.falling.kept c.loop-place-2.invariant.1 (omega (arith, c.loop-place-2-test.true)))),
+    )

@@ -20,7 +20,7 @@ invariant_of-self c =
     subst (λ (blocks : List Block). AreTended blocks (vec_len f.spare) (vec_capacity f.spare) f.count f.total) (sym same) c.self.invariant
 
 pub overflow_sub-self : goal.overflow_sub-self
-overflow_sub-self c = 
+overflow_sub-self c =
     let f = c.self.inside in
     let found = rw (c.in-Some.is, c.replace.ensures.value) at c.take_fit-tree.ensures.found in
     some_counted (blocks_of f.tree) c.args.words c.in-Some.fork.value.block (vec_len f.spare) (vec_capacity f.spare) f.count f.total c.self.invariant (found c.self.invariant.ranked)
