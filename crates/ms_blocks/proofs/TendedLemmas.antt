@@ -1,16 +1,20 @@
 -- What is kept of free blocks, after an addition and after the removal of the first fit. Used by
 -- `FreeBlocks::add` and `FreeBlocks::remove`.
-use Rattle.std.proofs.Common.{◌≡◌, ℕ, ◌+◌, ◌-◌, ◌^◌, ◌≤◌, ◌<◌, false, List, length, Option, Some, None, ap, sym, subst, ◌∙◌, arith}
+use Rattle.std.proofs.Common.{◌≡◌, ℕ, ◌+◌, ◌-◌, ◌^◌, ◌≤◌, ◌<◌, false, List, length, Option, Some, None, ap, sym, subst, ◌∙◌, arith, vec_len, vec_capacity}
 use Rattle.ms_base.specs.declared.span.Block.{Block}
 use Rattle.ms_base.specs.Interval.{meets_any}
 use Rattle.ms_base.specs.Names.{named, with_new, without}
-use Rattle.ms_blocks.specs.Rank.{with_ranked, first_fit, without_fit}
-use Rattle.ms_blocks.specs.FreeBlocks.{by_start, LieFrom, words_in}
-use Rattle.ms_blocks.specs.Tended.{AreTended}
-use Rattle.ms_blocks.proofs.RankLemmas.{ranked_with, ranked_without}
+use Rattle.ms_blocks.specs.Rank.{IsRanked, with_ranked, first_fit, without_fit}
+use Rattle.ms_blocks.specs.Tree.{blocks_of}
+use Rattle.ms_blocks.specs.FreeBlocks.{IsBestFit, NoneFits, run_of, by_start, LieFrom, words_in}
+use Rattle.ms_blocks.specs.Tended.{AreTended, IsTended}
+use Rattle.ms_blocks.specs.declared.tree.Tree.{Tree}
+use Rattle.ms_blocks.specs.declared.free_blocks.FreeBlocks.TheInside.{Inside}
+use Rattle.ms_blocks.proofs.RankLemmas.{ranked_with, ranked_without, without_fit-none}
 use Rattle.ms_blocks.proofs.EntryLemmas.{length-with_new, sum-with_new}
 use Rattle.ms_blocks.proofs.StartLemmas.{by_start-with_ranked, starts_differ_with, by_start-without_fit, starts_differ_without, fit_splits, new_is_other}
 use Rattle.ms_blocks.proofs.LaidLemmas.{apart_is_new, laid_with, laid_without, words_fit}
+use Rattle.ms_blocks.proofs.BestFitLemmas.{fit_is_best, none_fits}
 
 -- A block may be added: it has at least two words, ends below 2 ^ 64 and meets none.
 pub record MayCome (blocks : List Block) (block : Block) : Type 0 where
@@ -79,3 +83,49 @@ tended_without blocks rest n found room places after count total tended e shrink
       summed = omega (arith, tended.summed, words_without blocks n found room places count total tended e);
       placed = omega (arith, tended.placed, some_counted blocks n found room places count total tended e);
     })
+
+-- What an addition makes of the fields.
+pub record Adds (f : Inside) (block : Block) (grown : Tree) : Type 0 where
+  pub sum_fits : f.total + block.words < 2 ^ 64
+  pub tended : (left : ℕ) → left + 1 ≡ vec_len f.spare → AreTended (blocks_of grown) left (vec_capacity f.spare) (f.count + 1) (f.total + block.words)
+  pub runs : by_start (blocks_of grown) ≡ with_new (by_start (blocks_of f.tree)) block.start block.words
+
+pub adds : (f : Inside) (block : Block) (grown : Tree) → IsTended f → MayCome (blocks_of f.tree) block → (IsRanked (blocks_of f.tree) → blocks_of grown ≡ with_ranked (blocks_of f.tree) block)
+    → Adds f block grown
+adds f block grown tended may grows = record {
+  sum_fits = total_fits (blocks_of f.tree) (vec_len f.spare) (vec_capacity f.spare) f.count f.total block tended may;
+  tended = λ left less. tended_with (blocks_of f.tree) (blocks_of grown) (vec_len f.spare) left (vec_capacity f.spare) f.count f.total block tended may (grows tended.ranked) less;
+  runs = ap by_start (grows tended.ranked) ∙ runs_with (blocks_of f.tree) block tended.laid may;
+}
+
+-- What a removal makes of the fields, with a fit and without one.
+pub record Takes (f : Inside) (words : ℕ) (found : Block) (rest : Tree) : Type 0 where
+  pub counted : 1 ≤ f.count
+  pub summed : found.words ≤ f.total
+  pub tended : (places : ℕ) → vec_capacity f.spare ≤ places → AreTended (blocks_of rest) (vec_len f.spare + 1) places (f.count - 1) (f.total - found.words)
+  pub best : IsBestFit (by_start (blocks_of f.tree)) words (run_of found)
+  pub runs : by_start (blocks_of rest) ≡ without (by_start (blocks_of f.tree)) found.start
+
+pub takes : (f : Inside) (words : ℕ) (found : Block) (rest : Tree) → IsTended f → (IsRanked (blocks_of f.tree) → first_fit (blocks_of f.tree) words ≡ Some found)
+    → (IsRanked (blocks_of f.tree) → blocks_of rest ≡ without_fit (blocks_of f.tree) words) → Takes f words found rest
+takes f words found rest tended found_is left =
+    let blocks = blocks_of f.tree in
+    let e = found_is tended.ranked in
+    record {
+      counted = some_counted blocks words found (vec_len f.spare) (vec_capacity f.spare) f.count f.total tended e;
+      summed = some_summed blocks words found (vec_len f.spare) (vec_capacity f.spare) f.count f.total tended e;
+      tended = λ places more. tended_without blocks (blocks_of rest) words found (vec_len f.spare) (vec_capacity f.spare) places f.count f.total tended e (left tended.ranked) more;
+      best = fit_is_best blocks words found tended.ranked tended.differ e;
+      runs = ap by_start (left tended.ranked) ∙ by_start-without_fit blocks words found tended.differ e;
+    }
+
+pub record Misses (f : Inside) (words : ℕ) (rest : Tree) : Type 0 where
+  pub same : blocks_of f.tree ≡ blocks_of rest
+  pub none : NoneFits (by_start (blocks_of f.tree)) words
+
+pub misses : (f : Inside) (words : ℕ) (rest : Tree) → IsTended f → (IsRanked (blocks_of f.tree) → first_fit (blocks_of f.tree) words ≡ None)
+    → (IsRanked (blocks_of f.tree) → blocks_of rest ≡ without_fit (blocks_of f.tree) words) → Misses f words rest
+misses f words rest tended none left = record {
+  same = sym (left tended.ranked ∙ without_fit-none (blocks_of f.tree) words (none tended.ranked));
+  none = none_fits (blocks_of f.tree) words tended.differ (none tended.ranked);
+}

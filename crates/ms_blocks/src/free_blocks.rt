@@ -17,7 +17,6 @@ use crate::tree::{Fork, Tree, insert, take_fit};
 use ms_base::{Block, Refusal};
 use std::alloc::{AllocError, Global};
 use std::marker::Model;
-use std::mem;
 
 /// The words that an arena keeps for its next allocations: blocks that don't meet, each of at
 /// least two words, and room for more of them. A start is a word number, and a size is in words.
@@ -92,7 +91,7 @@ impl FreeBlocks {
             unreachable!()
         };
         fork.block = block;
-        self.tree = insert(mem::replace(&mut self.tree, Tree::Empty), fork);
+        insert(&mut self.tree, fork);
         self.count += 1;
         self.total += block.words;
     }
@@ -109,9 +108,7 @@ impl FreeBlocks {
         ensures room { OnSome result (self.new.room ≡ self.old.room + 1) }
         ensures unchanged { IfNone result (self.new ≡ self.old) }
     {
-        let (tree, found) = take_fit(mem::replace(&mut self.tree, Tree::Empty), words);
-        self.tree = tree;
-        match found {
+        match take_fit(&mut self.tree, words) {
             None => None,
             Some(fork) => {
                 let block = fork.block;

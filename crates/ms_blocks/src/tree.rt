@@ -48,16 +48,37 @@ impl Fork {
 }
 
 /// Adds the spare fork's block to those of a ranked tree.
-pub fn insert(tree: Tree, mut spare: Box<Fork>) -> Tree
-    ensures { IsRanked (blocks_of tree) → blocks_of result ≡ with_ranked (blocks_of tree) spare.value.block }
+pub fn insert(tree: &mut Tree, spare: Box<Fork>)
+    ensures { IsRanked (blocks_of tree.old) →
+        blocks_of tree.new ≡ with_ranked (blocks_of tree.old) spare.value.block }
+{
+    *tree = with_fork(mem::replace(tree, Tree::Empty), spare);
+}
+
+/// Takes the first block of a ranked tree that has so many words, with its fork.
+pub fn take_fit(tree: &mut Tree, words: u64) -> Option<Box<Fork>>
+    ensures found { IsRanked (blocks_of tree.old) →
+        first_fit (blocks_of tree.old) words ≡ option_map (λ fork. fork.value.block) result }
+    ensures left { IsRanked (blocks_of tree.old) →
+        blocks_of tree.new ≡ without_fit (blocks_of tree.old) words }
+{
+    let (rest, found) = without_fork(mem::replace(tree, Tree::Empty), words);
+    *tree = rest;
+    found
+}
+
+/// The tree with a fork more: it goes on top of the first tree on its way that weighs less.
+fn with_fork(tree: Tree, mut spare: Box<Fork>) -> Tree
+    ensures { IsRanked (blocks_of tree) →
+        blocks_of result ≡ with_ranked (blocks_of tree) spare.value.block }
 {
     match tree {
         Tree::Forked(mut fork) if weight(&fork) >= weight(&spare) => {
             if ranks_first(&fork.block, &spare.block) {
-                fork.right = insert(mem::replace(&mut fork.right, Tree::Empty), spare);
+                fork.right = with_fork(mem::replace(&mut fork.right, Tree::Empty), spare);
                 Tree::Forked(fork)
             } else {
-                fork.left = insert(mem::replace(&mut fork.left, Tree::Empty), spare);
+                fork.left = with_fork(mem::replace(&mut fork.left, Tree::Empty), spare);
                 Tree::Forked(fork)
             }
         }
@@ -70,21 +91,23 @@ pub fn insert(tree: Tree, mut spare: Box<Fork>) -> Tree
     }
 }
 
-/// Takes the first block of a ranked tree that has so many words, with its fork.
-pub fn take_fit(tree: Tree, words: u64) -> (Tree, Option<Box<Fork>>)
+/// The tree without its first fit, and that one's fork: the fork on the way that fits, and has
+/// nothing to its left that does.
+fn without_fork(tree: Tree, words: u64) -> (Tree, Option<Box<Fork>>)
     ensures found { IsRanked (blocks_of tree) →
         first_fit (blocks_of tree) words ≡ option_map (λ fork. fork.value.block) result.1 }
-    ensures left { IsRanked (blocks_of tree) → blocks_of result.0 ≡ without_fit (blocks_of tree) words }
+    ensures left { IsRanked (blocks_of tree) →
+        blocks_of result.0 ≡ without_fit (blocks_of tree) words }
 {
     let Tree::Forked(mut fork) = tree else {
         return (Tree::Empty, None);
     };
     if fork.block.words < words {
-        let (right, found) = take_fit(mem::replace(&mut fork.right, Tree::Empty), words);
+        let (right, found) = without_fork(mem::replace(&mut fork.right, Tree::Empty), words);
         fork.right = right;
         return (Tree::Forked(fork), found);
     }
-    let (left, found) = take_fit(mem::replace(&mut fork.left, Tree::Empty), words);
+    let (left, found) = without_fork(mem::replace(&mut fork.left, Tree::Empty), words);
     match found {
         Some(found) => {
             fork.left = left;
