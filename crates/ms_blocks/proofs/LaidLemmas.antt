@@ -1,8 +1,7 @@
 -- Runs that lie one behind another, after an addition and a removal, and what follows of them: they
 -- are apart, in order, and have fewer than 2 ^ 64 words. Used by the methods of `FreeBlocks`.
-use Rattle.std.proofs.Common.{◌≡◌, ◌≢◌, ℕ, ◌+◌, ◌^◌, ◌≤◌, ◌<◌, Bool, true, false, not, ◌&&◌, ◌||◌, cond, List, [], ◌∷◌, length, Option, Some, None, refl, ap, sym, ◌∙◌, arith}
-use Rattle.std.specs.Prelude.{nat_le, nat_lt, ◌==◌}
-use Rattle.std.specs.List.{AllByRecursion, list_any}
+use Rattle.std.proofs.Common.{◌≡◌, ℕ, ◌+◌, ◌^◌, ◌≤◌, ◌<◌, Bool, true, false, ◌||◌, cond, List, [], ◌∷◌, Some, None, refl, arith}
+use Rattle.std.specs.List.{AllByRecursion}
 use Rattle.std.specs.List.Sorted.{IsStrictlySortedBy}
 use Rattle.std.specs.Map.{keys_of}
 use Rattle.std.specs.Ordering.{nat_cmp, match_ordering, is_eq}
@@ -10,7 +9,7 @@ use Rattle.std.specs.declared.cmp.Ordering.TheVariants.{Less, Equal, Greater}
 use Rattle.std.proofs.lemmas.Bool.Decides.{nat_tests}
 use Rattle.std.proofs.lemmas.Map.Keys.{IsStrictlyIncreasing-from_sorted}
 use Rattle.ms_base.specs.Interval.{meet, meets_any, are_apart}
-use Rattle.ms_base.specs.Names.{named, with_new, without, AreNamed}
+use Rattle.ms_base.specs.Names.{named, with_new, without}
 use Rattle.ms_blocks.specs.FreeBlocks.{LieFrom, AreKept, words_in}
 use Rattle.ms_blocks.proofs.EntryLemmas.{words_in-cons}
 

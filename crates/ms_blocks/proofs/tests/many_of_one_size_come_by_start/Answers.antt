@@ -1,4 +1,4 @@
-use Rattle.std.proofs.Common.{◌≡◌, ℕ, ◌+◌, ◌*◌, ◌-◌, ◌≤◌, ◌<◌, subst, sym, arith}
+use Rattle.std.proofs.Common.{◌≡◌, ℕ, ◌+◌, ◌*◌, ◌-◌, subst, arith}
 use Rattle.ms_blocks.proofs.BoundLemmas.{LieAbove, below_apart, below_with, above_apart, above_with}
 use Rattle.ms_blocks.proofs.tests.many_of_one_size_come_by_start.Goals as goal
 

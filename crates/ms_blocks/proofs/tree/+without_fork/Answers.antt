@@ -1,6 +1,4 @@
-use Rattle.std.proofs.Common.{◌≡◌, true, false, Some, None, ◌<◌, ◌≤◌, ap, ◌∙◌, sym, ◌∷◌, ◌++◌}
 use Rattle.std.specs.Option.{option_map}
-use Rattle.ms_blocks.specs.Rank.{IsRanked, first_fit, without_fit}
 use Rattle.ms_blocks.specs.Tree.{blocks_of}
 use Rattle.ms_blocks.proofs.tree.+without_fork.Goals as goal
 use Rattle.ms_blocks.proofs.RankLemmas.{take_right, find_right, take_left, find_left, take_middle, find_middle}

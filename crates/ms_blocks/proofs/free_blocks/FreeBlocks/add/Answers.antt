@@ -1,7 +1,5 @@
-use Rattle.std.proofs.Common.{◌≡◌, ◌+◌, ◌<◌, ◌≤◌, arith, vec_len}
-use Rattle.ms_base.specs.declared.span.Block.{Block}
+use Rattle.std.proofs.Common.{arith, vec_len}
 use Rattle.ms_blocks.specs.Tree.{blocks_of}
-use Rattle.ms_blocks.specs.declared.tree.Tree.{Tree}
 use Rattle.ms_blocks.proofs.TendedLemmas.{MayCome, Adds, adds}
 use Rattle.ms_blocks.proofs.free_blocks.FreeBlocks.add.Goals as goal
 use Rattle.ms_blocks.proofs.free_blocks.FreeBlocks.add.Goals.{After-struct_known-1}

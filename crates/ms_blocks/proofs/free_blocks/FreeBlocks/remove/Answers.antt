@@ -1,4 +1,4 @@
-use Rattle.std.proofs.Common.{◌≡◌, ◌≤◌, List, subst, sym, ap, ◌∙◌, arith, vec_len, vec_capacity}
+use Rattle.std.proofs.Common.{List, subst, sym, ap, ◌∙◌, arith, vec_len, vec_capacity}
 use Rattle.ms_base.specs.declared.span.Block.{Block}
 use Rattle.ms_blocks.specs.FreeBlocks.{KeptBlocks, LieFrom, run_of, by_start}
 use Rattle.ms_blocks.specs.Tended.{AreTended}
