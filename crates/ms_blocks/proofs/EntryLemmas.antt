@@ -10,14 +10,16 @@ use Rattle.ms_base.specs.Names.{named, with_new, without}
 use Rattle.ms_blocks.specs.FreeBlocks.{words_in}
 
 -- Two additions at different names, in either order.
-pub with_new-with_new : (es : List (ℕ × ℕ)) (k v j w : ℕ) → k ≢ j → with_new (with_new es j w) k v ≡ with_new (with_new es k v) j w
+pub with_new-with_new : (es : List (ℕ × ℕ)) (k v j w : ℕ) → k ≢ j
+    → with_new (with_new es j w) k v ≡ with_new (with_new es k v) j w
 with_new-with_new [] k v j w ne = one k v j w ne
   where
     one : (k v j w : ℕ) → k ≢ j → with_new ((j, w) ∷ []) k v ≡ with_new ((k, v) ∷ []) j w
     one k v j w ne = grind (arith, nat_tests)
 with_new-with_new (e ∷ es) k v j w ne = step e es k v j w ne (with_new-with_new es k v j w ne)
   where
-    step : (e : ℕ × ℕ) (es : List (ℕ × ℕ)) (k v j w : ℕ) → k ≢ j → with_new (with_new es j w) k v ≡ with_new (with_new es k v) j w
+    step : (e : ℕ × ℕ) (es : List (ℕ × ℕ)) (k v j w : ℕ) → k ≢ j
+        → with_new (with_new es j w) k v ≡ with_new (with_new es k v) j w
         → with_new (with_new (e ∷ es) j w) k v ≡ with_new (with_new (e ∷ es) k v) j w
     step e es k v j w ne ih = grind (arith, nat_tests)
 
@@ -29,7 +31,8 @@ named-with_new [] k v = one k v
     one k v = grind (arith, nat_tests)
 named-with_new (e ∷ es) k v = step e es k v (named-with_new es k v)
   where
-    step : (e : ℕ × ℕ) (es : List (ℕ × ℕ)) (k v : ℕ) → named (with_new es k v) k ≡ Some v → named (with_new (e ∷ es) k v) k ≡ Some v
+    step : (e : ℕ × ℕ) (es : List (ℕ × ℕ)) (k v : ℕ) → named (with_new es k v) k ≡ Some v
+        → named (with_new (e ∷ es) k v) k ≡ Some v
     step e es k v ih = grind (arith, nat_tests)
 
 pub named-with_new_other : (es : List (ℕ × ℕ)) (k v q : ℕ) → q ≢ k → named (with_new es k v) q ≡ named es q
@@ -39,12 +42,14 @@ named-with_new_other [] k v q ne = one k v q ne
     one k v q ne = grind (arith, nat_tests)
 named-with_new_other (e ∷ es) k v q ne = step e es k v q ne (named-with_new_other es k v q ne)
   where
-    step : (e : ℕ × ℕ) (es : List (ℕ × ℕ)) (k v q : ℕ) → q ≢ k → named (with_new es k v) q ≡ named es q → named (with_new (e ∷ es) k v) q ≡ named (e ∷ es) q
+    step : (e : ℕ × ℕ) (es : List (ℕ × ℕ)) (k v q : ℕ) → q ≢ k → named (with_new es k v) q ≡ named es q
+        → named (with_new (e ∷ es) k v) q ≡ named (e ∷ es) q
     step e es k v q ne ih = grind (arith, nat_tests)
 
 -- What isn't found beside a new name is another one, and wasn't found before.
 pub unnamed_is_other : (es : List (ℕ × ℕ)) (k v q : ℕ) → named (with_new es k v) q ≡ None → q ≢ k
-unnamed_is_other es k v q none same = absurd (clash (named-with_new es k v) (ap (λ n. named (with_new es k v) n) (sym same) ∙ none))
+unnamed_is_other es k v q none same = absurd (clash (named-with_new es k v)
+    (ap (λ n. named (with_new es k v) n) (sym same) ∙ none))
   where
     clash : {x : Option ℕ} → x ≡ Some v → x ≡ None → ⊥
     clash e f = cc
@@ -60,7 +65,8 @@ without-with_new [] k v none = one k v
     one k v = grind (arith, nat_tests)
 without-with_new (e ∷ es) k v none = step e es k v none (without-with_new es k v)
   where
-    step : (e : ℕ × ℕ) (es : List (ℕ × ℕ)) (k v : ℕ) → named (e ∷ es) k ≡ None → (named es k ≡ None → without (with_new es k v) k ≡ es) → without (with_new (e ∷ es) k v) k ≡ e ∷ es
+    step : (e : ℕ × ℕ) (es : List (ℕ × ℕ)) (k v : ℕ) → named (e ∷ es) k ≡ None
+        → (named es k ≡ None → without (with_new es k v) k ≡ es) → without (with_new (e ∷ es) k v) k ≡ e ∷ es
     step e es k v none ih = grind (arith, nat_tests)
 
 pub words_in-cons : (e : ℕ × ℕ) (es : List (ℕ × ℕ)) → words_in (e ∷ es) ≡ e.1 + words_in es
@@ -71,23 +77,28 @@ pub length-with_new : (es : List (ℕ × ℕ)) (k v : ℕ) → named es k ≡ No
 length-with_new [] k v none = refl
 length-with_new (e ∷ es) k v none = step e es k v none (length-with_new es k v)
   where
-    step : (e : ℕ × ℕ) (es : List (ℕ × ℕ)) (k v : ℕ) → named (e ∷ es) k ≡ None → (named es k ≡ None → length (with_new es k v) ≡ length es + 1) → length (with_new (e ∷ es) k v) ≡ length (e ∷ es) + 1
+    step : (e : ℕ × ℕ) (es : List (ℕ × ℕ)) (k v : ℕ) → named (e ∷ es) k ≡ None
+        → (named es k ≡ None → length (with_new es k v) ≡ length es + 1)
+        → length (with_new (e ∷ es) k v) ≡ length (e ∷ es) + 1
     step e es k v none ih = grind (arith, nat_tests)
 
 pub sum-with_new : (es : List (ℕ × ℕ)) (k v : ℕ) → named es k ≡ None → words_in (with_new es k v) ≡ words_in es + v
 sum-with_new [] k v none = omega arith
 sum-with_new (e ∷ es) k v none =
-    elim (nat_cmp k e.0) as (λ o. cond (is_eq o) (Some e.1) (named es k) ≡ None → words_in (match_ordering o ((k, v) ∷ e ∷ es) ((e.0, v) ∷ es) (e ∷ with_new es k v)) ≡ words_in (e ∷ es) + v) [
+    elim (nat_cmp k e.0) as (λ o. cond (is_eq o) (Some e.1) (named es k) ≡ None
+    → words_in (match_ordering o ((k, v) ∷ e ∷ es) ((e.0, v) ∷ es) (e ∷ with_new es k v)) ≡ words_in (e ∷ es) + v) [
       | Less ↦ λ none. omega (arith, words_in-cons (k, v) (e ∷ es))
       | Equal ↦ λ none. absurd (cc)
       | Greater ↦ λ none. omega (arith, words_in-cons e (with_new es k v), words_in-cons e es, sum-with_new es k v none)
     ] none
 
 -- What holds of all entries and of a new one holds of all then.
-pub all-with_new : (P : ℕ × ℕ → Type 0) (es : List (ℕ × ℕ)) (k v : ℕ) → named es k ≡ None → AllByRecursion P es → P (k, v) → AllByRecursion P (with_new es k v)
+pub all-with_new : (P : ℕ × ℕ → Type 0) (es : List (ℕ × ℕ)) (k v : ℕ) → named es k ≡ None → AllByRecursion P es
+    → P (k, v) → AllByRecursion P (with_new es k v)
 all-with_new P [] k v none all here = (here, tt)
 all-with_new P (e ∷ es) k v none all here =
-    elim (nat_cmp k e.0) as (λ o. cond (is_eq o) (Some e.1) (named es k) ≡ None → AllByRecursion P (match_ordering o ((k, v) ∷ e ∷ es) ((e.0, v) ∷ es) (e ∷ with_new es k v))) [
+    elim (nat_cmp k e.0) as (λ o. cond (is_eq o) (Some e.1) (named es k) ≡ None
+    → AllByRecursion P (match_ordering o ((k, v) ∷ e ∷ es) ((e.0, v) ∷ es) (e ∷ with_new es k v))) [
       | Less ↦ λ none. (here, all)
       | Equal ↦ λ none. absurd (cc)
       | Greater ↦ λ none. (all.0, all-with_new P es k v none all.1 here)

@@ -50,40 +50,63 @@ laid_lower low least [] h laid = omega arith
 laid_lower low least (run ∷ runs) h laid = (omega (arith, laid.0), laid.1, laid.2)
 
 -- What is named lies from the lower bound on.
-pub named_from : (low start words : ℕ) (runs : List (ℕ × ℕ)) → LieFrom low runs → named runs start ≡ Some words → low ≤ start
+pub named_from : (low start words : ℕ) (runs : List (ℕ × ℕ)) → LieFrom low runs → named runs start ≡ Some words
+    → low ≤ start
 named_from low start words [] laid e = absurd (cc)
 named_from low start words (run ∷ runs) laid e =
-    elim (is_eq (nat_cmp start run.0)) as (λ b. is_eq (nat_cmp start run.0) ≡ b → cond b (Some run.1) (named runs start) ≡ Some words → low ≤ start) [
+    elim (is_eq (nat_cmp start run.0)) as (λ b. is_eq (nat_cmp start run.0) ≡ b
+    → cond b (Some run.1) (named runs start) ≡ Some words → low ≤ start) [
       | true ↦ λ same e. let here : start ≡ run.0 = at_start start run.0 same in omega (arith, laid.0)
-      | false ↦ λ other e. let later : run.0 + run.1 ≤ start = named_from (run.0 + run.1) start words runs laid.2 e in omega (arith, laid.0)
+      | false ↦ λ other e. let later : run.0 + run.1 ≤ start = named_from (run.0 + run.1) start words runs laid.2 e in
+          omega (arith, laid.0)
     ] refl e
   where
     at_start : (a b : ℕ) → is_eq (nat_cmp a b) ≡ true → a ≡ b
     at_start a b h = grind (arith, nat_tests)
 
 -- Where a run meets none of those kept, none has its start.
-pub apart_is_new : (low start words : ℕ) (runs : List (ℕ × ℕ)) → LieFrom low runs → 2 ≤ words → meets_any (start, words) runs ≡ false → named runs start ≡ None
+pub apart_is_new : (low start words : ℕ) (runs : List (ℕ × ℕ)) → LieFrom low runs → 2 ≤ words
+    → meets_any (start, words) runs ≡ false → named runs start ≡ None
 apart_is_new low start words [] laid some apart = refl
 apart_is_new low start words (run ∷ runs) laid some apart =
     let here = first_fails (meet start words run.0 run.1) (meets_any (start, words) runs) apart in
     let later = second_fails (meet start words run.0 run.1) (meets_any (start, words) runs) apart in
-    elim (nat_cmp start run.0) as (λ o. nat_cmp start run.0 ≡ o → cond (is_eq o) (Some run.1) (named runs start) ≡ None) [
+    elim (nat_cmp start run.0) as (λ o. nat_cmp start run.0 ≡ o
+    → cond (is_eq o) (Some run.1) (named runs start) ≡ None) [
       | Less ↦ λ o. apart_is_new (run.0 + run.1) start words runs laid.2 some later
       | Equal ↦ λ o. absurd (same_start_meets start words run.0 run.1 (compared_equal start run.0 o) some laid.1 here)
       | Greater ↦ λ o. apart_is_new (run.0 + run.1) start words runs laid.2 some later
     ] refl
 
 -- A run that meets none keeps them so.
-pub laid_with : (low start words : ℕ) (runs : List (ℕ × ℕ)) → LieFrom low runs → low ≤ start → 2 ≤ words → start + words < 2 ^ 64 → meets_any (start, words) runs ≡ false
+pub laid_with : (low start words : ℕ) (runs : List (ℕ × ℕ)) → LieFrom low runs → low ≤ start → 2 ≤ words
+    → start + words < 2 ^ 64 → meets_any (start, words) runs ≡ false
     → LieFrom low (with_new runs start words)
 laid_with low start words [] laid from some ends apart = (from, some, ends)
 laid_with low start words (run ∷ runs) laid from some ends apart =
     let here = first_fails (meet start words run.0 run.1) (meets_any (start, words) runs) apart in
     let later = second_fails (meet start words run.0 run.1) (meets_any (start, words) runs) apart in
-    elim (nat_cmp start run.0) as (λ o. nat_cmp start run.0 ≡ o → LieFrom low (match_ordering o ((start, words) ∷ run ∷ runs) ((run.0, words) ∷ runs) (run ∷ with_new runs start words))) [
-      | Less ↦ λ o. (from, some, (ends_before start words run.0 run.1 (compared_less start run.0 o) laid.1 here, laid.1, laid.2))
+    elim (nat_cmp start run.0) as (λ o. nat_cmp start run.0 ≡ o
+    → LieFrom low (match_ordering o ((start, words) ∷ run ∷ runs) ((
+      run.0,
+      words,
+    ) ∷ runs) (run ∷ with_new runs start words))) [
+      | Less ↦ λ o. (
+        from,
+        some,
+        (
+          ends_before start words run.0 run.1 (compared_less start run.0 o) laid.1 here,
+          laid.1,
+          laid.2,
+        ),
+      )
       | Equal ↦ λ o. absurd (same_start_meets start words run.0 run.1 (compared_equal start run.0 o) some laid.1 here)
-      | Greater ↦ λ o. (laid.0, laid.1, laid_with (run.0 + run.1) start words runs laid.2 (starts_behind start words run.0 run.1 (compared_greater start run.0 o) some here) some ends later)
+      | Greater ↦ λ o. (
+        laid.0,
+        laid.1,
+        laid_with (run.0 + run.1) start words runs laid.2
+            (starts_behind start words run.0 run.1 (compared_greater start run.0 o) some here) some ends later,
+      )
     ] refl
 
 -- So does a removal.
@@ -101,18 +124,27 @@ words_fit low [] laid = omega arith
 words_fit low (run ∷ runs) laid = omega (arith, laid.0, words_in-cons run runs, words_fit (run.0 + run.1) runs laid.2)
 
 -- Nothing meets what ends below the lower bound.
-none_met : (low start words : ℕ) (runs : List (ℕ × ℕ)) → LieFrom low runs → start + words ≤ low → meets_any (start, words) runs ≡ false
+none_met : (low start words : ℕ) (runs : List (ℕ × ℕ)) → LieFrom low runs → start + words ≤ low
+    → meets_any (start, words) runs ≡ false
 none_met low start words [] laid ends = refl
 none_met low start words (run ∷ runs) laid ends =
-    rw (behind_apart start words run.0 run.1 (omega (arith, laid.0))) (none_met (run.0 + run.1) start words runs laid.2 (omega (arith, laid.0)))
+    rw (behind_apart start words run.0 run.1 (omega (
+      arith,
+      laid.0,
+    ))) (none_met (run.0 + run.1) start words runs laid.2 (omega (arith, laid.0)))
 
 apart : (low : ℕ) (runs : List (ℕ × ℕ)) → LieFrom low runs → are_apart runs ≡ true
 apart low [] laid = refl
-apart low (run ∷ runs) laid = rw (none_met (run.0 + run.1) run.0 run.1 runs laid.2 (omega arith)) (apart (run.0 + run.1) runs laid.2)
+apart low (run ∷ runs) laid = rw (none_met (run.0 + run.1) run.0 run.1 runs laid.2 (omega arith))
+    (apart (run.0 + run.1) runs laid.2)
 
-above : (low start : ℕ) (runs : List (ℕ × ℕ)) → LieFrom low runs → start < low → AllByRecursion (λ name. nat_cmp start name ≡ Less) (keys_of runs)
+above : (low start : ℕ) (runs : List (ℕ × ℕ)) → LieFrom low runs → start < low
+    → AllByRecursion (λ name. nat_cmp start name ≡ Less) (keys_of runs)
 above low start [] laid h = tt
-above low start (run ∷ runs) laid h = (less start run.0 (omega (arith, laid.0)), above (run.0 + run.1) start runs laid.2 (omega (arith, laid.0)))
+above low start (run ∷ runs) laid h = (
+  less start run.0 (omega (arith, laid.0)),
+  above (run.0 + run.1) start runs laid.2 (omega (arith, laid.0)),
+)
   where
     less : (a b : ℕ) → a < b → nat_cmp a b ≡ Less
     less a b h = grind (arith, nat_tests)
@@ -120,7 +152,10 @@ above low start (run ∷ runs) laid h = (less start run.0 (omega (arith, laid.0)
 sorted : (low : ℕ) (runs : List (ℕ × ℕ)) → LieFrom low runs → IsStrictlySortedBy nat_cmp (keys_of runs)
 unfolding IsStrictlySortedBy
 sorted low [] laid = tt
-sorted low (run ∷ runs) laid = (above (run.0 + run.1) run.0 runs laid.2 (omega (arith, laid.1)), sorted (run.0 + run.1) runs laid.2)
+sorted low (run ∷ runs) laid = (
+  above (run.0 + run.1) run.0 runs laid.2 (omega (arith, laid.1)),
+  sorted (run.0 + run.1) runs laid.2,
+)
 
 sizes : (low : ℕ) (runs : List (ℕ × ℕ)) → LieFrom low runs → AllByRecursion (λ (run : ℕ × ℕ). 2 ≤ run.1) runs
 sizes low [] laid = tt
@@ -129,7 +164,8 @@ sizes low (run ∷ runs) laid = (laid.1, sizes (run.0 + run.1) runs laid.2)
 lowest_fits : (low : ℕ) (runs : List (ℕ × ℕ)) → LieFrom low runs → low < 2 ^ 64
 lowest_fits low runs laid = omega (arith, words_fit low runs laid)
 
-ends : (low : ℕ) (runs : List (ℕ × ℕ)) → LieFrom low runs → AllByRecursion (λ (run : ℕ × ℕ). run.0 + run.1 < 2 ^ 64) runs
+ends : (low : ℕ) (runs : List (ℕ × ℕ)) → LieFrom low runs
+    → AllByRecursion (λ (run : ℕ × ℕ). run.0 + run.1 < 2 ^ 64) runs
 ends low [] laid = tt
 ends low (run ∷ runs) laid = (lowest_fits (run.0 + run.1) runs laid.2, ends (run.0 + run.1) runs laid.2)
 

@@ -19,7 +19,8 @@ overflow_add-self-2 c = omega (arith, (added c).sum_fits)
 
 pub invariant_of-self : goal.invariant_of-self
 invariant_of-self c =
-    rw c.pop.ensures.capacity ((added (goal.at.invariant_of-self c).After-struct_known-1).tended (vec_len c.pop.new.self) (omega (arith, c.in-Some.ensures.cases)))
+    rw c.pop.ensures.capacity ((added (goal.at.invariant_of-self c).After-struct_known-1).tended
+    (vec_len c.pop.new.self) (omega (arith, c.in-Some.ensures.cases)))
 
 pub returns-clause-kept : goal.returns-clause-kept
 returns-clause-kept c = rw (← c.self.view_is) (added (goal.at.returns-clause-kept c).After-struct_known-1).runs

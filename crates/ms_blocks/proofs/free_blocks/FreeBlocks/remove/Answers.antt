@@ -16,7 +16,8 @@ missed c = misses c.self.inside c.args.words c.take_fit.new.tree c.self.invarian
 
 pub invariant_of-self : goal.invariant_of-self
 invariant_of-self c =
-    let f = c.self.inside in subst (λ (blocks : List Block). AreTended blocks (vec_len f.spare) (vec_capacity f.spare) f.count f.total) (missed c).same c.self.invariant
+    let f = c.self.inside in subst (λ (blocks : List Block). AreTended blocks (vec_len f.spare)
+    (vec_capacity f.spare) f.count f.total) (missed c).same c.self.invariant
 
 pub overflow_sub-self : goal.overflow_sub-self
 overflow_sub-self c = (taken c).counted
@@ -26,11 +27,17 @@ overflow_sub-self-in-Some c = rw c.deref.ensures (taken (goal.at.overflow_sub-se
 
 pub unreachable-requires : goal.unreachable-requires
 unreachable-requires c =
-    absurd (omega (arith, (taken (goal.at.unreachable-requires c).After-block-1).counted, c.self.invariant.placed, c.in-Err.ensures.full))
+    absurd (omega (
+      arith,
+      (taken (goal.at.unreachable-requires c).After-block-1).counted,
+      c.self.invariant.placed,
+      c.in-Err.ensures.full,
+    ))
 
 pub invariant_of-self-in-Some : goal.invariant_of-self-in-Some
 invariant_of-self-in-Some c =
-    rw (c.deref.ensures, c.in-Ok.ensures.len) ((taken (goal.at.invariant_of-self-in-Some c).After-block-1).tended (vec_capacity c.push.new.self) c.in-Ok.ensures.capacity)
+    rw (c.deref.ensures, c.in-Ok.ensures.len) ((taken (goal.at.invariant_of-self-in-Some c).After-block-1).tended
+    (vec_capacity c.push.new.self) c.in-Ok.ensures.capacity)
 
 pub returns-in-None-clause-none : goal.returns-in-None-clause-none
 returns-in-None-clause-none c = rw (← c.self.view_is) (missed c).none
@@ -43,12 +50,19 @@ returns-in-None-clause-unchanged c =
     ap (λ (blocks : List Block). let seen : KeptBlocks = record { kept = by_start blocks; room = vec_len c.self.inside.spare } in seen) (sym (missed c).same) ∙ c.self.view_is
 
 pub returns-in-Ok-clause-best : goal.returns-in-Ok-clause-best
-returns-in-Ok-clause-best c = rw (← c.self.view_is, c.deref.ensures) (taken (goal.at.returns-in-Ok-clause-best c).After-block-1).best
+returns-in-Ok-clause-best c = rw (
+  ← c.self.view_is,
+  c.deref.ensures,
+) (taken (goal.at.returns-in-Ok-clause-best c).After-block-1).best
 
 pub returns-in-Ok-clause-answer : goal.returns-in-Ok-clause-answer
 returns-in-Ok-clause-answer c =
     let laid = subst (λ (blocks : KeptBlocks). LieFrom 0 blocks.kept) c.self.view_is c.self.invariant.laid in
-    sym (best_fit-found 0 c.args.self.now.kept c.args.words (run_of c.deref.result.now.block) laid (returns-in-Ok-clause-best c))
+    sym (best_fit-found 0 c.args.self.now.kept c.args.words (run_of c.deref.result.now.block) laid
+    (returns-in-Ok-clause-best c))
 
 pub returns-in-Ok-clause-taken : goal.returns-in-Ok-clause-taken
-returns-in-Ok-clause-taken c = rw (← c.self.view_is, c.deref.ensures) (taken (goal.at.returns-in-Ok-clause-taken c).After-block-1).runs
+returns-in-Ok-clause-taken c = rw (
+  ← c.self.view_is,
+  c.deref.ensures,
+) (taken (goal.at.returns-in-Ok-clause-taken c).After-block-1).runs
