@@ -10,8 +10,8 @@ use Rattle.std.proofs.lemmas.Bool.Decides.{nat_tests}
 use Rattle.std.proofs.lemmas.Map.Keys.{IsStrictlyIncreasing-from_sorted}
 use Rattle.ms_base.specs.Interval.{meet, meets_any, are_apart}
 use Rattle.ms_base.specs.Names.{named, with_new, without}
-use Rattle.ms_blocks.specs.FreeBlocks.{LieFrom, AreKept, words_in}
-use Rattle.ms_blocks.proofs.EntryLemmas.{words_in-cons}
+use Rattle.ms_blocks.specs.FreeBlocks.{LieFrom, AreKept, MayBeKept, words_in}
+use Rattle.ms_blocks.proofs.EntryLemmas.{words_in-cons, named-with_new}
 
 -- What a comparison says of two starts.
 compared_less : (a b : ℕ) → nat_cmp a b ≡ Less → a < b
@@ -35,6 +35,9 @@ same_start_meets a m b n same some others apart = grind (arith, nat_tests)
 
 behind_apart : (a m b n : ℕ) → a + m ≤ b → meet a m b n ≡ false
 behind_apart a m b n behind = grind (arith, nat_tests)
+
+before_apart : (a m b n : ℕ) → b + n ≤ a → meet a m b n ≡ false
+before_apart a m b n before = grind (arith, nat_tests)
 
 first_fails : (x y : Bool) → (x || y) ≡ false → x ≡ false
 first_fails true y e = absurd (cc)
@@ -123,6 +126,10 @@ pub words_fit : (low : ℕ) (runs : List (ℕ × ℕ)) → LieFrom low runs → 
 words_fit low [] laid = omega arith
 words_fit low (run ∷ runs) laid = omega (arith, laid.0, words_in-cons run runs, words_fit (run.0 + run.1) runs laid.2)
 
+-- So does the lower bound.
+lowest_fits : (low : ℕ) (runs : List (ℕ × ℕ)) → LieFrom low runs → low < 2 ^ 64
+lowest_fits low runs laid = omega (arith, words_fit low runs laid)
+
 -- Nothing meets what ends below the lower bound.
 none_met : (low start words : ℕ) (runs : List (ℕ × ℕ)) → LieFrom low runs → start + words ≤ low
     → meets_any (start, words) runs ≡ false
@@ -132,6 +139,33 @@ none_met low start words (run ∷ runs) laid ends =
       arith,
       laid.0,
     ))) (none_met (run.0 + run.1) start words runs laid.2 (omega (arith, laid.0)))
+
+-- A run that was added lies apart from the others.
+pub added_may_be_kept : (low start words : ℕ) (runs : List (ℕ × ℕ)) → LieFrom low (with_new runs start words)
+    → named runs start ≡ None → MayBeKept runs (start, words)
+added_may_be_kept low start words [] laid new = record { some = laid.1; ends = laid.2; apart = refl }
+added_may_be_kept low start words (run ∷ runs) laid new =
+    elim (nat_cmp start run.0) as (λ o. nat_cmp start run.0 ≡ o
+    → LieFrom low (match_ordering o ((start, words) ∷ run ∷ runs) ((run.0, words) ∷ runs) (run ∷ with_new runs start words))
+    → cond (is_eq o) (Some run.1) (named runs start) ≡ None → MayBeKept (run ∷ runs) (start, words)) [
+      | Less ↦ λ o laid new. record {
+          some = laid.1;
+          ends = lowest_fits (start + words) (run ∷ runs) laid.2;
+          apart = none_met (start + words) start words (run ∷ runs) laid.2 (omega arith);
+        }
+      | Equal ↦ λ o laid new. absurd (cc)
+      | Greater ↦ λ o laid new. behind laid (added_may_be_kept (run.0 + run.1) start words runs laid.2 new)
+    ] refl laid new
+  where
+    behind : LieFrom low (run ∷ with_new runs start words) → MayBeKept runs (start, words) → MayBeKept (run ∷ runs) (start, words)
+    behind laid may =
+        let from : run.0 + run.1 ≤ start =
+            named_from (run.0 + run.1) start words (with_new runs start words) laid.2 (named-with_new runs start words) in
+        record {
+          some = may.some;
+          ends = may.ends;
+          apart = rw (before_apart start words run.0 run.1 from) may.apart;
+        }
 
 apart : (low : ℕ) (runs : List (ℕ × ℕ)) → LieFrom low runs → are_apart runs ≡ true
 apart low [] laid = refl
@@ -160,9 +194,6 @@ sorted low (run ∷ runs) laid = (
 sizes : (low : ℕ) (runs : List (ℕ × ℕ)) → LieFrom low runs → AllByRecursion (λ (run : ℕ × ℕ). 2 ≤ run.1) runs
 sizes low [] laid = tt
 sizes low (run ∷ runs) laid = (laid.1, sizes (run.0 + run.1) runs laid.2)
-
-lowest_fits : (low : ℕ) (runs : List (ℕ × ℕ)) → LieFrom low runs → low < 2 ^ 64
-lowest_fits low runs laid = omega (arith, words_fit low runs laid)
 
 ends : (low : ℕ) (runs : List (ℕ × ℕ)) → LieFrom low runs
     → AllByRecursion (λ (run : ℕ × ℕ). run.0 + run.1 < 2 ^ 64) runs

@@ -6,44 +6,38 @@ use Rattle.ms_base.specs.Interval.{meets_any}
 use Rattle.ms_base.specs.Names.{named, with_new, without}
 use Rattle.ms_blocks.specs.Rank.{IsRanked, with_ranked, first_fit, without_fit}
 use Rattle.ms_blocks.specs.Tree.{blocks_of}
-use Rattle.ms_blocks.specs.FreeBlocks.{IsBestFit, NoneFits, run_of, by_start, LieFrom, words_in}
+use Rattle.ms_blocks.specs.FreeBlocks.{IsBestFit, NoneFits, MayBeKept, run_of, by_start, StartsDiffer, LieFrom, words_in}
 use Rattle.ms_blocks.specs.Tended.{AreTended, IsTended}
 use Rattle.ms_blocks.specs.declared.tree.Tree.{Tree}
 use Rattle.ms_blocks.specs.declared.free_blocks.FreeBlocks.TheInside.{Inside}
 use Rattle.ms_blocks.proofs.RankLemmas.{ranked_with, ranked_without, without_fit-none}
 use Rattle.ms_blocks.proofs.EntryLemmas.{length-with_new, sum-with_new}
 use Rattle.ms_blocks.proofs.StartLemmas.{by_start-with_ranked, starts_differ_with, by_start-without_fit, starts_differ_without, fit_splits, new_is_other}
-use Rattle.ms_blocks.proofs.LaidLemmas.{apart_is_new, laid_with, laid_without, words_fit}
+use Rattle.ms_blocks.proofs.LaidLemmas.{added_may_be_kept, apart_is_new, laid_with, laid_without, words_fit}
 use Rattle.ms_blocks.proofs.BestFitLemmas.{fit_is_best, none_fits}
 
--- A block may be added: it has at least two words, ends below 2 ^ 64 and meets none.
-pub record MayCome (blocks : List Block) (block : Block) : Type 0 where
-  pub some : 2 ≤ block.words
-  pub ends : block.start + block.words < 2 ^ 64
-  pub apart : meets_any (block.start, block.words) (by_start blocks) ≡ false
-
-pub is_new : (blocks : List Block) (block : Block) → LieFrom 0 (by_start blocks) → MayCome blocks block
+pub is_new : (blocks : List Block) (block : Block) → LieFrom 0 (by_start blocks) → MayBeKept (by_start blocks) (run_of block)
     → named (by_start blocks) block.start ≡ None
 is_new blocks block laid may = apart_is_new 0 block.start block.words (by_start blocks) laid may.some may.apart
 
-pub runs_with : (blocks : List Block) (block : Block) → LieFrom 0 (by_start blocks) → MayCome blocks block
+pub runs_with : (blocks : List Block) (block : Block) → LieFrom 0 (by_start blocks) → MayBeKept (by_start blocks) (run_of block)
     → by_start (with_ranked blocks block) ≡ with_new (by_start blocks) block.start block.words
 runs_with blocks block laid may = by_start-with_ranked blocks block (is_new blocks block laid may)
 
-laid_runs_with : (blocks : List Block) (block : Block) → LieFrom 0 (by_start blocks) → MayCome blocks block
+laid_runs_with : (blocks : List Block) (block : Block) → LieFrom 0 (by_start blocks) → MayBeKept (by_start blocks) (run_of block)
     → LieFrom 0 (by_start (with_ranked blocks block))
 laid_runs_with blocks block laid may =
     subst (LieFrom 0) (sym (runs_with blocks block laid may))
     (laid_with 0 block.start block.words (by_start blocks) laid (omega arith) may.some may.ends may.apart)
 
-words_with : (blocks : List Block) (block : Block) → LieFrom 0 (by_start blocks) → MayCome blocks block
+words_with : (blocks : List Block) (block : Block) → LieFrom 0 (by_start blocks) → MayBeKept (by_start blocks) (run_of block)
     → words_in (by_start (with_ranked blocks block)) ≡ words_in (by_start blocks) + block.words
 words_with blocks block laid may = ap words_in (runs_with blocks block laid may)
     ∙ sum-with_new (by_start blocks) block.start block.words (is_new blocks block laid may)
 
 -- The sum fits with one more.
 pub total_fits : (blocks : List Block) (room places count total : ℕ) (block : Block)
-    → AreTended blocks room places count total → MayCome blocks block → total + block.words < 2 ^ 64
+    → AreTended blocks room places count total → MayBeKept (by_start blocks) (run_of block) → total + block.words < 2 ^ 64
 total_fits blocks room places count total block tended may =
     omega (
       arith,
@@ -54,7 +48,7 @@ total_fits blocks room places count total block tended may =
 
 -- One block more, and one spare node less.
 pub tended_with : (blocks grown : List Block) (room left places count total : ℕ) (block : Block)
-    → AreTended blocks room places count total → MayCome blocks block
+    → AreTended blocks room places count total → MayBeKept (by_start blocks) (run_of block)
     → grown ≡ with_ranked blocks block → left + 1 ≡ room → AreTended grown left places (count + 1) (total + block.words)
 tended_with blocks grown room left places count total block tended may grows less =
     let new = is_new blocks block tended.laid may in
@@ -127,7 +121,7 @@ pub record Adds (f : Inside) (block : Block) (grown : Tree) : Type 0 where
       → AreTended (blocks_of grown) left (vec_capacity f.spare) (f.count + 1) (f.total + block.words)
   pub runs : by_start (blocks_of grown) ≡ with_new (by_start (blocks_of f.tree)) block.start block.words
 
-pub adds : (f : Inside) (block : Block) (grown : Tree) → IsTended f → MayCome (blocks_of f.tree) block
+pub adds : (f : Inside) (block : Block) (grown : Tree) → IsTended f → MayBeKept (by_start (blocks_of f.tree)) (run_of block)
     → (IsRanked (blocks_of f.tree) → blocks_of grown ≡ with_ranked (blocks_of f.tree) block)
     → Adds f block grown
 adds f block grown tended may grows = record {
@@ -137,6 +131,13 @@ adds f block grown tended may grows = record {
   runs = ap by_start (grows tended.ranked) ∙ runs_with (blocks_of f.tree) block tended.laid may;
 }
 
+-- The first fit may be kept beside those that stay.
+fit_may_be_kept : (blocks : List Block) (n : ℕ) (found : Block) → StartsDiffer blocks → LieFrom 0 (by_start blocks)
+    → first_fit blocks n ≡ Some found → MayBeKept (by_start (without_fit blocks n)) (run_of found)
+fit_may_be_kept blocks n found differ laid e =
+    let split = fit_splits blocks n found differ e in
+    added_may_be_kept 0 found.start found.words (by_start (without_fit blocks n)) (subst (LieFrom 0) split.0 laid) split.1
+
 -- What a removal makes of the fields, with a fit and without one.
 pub record Takes (f : Inside) (words : ℕ) (found : Block) (rest : Tree) : Type 0 where
   pub counted : 1 ≤ f.count
@@ -145,6 +146,7 @@ pub record Takes (f : Inside) (words : ℕ) (found : Block) (rest : Tree) : Type
       → AreTended (blocks_of rest) (vec_len f.spare + 1) places (f.count - 1) (f.total - found.words)
   pub best : IsBestFit (by_start (blocks_of f.tree)) words (run_of found)
   pub runs : by_start (blocks_of rest) ≡ without (by_start (blocks_of f.tree)) found.start
+  pub back : MayBeKept (by_start (blocks_of rest)) (run_of found)
 
 pub takes : (f : Inside) (words : ℕ) (found : Block) (rest : Tree) → IsTended f
     → (IsRanked (blocks_of f.tree) → first_fit (blocks_of f.tree) words ≡ Some found)
@@ -159,6 +161,7 @@ takes f words found rest tended found_is left =
           (vec_capacity f.spare) places f.count f.total tended e (left tended.ranked) more;
       best = fit_is_best blocks words found tended.ranked tended.differ e;
       runs = ap by_start (left tended.ranked) ∙ by_start-without_fit blocks words found tended.differ e;
+      back = subst (λ (blocks : List Block). MayBeKept (by_start blocks) (run_of found)) (sym (left tended.ranked)) (fit_may_be_kept blocks words found tended.differ tended.laid e);
     }
 
 pub record Misses (f : Inside) (words : ℕ) (rest : Tree) : Type 0 where

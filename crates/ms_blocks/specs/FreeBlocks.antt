@@ -1,8 +1,8 @@
 -- The free blocks that are kept, as runs of words by start, beside the room for more.
-use Rattle.std.specs.Prelude.{◌≡◌, ℕ, ◌+◌, ◌^◌, ◌<◌, ◌≤◌, ◌⊎◌, IsTrue, List, [], ◌∷◌, Some, None}
+use Rattle.std.specs.Prelude.{◌≡◌, ℕ, ◌+◌, ◌^◌, ◌<◌, ◌≤◌, ◌⊎◌, IsTrue, IsFalse, List, [], ◌∷◌, Some, None}
 use Rattle.std.specs.List.{AllByRecursion, sum_by}
 use Rattle.ms_base.specs.declared.span.Block.{Block}
-use Rattle.ms_base.specs.Interval.{are_apart}
+use Rattle.ms_base.specs.Interval.{meets_any, are_apart}
 use Rattle.ms_base.specs.Names.{named, with_new, AreNamed}
 
 -- The runs that are kept, in rising order of start, and how many more may be added.
@@ -32,6 +32,13 @@ pub record IsBestFit (kept : List (ℕ × ℕ)) (words : ℕ) (best : ℕ × ℕ
 -- No kept run has so many words.
 abbrev pub NoneFits : List (ℕ × ℕ) → ℕ → Type 0
 NoneFits kept words = AllByRecursion (λ (run : ℕ × ℕ). run.1 < words) kept
+
+-- A run may be kept beside the others: it has at least two words, its end is a word number, and it
+-- meets none of them.
+pub record MayBeKept (kept : List (ℕ × ℕ)) (run : ℕ × ℕ) : Type 0 where
+  pub some : 2 ≤ run.1
+  pub ends : run.0 + run.1 < 2 ^ 64
+  pub apart : IsFalse (meets_any run kept)
 
 -- What callers know of the kept runs: their starts rise, no two meet, and each has at least two
 -- words and an end that is a word number.

@@ -11,7 +11,7 @@ ghost use Rattle.std.specs.Option.{option_map};
 ghost use Rattle.ms_base.specs.Interval.{meets_any};
 ghost use Rattle.ms_base.specs.Names.{with_new, without};
 ghost use Rattle.ms_base.specs.Place.{best_fit};
-ghost use Rattle.ms_blocks.specs.FreeBlocks.{KeptBlocks, AreKept, IsBestFit, NoneFits, run_of, words_in};
+ghost use Rattle.ms_blocks.specs.FreeBlocks.{KeptBlocks, AreKept, MayBeKept, IsBestFit, NoneFits, run_of, words_in};
 
 use crate::tree::{Fork, Tree, insert, take_fit};
 use ms_base::{Block, Refusal};
@@ -98,14 +98,15 @@ impl FreeBlocks {
 
     /// Takes out the best fit whole: the kept block with the fewest words that has at least so
     /// many, and of those the one with the lowest start. Answers `None`, and changes nothing,
-    /// where no kept block is large enough. Takes no memory: the room grows by one. Best fit is
-    /// this project's choice.
+    /// where no kept block is large enough. Takes no memory: the room grows by one, so that the
+    /// block, or what is left of it, can be added again. Best fit is this project's choice.
     pub fn remove(&mut self, words: u64) -> Option<Block>
         ensures best { IfSome result (λ block. IsBestFit self.old.kept words (run_of block)) }
         ensures none { IfNone result (NoneFits self.old.kept words) }
         ensures answer { option_map run_of result ≡ best_fit self.old.kept words }
         ensures taken { IfSome result (λ block. self.new.kept ≡ without self.old.kept block.start) }
         ensures room { OnSome result (self.new.room ≡ self.old.room + 1) }
+        ensures back { IfSome result (λ block. MayBeKept self.new.kept (run_of block)) }
         ensures unchanged { IfNone result (self.new ≡ self.old) }
     {
         match take_fit(&mut self.tree, words) {

@@ -83,6 +83,7 @@ fn eight(rt: &impl Abort, alloc: Global) -> FreeBlocks {
 
 #[test]
 fn each_request_has_the_smallest_that_fits(rt: HostRuntime) {
+    let mut blocks = eight(&rt, rt.alloc());
     for words in 6..=60 {
         let expected = match words {
             0..=10 => Some(block(200, 10)),
@@ -95,9 +96,14 @@ fn each_request_has_the_smallest_that_fits(rt: HostRuntime) {
             51 => Some(block(600, 51)),
             _ => None,
         };
-        let mut blocks = eight(&rt, rt.alloc());
-        assert_eq!(rt; blocks.remove(words), expected, "{words} words");
+        let answer = blocks.remove(words);
+        assert_eq!(rt; answer, expected, "{words} words");
+        if let Some(taken) = answer {
+            blocks.add(taken);
+        }
     }
+    assert_eq!(rt; blocks.len(), 8);
+    assert_eq!(rt; blocks.total(), 253);
 }
 
 #[test]

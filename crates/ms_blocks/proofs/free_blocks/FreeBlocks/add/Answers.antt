@@ -1,13 +1,14 @@
 use Rattle.std.proofs.Common.{arith, vec_len}
 use Rattle.ms_blocks.specs.Tree.{blocks_of}
-use Rattle.ms_blocks.proofs.TendedLemmas.{MayCome, Adds, adds}
+use Rattle.ms_blocks.proofs.TendedLemmas.{Adds, adds}
+use Rattle.ms_blocks.specs.FreeBlocks.{MayBeKept, run_of, by_start}
 use Rattle.ms_blocks.proofs.free_blocks.FreeBlocks.add.Goals as goal
 use Rattle.ms_blocks.proofs.free_blocks.FreeBlocks.add.Goals.{After-struct_known-1}
 
 -- What the addition makes of the fields.
 added : (c : After-struct_known-1) → Adds c.self.inside c.args.block c.insert.new.tree
 added c =
-    let may : MayCome (blocks_of c.self.inside.tree) c.args.block = record {
+    let may : MayBeKept (by_start (blocks_of c.self.inside.tree)) (run_of c.args.block) = record {
       some = c.requires.words;
       ends = c.requires.ends;
       apart = rw (← c.self.view_is) at c.requires.apart;

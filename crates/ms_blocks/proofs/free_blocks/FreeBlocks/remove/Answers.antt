@@ -66,3 +66,6 @@ returns-in-Ok-clause-taken c = rw (
   ← c.self.view_is,
   c.deref.ensures,
 ) (taken (goal.at.returns-in-Ok-clause-taken c).After-block-1).runs
+
+pub returns-in-Ok-clause-back : goal.returns-in-Ok-clause-back
+returns-in-Ok-clause-back c = rw c.deref.ensures (taken (goal.at.returns-in-Ok-clause-back c).After-block-1).back
