@@ -13,11 +13,13 @@ use Rattle.ms_blocks.specs.FreeBlocks.{Yields, IsBestFit, NoneFits, run_of, by_s
 use Rattle.ms_blocks.proofs.LaidLemmas.{named_from}
 use Rattle.ms_blocks.proofs.StartLemmas.{all_by_start, fit_is_named}
 
+-- What one block's fact gives, each block's gives.
 all_so : (P Q : Block → Type 0) (blocks : List Block) → AllByRecursion P blocks → ((block : Block) → P block → Q block)
     → AllByRecursion Q blocks
 all_so P Q [] all so = tt
 all_so P Q (block ∷ blocks) all so = (so block all.0, all_so P Q blocks all.1 so)
 
+-- What the tests of sizes say.
 at_most : (a b : ℕ) → nat_le a b ≡ true → a ≤ b
 at_most a b h = grind (arith, nat_tests)
 
@@ -30,6 +32,7 @@ passes a b h = grind (arith, nat_tests)
 fails : (a b : ℕ) → b < a → nat_le a b ≡ false
 fails a b h = grind (arith, nat_tests)
 
+-- What ranks behind a block yields to it.
 later_yields : (n : ℕ) (a b : Block) → ranks_before a b ≡ true → Yields n (a.start, a.words) (b.start, b.words)
 later_yields n a b before =
     elim (nat_lt a.words b.words) as (λ fewer. nat_lt a.words b.words ≡ fewer
@@ -67,6 +70,7 @@ all_yield (block ∷ blocks) n found ranked e =
       | false ↦ λ few e. (inl (not_at_most n block.words few), all_yield blocks n found ranked.1 e)
     ] refl e
 
+-- The first fit is large enough.
 fit_is_enough : (blocks : List Block) (n : ℕ) (found : Block) → first_fit blocks n ≡ Some found → n ≤ found.words
 fit_is_enough [] n found e = absurd (cc)
 fit_is_enough (block ∷ blocks) n found e =
@@ -77,6 +81,7 @@ fit_is_enough (block ∷ blocks) n found e =
       | false ↦ λ few e. fit_is_enough blocks n found e
     ] refl e
 
+-- The same for runs.
 all_runs_so : (P Q : ℕ × ℕ → Type 0) (runs : List (ℕ × ℕ)) → AllByRecursion P runs → ((run : ℕ × ℕ) → P run → Q run)
     → AllByRecursion Q runs
 all_runs_so P Q [] all so = tt

@@ -146,27 +146,32 @@ pub added_may_be_kept : (low start words : ℕ) (runs : List (ℕ × ℕ)) → L
 added_may_be_kept low start words [] laid new = record { some = laid.1; ends = laid.2; apart = refl }
 added_may_be_kept low start words (run ∷ runs) laid new =
     elim (nat_cmp start run.0) as (λ o. nat_cmp start run.0 ≡ o
-    → LieFrom low (match_ordering o ((start, words) ∷ run ∷ runs) ((run.0, words) ∷ runs) (run ∷ with_new runs start words))
+    → LieFrom low (match_ordering o ((start, words) ∷ run ∷ runs) ((
+      run.0,
+      words,
+    ) ∷ runs) (run ∷ with_new runs start words))
     → cond (is_eq o) (Some run.1) (named runs start) ≡ None → MayBeKept (run ∷ runs) (start, words)) [
       | Less ↦ λ o laid new. record {
-          some = laid.1;
-          ends = lowest_fits (start + words) (run ∷ runs) laid.2;
-          apart = none_met (start + words) start words (run ∷ runs) laid.2 (omega arith);
-        }
+        some = laid.1;
+        ends = lowest_fits (start + words) (run ∷ runs) laid.2;
+        apart = none_met (start + words) start words (run ∷ runs) laid.2 (omega arith);
+      }
       | Equal ↦ λ o laid new. absurd (cc)
       | Greater ↦ λ o laid new. behind laid (added_may_be_kept (run.0 + run.1) start words runs laid.2 new)
     ] refl laid new
   where
-    behind : LieFrom low (run ∷ with_new runs start words) → MayBeKept runs (start, words) → MayBeKept (run ∷ runs) (start, words)
+    behind : LieFrom low (run ∷ with_new runs start words) → MayBeKept runs (start, words)
+        → MayBeKept (run ∷ runs) (start, words)
     behind laid may =
         let from : run.0 + run.1 ≤ start =
-            named_from (run.0 + run.1) start words (with_new runs start words) laid.2 (named-with_new runs start words) in
+        named_from (run.0 + run.1) start words (with_new runs start words) laid.2 (named-with_new runs start words) in
         record {
           some = may.some;
           ends = may.ends;
           apart = rw (before_apart start words run.0 run.1 from) may.apart;
         }
 
+-- The runs are apart, their starts rise, and their sizes and ends are in range.
 apart : (low : ℕ) (runs : List (ℕ × ℕ)) → LieFrom low runs → are_apart runs ≡ true
 apart low [] laid = refl
 apart low (run ∷ runs) laid = rw (none_met (run.0 + run.1) run.0 run.1 runs laid.2 (omega arith))

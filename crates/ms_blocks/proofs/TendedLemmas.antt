@@ -16,28 +16,34 @@ use Rattle.ms_blocks.proofs.StartLemmas.{by_start-with_ranked, starts_differ_wit
 use Rattle.ms_blocks.proofs.LaidLemmas.{added_may_be_kept, apart_is_new, laid_with, laid_without, words_fit}
 use Rattle.ms_blocks.proofs.BestFitLemmas.{fit_is_best, none_fits}
 
-pub is_new : (blocks : List Block) (block : Block) → LieFrom 0 (by_start blocks) → MayBeKept (by_start blocks) (run_of block)
+-- A block that may be kept starts where none does, and its run is one more, with its words.
+pub is_new : (blocks : List Block) (block : Block) → LieFrom 0 (by_start blocks)
+    → MayBeKept (by_start blocks) (run_of block)
     → named (by_start blocks) block.start ≡ None
 is_new blocks block laid may = apart_is_new 0 block.start block.words (by_start blocks) laid may.some may.apart
 
-pub runs_with : (blocks : List Block) (block : Block) → LieFrom 0 (by_start blocks) → MayBeKept (by_start blocks) (run_of block)
+pub runs_with : (blocks : List Block) (block : Block) → LieFrom 0 (by_start blocks)
+    → MayBeKept (by_start blocks) (run_of block)
     → by_start (with_ranked blocks block) ≡ with_new (by_start blocks) block.start block.words
 runs_with blocks block laid may = by_start-with_ranked blocks block (is_new blocks block laid may)
 
-laid_runs_with : (blocks : List Block) (block : Block) → LieFrom 0 (by_start blocks) → MayBeKept (by_start blocks) (run_of block)
+laid_runs_with : (blocks : List Block) (block : Block) → LieFrom 0 (by_start blocks)
+    → MayBeKept (by_start blocks) (run_of block)
     → LieFrom 0 (by_start (with_ranked blocks block))
 laid_runs_with blocks block laid may =
     subst (LieFrom 0) (sym (runs_with blocks block laid may))
     (laid_with 0 block.start block.words (by_start blocks) laid (omega arith) may.some may.ends may.apart)
 
-words_with : (blocks : List Block) (block : Block) → LieFrom 0 (by_start blocks) → MayBeKept (by_start blocks) (run_of block)
+words_with : (blocks : List Block) (block : Block) → LieFrom 0 (by_start blocks)
+    → MayBeKept (by_start blocks) (run_of block)
     → words_in (by_start (with_ranked blocks block)) ≡ words_in (by_start blocks) + block.words
 words_with blocks block laid may = ap words_in (runs_with blocks block laid may)
     ∙ sum-with_new (by_start blocks) block.start block.words (is_new blocks block laid may)
 
 -- The sum fits with one more.
 pub total_fits : (blocks : List Block) (room places count total : ℕ) (block : Block)
-    → AreTended blocks room places count total → MayBeKept (by_start blocks) (run_of block) → total + block.words < 2 ^ 64
+    → AreTended blocks room places count total → MayBeKept (by_start blocks) (run_of block)
+    → total + block.words < 2 ^ 64
 total_fits blocks room places count total block tended may =
     omega (
       arith,
@@ -121,7 +127,8 @@ pub record Adds (f : Inside) (block : Block) (grown : Tree) : Type 0 where
       → AreTended (blocks_of grown) left (vec_capacity f.spare) (f.count + 1) (f.total + block.words)
   pub runs : by_start (blocks_of grown) ≡ with_new (by_start (blocks_of f.tree)) block.start block.words
 
-pub adds : (f : Inside) (block : Block) (grown : Tree) → IsTended f → MayBeKept (by_start (blocks_of f.tree)) (run_of block)
+pub adds : (f : Inside) (block : Block) (grown : Tree) → IsTended f
+    → MayBeKept (by_start (blocks_of f.tree)) (run_of block)
     → (IsRanked (blocks_of f.tree) → blocks_of grown ≡ with_ranked (blocks_of f.tree) block)
     → Adds f block grown
 adds f block grown tended may grows = record {
@@ -136,7 +143,8 @@ fit_may_be_kept : (blocks : List Block) (n : ℕ) (found : Block) → StartsDiff
     → first_fit blocks n ≡ Some found → MayBeKept (by_start (without_fit blocks n)) (run_of found)
 fit_may_be_kept blocks n found differ laid e =
     let split = fit_splits blocks n found differ e in
-    added_may_be_kept 0 found.start found.words (by_start (without_fit blocks n)) (subst (LieFrom 0) split.0 laid) split.1
+    added_may_be_kept 0 found.start found.words (by_start (without_fit blocks n))
+    (subst (LieFrom 0) split.0 laid) split.1
 
 -- What a removal makes of the fields, with a fit and without one.
 pub record Takes (f : Inside) (words : ℕ) (found : Block) (rest : Tree) : Type 0 where
@@ -161,7 +169,8 @@ takes f words found rest tended found_is left =
           (vec_capacity f.spare) places f.count f.total tended e (left tended.ranked) more;
       best = fit_is_best blocks words found tended.ranked tended.differ e;
       runs = ap by_start (left tended.ranked) ∙ by_start-without_fit blocks words found tended.differ e;
-      back = subst (λ (blocks : List Block). MayBeKept (by_start blocks) (run_of found)) (sym (left tended.ranked)) (fit_may_be_kept blocks words found tended.differ tended.laid e);
+      back = subst (λ (blocks : List Block). MayBeKept (by_start blocks) (run_of found)) (sym (left tended.ranked))
+          (fit_may_be_kept blocks words found tended.differ tended.laid e);
     }
 
 pub record Misses (f : Inside) (words : ℕ) (rest : Tree) : Type 0 where

@@ -47,7 +47,9 @@ returns-in-None-clause-answer c = sym (best_fit-none c.args.self.now.kept c.args
 
 pub returns-in-None-clause-unchanged : goal.returns-in-None-clause-unchanged
 returns-in-None-clause-unchanged c =
-    ap (λ (blocks : List Block). let seen : KeptBlocks = record { kept = by_start blocks; room = vec_len c.self.inside.spare } in seen) (sym (missed c).same) ∙ c.self.view_is
+    ap (λ (blocks : List Block). let seen : KeptBlocks =
+    record { kept = by_start blocks; room = vec_len c.self.inside.spare } in seen) (sym (missed c).same)
+    ∙ c.self.view_is
 
 pub returns-in-Ok-clause-best : goal.returns-in-Ok-clause-best
 returns-in-Ok-clause-best c = rw (
