@@ -1,8 +1,7 @@
 -- What is kept of free blocks, after an addition and after the removal of the first fit. Used by
 -- `FreeBlocks::add` and `FreeBlocks::remove`.
-use Rattle.std.proofs.Common.{◌≡◌, ℕ, ◌+◌, ◌-◌, ◌^◌, ◌≤◌, ◌<◌, false, List, length, Some, None, ap, sym, subst, ◌∙◌, arith, vec_len, vec_capacity}
+use Rattle.std.proofs.Common.{◌≡◌, ℕ, ◌+◌, ◌-◌, ◌^◌, ◌≤◌, ◌<◌, List, length, Some, None, ap, sym, subst, ◌∙◌, arith, vec_len, vec_capacity}
 use Rattle.ms_base.specs.declared.span.Block.{Block}
-use Rattle.ms_base.specs.Interval.{meets_any}
 use Rattle.ms_base.specs.Names.{named, with_new, without}
 use Rattle.ms_blocks.specs.Rank.{IsRanked, with_ranked, first_fit, without_fit}
 use Rattle.ms_blocks.specs.Tree.{blocks_of}
