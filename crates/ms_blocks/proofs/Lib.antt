@@ -1,0 +1,7 @@
+pub mod RankLemmas
+pub mod EntryLemmas
+pub mod StartLemmas
+pub mod LaidLemmas
+pub mod BestFitLemmas
+pub mod TendedLemmas
+pub mod BoundLemmas

@@ -1,0 +1,72 @@
+use Rattle.std.specs.Option.{option_map}
+use Rattle.ms_blocks.specs.Tree.{blocks_of}
+use Rattle.ms_blocks.proofs.tree.+without_fork.Goals as goal
+use Rattle.ms_blocks.proofs.RankLemmas.{take_right, find_right, take_left, find_left, take_middle, find_middle}
+
+pub returns-then-deref-words-clause-found : goal.returns-then-deref-words-clause-found
+returns-then-deref-words-clause-found t c ranked =
+    let fork = c.in-Forked.fork.value in
+    rw c.in-Forked.is (find_right (blocks_of fork.left) (blocks_of fork.right) fork.block c.args.words
+    (option_map (λ fork. fork.value.block) c.without_fork-right.result.1)
+    (rw c.in-Forked.is at ranked) (rw c.deref.ensures at c.if-deref-words.true) (rw (
+      c.replace.ensures.value,
+      c.deref_mut.ensures.value,
+    ) at c.without_fork-right.ensures.found))
+
+pub returns-then-deref-words-clause-left : goal.returns-then-deref-words-clause-left
+returns-then-deref-words-clause-left t c ranked =
+    let fork = c.in-Forked.fork.value in
+    rw (c.in-Forked.is, c.deref_mut-then-deref-words.ensures.value, c.deref_mut.ensures.value)
+    (take_right (blocks_of fork.left) (blocks_of fork.right)
+    (blocks_of c.without_fork-right.result.0) fork.block c.args.words
+    (rw c.in-Forked.is at ranked) (rw c.deref.ensures at c.if-deref-words.true) (rw (
+      c.replace.ensures.value,
+      c.deref_mut.ensures.value,
+    ) at c.without_fork-right.ensures.left))
+
+pub returns-in-Some-clause-found : goal.returns-in-Some-clause-found
+returns-in-Some-clause-found t c ranked =
+    let fork = c.in-Forked.fork.value in
+    rw c.in-Forked.is (find_left (blocks_of fork.left)
+    (blocks_of fork.right) fork.block c.in-Some.found.value.block c.args.words
+    (rw c.in-Forked.is at ranked) (rw (
+      c.in-Some.is,
+      c.replace-2.ensures.value,
+      c.deref_mut-2.ensures.value,
+    ) at c.without_fork-left.ensures.found))
+
+pub returns-in-Some-clause-left : goal.returns-in-Some-clause-left
+returns-in-Some-clause-left t c ranked =
+    let fork = c.in-Forked.fork.value in
+    rw (c.in-Forked.is, c.deref_mut-in-Some.ensures.value, c.deref_mut-2.ensures.value)
+    (take_left (blocks_of fork.left) (blocks_of fork.right)
+    (blocks_of c.without_fork-left.result.0) fork.block c.in-Some.found.value.block c.args.words
+    (rw c.in-Forked.is at ranked)
+    (rw (c.in-Some.is, c.replace-2.ensures.value, c.deref_mut-2.ensures.value) at c.without_fork-left.ensures.found)
+    (rw (c.replace-2.ensures.value, c.deref_mut-2.ensures.value) at c.without_fork-left.ensures.left))
+
+pub returns-in-None-clause-found : goal.returns-in-None-clause-found
+returns-in-None-clause-found t c ranked =
+    let fork = c.in-Forked.fork.value in
+    rw (c.in-Forked.is, c.deref_mut-in-None.ensures.value, c.deref_mut-2.ensures.value)
+    (find_middle (blocks_of fork.left) (blocks_of fork.right) fork.block c.args.words
+    (rw c.in-Forked.is at ranked) (rw c.deref.ensures at c.if-deref-words.false) (rw (
+      c.in-None.is,
+      c.replace-2.ensures.value,
+      c.deref_mut-2.ensures.value,
+    ) at c.without_fork-left.ensures.found))
+
+pub returns-in-None-clause-left : goal.returns-in-None-clause-left
+returns-in-None-clause-left t c ranked =
+    let fork = c.in-Forked.fork.value in
+    rw c.in-Forked.is
+    (take_middle (blocks_of fork.left) (blocks_of fork.right) (blocks_of c.without_fork-left.result.0)
+    (blocks_of c.join.result) fork.block c.args.words
+    (rw c.in-Forked.is at ranked) (rw c.deref.ensures at c.if-deref-words.false)
+    (rw (c.in-None.is, c.replace-2.ensures.value, c.deref_mut-2.ensures.value) at c.without_fork-left.ensures.found)
+    (rw (c.replace-2.ensures.value, c.deref_mut-2.ensures.value) at c.without_fork-left.ensures.left)
+    (rw (
+      c.replace-right.ensures.value,
+      c.deref_mut-in-None.ensures.value,
+      c.deref_mut-2.ensures.value,
+    ) at c.join.ensures))

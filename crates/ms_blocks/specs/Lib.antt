@@ -1,0 +1,4 @@
+pub mod Rank
+pub mod Tree
+pub mod FreeBlocks
+pub mod Tended

@@ -1,0 +1,166 @@
+//! The free blocks of one arena, in room that is made ahead.
+//!
+//!     tree      a fork for each kept block          count of them, total of their words
+//!     spare     | fork | fork | fork |  ..  |       room, then places for the forks in the tree
+//!
+//! Adding a block moves a spare fork into the tree, and removing one moves it back: neither takes
+//! memory. Kept true: the tree holds the blocks by rank, they lie apart, the count and the total
+//! are theirs, and the vector of spare forks has a place for each fork of the tree.
+ghost use Rattle.std.specs.Prelude.{◌≡◌, ◌+◌, ◌^◌, ◌<◌, ◌≤◌, max, IsFalse, [], length, OnOk, OnErr, IfErr, IsOk, IfSome, OnSome, IfNone, vec_len, vec_capacity};
+ghost use Rattle.std.specs.Option.{option_map};
+ghost use Rattle.ms_base.specs.Interval.{meets_any};
+ghost use Rattle.ms_base.specs.Names.{with_new, without};
+ghost use Rattle.ms_base.specs.Place.{best_fit};
+ghost use Rattle.ms_blocks.specs.FreeBlocks.{KeptBlocks, AreKept, MayBeKept, IsBestFit, NoneFits, run_of, words_in};
+
+use crate::tree::{Fork, Tree, insert, take_fit};
+use ms_base::{Block, Refusal};
+use std::alloc::{AllocError, Global};
+use std::marker::Model;
+
+/// The words that an arena keeps for its next allocations: blocks that don't meet, each of at
+/// least two words, and room for more of them. A start is a word number, and a size is in words.
+/// Adding and removing take time that grows like the logarithm of the blocks kept.
+#[derive(Drop)]
+pub struct FreeBlocks {
+    tree: Tree,
+    spare: Vec<Box<Fork>>,
+    count: usize,
+    total: u64,
+}
+
+impl Model for FreeBlocks {
+    ghost use Rattle.ms_blocks.specs.FreeBlocks.{KeptBlocks};
+
+    ghost Value = { KeptBlocks };
+
+    ghost use Rattle.ms_blocks.specs.Tended.{kept_blocks, IsTended};
+
+    ghost view = { kept_blocks };
+
+    ghost invariant = { IsTended };
+}
+
+impl FreeBlocks {
+    /// Makes an empty collection with no room, which takes its memory from the allocator. Takes
+    /// none yet.
+    pub fn new(alloc: Global) -> FreeBlocks
+        ensures { result ≡ record { kept = []; room = 0 } }
+    {
+        FreeBlocks {
+            tree: Tree::Empty,
+            spare: Vec::new(alloc),
+            count: 0,
+            total: 0,
+        }
+    }
+
+    /// Makes room for `n` more blocks, where there is less; the blocks stay. Answers OutOfMemory
+    /// where a growth was refused, and then blocks and room are as before. The memory of a block
+    /// that is removed stays as room. This project's choice.
+    pub fn reserve(&mut self, n: usize) -> Result<(), Refusal>
+        ensures ok { OnOk result (self.new ≡ record self.old { room = max self.old.room n }) }
+        ensures enough { n ≤ self.old.room → IsOk result }
+        ensures refusal { IfErr result (λ refusal. refusal ≡ Refusal.OutOfMemory) }
+        ensures unchanged { OnErr result (self.new ≡ self.old) }
+    {
+        let room = self.spare.len();
+        if n <= room {
+            return Ok(());
+        }
+        match fill(&mut self.spare, n, self.count) {
+            Ok(()) => Ok(()),
+            Err(_) => {
+                self.spare.truncate(room);
+                Err(Refusal::OutOfMemory)
+            }
+        }
+    }
+
+    /// Keeps one block more, of at least two words, in room that there is. It meets no kept block,
+    /// and its end is a word number too. Takes no memory.
+    pub fn add(&mut self, block: Block)
+        requires room { 0 < self.old.room }
+        requires words { 2 ≤ block.words }
+        requires ends { block.start + block.words < 2 ^ 64 }
+        requires apart { IsFalse (meets_any (run_of block) self.old.kept) }
+        ensures kept { self.new.kept ≡ with_new self.old.kept block.start block.words }
+        ensures room { self.new.room + 1 ≡ self.old.room }
+    {
+        let Some(mut fork) = self.spare.pop() else {
+            unreachable!()
+        };
+        fork.block = block;
+        insert(&mut self.tree, fork);
+        self.count += 1;
+        self.total += block.words;
+    }
+
+    /// Takes out the best fit whole: the kept block with the fewest words that has at least so
+    /// many, and of those the one with the lowest start. Answers `None`, and changes nothing,
+    /// where no kept block is large enough. Takes no memory: the room grows by one, so that the
+    /// block, or what is left of it, can be added again. Best fit is this project's choice.
+    pub fn remove(&mut self, words: u64) -> Option<Block>
+        ensures best { IfSome result (λ block. IsBestFit self.old.kept words (run_of block)) }
+        ensures none { IfNone result (NoneFits self.old.kept words) }
+        ensures answer { option_map run_of result ≡ best_fit self.old.kept words }
+        ensures taken { IfSome result (λ block. self.new.kept ≡ without self.old.kept block.start) }
+        ensures room { OnSome result (self.new.room ≡ self.old.room + 1) }
+        ensures back { IfSome result (λ block. MayBeKept self.new.kept (run_of block)) }
+        ensures unchanged { IfNone result (self.new ≡ self.old) }
+    {
+        match take_fit(&mut self.tree, words) {
+            None => None,
+            Some(fork) => {
+                let block = fork.block;
+                self.count -= 1;
+                self.total -= block.words;
+                // The fork left a place free when it was added.
+                match self.spare.push(fork) {
+                    Ok(()) => Some(block),
+                    Err(_) => unreachable!(),
+                }
+            }
+        }
+    }
+
+    /// Tells how many words the kept blocks have together, below 2 ^ 64.
+    pub fn total(&self) -> u64
+        ensures { result ≡ words_in self.now.kept }
+    {
+        self.total
+    }
+
+    /// Tells how many blocks are kept. They lie apart, and each has at least two words.
+    pub fn len(&self) -> usize
+        ensures count { result ≡ length self.now.kept }
+        ensures apart { AreKept self.now.kept }
+    {
+        self.count
+    }
+
+    /// Tells how many more blocks can be added.
+    pub fn room(&self) -> usize
+        ensures { result ≡ self.now.room }
+    {
+        self.spare.len()
+    }
+}
+
+/// Fills up to so many spare forks, with places for those of the tree. A refusal leaves what was
+/// made.
+fn fill(spare: &mut Vec<Box<Fork>>, room: usize, count: usize) -> Result<(), AllocError>
+    requires { vec_len spare.old < room }
+    ensures filled { OnOk result (vec_len spare.new ≡ room) }
+    ensures places { OnOk result (room + count ≤ vec_capacity spare.new) }
+    ensures longer { vec_len spare.old ≤ vec_len spare.new }
+    ensures larger { vec_capacity spare.old ≤ vec_capacity spare.new }
+{
+    let alloc = *spare.allocator();
+    // All places first, so that what can't be had is refused at once.
+    spare.reserve(room - spare.len())?;
+    for _ in spare.len()..room {
+        spare.push(Box::new(alloc, Fork::spare())?)?;
+    }
+    spare.reserve(count)
+}

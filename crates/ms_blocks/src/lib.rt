@@ -1,0 +1,23 @@
+//! Free blocks: the words that an arena keeps for its next allocations, taken by best fit.
+//!
+//!     by start, as callers see them:    [0, 10)      [20, 24)     [40, 44)
+//!
+//!     by rank, as the tree has them:             (40, 4)               (start, words)
+//!                                               /       \
+//!                                        (20, 4)         (0, 10)
+//!
+//! Fewer words rank first, and of as many words the lower start. So the best fit is the leftmost
+//! block that is large enough, and a path down the tree finds it.
+//! Kept true: no two blocks meet, each has at least two words, and none ends past 2 ^ 64 - 1.
+//! Stands on `ms_base`. Only `FreeBlocks::reserve` takes memory, and nothing waits.
+//! Apart because an arena is proved over the list of its free blocks alone, whatever form the
+//! blocks have here. Best fit is this project's choice; HotSpot's freeBlocks.hpp keeps small blocks
+//! in lists by size and large ones in a tree, and also takes the smallest that fits.
+#![tactic(auto)]
+
+mod free_blocks;
+#[cfg(test)]
+mod tests;
+mod tree;
+
+pub use free_blocks::FreeBlocks;
