@@ -1,0 +1,3 @@
+pub mod HalvesLemmas
+pub mod WalkLemmas
+pub mod FreeLemmas

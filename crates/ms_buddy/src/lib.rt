@@ -1,0 +1,7 @@
+//! The split tree of one root chunk, under any allocator.
+#![tactic(auto)]
+
+mod node;
+mod tree;
+
+pub use tree::{Leaf, SplitTree};
