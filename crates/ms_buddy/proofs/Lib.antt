@@ -1,3 +1,4 @@
 pub mod HalvesLemmas
 pub mod WalkLemmas
 pub mod FreeLemmas
+pub mod SplitLemmas

@@ -117,3 +117,14 @@ pub none_below : {A : Type 0} (part : Span) (level start : ℕ) (lower : Node A)
 none_below part level start lower tree h =
     all_weaker (LeafIn start (start + size_of level)) (λ leaf. is_same part (span_of leaf) ≡ false)
     (λ leaf lies. same_below part (span_of leaf) start (start + size_of level) h lies) (lent_in level start lower) (lent_lies_in level start lower tree)
+
+-- No free leaf of a node covers an offset below it or past it.
+pub none_covers_above : {A : Type 0} (offset level middle : ℕ) (upper : Node A) → IsTree level upper → offset < middle → NonePass (covers offset) (free_in level middle upper)
+none_covers_above offset level middle upper tree h =
+    all_weaker (LiesIn middle (middle + size_of level)) (λ part. covers offset part ≡ false)
+    (λ part lies. covers_above offset part middle (middle + size_of level) h lies) (free_in level middle upper) (free_lies_in level middle upper tree)
+
+pub none_covers_below : {A : Type 0} (offset level start : ℕ) (lower : Node A) → IsTree level lower → start + size_of level ≤ offset → NonePass (covers offset) (free_in level start lower)
+none_covers_below offset level start lower tree h =
+    all_weaker (LiesIn start (start + size_of level)) (λ part. covers offset part ≡ false)
+    (λ part lies. covers_below offset part start (start + size_of level) h lies) (free_in level start lower) (free_lies_in level start lower tree)

@@ -1,5 +1,5 @@
 //! A node of the split tree.
-ghost use Rattle.std.specs.Prelude.{◌≡◌, ℕ, ◌+◌, ◌<◌, ◌≤◌, Some, IsTrue};
+ghost use Rattle.std.specs.Prelude.{◌≡◌, ℕ, ◌+◌, ◌<◌, ◌≤◌, ◌&&◌, Some, IsTrue};
 ghost use Rattle.std.specs.List.{find};
 ghost use Rattle.ms_base.specs.Level.{size_of};
 ghost use Rattle.ms_buddy.specs.Leaves.{covers, is_lent, with_front, without_leaf};
@@ -23,9 +23,16 @@ fn half_of(level: u8) -> u64
     requires { level < 12 }
     ensures size { result ≡ size_of (level + 1) }
     ensures some { 0 < result }
-    ensures double { result + result ≡ size_of level }
+    ensures small { result ≤ 524288 }
 {
     Level::new(level + 1).words()
+}
+
+/// Tells whether both halves are one free leaf each.
+fn are_free<A: Allocator>(lower: &Node<A>, upper: &Node<A>) -> bool
+    ensures { result ≡ (is_free lower.now && is_free upper.now) }
+{
+    lower.is_free() && upper.is_free()
 }
 
 impl<A: Allocator> Node<A> {
@@ -82,7 +89,7 @@ impl<A: Allocator> Node<A> {
                 } else {
                     upper.release(level + 1, middle, span)
                 };
-                if !lower.is_free() || !upper.is_free() {
+                if !are_free(lower, upper) {
                     return freed;
                 }
             }
