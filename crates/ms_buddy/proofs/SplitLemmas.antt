@@ -1,7 +1,7 @@
 -- A split and its halves: what is asked of a node is asked of the half where the part is, and what
 -- happens to the half happens to the node. For each walk down the tree.
 use Rattle.std.proofs.Common.{◌≡◌, ◌<◌, ◌≤◌, ℕ, ◌+◌, ◌-◌, Bool, true, false, not, cond, ◌&&◌, ◌||◌, List, [], ◌∷◌, ◌++◌, map, Option, Some, None, refl, sym, ap, subst, ◌∙◌, arith}
-use Rattle.std.specs.Prelude.{◌==◌, IsTrue, IsFalse}
+use Rattle.std.specs.Prelude.{◌==◌, nat_le, nat_lt, IsTrue, IsFalse, IfSome}
 use Rattle.std.specs.List.{AllByRecursion, list_any, filter, find}
 use Rattle.std.proofs.lemmas.List.{map-append}
 use Rattle.std.proofs.lemmas.List.Folds.{list_any-append, find-append}
@@ -12,18 +12,23 @@ use Rattle.ms_base.specs.Level.{size_of}
 use Rattle.ms_buddy.specs.declared.node.Node.{Node}
 use Rattle.ms_buddy.specs.declared.node.Node.TheVariants.{Free, Lent, Split'}
 use Rattle.ms_buddy.specs.Leaves.{LentLeaf, span_of, is_same, is_lent, covers, with_front, with_parent, without_leaf}
-use Rattle.ms_buddy.specs.Tree.{is_free, IsTree, lent_in, free_in}
+use Rattle.ms_buddy.specs.Tree.{is_free, IsTree, lent_in, free_in, lent_in_halves, free_in_halves}
+use Rattle.ms_buddy.proofs.HalvesLemmas.{size_of-some}
 use Rattle.ms_buddy.proofs.WalkLemmas.{NonePass, any-none, filter-none, map-none, find-none, none_above, none_below, none_covers_below, LiesIn, LeafIn, lent_lies_in}
 
--- What is known at a split, whose half has that many words.
-pub record AtSplit {A : Type 0} (level start half : ℕ) (node lower upper : Node A) : Type 0 where
-  pub low : level < 12
-  pub one : IsFalse (is_free lower && is_free upper)
+-- What is known of two halves of a part, which have that many words each.
+pub record AtHalves {A : Type 0} (level start half : ℕ) (lower upper : Node A) : Type 0 where
   pub low_tree : IsTree (level + 1) lower
   pub high_tree : IsTree (level + 1) upper
   pub size : half ≡ size_of (level + 1)
-  pub lent : lent_in level start node ≡ lent_in (level + 1) start lower ++ lent_in (level + 1) (start + half) upper
-  pub free : free_in level start node ≡ free_in (level + 1) start lower ++ free_in (level + 1) (start + half) upper
+
+-- What is known at a split.
+pub record AtSplit {A : Type 0} (level start half : ℕ) (node lower upper : Node A) : Type 0 where
+  pub low : level < 12
+  pub one : IsFalse (is_free lower && is_free upper)
+  pub halves : AtHalves level start half lower upper
+  pub lent : lent_in level start node ≡ lent_in_halves level start lower upper
+  pub free : free_in level start node ≡ free_in_halves level start lower upper
 
 pub at_split : {A : Type 0} (level start half : ℕ) (node : Node A) (p : _) (lower : Node A) (q : _) (upper : Node A)
     → node ≡ Split' p lower q upper → IsTree level node → half ≡ size_of (level + 1) → AtSplit level start half node lower upper
@@ -34,11 +39,9 @@ at_split level start half node p lower q upper e tree size =
     here tree = record {
       low = tree.0;
       one = tree.1;
-      low_tree = tree.2;
-      high_tree = tree.3;
-      size = size;
-      lent = ap (λ (h : ℕ). lent_in (level + 1) start lower ++ lent_in (level + 1) (start + h) upper) (sym size);
-      free = ap (λ (h : ℕ). free_in (level + 1) start lower ++ free_in (level + 1) (start + h) upper) (sym size);
+      halves = record { low_tree = tree.2; high_tree = tree.3; size = size };
+      lent = refl;
+      free = refl;
     }
 
 -- A part that is lent in a node lies in it.
@@ -62,26 +65,26 @@ lent_part_lies_in part level start node tree e = of_list (lent_in level start no
       | false ↦ λ f e. of_list xs all.1 e
     ] refl e
 
--- A part that is lent in a split is lent in the half where it starts.
-pub lower_lent : {A : Type 0} (part : Span) (level start half : ℕ) (node lower upper : Node A) → AtSplit level start half node lower upper → part.start < start + half
-    → IsTrue (is_lent (lent_in level start node) part) → IsTrue (is_lent (lent_in (level + 1) start lower) part)
-lower_lent part level start half node lower upper s h e =
-    or_left (is_lent (lent_in (level + 1) start lower) part) (is_lent (lent_in (level + 1) (start + half) upper) part)
-    (any-none (λ leaf. is_same part (span_of leaf)) (lent_in (level + 1) (start + half) upper) (none_above part (level + 1) (start + half) upper s.high_tree h))
-    (sym (list_any-append (λ (leaf : LentLeaf). is_same part (span_of leaf)) (lent_in (level + 1) start lower) (lent_in (level + 1) (start + half) upper))
-     ∙ ap (λ (xs : List LentLeaf). is_lent xs part) (sym s.lent) ∙ e)
+-- A part that is lent in two halves is lent in the half where it starts.
+pub lower_lent : {A : Type 0} (part : Span) (level start half : ℕ) (lower upper : Node A) → AtHalves level start half lower upper → part.start < start + half
+    → IsTrue (is_lent (lent_in_halves level start lower upper) part) → IsTrue (is_lent (lent_in (level + 1) start lower) part)
+lower_lent part level start half lower upper s h e =
+    or_left (is_lent (lent_in (level + 1) start lower) part) (is_lent (lent_in (level + 1) (start + size_of (level + 1)) upper) part)
+    (any-none (λ leaf. is_same part (span_of leaf)) (lent_in (level + 1) (start + size_of (level + 1)) upper)
+      (none_above part (level + 1) (start + size_of (level + 1)) upper s.high_tree (omega (arith, s.size))))
+    (sym (list_any-append (λ (leaf : LentLeaf). is_same part (span_of leaf)) (lent_in (level + 1) start lower) (lent_in (level + 1) (start + size_of (level + 1)) upper)) ∙ e)
   where
     or_left : (x y : Bool) → y ≡ false → (x || y) ≡ true → x ≡ true
     or_left true y e f = refl
     or_left false y e f = absurd (cc)
 
-pub upper_lent : {A : Type 0} (part : Span) (level start half : ℕ) (node lower upper : Node A) → AtSplit level start half node lower upper → start + half ≤ part.start
-    → IsTrue (is_lent (lent_in level start node) part) → IsTrue (is_lent (lent_in (level + 1) (start + half) upper) part)
-upper_lent part level start half node lower upper s h e =
+pub upper_lent : {A : Type 0} (part : Span) (level start half : ℕ) (lower upper : Node A) → AtHalves level start half lower upper → start + half ≤ part.start
+    → IsTrue (is_lent (lent_in_halves level start lower upper) part) → IsTrue (is_lent (lent_in (level + 1) (start + half) upper) part)
+upper_lent part level start half lower upper s h e =
     or_right (is_lent (lent_in (level + 1) start lower) part) (is_lent (lent_in (level + 1) (start + half) upper) part)
     (any-none (λ leaf. is_same part (span_of leaf)) (lent_in (level + 1) start lower) (none_below part (level + 1) start lower s.low_tree (omega (arith, s.size))))
     (sym (list_any-append (λ (leaf : LentLeaf). is_same part (span_of leaf)) (lent_in (level + 1) start lower) (lent_in (level + 1) (start + half) upper))
-     ∙ ap (λ (xs : List LentLeaf). is_lent xs part) (sym s.lent) ∙ e)
+     ∙ ap (λ (n : ℕ). is_lent (lent_in (level + 1) start lower ++ lent_in (level + 1) (start + n) upper) part) s.size ∙ e)
   where
     or_right : (x y : Bool) → x ≡ false → (x || y) ≡ true → y ≡ true
     or_right true y e f = absurd (cc)
@@ -110,33 +113,54 @@ without_acts part = record {
   others = λ xs none. filter-none (λ leaf. is_same part (span_of leaf)) xs none;
 }
 
--- What changes the half where the leaf is changes the split.
-pub lower_changed : {A : Type 0} (level start half : ℕ) (node lower upper now : Node A) (part : Span) (change : List LentLeaf → List LentLeaf) → ActsAt part change
-    → AtSplit level start half node lower upper → part.start < start + half → lent_in (level + 1) start now ≡ change (lent_in (level + 1) start lower)
-    → lent_in (level + 1) start now ++ lent_in (level + 1) (start + size_of (level + 1)) upper ≡ change (lent_in level start node)
-lower_changed level start half node lower upper now part change acts s h e = sym
-    (ap change s.lent ∙ acts.joined (lent_in (level + 1) start lower) (lent_in (level + 1) (start + half) upper)
+-- What changes the half where the leaf is changes the two halves.
+pub lower_changed : {A : Type 0} (level start half : ℕ) (lower upper now : Node A) (part : Span) (change : List LentLeaf → List LentLeaf) → ActsAt part change
+    → AtHalves level start half lower upper → part.start < start + half → lent_in (level + 1) start now ≡ change (lent_in (level + 1) start lower)
+    → lent_in_halves level start now upper ≡ change (lent_in_halves level start lower upper)
+lower_changed level start half lower upper now part change acts s h e = sym
+    (acts.joined (lent_in (level + 1) start lower) (lent_in (level + 1) (start + size_of (level + 1)) upper)
      ∙ ap (λ (ys : List LentLeaf). change (lent_in (level + 1) start lower) ++ ys)
-       (acts.others (lent_in (level + 1) (start + half) upper) (none_above part (level + 1) (start + half) upper s.high_tree h))
-     ∙ ap (λ (xs : List LentLeaf). xs ++ lent_in (level + 1) (start + half) upper) (sym e)
-     ∙ ap (λ (n : ℕ). lent_in (level + 1) start now ++ lent_in (level + 1) (start + n) upper) s.size)
+       (acts.others (lent_in (level + 1) (start + size_of (level + 1)) upper)
+         (none_above part (level + 1) (start + size_of (level + 1)) upper s.high_tree (omega (arith, s.size))))
+     ∙ ap (λ (xs : List LentLeaf). xs ++ lent_in (level + 1) (start + size_of (level + 1)) upper) (sym e))
 
-pub upper_changed : {A : Type 0} (level start half : ℕ) (node lower upper now : Node A) (part : Span) (change : List LentLeaf → List LentLeaf) → ActsAt part change
-    → AtSplit level start half node lower upper → start + half ≤ part.start → lent_in (level + 1) (start + half) now ≡ change (lent_in (level + 1) (start + half) upper)
-    → lent_in (level + 1) start lower ++ lent_in (level + 1) (start + size_of (level + 1)) now ≡ change (lent_in level start node)
-upper_changed level start half node lower upper now part change acts s h e = sym
-    (ap change s.lent ∙ acts.joined (lent_in (level + 1) start lower) (lent_in (level + 1) (start + half) upper)
-     ∙ ap (λ (xs : List LentLeaf). xs ++ change (lent_in (level + 1) (start + half) upper))
+pub upper_changed : {A : Type 0} (level start half : ℕ) (lower upper now : Node A) (part : Span) (change : List LentLeaf → List LentLeaf) → ActsAt part change
+    → AtHalves level start half lower upper → start + half ≤ part.start → lent_in (level + 1) (start + half) now ≡ change (lent_in (level + 1) (start + half) upper)
+    → lent_in_halves level start lower now ≡ change (lent_in_halves level start lower upper)
+upper_changed level start half lower upper now part change acts s h e = sym
+    (acts.joined (lent_in (level + 1) start lower) (lent_in (level + 1) (start + size_of (level + 1)) upper)
+     ∙ ap (λ (xs : List LentLeaf). xs ++ change (lent_in (level + 1) (start + size_of (level + 1)) upper))
        (acts.others (lent_in (level + 1) start lower) (none_below part (level + 1) start lower s.low_tree (omega (arith, s.size))))
-     ∙ ap (λ (ys : List LentLeaf). lent_in (level + 1) start lower ++ ys) (sym e)
-     ∙ ap (λ (n : ℕ). lent_in (level + 1) start lower ++ lent_in (level + 1) (start + n) now) s.size)
+     ∙ ap (λ (ys : List LentLeaf). lent_in (level + 1) start lower ++ ys)
+       (sym (subst (λ (n : ℕ). lent_in (level + 1) (start + n) now ≡ change (lent_in (level + 1) (start + n) upper)) s.size e)))
 
--- A free leaf that covers an offset in a half is found in the split.
-pub lower_found : (offset : ℕ) (xs ys : List Span) (part : Span) → find (covers offset) xs ≡ Some part → find (covers offset) (xs ++ ys) ≡ Some part
-lower_found offset xs ys part e = find-append (covers offset) xs ys ∙ rw e refl
+-- A free leaf that covers an offset in a half is found in the two halves.
+pub lower_found : {A : Type 0} (offset level start : ℕ) (lower upper : Node A) (part : Span) → find (covers offset) (free_in (level + 1) start lower) ≡ Some part
+    → find (covers offset) (free_in_halves level start lower upper) ≡ Some part
+lower_found offset level start lower upper part e =
+    find-append (covers offset) (free_in (level + 1) start lower) (free_in (level + 1) (start + size_of (level + 1)) upper) ∙ rw e refl
 
-pub upper_found : {A : Type 0} (offset level start : ℕ) (lower : Node A) (ys : List Span) (part : Span) → IsTree level lower → start + size_of level ≤ offset
-    → find (covers offset) ys ≡ Some part → find (covers offset) (free_in level start lower ++ ys) ≡ Some part
-upper_found offset level start lower ys part tree h e =
-    find-append (covers offset) (free_in level start lower) ys
-    ∙ rw (find-none (covers offset) (free_in level start lower) (none_covers_below offset level start lower tree h), e) refl
+pub upper_found : {A : Type 0} (offset level start half : ℕ) (lower upper : Node A) (part : Span) → IsTree (level + 1) lower → half ≡ size_of (level + 1)
+    → start + half ≤ offset → find (covers offset) (free_in (level + 1) (start + half) upper) ≡ Some part
+    → find (covers offset) (free_in_halves level start lower upper) ≡ Some part
+upper_found offset level start half lower upper part tree size h e =
+    find-append (covers offset) (free_in (level + 1) start lower) (free_in (level + 1) (start + size_of (level + 1)) upper)
+    ∙ rw (find-none (covers offset) (free_in (level + 1) start lower) (none_covers_below offset (level + 1) start lower tree (omega (arith, size))),
+          subst (λ (n : ℕ). find (covers offset) (free_in (level + 1) (start + n) upper) ≡ Some part) size e) refl
+
+-- A node that is merged whole is the free leaf that covers the part that was lent in it.
+pub whole_found : {A : Type 0} (part : Span) (level start : ℕ) (node : Node A) (result : Span) → IsTree level node → IsTrue (is_lent (lent_in level start node) part)
+    → result.start ≡ start → result.level ≡ level → find (covers part.start) (record { start = start; level = level } ∷ []) ≡ Some result
+whole_found part level start node result tree lent e f =
+    rw (covered start part.start (size_of level) lies.from (omega (arith, lies.to, size_of-some part.level))) (rw (← e, ← f) refl)
+  where
+    lies : LiesIn start (start + size_of level) part
+    lies = lent_part_lies_in part level start node tree lent
+
+    covered : (a b s : ℕ) → a ≤ b → b < a + s → (nat_le a b && nat_lt b (a + s)) ≡ true
+    covered a b s h k = grind (arith, nat_tests)
+
+-- What holds of a value holds of it where it is passed on.
+pub passed_on : (result : Option Span) (span : Span) (P : Span → Type 0) → IfSome result (λ other. other ≡ span) → P span → IfSome result P
+passed_on (Some other) span P e h = subst P (sym e) h
+passed_on None span P e h = tt

@@ -38,3 +38,10 @@ free_in level start Free = record { start = start; level = level } ∷ []
 free_in level start (Lent owner front) = []
 free_in level start (Split' p lower q upper) =
     free_in (level + 1) start lower ++ free_in (level + 1) (start + size_of (level + 1)) upper
+
+-- The lent leaves of two halves of a part of that level, and their free leaves.
+abbrev pub lent_in_halves : {A : Type 0} → ℕ → ℕ → Node A → Node A → List LentLeaf
+lent_in_halves level start lower upper = lent_in (level + 1) start lower ++ lent_in (level + 1) (start + size_of (level + 1)) upper
+
+abbrev pub free_in_halves : {A : Type 0} → ℕ → ℕ → Node A → Node A → List Span
+free_in_halves level start lower upper = free_in (level + 1) start lower ++ free_in (level + 1) (start + size_of (level + 1)) upper
