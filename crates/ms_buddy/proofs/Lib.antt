@@ -2,3 +2,5 @@ pub mod HalvesLemmas
 pub mod WalkLemmas
 pub mod FreeLemmas
 pub mod SplitLemmas
+pub mod CarveLemmas
+pub mod EnlargeLemmas

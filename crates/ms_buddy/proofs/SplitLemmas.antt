@@ -1,7 +1,7 @@
 -- A split and its halves: what is asked of a node is asked of the half where the part is, and what
 -- happens to the half happens to the node. For each walk down the tree.
 use Rattle.std.proofs.Common.{◌≡◌, ◌<◌, ◌≤◌, ℕ, ◌+◌, ◌-◌, Bool, true, false, not, cond, ◌&&◌, ◌||◌, List, [], ◌∷◌, ◌++◌, map, Option, Some, None, refl, sym, ap, subst, ◌∙◌, arith}
-use Rattle.std.specs.Prelude.{◌==◌, nat_le, nat_lt, IsTrue, IsFalse, IfSome}
+use Rattle.std.specs.Prelude.{◌==◌, nat_le, nat_lt, IsTrue, IsFalse, IfSome, Result, Ok, Err, OnOk}
 use Rattle.std.specs.List.{AllByRecursion, list_any, filter, find}
 use Rattle.std.proofs.lemmas.List.{map-append}
 use Rattle.std.proofs.lemmas.List.Folds.{list_any-append, find-append}
@@ -164,3 +164,7 @@ whole_found part level start node result tree lent e f =
 pub passed_on : (result : Option Span) (span : Span) (P : Span → Type 0) → IfSome result (λ other. other ≡ span) → P span → IfSome result P
 passed_on (Some other) span P e h = subst P (sym e) h
 passed_on None span P e h = tt
+
+pub on_ok : {T E : Type 0} (P Q : Type 0) (result : Result T E) → (P → Q) → OnOk result P → OnOk result Q
+on_ok P Q (Ok value) step h = step h
+on_ok P Q (Err e) step h = tt

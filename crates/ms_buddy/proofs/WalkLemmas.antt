@@ -128,3 +128,14 @@ pub none_covers_below : {A : Type 0} (offset level start : ℕ) (lower : Node A)
 none_covers_below offset level start lower tree h =
     all_weaker (LiesIn start (start + size_of level)) (λ part. covers offset part ≡ false)
     (λ part lies. covers_below offset part start (start + size_of level) h lies) (free_in level start lower) (free_lies_in level start lower tree)
+
+-- A part is none of the free leaves of a node past its start or below it.
+pub none_free_above : {A : Type 0} (part : Span) (level middle : ℕ) (upper : Node A) → IsTree level upper → part.start < middle → NonePass (is_same part) (free_in level middle upper)
+none_free_above part level middle upper tree h =
+    all_weaker (LiesIn middle (middle + size_of level)) (λ other. is_same part other ≡ false)
+    (λ other lies. same_above part other middle (middle + size_of level) h lies) (free_in level middle upper) (free_lies_in level middle upper tree)
+
+pub none_free_below : {A : Type 0} (part : Span) (level start : ℕ) (lower : Node A) → IsTree level lower → start + size_of level ≤ part.start → NonePass (is_same part) (free_in level start lower)
+none_free_below part level start lower tree h =
+    all_weaker (LiesIn start (start + size_of level)) (λ other. is_same part other ≡ false)
+    (λ other lies. same_below part other start (start + size_of level) h lies) (free_in level start lower) (free_lies_in level start lower tree)

@@ -1,9 +1,11 @@
 -- The lent leaves of a root chunk, in order of address, and what each call does to them. Free
 -- leaves are not kept: they are the free parts of the root that the lent leaves leave over.
-use Rattle.std.specs.Prelude.{◌≡◌, ℕ, ◌+◌, ◌-◌, ◌≤◌, Bool, true, not, cond, ◌&&◌, ◌==◌, nat_le, nat_lt, List, [], ◌∷◌, map, Option, Some, None, IsTrue}
+use Rattle.std.specs.Prelude.{◌≡◌, ℕ, ◌+◌, ◌-◌, ◌≤◌, Bool, true, not, cond, ◌&&◌, ◌==◌, nat_le, nat_lt, List, [], ◌∷◌, map, Option, Some, None, IsTrue, IsFalse}
 use Rattle.std.specs.List.{All, list_any, filter, find}
 use Rattle.ms_base.specs.declared.span.Chunk.{Chunk}
 use Rattle.ms_base.specs.declared.span.Span.{Span}
+use Rattle.ms_base.specs.declared.refusal.Refusal.{Refusal}
+use Rattle.ms_base.specs.declared.refusal.Refusal.TheVariants.{NoRoom, OutOfMemory}
 use Rattle.ms_base.specs.Interval.{lies_in, are_apart}
 use Rattle.ms_base.specs.Level.{size_of}
 use Rattle.ms_base.specs.Part.{IsPart, is_leader, buddy_start}
@@ -62,6 +64,16 @@ can_enlarge part free =
 -- The parent of a leader.
 abbrev pub parent_of : Span → Span
 parent_of part = record { start = part.start; level = part.level - 1 }
+
+-- The leaf of a part, with its holder and its front.
+abbrev pub leaf_of : Span → ℕ → ℕ → LentLeaf
+leaf_of part owner front = record { start = part.start; level = part.level; owner = owner; front = front }
+
+-- Why a part isn't lent: it lies in no free leaf, or it lies in one and memory is wanting.
+abbrev pub IsCarveRefusal : Span → List Span → Refusal → Type 0
+IsCarveRefusal part free (NoRoom level) = (level ≡ part.level) × IsFalse (fits_in part free)
+IsCarveRefusal part free OutOfMemory = IsTrue (fits_in part free) × IsFalse (list_any (is_same part) free)
+IsCarveRefusal part free _ = ⊥
 
 -- One more leaf, in its place.
 abbrev pub with_leaf : LentLeaf → List LentLeaf → List LentLeaf

@@ -1,5 +1,5 @@
 -- What a node of the split tree stands for, given its level and where it starts.
-use Rattle.std.specs.Prelude.{◌≡◌, ℕ, ◌+◌, ◌<◌, ◌≤◌, ◌%◌, Bool, true, false, ◌&&◌, List, [], ◌∷◌, ◌++◌, IsFalse}
+use Rattle.std.specs.Prelude.{◌≡◌, ℕ, ◌+◌, ◌<◌, ◌≤◌, ◌%◌, Bool, true, false, ◌&&◌, List, [], ◌∷◌, ◌++◌, Option, Some, None, IsFalse}
 use Rattle.ms_base.specs.declared.span.Span.{Span}
 use Rattle.ms_base.specs.Level.{size_of}
 use Rattle.ms_buddy.specs.Leaves.{LentLeaf}
@@ -45,3 +45,14 @@ lent_in_halves level start lower upper = lent_in (level + 1) start lower ++ lent
 
 abbrev pub free_in_halves : {A : Type 0} → ℕ → ℕ → Node A → Node A → List Span
 free_in_halves level start lower upper = free_in (level + 1) start lower ++ free_in (level + 1) (start + size_of (level + 1)) upper
+
+-- The part lies in that part of a lower or the same level.
+pub record IsInside (level start : ℕ) (part : Span) : Type 0 where
+  pub low : level ≤ part.level
+  pub from : start ≤ part.start
+  pub to : part.start + size_of part.level ≤ start + size_of level
+
+-- The leaves are those of the two halves, or, where someone holds the whole, its one leaf.
+abbrev pub IsEnlarged : {A : Type 0} → ℕ → ℕ → Option ℕ → ℕ → Node A → Node A → List LentLeaf → Type 0
+IsEnlarged level start None front lower upper lent = lent_in_halves level start lower upper ≡ lent
+IsEnlarged level start (Some owner) front lower upper lent = record { start = start; level = level; owner = owner; front = front } ∷ [] ≡ lent
