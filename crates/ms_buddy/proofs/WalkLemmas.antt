@@ -139,3 +139,20 @@ pub none_free_below : {A : Type 0} (part : Span) (level start : ℕ) (lower : No
 none_free_below part level start lower tree h =
     all_weaker (LiesIn start (start + size_of level)) (λ other. is_same part other ≡ false)
     (λ other lies. same_below part other start (start + size_of level) h lies) (free_in level start lower) (free_lies_in level start lower tree)
+
+-- A leaf of a node is of the node's level or of a greater one.
+pub lent_levels : {A : Type 0} (level start : ℕ) (node : Node A) → AllByRecursion (λ leaf. level ≤ leaf.level) (lent_in level start node)
+lent_levels level start Free = tt
+lent_levels level start (Lent owner front) = (omega arith, tt)
+lent_levels level start (Split' p lower q upper) =
+    all_joined (λ leaf. level ≤ leaf.level) (lent_in (level + 1) start lower) (lent_in (level + 1) (start + size_of (level + 1)) upper)
+    (all_weaker (λ leaf. level + 1 ≤ leaf.level) (λ leaf. level ≤ leaf.level) (λ leaf h. omega arith) (lent_in (level + 1) start lower) (lent_levels (level + 1) start lower))
+    (all_weaker (λ leaf. level + 1 ≤ leaf.level) (λ leaf. level ≤ leaf.level) (λ leaf h. omega arith) (lent_in (level + 1) (start + size_of (level + 1)) upper) (lent_levels (level + 1) (start + size_of (level + 1)) upper))
+
+pub free_levels : {A : Type 0} (level start : ℕ) (node : Node A) → AllByRecursion (λ part. level ≤ part.level) (free_in level start node)
+free_levels level start Free = (omega arith, tt)
+free_levels level start (Lent owner front) = tt
+free_levels level start (Split' p lower q upper) =
+    all_joined (λ part. level ≤ part.level) (free_in (level + 1) start lower) (free_in (level + 1) (start + size_of (level + 1)) upper)
+    (all_weaker (λ part. level + 1 ≤ part.level) (λ part. level ≤ part.level) (λ part h. omega arith) (free_in (level + 1) start lower) (free_levels (level + 1) start lower))
+    (all_weaker (λ part. level + 1 ≤ part.level) (λ part. level ≤ part.level) (λ part h. omega arith) (free_in (level + 1) (start + size_of (level + 1)) upper) (free_levels (level + 1) (start + size_of (level + 1)) upper))

@@ -227,6 +227,7 @@ fn enlarge_in_half<A: Allocator>(
 
 /// Tells who holds the leaf of that span, where it is the lower half and the upper one is free.
 fn merged_leader<A: Allocator>(lower: &Node<A>, upper: &Node<A>, level: u8, start: u64, span: Span) -> Result<Option<u32>, Refusal>
+    requires low { level < 12 }
     requires place { IsPlace level start }
     requires trees { IsTree (level + 1) lower.now × IsTree (level + 1) upper.now }
     requires lent { IsTrue (is_lent (lent_in_halves level start lower.now upper.now) span) }
@@ -235,15 +236,19 @@ fn merged_leader<A: Allocator>(lower: &Node<A>, upper: &Node<A>, level: u8, star
     ensures room { IsOk result ↔ IsTrue (can_enlarge span (free_in_halves level start lower.now upper.now)) }
     ensures refusal { IfErr result (λ refusal. refusal ≡ Refusal.NoRoom span.level) }
 {
-    match (lower, upper) {
-        (Node::Lent { owner, .. }, Node::Free) => {
-            if span.start == start {
-                Ok(Some(*owner))
-            } else {
-                Err(Refusal::NoRoom { level: span.level })
-            }
-        }
-        _ => Err(Refusal::NoRoom { level: span.level }),
+    let no_room = Err(Refusal::NoRoom { level: span.level });
+    if span.start > start {
+        return no_room;
+    }
+    match upper {
+        Node::Free => match lower {
+            Node::Lent { owner, .. } => Ok(Some(*owner)),
+            // A leaf of this level that starts here is the whole of the lower half.
+            Node::Free => no_room,
+            Node::Split(_, _) => no_room,
+        },
+        Node::Lent { .. } => no_room,
+        Node::Split(_, _) => no_room,
     }
 }
 
