@@ -13,10 +13,10 @@ use Rattle.ms_base.specs.Level.{size_of}
 use Rattle.ms_base.specs.FreeParts.{free_within}
 use Rattle.ms_buddy.specs.declared.node.Node.{Node}
 use Rattle.ms_buddy.specs.declared.node.Node.TheVariants.{Free, Lent, Split'}
-use Rattle.ms_buddy.specs.Leaves.{LentLeaf, chunk_of, span_of, free_of}
+use Rattle.ms_buddy.specs.Leaves.{LentLeaf, chunk_of, span_of, free_of, root}
 use Rattle.ms_buddy.specs.Tree.{is_free, IsTree, lent_in, free_in}
 use Rattle.ms_buddy.proofs.HalvesLemmas.{size_of-some, size_of-halves}
-use Rattle.ms_buddy.proofs.WalkLemmas.{LiesIn, LeafIn, lent_lies_in, NonePass, any-none}
+use Rattle.ms_buddy.proofs.WalkLemmas.{LiesIn, LeafIn, lent_lies_in, all_joined, free_levels}
 
 -- A chunk of the list shares a word with the n words from a on.
 abbrev pub meets_run : List Chunk → ℕ → ℕ → Bool
@@ -173,4 +173,41 @@ free_walk (suc below) start (Split' p lower q upper) h tree =
 
 -- The free leaves of the whole tree are the free parts of the root.
 pub free_of-tree : {A : Type 0} (node : Node A) → IsTree 0 node → free_of (lent_in 0 0 node) ≡ free_in 0 0 node
+unfolding free_of
 free_of-tree node tree = free_walk 12 0 node (omega arith) tree
+
+-- A tree with no lent leaf is one free leaf, and no other is.
+pub whole_tree : {A : Type 0} (node : Node A) → IsTree 0 node → lent_in 0 0 node ≡ [] → is_free node ≡ true
+whole_tree Free tree e = refl
+whole_tree (Lent owner front) tree e = absurd (cc)
+whole_tree (Split' p lower q upper) tree e = absurd (some (meets_run (map chunk_of (lent_in 0 0 (Split' p lower q upper))) 0 (size_of 0))
+    (node_meets 0 0 (Split' p lower q upper) 0 (size_of 0) tree refl (omega arith) (omega arith))
+    (ap (λ (xs : List LentLeaf). meets_run (map chunk_of xs) 0 (size_of 0)) e))
+  where
+    some : (b : Bool) → b ≡ true → b ≡ false → ⊥
+    some b e f = absurd (cc)
+
+pub free_tree : {A : Type 0} (node : Node A) → is_free node ≡ true → lent_in 0 0 node ≡ []
+free_tree Free e = refl
+free_tree (Lent owner front) e = absurd (cc)
+free_tree (Split' p lower q upper) e = absurd (cc)
+
+-- With no leaf lent the root is one free leaf.
+pub free_of-none : free_of [] ≡ root ∷ []
+unfolding free_of
+free_of-none = refl
+
+-- Where the root is one free leaf, no leaf is lent.
+deeper_not_root : (parts : List Span) → AllByRecursion (λ part. 1 ≤ part.level) parts → parts ≡ root ∷ [] → ⊥
+deeper_not_root [] all e = absurd (cc)
+deeper_not_root (part ∷ parts) all e = omega (arith, all.0, ap first e)
+  where
+    first : List Span → ℕ
+    first [] = 0
+    first (part ∷ parts) = part.level
+
+pub whole_tree_is_free : {A : Type 0} (node : Node A) → IsTree 0 node → free_in 0 0 node ≡ root ∷ [] → is_free node ≡ true
+whole_tree_is_free Free tree e = refl
+whole_tree_is_free (Lent owner front) tree e = absurd (cc)
+whole_tree_is_free (Split' p lower q upper) tree e = absurd (deeper_not_root (free_in 0 0 (Split' p lower q upper))
+    (all_joined (λ part. 1 ≤ part.level) (free_in 1 0 lower) (free_in 1 (size_of 1) upper) (free_levels 1 0 lower) (free_levels 1 (size_of 1) upper)) e)

@@ -11,10 +11,12 @@ use Rattle.ms_base.specs.declared.span.Span.{Span}
 use Rattle.ms_base.specs.Level.{size_of}
 use Rattle.ms_buddy.specs.declared.node.Node.{Node}
 use Rattle.ms_buddy.specs.declared.node.Node.TheVariants.{Free, Lent, Split'}
-use Rattle.ms_buddy.specs.Leaves.{LentLeaf, span_of, is_same, is_lent, covers, with_front, with_parent, without_leaf}
+use Rattle.ms_buddy.specs.declared.node.Leaf.{Leaf}
+use Rattle.ms_buddy.specs.declared.node.Leaf.TheVariants.{Free as FreeLeaf, Lent as LentTo}
+use Rattle.ms_buddy.specs.Leaves.{LentLeaf, IsLeafAt, leaf_of, span_of, is_same, is_lent, covers, with_front, with_parent, without_leaf}
 use Rattle.ms_buddy.specs.Tree.{is_free, IsTree, lent_in, free_in, lent_in_halves, free_in_halves}
 use Rattle.ms_buddy.proofs.HalvesLemmas.{size_of-some}
-use Rattle.ms_buddy.proofs.WalkLemmas.{NonePass, any-none, filter-none, map-none, find-none, none_above, none_below, none_covers_below, LiesIn, LeafIn, lent_lies_in}
+use Rattle.ms_buddy.proofs.WalkLemmas.{NonePass, any-none, filter-none, map-none, find-none, none_above, none_below, none_covers_below, none_lent_covers_below, LiesIn, LeafIn, lent_lies_in}
 
 -- What is known of two halves of a part, which have that many words each.
 pub record AtHalves {A : Type 0} (level start half : ℕ) (lower upper : Node A) : Type 0 where
@@ -147,6 +149,23 @@ upper_found offset level start half lower upper part tree size h e =
     find-append (covers offset) (free_in (level + 1) start lower) (free_in (level + 1) (start + size_of (level + 1)) upper)
     ∙ rw (find-none (covers offset) (free_in (level + 1) start lower) (none_covers_below offset (level + 1) start lower tree (omega (arith, size))),
           subst (λ (n : ℕ). find (covers offset) (free_in (level + 1) (start + n) upper) ≡ Some part) size e) refl
+
+-- The leaf that covers an offset is the leaf of the half where the offset is.
+pub lower_leaf : {A : Type 0} (offset level start : ℕ) (lower upper : Node A) (part : Span) (leaf : Leaf)
+    → IsLeafAt offset part leaf (lent_in (level + 1) start lower) (free_in (level + 1) start lower)
+    → IsLeafAt offset part leaf (lent_in_halves level start lower upper) (free_in_halves level start lower upper)
+lower_leaf offset level start lower upper part FreeLeaf e = lower_found offset level start lower upper part e
+lower_leaf offset level start lower upper part (LentTo owner front) e =
+    find-append (λ (leaf : LentLeaf). covers offset (span_of leaf)) (lent_in (level + 1) start lower) (lent_in (level + 1) (start + size_of (level + 1)) upper) ∙ rw e refl
+
+pub upper_leaf : {A : Type 0} (offset level start half : ℕ) (lower upper : Node A) (part : Span) (leaf : Leaf) → IsTree (level + 1) lower → half ≡ size_of (level + 1) → start + half ≤ offset
+    → IsLeafAt offset part leaf (lent_in (level + 1) (start + half) upper) (free_in (level + 1) (start + half) upper)
+    → IsLeafAt offset part leaf (lent_in_halves level start lower upper) (free_in_halves level start lower upper)
+upper_leaf offset level start half lower upper part FreeLeaf tree size h e = upper_found offset level start half lower upper part tree size h e
+upper_leaf offset level start half lower upper part (LentTo owner front) tree size h e =
+    find-append (λ (leaf : LentLeaf). covers offset (span_of leaf)) (lent_in (level + 1) start lower) (lent_in (level + 1) (start + size_of (level + 1)) upper)
+    ∙ rw (find-none (λ leaf. covers offset (span_of leaf)) (lent_in (level + 1) start lower) (none_lent_covers_below offset (level + 1) start lower tree (omega (arith, size))),
+          subst (λ (n : ℕ). find (λ leaf. covers offset (span_of leaf)) (lent_in (level + 1) (start + n) upper) ≡ Some (leaf_of part owner front)) size e) refl
 
 -- A node that is merged whole is the free leaf that covers the part that was lent in it.
 pub whole_found : {A : Type 0} (part : Span) (level start : ℕ) (node : Node A) (result : Span) → IsTree level node → IsTrue (is_lent (lent_in level start node) part)

@@ -92,13 +92,7 @@ same_below part other low middle h lies = differ other.start part.start (other.l
     differ : (a b : ℕ) (c : Bool) → a < b → ((a == b) && c) ≡ false
     differ a b c h = grind (arith, nat_tests)
 
--- An offset below another is in no part from that on, one from it on in no part below it.
-covers_above : (offset : ℕ) (part : Span) (middle high : ℕ) → offset < middle → LiesIn middle high part → covers offset part ≡ false
-covers_above offset part middle high h lies = apart part.start offset (nat_lt offset (part.start + size_of part.level)) (omega (arith, lies.from))
-  where
-    apart : (a b : ℕ) (c : Bool) → b < a → (nat_le a b && c) ≡ false
-    apart a b c h = grind (arith, nat_tests)
-
+-- An offset is in no part below it.
 covers_below : (offset : ℕ) (part : Span) (low middle : ℕ) → middle ≤ offset → LiesIn low middle part → covers offset part ≡ false
 covers_below offset part low middle h lies = apart (nat_le part.start offset) offset (part.start + size_of part.level) (omega (arith, lies.to))
   where
@@ -118,16 +112,18 @@ none_below part level start lower tree h =
     all_weaker (LeafIn start (start + size_of level)) (λ leaf. is_same part (span_of leaf) ≡ false)
     (λ leaf lies. same_below part (span_of leaf) start (start + size_of level) h lies) (lent_in level start lower) (lent_lies_in level start lower tree)
 
--- No free leaf of a node covers an offset below it or past it.
-pub none_covers_above : {A : Type 0} (offset level middle : ℕ) (upper : Node A) → IsTree level upper → offset < middle → NonePass (covers offset) (free_in level middle upper)
-none_covers_above offset level middle upper tree h =
-    all_weaker (LiesIn middle (middle + size_of level)) (λ part. covers offset part ≡ false)
-    (λ part lies. covers_above offset part middle (middle + size_of level) h lies) (free_in level middle upper) (free_lies_in level middle upper tree)
-
+-- No free leaf of a node covers an offset past it.
 pub none_covers_below : {A : Type 0} (offset level start : ℕ) (lower : Node A) → IsTree level lower → start + size_of level ≤ offset → NonePass (covers offset) (free_in level start lower)
 none_covers_below offset level start lower tree h =
     all_weaker (LiesIn start (start + size_of level)) (λ part. covers offset part ≡ false)
     (λ part lies. covers_below offset part start (start + size_of level) h lies) (free_in level start lower) (free_lies_in level start lower tree)
+
+-- No lent leaf of a node covers an offset past it.
+pub none_lent_covers_below : {A : Type 0} (offset level start : ℕ) (lower : Node A) → IsTree level lower → start + size_of level ≤ offset
+    → NonePass (λ leaf. covers offset (span_of leaf)) (lent_in level start lower)
+none_lent_covers_below offset level start lower tree h =
+    all_weaker (LeafIn start (start + size_of level)) (λ leaf. covers offset (span_of leaf) ≡ false)
+    (λ leaf lies. covers_below offset (span_of leaf) start (start + size_of level) h lies) (lent_in level start lower) (lent_lies_in level start lower tree)
 
 -- A part is none of the free leaves of a node past its start or below it.
 pub none_free_above : {A : Type 0} (part : Span) (level middle : ℕ) (upper : Node A) → IsTree level upper → part.start < middle → NonePass (is_same part) (free_in level middle upper)

@@ -6,6 +6,8 @@ use Rattle.ms_base.specs.declared.span.Chunk.{Chunk}
 use Rattle.ms_base.specs.declared.span.Span.{Span}
 use Rattle.ms_base.specs.declared.refusal.Refusal.{Refusal}
 use Rattle.ms_base.specs.declared.refusal.Refusal.TheVariants.{NoRoom, OutOfMemory}
+use Rattle.ms_buddy.specs.declared.node.Leaf.{Leaf}
+use Rattle.ms_buddy.specs.declared.node.Leaf.TheVariants.{Free, Lent}
 use Rattle.ms_base.specs.Interval.{lies_in, are_apart}
 use Rattle.ms_base.specs.Level.{size_of}
 use Rattle.ms_base.specs.Part.{IsPart, is_leader, buddy_start}
@@ -27,8 +29,12 @@ abbrev pub span_of : LentLeaf → Span
 span_of leaf = record { start = leaf.start; level = leaf.level }
 
 -- The free leaves: the free parts of the root, in order of address.
-abbrev pub free_of : List LentLeaf → List Span
+unfoldable pub free_of : List LentLeaf → List Span
 free_of lent = free_within (map chunk_of lent) 12 0
+
+-- The part of that level at an offset.
+abbrev pub span_at : ℕ → ℕ → Span
+span_at at level = record { start = at; level = level }
 
 -- The whole root.
 abbrev pub root : Span
@@ -92,3 +98,8 @@ with_front part front lent = map (λ leaf. cond (is_same part (span_of leaf)) (r
 abbrev pub with_parent : Span → ℕ → List LentLeaf → List LentLeaf
 with_parent part front lent =
     map (λ leaf. cond (is_same part (span_of leaf)) (record leaf { level = leaf.level - 1; front = front }) leaf) lent
+
+-- The leaf that covers an offset: the free leaf that does, or the lent one.
+abbrev pub IsLeafAt : ℕ → Span → Leaf → List LentLeaf → List Span → Type 0
+IsLeafAt offset part Free lent free = find (covers offset) free ≡ Some part
+IsLeafAt offset part (Lent owner front) lent free = find (λ leaf. covers offset (span_of leaf)) lent ≡ Some (leaf_of part owner front)

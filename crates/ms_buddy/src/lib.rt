@@ -4,4 +4,5 @@
 mod node;
 mod tree;
 
-pub use tree::{Leaf, SplitTree};
+pub use node::Leaf;
+pub use tree::SplitTree;

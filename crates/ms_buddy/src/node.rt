@@ -3,11 +3,22 @@ ghost use Rattle.std.specs.Prelude.{◌≡◌, ℕ, ◌+◌, ◌*◌, ◌<◌, �
 ghost use Rattle.std.specs.List.{find};
 ghost use Rattle.ms_base.specs.Level.{size_of};
 ghost use Rattle.ms_base.specs.Part.{IsPart};
-ghost use Rattle.ms_buddy.specs.Leaves.{IsCarveRefusal, can_enlarge, covers, fits_in, is_lent, leaf_of, with_front, with_leaf, with_parent, without_leaf};
+ghost use Rattle.ms_buddy.specs.Leaves.{IsCarveRefusal, IsLeafAt, can_enlarge, covers, fits_in, is_lent, leaf_of, with_front, with_leaf, with_parent, without_leaf};
 ghost use Rattle.ms_buddy.specs.Tree.{IsEnlarged, IsInside, IsPlace, is_free, IsTree, lent_in, free_in, lent_in_halves, free_in_halves};
 
 use ms_base::{Level, Refusal, Span};
 use std::alloc::{AllocError, Allocator};
+
+/// What a leaf is: free, or lent to an owner, with the number of its first words that are committed
+/// for the owner.
+#[derive(Clone, Copy, Debug, PartialEq, Eq)]
+pub enum Leaf {
+    Free,
+    Lent {
+        owner: u32,
+        front: u64,
+    },
+}
 
 #[derive(Drop)]
 pub(crate) enum Node<A: Allocator> {
@@ -38,6 +49,35 @@ impl<A: Allocator> Node<A> {
             Node::Free => true,
             Node::Lent { .. } => false,
             Node::Split(_, _) => false,
+        }
+    }
+
+    /// Answers the leaf that covers the offset, and where it is.
+    pub(crate) fn leaf_at(&self, level: u8, start: u64, offset: u64) -> (Span, Leaf)
+        requires tree { IsTree level self.now }
+        requires place { IsPlace level start }
+        requires from { start ≤ offset }
+        requires below { offset < start + size_of level }
+        ensures covers { IsTrue (covers offset result.0) }
+        ensures leaf { IsLeafAt offset result.0 result.1 (lent_in level start self.now) (free_in level start self.now) }
+    {
+        match self {
+            Node::Free => (part(start, level), Leaf::Free),
+            Node::Lent { owner, front } => (
+                part(start, level),
+                Leaf::Lent {
+                    owner: *owner,
+                    front: *front,
+                },
+            ),
+            Node::Split(lower, upper) => {
+                let middle = start + half_of(level);
+                if offset < middle {
+                    lower.leaf_at(level + 1, start, offset)
+                } else {
+                    upper.leaf_at(level + 1, middle, offset)
+                }
+            }
         }
     }
 

@@ -1,19 +1,15 @@
 //! The split tree.
-ghost use Rattle.std.specs.Prelude.{◌≡◌, []};
+ghost use Rattle.std.specs.Prelude.{◌≡◌, ◌+◌, ◌*◌, ◌%◌, ◌<◌, ◌≤◌, ◌↔◌, [], ◌∷◌, Some, IsTrue, IsOk, IfOk, OnOk, IfErr, OnErr};
+ghost use Rattle.std.specs.List.{find};
+ghost use Rattle.ms_base.specs.Level.{size_of};
+ghost use Rattle.ms_buddy.specs.Leaves.{IsCarveRefusal, IsLeafAt, can_enlarge, covers, fits_in, free_of, is_lent, leaf_of, parent_of, root, span_at, with_front, with_leaf, with_parent, without_leaf};
 
-use crate::node::Node;
+use crate::node::{Leaf, Node};
+use ms_base::{Level, Refusal, Span};
 use std::alloc::Allocator;
 use std::marker::Model;
 
-#[derive(Clone, Copy, Debug, PartialEq, Eq)]
-pub enum Leaf {
-    Free,
-    Lent {
-        owner: u32,
-        front: u64,
-    },
-}
-
+/// The split tree of one root chunk of 524288 words, numbered from 0.
 #[derive(Drop)]
 pub struct SplitTree<A: Allocator> {
     node: Node<A>,
@@ -37,5 +33,88 @@ impl<A: Allocator> SplitTree<A> {
         ensures { result ≡ [] }
     {
         SplitTree { node: Node::Free }
+    }
+
+    /// Tells whether the root is one free leaf. Takes no memory.
+    pub fn is_whole(&self) -> bool
+        ensures whole { IsTrue result ↔ (free_of self.now ≡ root ∷ []) }
+        ensures none_lent { IsTrue result ↔ (self.now ≡ []) }
+    {
+        self.node.is_free()
+    }
+
+    /// Answers the leaf that covers an offset in words, 0 to 524287, and where it is. Takes no
+    /// memory.
+    pub fn leaf_at(&self, offset: u64) -> (Span, Leaf)
+        requires { offset < 524288 }
+        ensures covers { IsTrue (covers offset result.0) }
+        ensures leaf { IsLeafAt offset result.0 result.1 self.now (free_of self.now) }
+    {
+        self.node.leaf_at(0, 0, offset)
+    }
+
+    /// Changes the front of a lent leaf, 1 to its size in words. Takes no memory.
+    pub fn set_front(&mut self, span: Span, front: u64)
+        requires lent { IsTrue (is_lent self.old span) }
+        requires some { 0 < front }
+        requires within { front ≤ size_of span.level }
+        ensures { self.new ≡ with_front span front self.old }
+    {
+        self.node.set_front(0, 0, span, front);
+    }
+
+    /// Takes a lent leaf out and merges it with its buddy while that is free, and answers the free
+    /// leaf that results. Takes no memory.
+    pub fn release(&mut self, span: Span) -> Span
+        requires { IsTrue (is_lent self.old span) }
+        ensures lent { self.new ≡ without_leaf span self.old }
+        ensures free { find (covers span.start) (free_of self.new) ≡ Some result }
+    {
+        self.node.release(0, 0, span)
+    }
+
+    /// Makes a lent leaf its parent. Takes no memory.
+    pub fn enlarge(&mut self, span: Span, front: u64) -> Result<Span, Refusal>
+        requires lent { IsTrue (is_lent self.old span) }
+        requires some { 0 < front }
+        requires within { front ≤ 2 * size_of span.level }
+        ensures parent { IfOk result (λ part. part ≡ parent_of span) }
+        ensures lent { OnOk result (self.new ≡ with_parent span front self.old) }
+        ensures room { IsOk result ↔ IsTrue (can_enlarge span (free_of self.old)) }
+        ensures no_room { IfErr result (λ refusal. refusal ≡ Refusal.NoRoom span.level) }
+        ensures unchanged { OnErr result (self.new ≡ self.old) }
+    {
+        let enlarged = parent(span);
+        match self.node.enlarge(0, 0, span, front) {
+            Ok(()) => Ok(enlarged),
+            Err(refusal) => Err(refusal),
+        }
+    }
+}
+
+/// Answers the parent of a leader, for the root itself.
+fn parent(span: Span) -> Span
+    ensures { result ≡ parent_of span }
+{
+    Span {
+        start: span.start,
+        level: Level::new(span.level.number().saturating_sub(1)),
+    }
+}
+
+impl<A: Allocator + Clone> SplitTree<A> {
+    /// Lends the part of that level at an offset.
+    pub fn carve(&mut self, alloc: A, level: Level, at: u64, owner: u32, front: u64) -> Result<(), Refusal>
+        requires in_root { at < 524288 }
+        requires aligned { at % size_of level ≡ 0 }
+        requires some { 0 < front }
+        requires within { front ≤ size_of level }
+        ensures lent { OnOk result (self.new ≡ with_leaf (leaf_of (span_at at level) owner front) self.old) }
+        ensures room { OnOk result (IsTrue (fits_in (span_at at level) (free_of self.old))) }
+        ensures refusal { IfErr result (λ refusal. IsCarveRefusal (span_at at level) (free_of self.old) refusal) }
+        ensures unchanged { OnErr result (self.new ≡ self.old) }
+    {
+        let _ = level.number();
+        self.node.carve(alloc, 0, 0, Span { start: at, level }, owner, front)
     }
 }
