@@ -327,7 +327,7 @@ fn carve_in_half<A: Allocator + Clone>(
 }
 
 /// Makes a span of a level's number.
-fn part(start: u64, level: u8) -> Span
+pub(crate) fn part(start: u64, level: u8) -> Span
     requires { level ≤ 12 }
     ensures start { result.start ≡ start }
     ensures level { result.level ≡ level }

@@ -4,7 +4,7 @@ ghost use Rattle.std.specs.List.{find};
 ghost use Rattle.ms_base.specs.Level.{size_of};
 ghost use Rattle.ms_buddy.specs.Leaves.{IsCarveRefusal, IsLeafAt, can_enlarge, covers, fits_in, free_of, is_lent, leaf_of, parent_of, root, span_at, with_front, with_leaf, with_parent, without_leaf};
 
-use crate::node::{Leaf, Node};
+use crate::node::{Leaf, Node, part};
 use ms_base::{Level, Refusal, Span};
 use std::alloc::Allocator;
 use std::marker::Model;
@@ -84,21 +84,12 @@ impl<A: Allocator> SplitTree<A> {
         ensures no_room { IfErr result (λ refusal. refusal ≡ Refusal.NoRoom span.level) }
         ensures unchanged { OnErr result (self.new ≡ self.old) }
     {
-        let enlarged = parent(span);
+        let start = span.start;
+        let level = span.level.number();
         match self.node.enlarge(0, 0, span, front) {
-            Ok(()) => Ok(enlarged),
+            Ok(()) => Ok(part(start, level - 1)),
             Err(refusal) => Err(refusal),
         }
-    }
-}
-
-/// Answers the parent of a leader, for the root itself.
-fn parent(span: Span) -> Span
-    ensures { result ≡ parent_of span }
-{
-    Span {
-        start: span.start,
-        level: Level::new(span.level.number().saturating_sub(1)),
     }
 }
 
