@@ -4,3 +4,4 @@ pub mod FreeLemmas
 pub mod SplitLemmas
 pub mod CarveLemmas
 pub mod EnlargeLemmas
+pub mod StackLemmas

@@ -31,7 +31,7 @@ pub(crate) enum Node<A: Allocator> {
 }
 
 /// Tells the words of a half of a part of that level.
-fn half_of(level: u8) -> u64
+pub(crate) fn half_of(level: u8) -> u64
     requires { level < 12 }
     ensures size { result ≡ size_of (level + 1) }
     ensures some { 0 < result }

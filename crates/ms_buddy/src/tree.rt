@@ -4,6 +4,7 @@ ghost use Rattle.std.specs.List.{find};
 ghost use Rattle.ms_base.specs.Level.{size_of};
 ghost use Rattle.ms_buddy.specs.Leaves.{IsCarveRefusal, IsLeafAt, can_enlarge, covers, fits_in, free_of, is_lent, leaf_of, parent_of, root, span_at, with_front, with_leaf, with_parent, without_leaf};
 
+use crate::leaves::FreeLeaves;
 use crate::node::{Leaf, Node, part};
 use ms_base::{Level, Refusal, Span};
 use std::alloc::Allocator;
@@ -51,6 +52,13 @@ impl<A: Allocator> SplitTree<A> {
         ensures leaf { IsLeafAt offset result.0 result.1 self.now (free_of self.now) }
     {
         self.node.leaf_at(0, 0, offset)
+    }
+
+    /// Goes through the free leaves in order of address. Takes no memory.
+    pub fn free_leaves(&self) -> FreeLeaves<'_, A>
+        ensures { result ≡ free_of self.now }
+    {
+        FreeLeaves::new(&self.node)
     }
 
     /// Changes the front of a lent leaf, 1 to its size in words. Takes no memory.
