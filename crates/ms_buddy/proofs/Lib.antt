@@ -5,3 +5,4 @@ pub mod SplitLemmas
 pub mod CarveLemmas
 pub mod EnlargeLemmas
 pub mod StackLemmas
+pub mod KeptLemmas

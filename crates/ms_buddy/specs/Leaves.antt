@@ -1,14 +1,14 @@
 -- The lent leaves of a root chunk, in order of address, and what each call does to them. Free
 -- leaves are not kept: they are the free parts of the root that the lent leaves leave over.
-use Rattle.std.specs.Prelude.{◌≡◌, ℕ, ◌+◌, ◌-◌, ◌≤◌, Bool, true, not, cond, ◌&&◌, ◌==◌, nat_le, nat_lt, List, [], ◌∷◌, map, Option, Some, None, IsTrue, IsFalse}
-use Rattle.std.specs.List.{All, list_any, filter, find}
+use Rattle.std.specs.Prelude.{◌≡◌, ℕ, ◌+◌, ◌-◌, ◌<◌, ◌≤◌, Bool, true, not, cond, ◌&&◌, ◌==◌, nat_le, nat_lt, List, [], ◌∷◌, map, Option, Some, None, IsTrue, IsFalse}
+use Rattle.std.specs.List.{AllByRecursion, list_any, filter, find}
 use Rattle.ms_base.specs.declared.span.Chunk.{Chunk}
 use Rattle.ms_base.specs.declared.span.Span.{Span}
 use Rattle.ms_base.specs.declared.refusal.Refusal.{Refusal}
 use Rattle.ms_base.specs.declared.refusal.Refusal.TheVariants.{NoRoom, OutOfMemory}
 use Rattle.ms_buddy.specs.declared.node.Leaf.{Leaf}
 use Rattle.ms_buddy.specs.declared.node.Leaf.TheVariants.{Free, Lent}
-use Rattle.ms_base.specs.Interval.{lies_in, are_apart}
+use Rattle.ms_base.specs.Interval.{lies_in}
 use Rattle.ms_base.specs.Level.{size_of}
 use Rattle.ms_base.specs.Part.{IsPart, is_leader, buddy_start}
 use Rattle.ms_base.specs.FreeParts.{free_within}
@@ -103,3 +103,16 @@ with_parent part front lent =
 abbrev pub IsLeafAt : ℕ → Span → Leaf → List LentLeaf → List Span → Type 0
 IsLeafAt offset part Free lent free = find (covers offset) free ≡ Some part
 IsLeafAt offset part (Lent owner front) lent free = find (λ leaf. covers offset (span_of leaf)) lent ≡ Some (leaf_of part owner front)
+
+-- A leaf ends before each later one starts.
+abbrev pub AreInOrder : List LentLeaf → Type 0
+AreInOrder [] = Unit {0}
+AreInOrder (leaf ∷ lent) = AllByRecursion (λ later. leaf.start + size_of leaf.level ≤ later.start) lent × AreInOrder lent
+
+-- What is true of the lent leaves of each tree: they are parts of the root, each front has a word
+-- and fits, and they stand in order of address and share no word.
+pub record AreLeaves (lent : List LentLeaf) : Type 0 where
+  pub parts : AllByRecursion (λ leaf. IsPart leaf.start leaf.level) lent
+  pub in_root : AllByRecursion (λ leaf. leaf.start + size_of leaf.level ≤ 524288) lent
+  pub fronts : AllByRecursion (λ leaf. (0 < leaf.front) × (leaf.front ≤ size_of leaf.level)) lent
+  pub in_order : AreInOrder lent

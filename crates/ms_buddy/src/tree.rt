@@ -1,8 +1,8 @@
 //! The split tree.
-ghost use Rattle.std.specs.Prelude.{◌≡◌, ◌+◌, ◌*◌, ◌%◌, ◌<◌, ◌≤◌, ◌↔◌, [], ◌∷◌, Some, IsTrue, IsOk, IfOk, OnOk, IfErr, OnErr};
+ghost use Rattle.std.specs.Prelude.{◌≡◌, ◌+◌, ◌*◌, ◌%◌, ◌<◌, ◌≤◌, ◌≢◌, ◌↔◌, [], ◌∷◌, Some, Err, IsTrue, IsFalse, IsOk, IfOk, OnOk, IfErr, OnErr};
 ghost use Rattle.std.specs.List.{find};
 ghost use Rattle.ms_base.specs.Level.{size_of};
-ghost use Rattle.ms_buddy.specs.Leaves.{IsCarveRefusal, IsLeafAt, can_enlarge, covers, fits_in, free_of, is_lent, leaf_of, parent_of, root, span_at, with_front, with_leaf, with_parent, without_leaf};
+ghost use Rattle.ms_buddy.specs.Leaves.{AreLeaves, IsCarveRefusal, IsLeafAt, can_enlarge, covers, fits_in, free_of, is_lent, leaf_of, parent_of, root, span_at, with_front, with_leaf, with_parent, without_leaf};
 
 use crate::leaves::FreeLeaves;
 use crate::node::{Leaf, Node, part};
@@ -40,6 +40,7 @@ impl<A: Allocator> SplitTree<A> {
     pub fn is_whole(&self) -> bool
         ensures whole { IsTrue result ↔ (free_of self.now ≡ root ∷ []) }
         ensures none_lent { IsTrue result ↔ (self.now ≡ []) }
+        ensures leaves { AreLeaves self.now }
     {
         self.node.is_free()
     }
@@ -50,6 +51,7 @@ impl<A: Allocator> SplitTree<A> {
         requires { offset < 524288 }
         ensures covers { IsTrue (covers offset result.0) }
         ensures leaf { IsLeafAt offset result.0 result.1 self.now (free_of self.now) }
+        ensures lent { result.1 ≢ Leaf.Free → IsTrue (is_lent self.now result.0) }
     {
         self.node.leaf_at(0, 0, offset)
     }
@@ -109,7 +111,8 @@ impl<A: Allocator + Clone> SplitTree<A> {
         requires some { 0 < front }
         requires within { front ≤ size_of level }
         ensures lent { OnOk result (self.new ≡ with_leaf (leaf_of (span_at at level) owner front) self.old) }
-        ensures room { OnOk result (IsTrue (fits_in (span_at at level) (free_of self.old))) }
+        ensures no_room { (result ≡ Err (Refusal.NoRoom level))
+            ↔ IsFalse (fits_in (span_at at level) (free_of self.old)) }
         ensures refusal { IfErr result (λ refusal. IsCarveRefusal (span_at at level) (free_of self.old) refusal) }
         ensures unchanged { OnErr result (self.new ≡ self.old) }
     {

@@ -2,6 +2,7 @@
 use Rattle.std.proofs.Common.{◌≡◌, ap, sym, ◌∙◌}
 use Rattle.ms_buddy.specs.Leaves.{free_of}
 use Rattle.ms_buddy.proofs.FreeLemmas.{free_of-tree, free_of-none, free_tree, whole_tree, whole_tree_is_free}
+use Rattle.ms_buddy.proofs.KeptLemmas.{are_leaves}
 use Rattle.ms_buddy.proofs.tree.SplitTree.is_whole.Goals as goal
 
 pub returns-clause-whole : goal.returns-clause-whole
@@ -15,3 +16,6 @@ returns-clause-none_lent g c = (
   λ h. sym c.self.view_is ∙ free_tree c.self.inside.node (sym c.is_free.ensures ∙ h),
   λ h. c.is_free.ensures ∙ whole_tree c.self.inside.node c.self.invariant (c.self.view_is ∙ h),
 )
+
+pub returns-clause-leaves : goal.returns-clause-leaves
+returns-clause-leaves g c = rw (← c.self.view_is) (are_leaves c.self.inside.node c.self.invariant)
