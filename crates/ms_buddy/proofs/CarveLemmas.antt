@@ -70,14 +70,14 @@ none_fit_above : {A : Type 0} (part : Span) (level middle : ℕ) (upper : Node A
 none_fit_above part level middle upper tree h =
     any-none (λ other. lies_in (words_of part) (words_of other)) (free_in level middle upper)
     (all_weaker (LiesIn middle (middle + size_of level)) (λ other. lies_in (words_of part) (words_of other) ≡ false)
-      (λ other lies. fits_not_above part other middle (middle + size_of level) h lies) (free_in level middle upper) (free_lies_in level middle upper tree))
+    (λ other lies. fits_not_above part other middle (middle + size_of level) h lies) (free_in level middle upper) (free_lies_in level middle upper tree))
 
 none_fit_below : {A : Type 0} (part : Span) (level start : ℕ) (lower : Node A) → IsTree level lower → start + size_of level < part.start + size_of part.level
     → fits_in part (free_in level start lower) ≡ false
 none_fit_below part level start lower tree h =
     any-none (λ other. lies_in (words_of part) (words_of other)) (free_in level start lower)
     (all_weaker (LiesIn start (start + size_of level)) (λ other. lies_in (words_of part) (words_of other) ≡ false)
-      (λ other lies. fits_not_below part other start (start + size_of level) h lies) (free_in level start lower) (free_lies_in level start lower tree))
+    (λ other lies. fits_not_below part other start (start + size_of level) h lies) (free_in level start lower) (free_lies_in level start lower tree))
 
 or_false : (x y : Bool) → y ≡ false → (x || y) ≡ x
 or_false true y e = refl
@@ -88,8 +88,10 @@ pub whole_fits_not : {A : Type 0} (part : Span) (level start half : ℕ) (lower 
     → part.level ≡ level → fits_in part (free_in_halves level start lower upper) ≡ false
 whole_fits_not part level start half lower upper s low inside e =
     list_any-append (λ (other : Span). lies_in (words_of part) (words_of other)) (free_in (level + 1) start lower) (free_in (level + 1) (start + size_of (level + 1)) upper)
-    ∙ rw (none_fit_below part (level + 1) start lower s.low_tree (omega (arith, size_of-halves level low, size_of-some (level + 1), ap size_of e, inside.from)),
-          none_fit_above part (level + 1) (start + size_of (level + 1)) upper s.high_tree (omega (arith, size_of-some (level + 1), ap size_of e, inside.to))) refl
+    ∙ rw (
+      none_fit_below part (level + 1) start lower s.low_tree (omega (arith, size_of-halves level low, size_of-some (level + 1), ap size_of e, inside.from)),
+      none_fit_above part (level + 1) (start + size_of (level + 1)) upper s.high_tree (omega (arith, size_of-some (level + 1), ap size_of e, inside.to)),
+    ) refl
 
 -- What lies in a half fits in two halves where it fits in the half.
 pub lower_fits : {A : Type 0} (part : Span) (level start half : ℕ) (lower upper : Node A) → AtHalves level start half lower upper → part.start < start + half
@@ -97,14 +99,14 @@ pub lower_fits : {A : Type 0} (part : Span) (level start half : ℕ) (lower uppe
 lower_fits part level start half lower upper s h =
     list_any-append (λ (other : Span). lies_in (words_of part) (words_of other)) (free_in (level + 1) start lower) (free_in (level + 1) (start + size_of (level + 1)) upper)
     ∙ or_false (fits_in part (free_in (level + 1) start lower)) (fits_in part (free_in (level + 1) (start + size_of (level + 1)) upper))
-      (none_fit_above part (level + 1) (start + size_of (level + 1)) upper s.high_tree (omega (arith, s.size)))
+    (none_fit_above part (level + 1) (start + size_of (level + 1)) upper s.high_tree (omega (arith, s.size)))
 
 pub upper_fits : {A : Type 0} (part : Span) (level start half : ℕ) (lower upper : Node A) → AtHalves level start half lower upper → start + half ≤ part.start
     → fits_in part (free_in_halves level start lower upper) ≡ fits_in part (free_in (level + 1) (start + half) upper)
 upper_fits part level start half lower upper s h =
     list_any-append (λ (other : Span). lies_in (words_of part) (words_of other)) (free_in (level + 1) start lower) (free_in (level + 1) (start + size_of (level + 1)) upper)
     ∙ rw (none_fit_below part (level + 1) start lower s.low_tree (omega (arith, s.size, size_of-some part.level)))
-      (ap (λ (n : ℕ). fits_in part (free_in (level + 1) (start + n) upper)) (sym s.size))
+    (ap (λ (n : ℕ). fits_in part (free_in (level + 1) (start + n) upper)) (sym s.size))
 
 -- It is one of their free leaves where it is one of the half's.
 pub lower_is_free : {A : Type 0} (part : Span) (level start half : ℕ) (lower upper : Node A) → AtHalves level start half lower upper → part.start < start + half
@@ -112,15 +114,15 @@ pub lower_is_free : {A : Type 0} (part : Span) (level start half : ℕ) (lower u
 lower_is_free part level start half lower upper s h =
     list_any-append (is_same part) (free_in (level + 1) start lower) (free_in (level + 1) (start + size_of (level + 1)) upper)
     ∙ or_false (list_any (is_same part) (free_in (level + 1) start lower)) (list_any (is_same part) (free_in (level + 1) (start + size_of (level + 1)) upper))
-      (any-none (is_same part) (free_in (level + 1) (start + size_of (level + 1)) upper)
-        (none_free_above part (level + 1) (start + size_of (level + 1)) upper s.high_tree (omega (arith, s.size))))
+    (any-none (is_same part) (free_in (level + 1) (start + size_of (level + 1)) upper)
+    (none_free_above part (level + 1) (start + size_of (level + 1)) upper s.high_tree (omega (arith, s.size))))
 
 pub upper_is_free : {A : Type 0} (part : Span) (level start half : ℕ) (lower upper : Node A) → AtHalves level start half lower upper → start + half ≤ part.start
     → list_any (is_same part) (free_in_halves level start lower upper) ≡ list_any (is_same part) (free_in (level + 1) (start + half) upper)
 upper_is_free part level start half lower upper s h =
     list_any-append (is_same part) (free_in (level + 1) start lower) (free_in (level + 1) (start + size_of (level + 1)) upper)
     ∙ rw (any-none (is_same part) (free_in (level + 1) start lower) (none_free_below part (level + 1) start lower s.low_tree (omega (arith, s.size))))
-      (ap (λ (n : ℕ). list_any (is_same part) (free_in (level + 1) (start + n) upper)) (sym s.size))
+    (ap (λ (n : ℕ). list_any (is_same part) (free_in (level + 1) (start + n) upper)) (sym s.size))
 
 -- Free leaves among which a part fits alike refuse it alike.
 pub same_refusal : (part : Span) (free other : List Span) → fits_in part other ≡ fits_in part free → list_any (is_same part) other ≡ list_any (is_same part) free
@@ -166,13 +168,13 @@ pub lower_added : {A : Type 0} (added : LentLeaf) (level start half : ℕ) (lowe
 lower_added added level start half lower upper now s h e =
     ap (λ (xs : List LentLeaf). xs ++ lent_in (level + 1) (start + size_of (level + 1)) upper) e
     ∙ sym (leaf_in_lower added (start + size_of (level + 1)) (start + size_of (level + 1) + size_of (level + 1)) (lent_in (level + 1) start lower)
-        (lent_in (level + 1) (start + size_of (level + 1)) upper) (omega (arith, s.size)) (lent_lies_in (level + 1) (start + size_of (level + 1)) upper s.high_tree))
+    (lent_in (level + 1) (start + size_of (level + 1)) upper) (omega (arith, s.size)) (lent_lies_in (level + 1) (start + size_of (level + 1)) upper s.high_tree))
 
 pub upper_added : {A : Type 0} (added : LentLeaf) (level start half : ℕ) (lower upper now : Node A) → AtHalves level start half lower upper → start + half ≤ added.start
     → lent_in (level + 1) (start + half) now ≡ with_leaf added (lent_in (level + 1) (start + half) upper)
     → lent_in_halves level start lower now ≡ with_leaf added (lent_in_halves level start lower upper)
 upper_added added level start half lower upper now s h e =
     ap (λ (ys : List LentLeaf). lent_in (level + 1) start lower ++ ys)
-      (subst (λ (n : ℕ). lent_in (level + 1) (start + n) now ≡ with_leaf added (lent_in (level + 1) (start + n) upper)) s.size e)
+    (subst (λ (n : ℕ). lent_in (level + 1) (start + n) now ≡ with_leaf added (lent_in (level + 1) (start + n) upper)) s.size e)
     ∙ sym (leaf_in_upper added start (start + size_of (level + 1)) (lent_in (level + 1) start lower)
-        (lent_in (level + 1) (start + size_of (level + 1)) upper) (omega (arith, s.size)) (lent_lies_in (level + 1) start lower s.low_tree))
+    (lent_in (level + 1) (start + size_of (level + 1)) upper) (omega (arith, s.size)) (lent_lies_in (level + 1) start lower s.low_tree))

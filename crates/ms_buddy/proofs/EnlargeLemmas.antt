@@ -39,8 +39,8 @@ leader_parent part h e = (omega arith, zero_test (part.start % size_of (part.lev
 -- Where the free leaves have the buddy alike, the part can become its parent alike.
 alike : (part : Span) (free other : List Span)
     → (is_leader part.start part.level ≡ true
-      → list_any (is_same (record { start = buddy_start part.start part.level; level = part.level })) free
-        ≡ list_any (is_same (record { start = buddy_start part.start part.level; level = part.level })) other)
+    → list_any (is_same (record { start = buddy_start part.start part.level; level = part.level })) free
+    ≡ list_any (is_same (record { start = buddy_start part.start part.level; level = part.level })) other)
     → can_enlarge part free ≡ can_enlarge part other
 alike part free other e = by_leader (nat_lt 0 part.level) (is_leader part.start part.level)
     (list_any (is_same (record { start = buddy_start part.start part.level; level = part.level })) free)
@@ -57,14 +57,19 @@ deep_lower_can : {A : Type 0} (part : Span) (level start half : ℕ) (lower uppe
 deep_lower_can part level start half lower upper s place h k from below =
     alike part (free_in_halves level start lower upper) (free_in (level + 1) start lower)
     (λ e. lower_is_free (record { start = buddy_start part.start part.level; level = part.level }) level start half lower upper s
-      (subst (λ (n : ℕ). n < start + half) (sym (buddy_of_leader part e)) (inside e)))
+    (subst (λ (n : ℕ). n < start + half) (sym (buddy_of_leader part e)) (inside e)))
   where
     half_place : IsPlace (level + 1) start
     half_place = lower_place level start place (omega arith)
 
     inside : is_leader part.start part.level ≡ true → part.start + size_of part.level < start + half
-    inside e = omega (arith, s.size, size_of-some part.level, parent_size,
-        ends_in (record { start = part.start; level = part.level - 1 }) (level + 1) start (leader_parent part k e) (half_place.level_fits, half_place.aligned) (omega arith) from (omega (arith, s.size)))
+    inside e = omega (
+      arith,
+      s.size,
+      size_of-some part.level,
+      parent_size,
+      ends_in (record { start = part.start; level = part.level - 1 }) (level + 1) start (leader_parent part k e) (half_place.level_fits, half_place.aligned) (omega arith) from (omega (arith, s.size)),
+    )
       where
         parent_size : size_of part.level + size_of part.level ≡ size_of (part.level - 1)
         parent_size = subst (λ (n : ℕ). size_of n + size_of n ≡ size_of (part.level - 1)) (back part.level h) (size_of-halves (part.level - 1) (omega arith))
@@ -104,7 +109,7 @@ pub upper_can : {A : Type 0} (part : Span) (level start half : ℕ) (lower upper
 upper_can part level start half lower upper s above =
     alike part (free_in_halves level start lower upper) (free_in (level + 1) (start + half) upper)
     (λ e. upper_is_free (record { start = buddy_start part.start part.level; level = part.level }) level start half lower upper s
-      (subst (λ (n : ℕ). start + half ≤ n) (sym (buddy_of_leader part e)) (omega arith)))
+    (subst (λ (n : ℕ). start + half ≤ n) (sym (buddy_of_leader part e)) (omega arith)))
 
 pub ok_some : {E : Type 0} (P : Type 0) (result : Result (Option ℕ) E) → P → IfOk result (λ owner. OnSome owner P)
 ok_some P (Ok (Some owner)) h = h
@@ -126,8 +131,8 @@ not_free_whole level middle (Lent owner front) e = refl
 not_free_whole level middle (Split' p lower q upper) e =
     deeper_differ (record { start = middle; level = level }) (free_in level middle (Split' p lower q upper))
     (all_joined (λ other. level < other.level) (free_in (level + 1) middle lower) (free_in (level + 1) (middle + size_of (level + 1)) upper)
-      (all_weaker (λ other. level + 1 ≤ other.level) (λ other. level < other.level) (λ other h. omega arith) (free_in (level + 1) middle lower) (free_levels (level + 1) middle lower))
-      (all_weaker (λ other. level + 1 ≤ other.level) (λ other. level < other.level) (λ other h. omega arith) (free_in (level + 1) (middle + size_of (level + 1)) upper) (free_levels (level + 1) (middle + size_of (level + 1)) upper)))
+    (all_weaker (λ other. level + 1 ≤ other.level) (λ other. level < other.level) (λ other h. omega arith) (free_in (level + 1) middle lower) (free_levels (level + 1) middle lower))
+    (all_weaker (λ other. level + 1 ≤ other.level) (λ other. level < other.level) (λ other h. omega arith) (free_in (level + 1) (middle + size_of (level + 1)) upper) (free_levels (level + 1) (middle + size_of (level + 1)) upper)))
 
 -- A leaf of a split's own level is none of its lent leaves.
 pub split_not_lent : {A : Type 0} (part : Span) (level start : ℕ) (node : Node A) (p : _) (lower : Node A) (q : _) (upper : Node A) → node ≡ Split' p lower q upper → part.level ≡ level
@@ -135,9 +140,9 @@ pub split_not_lent : {A : Type 0} (part : Span) (level start : ℕ) (node : Node
 split_not_lent part level start node p lower q upper e f =
     subst (λ (other : Node _). is_lent (lent_in level start other) part ≡ false) (sym e)
     (deeper (lent_in level start (Split' p lower q upper))
-      (all_joined (λ leaf. part.level < leaf.level) (lent_in (level + 1) start lower) (lent_in (level + 1) (start + size_of (level + 1)) upper)
-        (all_weaker (λ leaf. level + 1 ≤ leaf.level) (λ leaf. part.level < leaf.level) (λ leaf h. omega (arith, f)) (lent_in (level + 1) start lower) (lent_levels (level + 1) start lower))
-        (all_weaker (λ leaf. level + 1 ≤ leaf.level) (λ leaf. part.level < leaf.level) (λ leaf h. omega (arith, f)) (lent_in (level + 1) (start + size_of (level + 1)) upper) (lent_levels (level + 1) (start + size_of (level + 1)) upper))))
+    (all_joined (λ leaf. part.level < leaf.level) (lent_in (level + 1) start lower) (lent_in (level + 1) (start + size_of (level + 1)) upper)
+    (all_weaker (λ leaf. level + 1 ≤ leaf.level) (λ leaf. part.level < leaf.level) (λ leaf h. omega (arith, f)) (lent_in (level + 1) start lower) (lent_levels (level + 1) start lower))
+    (all_weaker (λ leaf. level + 1 ≤ leaf.level) (λ leaf. part.level < leaf.level) (λ leaf h. omega (arith, f)) (lent_in (level + 1) (start + size_of (level + 1)) upper) (lent_levels (level + 1) (start + size_of (level + 1)) upper))))
   where
     differ : (c : Bool) (a b : ℕ) → b < a → (c && (a == b)) ≡ false
     differ c a b h = grind (arith, nat_tests)
@@ -189,9 +194,9 @@ pub leader_cannot : {A : Type 0} (part : Span) (level start half : ℕ) (lower u
     → is_free upper ≡ false → can_enlarge part (free_in_halves level start lower upper) ≡ false
 leader_cannot part level start half lower upper s child e f =
     alike part (free_in_halves level start lower upper) [] (λ leads. upper_is_free (record { start = buddy_start part.start part.level; level = part.level }) level start half lower upper s (omega (arith, buddy leads))
-      ∙ subst (λ (n : ℕ). list_any (is_same (record { start = n; level = part.level })) (free_in (level + 1) (start + half) upper) ≡ false) (sym (buddy leads))
-        (subst (λ (l : ℕ). list_any (is_same (record { start = start + half; level = l })) (free_in (level + 1) (start + half) upper) ≡ false) (sym child)
-          (not_free_whole (level + 1) (start + half) upper f)))
+    ∙ subst (λ (n : ℕ). list_any (is_same (record { start = n; level = part.level })) (free_in (level + 1) (start + half) upper) ≡ false) (sym (buddy leads))
+    (subst (λ (l : ℕ). list_any (is_same (record { start = start + half; level = l })) (free_in (level + 1) (start + half) upper) ≡ false) (sym child)
+    (not_free_whole (level + 1) (start + half) upper f)))
     ∙ none (nat_lt 0 part.level) (is_leader part.start part.level)
   where
     buddy : is_leader part.start part.level ≡ true → buddy_start part.start part.level ≡ start + half

@@ -45,9 +45,9 @@ free_within-agree held others (suc below) start h agree =
     (record { start = start; level = 12 - suc below } ∷ [])
     (agree start (size_of (12 - suc below)) (omega arith) (omega arith))
     (free_within-agree held others below start (omega arith)
-      (λ a n k l. agree a n k (omega (arith, halves_below below (omega arith)))))
+    (λ a n k l. agree a n k (omega (arith, halves_below below (omega arith)))))
     (free_within-agree held others below (start + size_of (12 - below)) (omega arith)
-      (λ a n k l. agree a n (omega arith) (omega (arith, halves_below below (omega arith)))))
+    (λ a n k l. agree a n (omega arith) (omega (arith, halves_below below (omega arith)))))
   where
     joined : (a b : Bool) (x y u v z : List Span) → a ≡ b → x ≡ y → u ≡ v → cond a (x ++ u) z ≡ cond b (y ++ v) z
     joined a b x y u v z e f g = rw (e, f, g) refl
@@ -61,8 +61,10 @@ covered chunk zero start h k l = rw (meets chunk.start (size_of chunk.level) sta
     meets a m b n h k l = grind (arith, nat_tests)
 covered chunk (suc below) start h k l =
     rw (meets chunk.start (size_of chunk.level) start (size_of (12 - suc below)) k l (size_of-some (12 - suc below)))
-    (rw (covered chunk below start (omega arith) k (omega (arith, halves_below below (omega arith))),
-         covered chunk below (start + size_of (12 - below)) (omega arith) (omega arith) (omega (arith, halves_below below (omega arith)))) refl)
+    (rw (
+      covered chunk below start (omega arith) k (omega (arith, halves_below below (omega arith))),
+      covered chunk below (start + size_of (12 - below)) (omega arith) (omega arith) (omega (arith, halves_below below (omega arith))),
+    ) refl)
   where
     meets : (a m b n : ℕ) → a ≤ b → b + n ≤ a + m → 0 < n → meet a m b n ≡ true
     meets a m b n h k l = grind (arith, nat_tests)
@@ -86,8 +88,8 @@ upper_agrees level start middle xs upper tree a n h k =
     ap (λ (held : List Chunk). meets_run held a n) (map-append chunk_of xs (lent_in level middle upper))
     ∙ list_any-append (λ (chunk : Chunk). meet chunk.start (size_of chunk.level) a n) (map chunk_of xs) (map chunk_of (lent_in level middle upper))
     ∙ or_false (meets_run (map chunk_of xs) a n) (meets_run (map chunk_of (lent_in level middle upper)) a n)
-      (none_met middle (middle + size_of level) a n (lent_in level middle upper)
-        (λ leaf lies. meets_not_above leaf.start (size_of leaf.level) a n (omega (arith, lies.from))) (lent_lies_in level middle upper tree))
+    (none_met middle (middle + size_of level) a n (lent_in level middle upper)
+    (λ leaf lies. meets_not_above leaf.start (size_of leaf.level) a n (omega (arith, lies.from))) (lent_lies_in level middle upper tree))
   where
     or_false : (x y : Bool) → y ≡ false → (x || y) ≡ x
     or_false true y e = refl
@@ -99,8 +101,8 @@ lower_agrees level start high lower ys tree a n h k =
     ap (λ (held : List Chunk). meets_run held a n) (map-append chunk_of (lent_in level start lower) ys)
     ∙ list_any-append (λ (chunk : Chunk). meet chunk.start (size_of chunk.level) a n) (map chunk_of (lent_in level start lower)) (map chunk_of ys)
     ∙ ap (λ (b : Bool). b || meets_run (map chunk_of ys) a n)
-      (none_met start (start + size_of level) a n (lent_in level start lower)
-        (λ leaf lies. meets_not_below leaf.start (size_of leaf.level) a n (omega (arith, lies.to))) (lent_lies_in level start lower tree))
+    (none_met start (start + size_of level) a n (lent_in level start lower)
+    (λ leaf lies. meets_not_below leaf.start (size_of leaf.level) a n (omega (arith, lies.to))) (lent_lies_in level start lower tree))
 
 -- A node that isn't free has a lent leaf, which meets each run around the node.
 node_meets : {A : Type 0} (level start : ℕ) (node : Node A) (a n : ℕ) → IsTree level node → is_free node ≡ false → a ≤ start → start + size_of level ≤ a + n
@@ -114,9 +116,9 @@ node_meets level start (Split' p lower q upper) a n tree e h k =
     ap (λ (held : List Chunk). meets_run held a n) (map-append chunk_of (lent_in (level + 1) start lower) (lent_in (level + 1) (start + size_of (level + 1)) upper))
     ∙ list_any-append (λ (chunk : Chunk). meet chunk.start (size_of chunk.level) a n) (map chunk_of (lent_in (level + 1) start lower)) (map chunk_of (lent_in (level + 1) (start + size_of (level + 1)) upper))
     ∙ one_of (is_free lower) (is_free upper) (meets_run (map chunk_of (lent_in (level + 1) start lower)) a n) (meets_run (map chunk_of (lent_in (level + 1) (start + size_of (level + 1)) upper)) a n)
-      tree.1
-      (λ f. node_meets (level + 1) start lower a n tree.2 f h (omega (arith, size_of-halves level tree.0)))
-      (λ f. node_meets (level + 1) (start + size_of (level + 1)) upper a n tree.3 f (omega arith) (omega (arith, size_of-halves level tree.0)))
+    tree.1
+    (λ f. node_meets (level + 1) start lower a n tree.2 f h (omega (arith, size_of-halves level tree.0)))
+    (λ f. node_meets (level + 1) (start + size_of (level + 1)) upper a n tree.3 f (omega arith) (omega (arith, size_of-halves level tree.0)))
   where
     one_of : (f g x y : Bool) → IsFalse (f && g) → (f ≡ false → x ≡ true) → (g ≡ false → y ≡ true) → (x || y) ≡ true
     one_of true true x y n h k = absurd (cc)
@@ -133,20 +135,20 @@ split_walk : {A : Type 0} (below level start : ℕ) (lower upper : Node A) → b
     → free_within (map chunk_of (lent_in level start lower)) below start ≡ free_in level start lower
     → free_within (map chunk_of (lent_in level (start + size_of level) upper)) below (start + size_of level) ≡ free_in level (start + size_of level) upper
     → free_within (map chunk_of (lent_in level start lower ++ lent_in level (start + size_of level) upper)) (suc below) start
-      ≡ free_in level start lower ++ free_in level (start + size_of level) upper
+    ≡ free_in level start lower ++ free_in level (start + size_of level) upper
 split_walk below level start lower upper h e low_tree high_tree met low high =
     joined (meets_run held start (size_of (12 - suc below)))
     (free_within held below start) (free_within held below (start + size_of (12 - below)))
     (free_in level start lower) (free_in level (start + size_of level) upper)
     (record { start = start; level = 12 - suc below } ∷ []) met
     (free_within-agree held (map chunk_of (lent_in level start lower)) below start (omega arith)
-      (subst (λ (x : ℕ). Agree held (map chunk_of (lent_in level start lower)) start (start + size_of x)) e
-        (upper_agrees level start (start + size_of level) (lent_in level start lower) upper high_tree))
-     ∙ low)
+    (subst (λ (x : ℕ). Agree held (map chunk_of (lent_in level start lower)) start (start + size_of x)) e
+    (upper_agrees level start (start + size_of level) (lent_in level start lower) upper high_tree))
+    ∙ low)
     (ap (λ (x : ℕ). free_within held below (start + size_of x)) (sym e)
-     ∙ free_within-agree held (map chunk_of (lent_in level (start + size_of level) upper)) below (start + size_of level) (omega arith)
-      (lower_agrees level start (start + size_of level + size_of (12 - below)) lower (lent_in level (start + size_of level) upper) low_tree)
-     ∙ high)
+    ∙ free_within-agree held (map chunk_of (lent_in level (start + size_of level) upper)) below (start + size_of level) (omega arith)
+    (lower_agrees level start (start + size_of level + size_of (12 - below)) lower (lent_in level (start + size_of level) upper) low_tree)
+    ∙ high)
   where
     held : List Chunk
     held = map chunk_of (lent_in level start lower ++ lent_in level (start + size_of level) upper)
@@ -166,10 +168,10 @@ free_walk (suc below) start (Split' p lower q upper) h tree =
     split_walk below (12 - suc below + 1) start lower upper (omega arith) (next_level below (omega arith)) tree.2 tree.3
     (node_meets (12 - suc below) start (Split' p lower q upper) start (size_of (12 - suc below)) tree refl (omega arith) (omega arith))
     (subst (λ (x : ℕ). free_within (map chunk_of (lent_in x start lower)) below start ≡ free_in x start lower) (sym (next_level below (omega arith)))
-      (free_walk below start lower (omega arith) (subst (λ (x : ℕ). IsTree x lower) (next_level below (omega arith)) tree.2)))
+    (free_walk below start lower (omega arith) (subst (λ (x : ℕ). IsTree x lower) (next_level below (omega arith)) tree.2)))
     (subst (λ (x : ℕ). free_within (map chunk_of (lent_in x (start + size_of (12 - suc below + 1)) upper)) below (start + size_of (12 - suc below + 1)) ≡ free_in x (start + size_of (12 - suc below + 1)) upper)
-      (sym (next_level below (omega arith)))
-      (free_walk below (start + size_of (12 - suc below + 1)) upper (omega arith) (subst (λ (x : ℕ). IsTree x upper) (next_level below (omega arith)) tree.3)))
+    (sym (next_level below (omega arith)))
+    (free_walk below (start + size_of (12 - suc below + 1)) upper (omega arith) (subst (λ (x : ℕ). IsTree x upper) (next_level below (omega arith)) tree.3)))
 
 -- The free leaves of the whole tree are the free parts of the root.
 pub free_of-tree : {A : Type 0} (node : Node A) → IsTree 0 node → free_of (lent_in 0 0 node) ≡ free_in 0 0 node

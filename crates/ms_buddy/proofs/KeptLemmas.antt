@@ -22,7 +22,7 @@ in_order_joined : (middle : ℕ) (xs ys : List LentLeaf) → AllByRecursion (λ 
 in_order_joined middle [] ys below above a b = b
 in_order_joined middle (x ∷ xs) ys below above a b = (
   all_joined (λ later. x.start + size_of x.level ≤ later.start) xs ys a.0
-    (all_weaker (λ leaf. middle ≤ leaf.start) (λ later. x.start + size_of x.level ≤ later.start) (λ later h. omega (arith, below.0)) ys above),
+      (all_weaker (λ leaf. middle ≤ leaf.start) (λ later. x.start + size_of x.level ≤ later.start) (λ later h. omega (arith, below.0)) ys above),
   in_order_joined middle xs ys below.1 above a.1 b,
 )
 
@@ -32,9 +32,9 @@ lent_in_order level start (Lent owner front) tree = (tt, tt)
 lent_in_order level start (Split' p lower q upper) tree =
     in_order_joined (start + size_of (level + 1)) (lent_in (level + 1) start lower) (lent_in (level + 1) (start + size_of (level + 1)) upper)
     (all_weaker (LeafIn start (start + size_of (level + 1))) (λ leaf. leaf.start + size_of leaf.level ≤ start + size_of (level + 1)) (λ leaf lies. lies.to)
-      (lent_in (level + 1) start lower) (lent_lies_in (level + 1) start lower tree.2))
+    (lent_in (level + 1) start lower) (lent_lies_in (level + 1) start lower tree.2))
     (all_weaker (LeafIn (start + size_of (level + 1)) (start + size_of (level + 1) + size_of (level + 1))) (λ leaf. start + size_of (level + 1) ≤ leaf.start) (λ leaf lies. lies.from)
-      (lent_in (level + 1) (start + size_of (level + 1)) upper) (lent_lies_in (level + 1) (start + size_of (level + 1)) upper tree.3))
+    (lent_in (level + 1) (start + size_of (level + 1)) upper) (lent_lies_in (level + 1) (start + size_of (level + 1)) upper tree.3))
     (lent_in_order (level + 1) start lower tree.2) (lent_in_order (level + 1) (start + size_of (level + 1)) upper tree.3)
 
 lent_parts : {A : Type 0} (level start : ℕ) (node : Node A) → IsTree level node → IsPlace level start → AllByRecursion (λ leaf. IsPart leaf.start leaf.level) (lent_in level start node)

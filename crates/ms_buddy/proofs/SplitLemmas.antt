@@ -73,7 +73,7 @@ pub lower_lent : {A : Type 0} (part : Span) (level start half : ℕ) (lower uppe
 lower_lent part level start half lower upper s h e =
     or_left (is_lent (lent_in (level + 1) start lower) part) (is_lent (lent_in (level + 1) (start + size_of (level + 1)) upper) part)
     (any-none (λ leaf. is_same part (span_of leaf)) (lent_in (level + 1) (start + size_of (level + 1)) upper)
-      (none_above part (level + 1) (start + size_of (level + 1)) upper s.high_tree (omega (arith, s.size))))
+    (none_above part (level + 1) (start + size_of (level + 1)) upper s.high_tree (omega (arith, s.size))))
     (sym (list_any-append (λ (leaf : LentLeaf). is_same part (span_of leaf)) (lent_in (level + 1) start lower) (lent_in (level + 1) (start + size_of (level + 1)) upper)) ∙ e)
   where
     or_left : (x y : Bool) → y ≡ false → (x || y) ≡ true → x ≡ true
@@ -86,7 +86,7 @@ upper_lent part level start half lower upper s h e =
     or_right (is_lent (lent_in (level + 1) start lower) part) (is_lent (lent_in (level + 1) (start + half) upper) part)
     (any-none (λ leaf. is_same part (span_of leaf)) (lent_in (level + 1) start lower) (none_below part (level + 1) start lower s.low_tree (omega (arith, s.size))))
     (sym (list_any-append (λ (leaf : LentLeaf). is_same part (span_of leaf)) (lent_in (level + 1) start lower) (lent_in (level + 1) (start + half) upper))
-     ∙ ap (λ (n : ℕ). is_lent (lent_in (level + 1) start lower ++ lent_in (level + 1) (start + n) upper) part) s.size ∙ e)
+    ∙ ap (λ (n : ℕ). is_lent (lent_in (level + 1) start lower ++ lent_in (level + 1) (start + n) upper) part) s.size ∙ e)
   where
     or_right : (x y : Bool) → x ≡ false → (x || y) ≡ true → y ≡ true
     or_right true y e f = absurd (cc)
@@ -121,20 +121,20 @@ pub lower_changed : {A : Type 0} (level start half : ℕ) (lower upper now : Nod
     → lent_in_halves level start now upper ≡ change (lent_in_halves level start lower upper)
 lower_changed level start half lower upper now part change acts s h e = sym
     (acts.joined (lent_in (level + 1) start lower) (lent_in (level + 1) (start + size_of (level + 1)) upper)
-     ∙ ap (λ (ys : List LentLeaf). change (lent_in (level + 1) start lower) ++ ys)
-       (acts.others (lent_in (level + 1) (start + size_of (level + 1)) upper)
-         (none_above part (level + 1) (start + size_of (level + 1)) upper s.high_tree (omega (arith, s.size))))
-     ∙ ap (λ (xs : List LentLeaf). xs ++ lent_in (level + 1) (start + size_of (level + 1)) upper) (sym e))
+    ∙ ap (λ (ys : List LentLeaf). change (lent_in (level + 1) start lower) ++ ys)
+    (acts.others (lent_in (level + 1) (start + size_of (level + 1)) upper)
+    (none_above part (level + 1) (start + size_of (level + 1)) upper s.high_tree (omega (arith, s.size))))
+    ∙ ap (λ (xs : List LentLeaf). xs ++ lent_in (level + 1) (start + size_of (level + 1)) upper) (sym e))
 
 pub upper_changed : {A : Type 0} (level start half : ℕ) (lower upper now : Node A) (part : Span) (change : List LentLeaf → List LentLeaf) → ActsAt part change
     → AtHalves level start half lower upper → start + half ≤ part.start → lent_in (level + 1) (start + half) now ≡ change (lent_in (level + 1) (start + half) upper)
     → lent_in_halves level start lower now ≡ change (lent_in_halves level start lower upper)
 upper_changed level start half lower upper now part change acts s h e = sym
     (acts.joined (lent_in (level + 1) start lower) (lent_in (level + 1) (start + size_of (level + 1)) upper)
-     ∙ ap (λ (xs : List LentLeaf). xs ++ change (lent_in (level + 1) (start + size_of (level + 1)) upper))
-       (acts.others (lent_in (level + 1) start lower) (none_below part (level + 1) start lower s.low_tree (omega (arith, s.size))))
-     ∙ ap (λ (ys : List LentLeaf). lent_in (level + 1) start lower ++ ys)
-       (sym (subst (λ (n : ℕ). lent_in (level + 1) (start + n) now ≡ change (lent_in (level + 1) (start + n) upper)) s.size e)))
+    ∙ ap (λ (xs : List LentLeaf). xs ++ change (lent_in (level + 1) (start + size_of (level + 1)) upper))
+    (acts.others (lent_in (level + 1) start lower) (none_below part (level + 1) start lower s.low_tree (omega (arith, s.size))))
+    ∙ ap (λ (ys : List LentLeaf). lent_in (level + 1) start lower ++ ys)
+    (sym (subst (λ (n : ℕ). lent_in (level + 1) (start + n) now ≡ change (lent_in (level + 1) (start + n) upper)) s.size e)))
 
 -- A free leaf that covers an offset in a half is found in the two halves.
 pub lower_found : {A : Type 0} (offset level start : ℕ) (lower upper : Node A) (part : Span) → find (covers offset) (free_in (level + 1) start lower) ≡ Some part
@@ -147,8 +147,10 @@ pub upper_found : {A : Type 0} (offset level start half : ℕ) (lower upper : No
     → find (covers offset) (free_in_halves level start lower upper) ≡ Some part
 upper_found offset level start half lower upper part tree size h e =
     find-append (covers offset) (free_in (level + 1) start lower) (free_in (level + 1) (start + size_of (level + 1)) upper)
-    ∙ rw (find-none (covers offset) (free_in (level + 1) start lower) (none_covers_below offset (level + 1) start lower tree (omega (arith, size))),
-          subst (λ (n : ℕ). find (covers offset) (free_in (level + 1) (start + n) upper) ≡ Some part) size e) refl
+    ∙ rw (
+      find-none (covers offset) (free_in (level + 1) start lower) (none_covers_below offset (level + 1) start lower tree (omega (arith, size))),
+      subst (λ (n : ℕ). find (covers offset) (free_in (level + 1) (start + n) upper) ≡ Some part) size e,
+    ) refl
 
 -- The leaf that covers an offset is the leaf of the half where the offset is.
 pub lower_leaf : {A : Type 0} (offset level start : ℕ) (lower upper : Node A) (part : Span) (leaf : Leaf)
@@ -164,8 +166,10 @@ pub upper_leaf : {A : Type 0} (offset level start half : ℕ) (lower upper : Nod
 upper_leaf offset level start half lower upper part FreeLeaf tree size h e = upper_found offset level start half lower upper part tree size h e
 upper_leaf offset level start half lower upper part (LentTo owner front) tree size h e =
     find-append (λ (leaf : LentLeaf). covers offset (span_of leaf)) (lent_in (level + 1) start lower) (lent_in (level + 1) (start + size_of (level + 1)) upper)
-    ∙ rw (find-none (λ leaf. covers offset (span_of leaf)) (lent_in (level + 1) start lower) (none_lent_covers_below offset (level + 1) start lower tree (omega (arith, size))),
-          subst (λ (n : ℕ). find (λ leaf. covers offset (span_of leaf)) (lent_in (level + 1) (start + n) upper) ≡ Some (leaf_of part owner front)) size e) refl
+    ∙ rw (
+      find-none (λ leaf. covers offset (span_of leaf)) (lent_in (level + 1) start lower) (none_lent_covers_below offset (level + 1) start lower tree (omega (arith, size))),
+      subst (λ (n : ℕ). find (λ leaf. covers offset (span_of leaf)) (lent_in (level + 1) (start + n) upper) ≡ Some (leaf_of part owner front)) size e,
+    ) refl
 
 -- A node that is merged whole is the free leaf that covers the part that was lent in it.
 pub whole_found : {A : Type 0} (part : Span) (level start : ℕ) (node : Node A) (result : Span) → IsTree level node → IsTrue (is_lent (lent_in level start node) part)

@@ -106,12 +106,12 @@ pub past_split : {A : Type 0} (visits rest one now : List (Option (Visit A))) (v
 past_split visits rest one now visit low high half turn s nodes low_level low_start high_level high_start e f = record {
   stack = subst (λ (xs : List (Option (Visit _))). IsStack 0 xs) (sym whole)
       (pushed 0 (rest ++ Some high ∷ []) low
-        (pushed 0 rest high turn.top.below (omega (arith, turn.top.low, high_level))
-          (rw high_level (upper_place visit.level visit.start high.start turn.top.place s.low (high_start ∙ ap (λ (n : ℕ). visit.start + n) s.halves.size)))
-          (rw high_level s.halves.high_tree))
-        (omega (arith, turn.top.low, low_level, length_push rest (Some high)))
-        (rw (low_level, low_start) (lower_place visit.level visit.start turn.top.place s.low))
-        (rw low_level s.halves.low_tree));
+      (pushed 0 rest high turn.top.below (omega (arith, turn.top.low, high_level))
+      (rw high_level (upper_place visit.level visit.start high.start turn.top.place s.low (high_start ∙ ap (λ (n : ℕ). visit.start + n) s.halves.size)))
+      (rw high_level s.halves.high_tree))
+      (omega (arith, turn.top.low, low_level, length_push rest (Some high)))
+      (rw (low_level, low_start) (lower_place visit.level visit.start turn.top.place s.low))
+      (rw low_level s.halves.low_tree));
   left = ap left_of whole ∙ left_of-push (rest ++ Some high ∷ []) low ∙ ap (λ (parts : List Span). free_in low.level low.start low.node.now ++ parts) (left_of-push rest high)
       ∙ sym (append_assoc (free_in low.level low.start low.node.now) (free_in high.level high.start high.node.now) (left_of rest))
       ∙ ap (λ (parts : List Span). parts ++ left_of rest) (halves ∙ sym s.free) ∙ sym turn.left;

@@ -40,11 +40,11 @@ lent_lies_in level start (Lent owner front) tree = (record { from = omega arith;
 lent_lies_in level start (Split' p lower q upper) tree =
     all_joined (LeafIn start (start + size_of level)) (lent_in (level + 1) start lower) (lent_in (level + 1) (start + size_of (level + 1)) upper)
     (all_weaker (LeafIn start (start + size_of (level + 1))) (LeafIn start (start + size_of level))
-      (λ leaf lies. wider start (start + size_of (level + 1)) start (start + size_of level) (span_of leaf) (omega arith) (omega (arith, size_of-halves level tree.0)) lies)
-      (lent_in (level + 1) start lower) (lent_lies_in (level + 1) start lower tree.2))
+    (λ leaf lies. wider start (start + size_of (level + 1)) start (start + size_of level) (span_of leaf) (omega arith) (omega (arith, size_of-halves level tree.0)) lies)
+    (lent_in (level + 1) start lower) (lent_lies_in (level + 1) start lower tree.2))
     (all_weaker (LeafIn (start + size_of (level + 1)) (start + size_of (level + 1) + size_of (level + 1))) (LeafIn start (start + size_of level))
-      (λ leaf lies. wider (start + size_of (level + 1)) (start + size_of (level + 1) + size_of (level + 1)) start (start + size_of level) (span_of leaf) (omega arith) (omega (arith, size_of-halves level tree.0)) lies)
-      (lent_in (level + 1) (start + size_of (level + 1)) upper) (lent_lies_in (level + 1) (start + size_of (level + 1)) upper tree.3))
+    (λ leaf lies. wider (start + size_of (level + 1)) (start + size_of (level + 1) + size_of (level + 1)) start (start + size_of level) (span_of leaf) (omega arith) (omega (arith, size_of-halves level tree.0)) lies)
+    (lent_in (level + 1) (start + size_of (level + 1)) upper) (lent_lies_in (level + 1) (start + size_of (level + 1)) upper tree.3))
 
 -- So do its free leaves.
 pub free_lies_in : {A : Type 0} (level start : ℕ) (node : Node A) → IsTree level node → AllByRecursion (LiesIn start (start + size_of level)) (free_in level start node)
@@ -53,11 +53,11 @@ free_lies_in level start (Lent owner front) tree = tt
 free_lies_in level start (Split' p lower q upper) tree =
     all_joined (LiesIn start (start + size_of level)) (free_in (level + 1) start lower) (free_in (level + 1) (start + size_of (level + 1)) upper)
     (all_weaker (LiesIn start (start + size_of (level + 1))) (LiesIn start (start + size_of level))
-      (λ part lies. wider start (start + size_of (level + 1)) start (start + size_of level) part (omega arith) (omega (arith, size_of-halves level tree.0)) lies)
-      (free_in (level + 1) start lower) (free_lies_in (level + 1) start lower tree.2))
+    (λ part lies. wider start (start + size_of (level + 1)) start (start + size_of level) part (omega arith) (omega (arith, size_of-halves level tree.0)) lies)
+    (free_in (level + 1) start lower) (free_lies_in (level + 1) start lower tree.2))
     (all_weaker (LiesIn (start + size_of (level + 1)) (start + size_of (level + 1) + size_of (level + 1))) (LiesIn start (start + size_of level))
-      (λ part lies. wider (start + size_of (level + 1)) (start + size_of (level + 1) + size_of (level + 1)) start (start + size_of level) part (omega arith) (omega (arith, size_of-halves level tree.0)) lies)
-      (free_in (level + 1) (start + size_of (level + 1)) upper) (free_lies_in (level + 1) (start + size_of (level + 1)) upper tree.3))
+    (λ part lies. wider (start + size_of (level + 1)) (start + size_of (level + 1) + size_of (level + 1)) start (start + size_of level) part (omega arith) (omega (arith, size_of-halves level tree.0)) lies)
+    (free_in (level + 1) (start + size_of (level + 1)) upper) (free_lies_in (level + 1) (start + size_of (level + 1)) upper tree.3))
 
 -- No element passes the test.
 abbrev pub NonePass : {X : Type 0} → (X → Bool) → List X → Type 0

@@ -1,4 +1,8 @@
-//! The walk over the free leaves.
+//! The walk over the free leaves of a tree, from low to high addresses.
+//!
+//! The nodes that are still to be visited lie on a stack of fixed size, the next one on top. A
+//! split puts its halves there, the lower one last. A node of level n has at most n nodes below it
+//! on the stack, one for each upper half on the way, so 13 places do. Takes no memory.
 ghost use Rattle.std.specs.Prelude.{◌≡◌, [], ◌∷◌, ◌++◌, Some};
 ghost use Rattle.std.specs.Iterator.{YieldsFirst};
 ghost use Rattle.ms_buddy.specs.Tree.{IsPlace, IsTree, free_in};
@@ -10,7 +14,7 @@ use ms_base::Span;
 use std::alloc::Allocator;
 use std::marker::Model;
 
-/// A node that the walk has still to visit.
+/// A node that the walk has still to visit, with its level and where it starts.
 #[derive(Drop)]
 struct Visit<'a, A: Allocator> {
     node: &'a Node<A>,
@@ -18,9 +22,11 @@ struct Visit<'a, A: Allocator> {
     start: u64,
 }
 
-/// The free leaves of a tree, in order of address. Takes no memory.
+/// The free leaves of a tree that a walk has still to give, in order of address. Takes no memory.
+/// This project's choice.
 #[derive(Drop)]
 pub struct FreeLeaves<'a, A: Allocator> {
+    // Each place in use has a visit; `None` only fills the others.
     stack: ArrayVec<Option<Visit<'a, A>>, 13>,
 }
 
@@ -66,14 +72,13 @@ impl<'a, A: Allocator> Iterator for FreeLeaves<'a, A> {
     }
 }
 
-/// Goes on to the next free leaf.
+/// Goes on to the next free leaf, and answers it.
 fn next_free<'a, A: Allocator>(stack: &mut ArrayVec<Option<Visit<'a, A>>, 13>) -> Option<Span>
     requires { IsStack 0 stack.old.items }
     ensures stack { IsStack 0 stack.new.items }
     ensures next { YieldsFirst left_of stack.old.items result stack.new.items }
 {
     while let Some(top) = stack.pop() {
-        // A place in use holds a visit: `None` only fills the others.
         let Some(visit) = top else {
             return None;
         };

@@ -1,4 +1,9 @@
-//! A node of the split tree.
+//! A node of the split tree: a free leaf, a lent leaf, or a split with a node for each half.
+//!
+//! A node does not know where it is, so each function is told its level and where it starts, in
+//! words of the root. Each goes down one path: to the half where the leaf, the part or the offset
+//! lies. What is kept true of a node is `IsTree` in `specs/Tree.antt`. Boxes are made by
+//! `with_lent` alone, and given back as halves merge.
 ghost use Rattle.std.specs.Prelude.{◌≡◌, ℕ, ◌+◌, ◌*◌, ◌<◌, ◌≤◌, ◌&&◌, ◌↔◌, false, [], ◌∷◌, Some, IsTrue, IsFalse, IfSome, OnSome, IfNone, IsOk, IfOk, OnOk, IfErr, OnErr};
 ghost use Rattle.std.specs.List.{find};
 ghost use Rattle.ms_base.specs.Level.{size_of};
@@ -9,24 +14,19 @@ ghost use Rattle.ms_buddy.specs.Tree.{IsEnlarged, IsInside, IsPlace, is_free, Is
 use ms_base::{Level, Refusal, Span};
 use std::alloc::{AllocError, Allocator};
 
-/// What a leaf is: free, or lent to an owner, with the number of its first words that are committed
-/// for the owner.
+/// What a leaf is: free, or lent to an owner with a front, the number of its first words that are
+/// committed for the owner. After JEP 387; owners are this project's choice.
 #[derive(Clone, Copy, Debug, PartialEq, Eq)]
 pub enum Leaf {
     Free,
-    Lent {
-        owner: u32,
-        front: u64,
-    },
+    Lent { owner: u32, front: u64 },
 }
 
+/// A node, with the boxes of its halves in the allocator `A`.
 #[derive(Drop)]
 pub(crate) enum Node<A: Allocator> {
     Free,
-    Lent {
-        owner: u32,
-        front: u64,
-    },
+    Lent { owner: u32, front: u64 },
     Split(Box<Node<A>, A>, Box<Node<A>, A>),
 }
 
@@ -59,7 +59,8 @@ impl<A: Allocator> Node<A> {
         requires from { start ≤ offset }
         requires below { offset < start + size_of level }
         ensures covers { IsTrue (covers offset result.0) }
-        ensures leaf { IsLeafAt offset result.0 result.1 (lent_in level start self.now) (free_in level start self.now) }
+        ensures leaf { IsLeafAt offset result.0 result.1
+            (lent_in level start self.now) (free_in level start self.now) }
     {
         match self {
             Node::Free => (part(start, level), Leaf::Free),
@@ -90,7 +91,8 @@ impl<A: Allocator> Node<A> {
         requires within { front ≤ size_of span.level }
         ensures tree { IsTree level self.new }
         ensures free { is_free self.new ≡ is_free self.old }
-        ensures lent { lent_in level start self.new ≡ with_front span front (lent_in level start self.old) }
+        ensures lent { lent_in level start self.new
+            ≡ with_front span front (lent_in level start self.old) }
     {
         match self {
             Node::Free => {}
@@ -113,7 +115,8 @@ impl<A: Allocator> Node<A> {
         requires place { IsPlace level start }
         requires lent { IsTrue (is_lent (lent_in level start self.old) span) }
         ensures tree { IsTree level self.new }
-        ensures lent { lent_in level start self.new ≡ without_leaf span (lent_in level start self.old) }
+        ensures lent { lent_in level start self.new
+            ≡ without_leaf span (lent_in level start self.old) }
         ensures free { find (covers span.start) (free_in level start self.new) ≡ Some result }
     {
         match self {
@@ -133,7 +136,13 @@ impl<A: Allocator> Node<A> {
 
     /// Makes the leaf of that span its parent, with another front, where its buddy is free.
     #[cycle(enlarging)]
-    pub(crate) fn enlarge(&mut self, level: u8, start: u64, span: Span, front: u64) -> Result<(), Refusal>
+    pub(crate) fn enlarge(
+        &mut self,
+        level: u8,
+        start: u64,
+        span: Span,
+        front: u64,
+    ) -> Result<(), Refusal>
         requires tree { IsTree level self.old }
         requires place { IsPlace level start }
         requires lent { IsTrue (is_lent (lent_in level start self.old) span) }
@@ -141,13 +150,16 @@ impl<A: Allocator> Node<A> {
         requires within { front ≤ 2 * size_of span.level }
         ensures tree { IsTree level self.new }
         ensures split { is_free self.new ≡ is_free self.old }
-        ensures lent { OnOk result (lent_in level start self.new ≡ with_parent span front (lent_in level start self.old)) }
+        ensures lent { OnOk result (lent_in level start self.new
+            ≡ with_parent span front (lent_in level start self.old)) }
         ensures room { IsOk result ↔ IsTrue (can_enlarge span (free_in level start self.old)) }
         ensures refusal { IfErr result (λ refusal. refusal ≡ Refusal.NoRoom span.level) }
         ensures unchanged { OnErr result (self.new ≡ self.old) }
     {
         match self {
-            Node::Split(lower, upper) => match enlarge_in_half(lower, upper, level, start, span, front) {
+            Node::Split(lower, upper) => match enlarge_in_half(
+                lower, upper, level, start, span, front,
+            ) {
                 Ok(None) => Ok(()),
                 Ok(Some(owner)) => {
                     *self = Node::Lent { owner, front };
@@ -162,7 +174,14 @@ impl<A: Allocator> Node<A> {
 
 impl<A: Allocator + Clone> Node<A> {
     /// Makes a node with one lent leaf of that span. Takes two boxes for each level below this one.
-    fn with_lent(alloc: A, level: u8, start: u64, span: Span, owner: u32, front: u64) -> Result<Node<A>, AllocError>
+    fn with_lent(
+        alloc: A,
+        level: u8,
+        start: u64,
+        span: Span,
+        owner: u32,
+        front: u64,
+    ) -> Result<Node<A>, AllocError>
         requires place { IsPlace level start }
         requires part { IsPart span.start span.level }
         requires inside { IsInside level start span }
@@ -170,7 +189,8 @@ impl<A: Allocator + Clone> Node<A> {
         requires within { front ≤ size_of span.level }
         ensures tree { IfOk result (λ node. IsTree level node) }
         ensures split { IfOk result (λ node. is_free node ≡ false) }
-        ensures lent { IfOk result (λ node. lent_in level start node ≡ leaf_of span owner front ∷ []) }
+        ensures lent { IfOk result
+            (λ node. lent_in level start node ≡ leaf_of span owner front ∷ []) }
         ensures succeeds { span.level ≡ level → IsOk result }
     {
         if span.level.number() == level {
@@ -190,7 +210,15 @@ impl<A: Allocator + Clone> Node<A> {
 
     /// Lends the part of that span, where it lies in one free leaf.
     #[cycle(carving)]
-    pub(crate) fn carve(&mut self, alloc: A, level: u8, start: u64, span: Span, owner: u32, front: u64) -> Result<(), Refusal>
+    pub(crate) fn carve(
+        &mut self,
+        alloc: A,
+        level: u8,
+        start: u64,
+        span: Span,
+        owner: u32,
+        front: u64,
+    ) -> Result<(), Refusal>
         requires tree { IsTree level self.old }
         requires place { IsPlace level start }
         requires part { IsPart span.start span.level }
@@ -199,9 +227,11 @@ impl<A: Allocator + Clone> Node<A> {
         requires within { front ≤ size_of span.level }
         ensures tree { IsTree level self.new }
         ensures split { OnOk result (is_free self.new ≡ false) }
-        ensures lent { OnOk result (lent_in level start self.new ≡ with_leaf (leaf_of span owner front) (lent_in level start self.old)) }
+        ensures lent { OnOk result (lent_in level start self.new
+            ≡ with_leaf (leaf_of span owner front) (lent_in level start self.old)) }
         ensures room { OnOk result (IsTrue (fits_in span (free_in level start self.old))) }
-        ensures refusal { IfErr result (λ refusal. IsCarveRefusal span (free_in level start self.old) refusal) }
+        ensures refusal { IfErr result
+            (λ refusal. IsCarveRefusal span (free_in level start self.old) refusal) }
         ensures unchanged { OnErr result (self.new ≡ self.old) }
     {
         match self {
@@ -242,10 +272,14 @@ fn enlarge_in_half<A: Allocator>(
     requires some { 0 < front }
     requires within { front ≤ 2 * size_of span.level }
     ensures trees { IsTree (level + 1) lower.new × IsTree (level + 1) upper.new }
-    ensures split { (is_free lower.new ≡ is_free lower.old) × (is_free upper.new ≡ is_free upper.old) }
-    ensures lent { IfOk result (λ owner. IsEnlarged level start owner front lower.new upper.new (with_parent span front (lent_in_halves level start lower.old upper.old))) }
+    ensures split { (is_free lower.new
+        ≡ is_free lower.old) × (is_free upper.new ≡ is_free upper.old) }
+    ensures lent { IfOk result
+        (λ owner. IsEnlarged level start owner front lower.new upper.new
+        (with_parent span front (lent_in_halves level start lower.old upper.old))) }
     ensures fits { IfOk result (λ owner. OnSome owner (front ≤ size_of level)) }
-    ensures room { IsOk result ↔ IsTrue (can_enlarge span (free_in_halves level start lower.old upper.old)) }
+    ensures room { IsOk result
+        ↔ IsTrue (can_enlarge span (free_in_halves level start lower.old upper.old)) }
     ensures refusal { IfErr result (λ refusal. refusal ≡ Refusal.NoRoom span.level) }
     ensures unchanged { OnErr result ((lower.new ≡ lower.old) × (upper.new ≡ upper.old)) }
 {
@@ -266,14 +300,23 @@ fn enlarge_in_half<A: Allocator>(
 }
 
 /// Tells who holds the leaf of that span, where it is the lower half and the upper one is free.
-fn merged_leader<A: Allocator>(lower: &Node<A>, upper: &Node<A>, level: u8, start: u64, span: Span) -> Result<Option<u32>, Refusal>
+fn merged_leader<A: Allocator>(
+    lower: &Node<A>,
+    upper: &Node<A>,
+    level: u8,
+    start: u64,
+    span: Span,
+) -> Result<Option<u32>, Refusal>
     requires low { level < 12 }
     requires place { IsPlace level start }
     requires trees { IsTree (level + 1) lower.now × IsTree (level + 1) upper.now }
     requires lent { IsTrue (is_lent (lent_in_halves level start lower.now upper.now) span) }
     requires child { span.level ≡ level + 1 }
-    ensures lent { IfOk result (λ owner. (front : ℕ) → IsEnlarged level start owner front lower.now upper.now (with_parent span front (lent_in_halves level start lower.now upper.now))) }
-    ensures room { IsOk result ↔ IsTrue (can_enlarge span (free_in_halves level start lower.now upper.now)) }
+    ensures lent { IfOk result
+        (λ owner. (front : ℕ) → IsEnlarged level start owner front lower.now upper.now
+        (with_parent span front (lent_in_halves level start lower.now upper.now))) }
+    ensures room { IsOk result
+        ↔ IsTrue (can_enlarge span (free_in_halves level start lower.now upper.now)) }
     ensures refusal { IfErr result (λ refusal. refusal ≡ Refusal.NoRoom span.level) }
 {
     let no_room = Err(Refusal::NoRoom { level: span.level });
@@ -313,9 +356,12 @@ fn carve_in_half<A: Allocator + Clone>(
     requires within { front ≤ size_of span.level }
     ensures trees { IsTree (level + 1) lower.new × IsTree (level + 1) upper.new }
     ensures split { OnOk result (IsFalse (is_free lower.new && is_free upper.new)) }
-    ensures lent { OnOk result (lent_in_halves level start lower.new upper.new ≡ with_leaf (leaf_of span owner front) (lent_in_halves level start lower.old upper.old)) }
-    ensures room { OnOk result (IsTrue (fits_in span (free_in_halves level start lower.old upper.old))) }
-    ensures refusal { IfErr result (λ refusal. IsCarveRefusal span (free_in_halves level start lower.old upper.old) refusal) }
+    ensures lent { OnOk result (lent_in_halves level start lower.new upper.new
+        ≡ with_leaf (leaf_of span owner front) (lent_in_halves level start lower.old upper.old)) }
+    ensures room { OnOk result
+        (IsTrue (fits_in span (free_in_halves level start lower.old upper.old))) }
+    ensures refusal { IfErr result
+        (λ refusal. IsCarveRefusal span (free_in_halves level start lower.old upper.old) refusal) }
     ensures unchanged { OnErr result ((lower.new ≡ lower.old) × (upper.new ≡ upper.old)) }
 {
     let middle = start + half_of(level);
@@ -344,7 +390,11 @@ fn unless_free<A: Allocator>(lower: &Node<A>, upper: &Node<A>, span: Span) -> Op
     ensures split { OnSome result (IsFalse (is_free lower.now && is_free upper.now)) }
     ensures free { IfNone result (IsTrue (is_free lower.now && is_free upper.now)) }
 {
-    if lower.is_free() && upper.is_free() { None } else { Some(span) }
+    if lower.is_free() && upper.is_free() {
+        None
+    } else {
+        Some(span)
+    }
 }
 
 /// Takes the leaf of that span out of the half where it is, and answers the free part that results
@@ -362,8 +412,11 @@ fn release_in_half<A: Allocator>(
     requires trees { IsTree (level + 1) lower.old × IsTree (level + 1) upper.old }
     requires lent { IsTrue (is_lent (lent_in_halves level start lower.old upper.old) span) }
     ensures trees { IsTree (level + 1) lower.new × IsTree (level + 1) upper.new }
-    ensures lent { lent_in_halves level start lower.new upper.new ≡ without_leaf span (lent_in_halves level start lower.old upper.old) }
-    ensures free { IfSome result (λ freed. find (covers span.start) (free_in_halves level start lower.new upper.new) ≡ Some freed) }
+    ensures lent { lent_in_halves level start lower.new upper.new
+        ≡ without_leaf span (lent_in_halves level start lower.old upper.old) }
+    ensures free { IfSome result
+        (λ freed. find (covers span.start) (free_in_halves level start lower.new upper.new)
+        ≡ Some freed) }
     ensures split { OnSome result (IsFalse (is_free lower.new && is_free upper.new)) }
     ensures merged { IfNone result (IsTrue (is_free lower.new && is_free upper.new)) }
 {

@@ -12,14 +12,34 @@ Node::carve-returns-then-number-level-clause-refusal g t c =
     (refl, ap (fits_in c.args.span) s.free ∙ whole_fits_not c.args.span _ _ _ _ _ s.halves s.low c.requires.inside (omega arith))
 
 pub carve_in_half-carve-requires : goal.carve_in_half-carve-requires
-carve_in_half-carve-requires g t c κs within =
-    (omega arith, (search rules, (search rules, (lower_place _ _ c.requires.place (omega arith),
-    (c.requires.part, (lower_inside c.args.span _ _ _ c.requires.place c.requires.low c.requires.part c.requires.inside c.half_of.ensures.size c.if-span-middle.true, search rules))))))
+carve_in_half-carve-requires g t c κs within = (
+  omega arith,
+  (
+    search rules,
+    (
+      search rules,
+      (
+        lower_place _ _ c.requires.place (omega arith),
+        (c.requires.part, (lower_inside c.args.span _ _ _ c.requires.place c.requires.low c.requires.part c.requires.inside c.half_of.ensures.size c.if-span-middle.true, search rules)),
+      ),
+    ),
+  ),
+)
 
 pub carve_in_half-carve-requires-else-span-middle : goal.carve_in_half-carve-requires-else-span-middle
-carve_in_half-carve-requires-else-span-middle g t c κs within =
-    (omega arith, (search rules, (search rules, (upper_place _ _ _ c.requires.place (omega arith) (omega arith),
-    (c.requires.part, (upper_inside c.args.span _ _ _ c.requires.low c.requires.part.0 c.requires.inside c.half_of.ensures.size (omega arith), search rules))))))
+carve_in_half-carve-requires-else-span-middle g t c κs within = (
+  omega arith,
+  (
+    search rules,
+    (
+      search rules,
+      (
+        upper_place _ _ _ c.requires.place (omega arith) (omega arith),
+        (c.requires.part, (upper_inside c.args.span _ _ _ c.requires.low c.requires.part.0 c.requires.inside c.half_of.ensures.size (omega arith), search rules)),
+      ),
+    ),
+  ),
+)
 
 pub carve_in_half-returns-then-span-middle-clause-lent : goal.carve_in_half-returns-then-span-middle-clause-lent
 carve_in_half-returns-then-span-middle-clause-lent g t c =

@@ -11,9 +11,19 @@ leaf_at-requires g t c κs within =
 
 pub leaf_at-requires-else-offset-middle : goal.leaf_at-requires-else-offset-middle
 leaf_at-requires-else-offset-middle g t c κs within =
-    let s = at_split _ c.args.start _ _ _ _ _ _ c.in-Split.is c.requires.tree c.half_of.ensures.size in
-    (omega (arith, s.low), (search rules, (rw c.deref-else-offset-middle.ensures s.halves.high_tree, (upper_place _ _ _ c.requires.place s.low (omega (arith, s.halves.size)),
-    (omega arith, omega (arith, s.halves.size, size_of-halves c.args.level s.low))))))
+    let s = at_split _ c.args.start _ _ _ _ _ _ c.in-Split.is c.requires.tree c.half_of.ensures.size in (
+      omega (arith, s.low),
+      (
+        search rules,
+        (
+          rw c.deref-else-offset-middle.ensures s.halves.high_tree,
+          (
+            upper_place _ _ _ c.requires.place s.low (omega (arith, s.halves.size)),
+            (omega arith, omega (arith, s.halves.size, size_of-halves c.args.level s.low)),
+          ),
+        ),
+      ),
+    )
 
 pub returns-then-offset-middle-clause-leaf : goal.returns-then-offset-middle-clause-leaf
 returns-then-offset-middle-clause-leaf g t c =
