@@ -13,10 +13,10 @@ use Rattle.ms_base.specs.Level.{size_of}
 use Rattle.ms_base.specs.FreeParts.{free_within}
 use Rattle.ms_buddy.specs.declared.node.Node.{Node}
 use Rattle.ms_buddy.specs.declared.node.Node.TheVariants.{Free, Lent, Split'}
-use Rattle.ms_buddy.specs.Leaves.{LentLeaf, chunk_of, span_of, free_of, root}
+use Rattle.ms_buddy.specs.Leaves.{LentLeaf, chunk_of, free_of, root}
 use Rattle.ms_buddy.specs.Tree.{is_free, IsTree, lent_in, free_in}
 use Rattle.ms_buddy.proofs.HalvesLemmas.{size_of-some, size_of-halves}
-use Rattle.ms_buddy.proofs.WalkLemmas.{LiesIn, LeafIn, lent_lies_in, all_joined, free_levels}
+use Rattle.ms_buddy.proofs.WalkLemmas.{LeafIn, lent_lies_in, all_joined, free_levels}
 
 -- A chunk of the list shares a word with the n words from a on.
 abbrev pub meets_run : List Chunk → ℕ → ℕ → Bool

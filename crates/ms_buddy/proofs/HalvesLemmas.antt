@@ -1,5 +1,5 @@
 -- Halves of a part: their sizes and places. For the walks down a node.
-use Rattle.std.proofs.Common.{◌≡◌, ◌<◌, ◌≤◌, ℕ, ◌+◌, ◌-◌, ◌*◌, ◌/◌, ◌%◌, ◌^◌, sym, ap, subst, ◌∙◌, arith, zero}
+use Rattle.std.proofs.Common.{◌≡◌, ◌<◌, ℕ, ◌+◌, ◌-◌, ◌*◌, ◌/◌, ◌%◌, ◌^◌, sym, ap, subst, ◌∙◌, arith}
 use Rattle.std.proofs.lemmas.Nat.{pow-add, div-add-mod', pow_pos}
 use Rattle.std.proofs.Math.Nat.{mul-mod_left, add-mod_right}
 use Rattle.ms_base.specs.Level.{size_of}

@@ -1,7 +1,7 @@
 -- What is true of the lent leaves of each tree, and what the callers of a split tree learn of it.
-use Rattle.std.proofs.Common.{◌≡◌, ◌<◌, ◌≤◌, ℕ, ◌+◌, Bool, true, false, not, ◌&&◌, ◌||◌, cond, List, [], ◌∷◌, ◌++◌, Option, Some, None, refl, sym, ap, subst, ◌∙◌, arith}
+use Rattle.std.proofs.Common.{◌≡◌, ◌<◌, ◌≤◌, ℕ, ◌+◌, Bool, true, false, ◌&&◌, ◌||◌, cond, List, [], ◌∷◌, ◌++◌, Some, refl, ap, subst, arith}
 use Rattle.std.specs.Prelude.{◌==◌, ◌≢◌, ◌↔◌, IsTrue, IsFalse, Result, Ok, Err, OnOk, IfErr}
-use Rattle.std.specs.List.{AllByRecursion, list_any, find}
+use Rattle.std.specs.List.{AllByRecursion, find}
 use Rattle.std.proofs.lemmas.Bool.Decides.{nat_tests}
 use Rattle.ms_base.specs.declared.span.Span.{Span}
 use Rattle.ms_base.specs.declared.refusal.Refusal.{Refusal}

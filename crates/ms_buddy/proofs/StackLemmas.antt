@@ -3,11 +3,10 @@ use Rattle.std.proofs.Common.{◌≡◌, ◌<◌, ◌≤◌, ℕ, ◌+◌, true,
 use Rattle.std.proofs.lemmas.Bool.{false≢true}
 use Rattle.std.proofs.lemmas.List.{append-nil, length_push}
 use Rattle.ms_base.specs.declared.span.Span.{Span}
-use Rattle.ms_base.specs.Level.{size_of}
 use Rattle.ms_buddy.specs.declared.node.Node.{Node}
 use Rattle.ms_buddy.specs.declared.node.Node.TheVariants.{Free, Lent, Split'}
 use Rattle.ms_buddy.specs.declared.leaves.Visit.{Visit}
-use Rattle.ms_buddy.specs.Tree.{IsPlace, IsTree, lent_in, free_in, free_in_halves}
+use Rattle.ms_buddy.specs.Tree.{IsPlace, IsTree, free_in, free_in_halves}
 use Rattle.ms_buddy.specs.Walk.{IsStack, left_of}
 use Rattle.ms_buddy.proofs.HalvesLemmas.{lower_place, upper_place}
 use Rattle.ms_buddy.proofs.SplitLemmas.{AtSplit}

@@ -1,6 +1,6 @@
 -- The lent leaves of a root chunk, in order of address, and what each call does to them. Free
 -- leaves are not kept: they are the free parts of the root that the lent leaves leave over.
-use Rattle.std.specs.Prelude.{◌≡◌, ℕ, ◌+◌, ◌-◌, ◌<◌, ◌≤◌, Bool, true, not, cond, ◌&&◌, ◌==◌, nat_le, nat_lt, List, [], ◌∷◌, map, Option, Some, None, IsTrue, IsFalse}
+use Rattle.std.specs.Prelude.{◌≡◌, ℕ, ◌+◌, ◌-◌, ◌<◌, ◌≤◌, Bool, not, cond, ◌&&◌, ◌==◌, nat_le, nat_lt, List, [], ◌∷◌, map, Some, IsTrue, IsFalse}
 use Rattle.std.specs.List.{AllByRecursion, list_any, filter, find}
 use Rattle.ms_base.specs.declared.span.Chunk.{Chunk}
 use Rattle.ms_base.specs.declared.span.Span.{Span}

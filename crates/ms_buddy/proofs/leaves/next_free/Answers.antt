@@ -1,5 +1,5 @@
 -- Each turn leaves what was left, or answers its first part.
-use Rattle.std.proofs.Common.{◌<◌, length, arith, refl, sym, ap, ◌∙◌}
+use Rattle.std.proofs.Common.{◌<◌, length, arith, refl, sym, ◌∙◌}
 use Rattle.ms_buddy.proofs.SplitLemmas.{at_split}
 use Rattle.ms_buddy.proofs.StackLemmas.{at_turn, at_end, gap_absurd, past_lent, past_split, whole_next}
 use Rattle.ms_buddy.proofs.leaves.next_free.Goals as goal

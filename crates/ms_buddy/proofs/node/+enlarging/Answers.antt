@@ -1,7 +1,6 @@
 -- The leaf is enlarged in the half where it is, and the other half stays, or the halves become one.
 use Rattle.std.proofs.Common.{◌≡◌, ◌+◌, rules, arith, ap, sym, ◌∙◌}
 use Rattle.ms_base.specs.Level.{size_of}
-use Rattle.ms_buddy.specs.Leaves.{with_parent}
 use Rattle.ms_buddy.proofs.HalvesLemmas.{lower_place, upper_place, size_of-halves}
 use Rattle.ms_buddy.proofs.SplitLemmas.{AtHalves, lower_lent, upper_lent, parent_acts, lower_changed, upper_changed}
 use Rattle.ms_buddy.proofs.EnlargeLemmas.{lower_can, upper_can, ok_some, refused_too}

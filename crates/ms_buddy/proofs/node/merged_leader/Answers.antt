@@ -1,5 +1,5 @@
 -- The lower half is the leaf of the span, and it becomes its parent where the upper half is free.
-use Rattle.std.proofs.Common.{◌≡◌, ◌+◌, arith, refl, ap, ◌∙◌, sym}
+use Rattle.std.proofs.Common.{◌+◌, refl, ap}
 use Rattle.ms_base.specs.Level.{size_of}
 use Rattle.ms_buddy.specs.Tree.{is_free}
 use Rattle.ms_buddy.proofs.SplitLemmas.{AtHalves}

@@ -1,5 +1,5 @@
 -- The root is free exactly where no leaf is lent, and then its one free leaf is the whole.
-use Rattle.std.proofs.Common.{◌≡◌, ap, sym, ◌∙◌}
+use Rattle.std.proofs.Common.{ap, sym, ◌∙◌}
 use Rattle.ms_buddy.specs.Leaves.{free_of}
 use Rattle.ms_buddy.proofs.FreeLemmas.{free_of-tree, free_of-none, free_tree, whole_tree, whole_tree_is_free}
 use Rattle.ms_buddy.proofs.KeptLemmas.{are_leaves}
