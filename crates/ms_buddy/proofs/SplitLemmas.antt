@@ -1,0 +1,193 @@
+-- A split and its halves: what is asked of a node is asked of the half where the part is, and what
+-- happens to the half happens to the node. For each walk down the tree.
+use Rattle.std.proofs.Common.{◌≡◌, ◌<◌, ◌≤◌, ℕ, ◌+◌, ◌-◌, Bool, true, false, not, cond, ◌&&◌, ◌||◌, List, [], ◌∷◌, ◌++◌, Option, Some, None, refl, sym, ap, subst, ◌∙◌, arith}
+use Rattle.std.specs.Prelude.{◌==◌, nat_le, nat_lt, IsTrue, IsFalse, IfSome, Result, Ok, Err, OnOk}
+use Rattle.std.specs.List.{AllByRecursion, find}
+use Rattle.std.proofs.lemmas.List.{map-append}
+use Rattle.std.proofs.lemmas.List.Folds.{list_any-append, find-append}
+use Rattle.std.proofs.lemmas.List.Elements.{filter-append}
+use Rattle.std.proofs.lemmas.Bool.Decides.{nat_tests}
+use Rattle.ms_base.specs.declared.span.Span.{Span}
+use Rattle.ms_base.specs.Level.{size_of}
+use Rattle.ms_buddy.specs.declared.node.Node.{Node}
+use Rattle.ms_buddy.specs.declared.node.Node.TheVariants.{Split'}
+use Rattle.ms_buddy.specs.declared.node.Leaf.{Leaf}
+use Rattle.ms_buddy.specs.declared.node.Leaf.TheVariants.{Free as FreeLeaf, Lent as LentTo}
+use Rattle.ms_buddy.specs.Leaves.{LentLeaf, IsLeafAt, leaf_of, span_of, is_same, is_lent, covers, with_front, with_parent, without_leaf}
+use Rattle.ms_buddy.specs.Tree.{is_free, IsTree, lent_in, free_in, lent_in_halves, free_in_halves}
+use Rattle.ms_buddy.proofs.HalvesLemmas.{size_of-some}
+use Rattle.ms_buddy.proofs.WalkLemmas.{NonePass, any-none, filter-none, map-none, find-none, none_above, none_below, none_covers_below, none_lent_covers_below, LiesIn, LeafIn, lent_lies_in}
+
+-- What is known of two halves of a part, which have that many words each.
+pub record AtHalves {A : Type 0} (level start half : ℕ) (lower upper : Node A) : Type 0 where
+  pub low_tree : IsTree (level + 1) lower
+  pub high_tree : IsTree (level + 1) upper
+  pub size : half ≡ size_of (level + 1)
+
+-- What is known at a split.
+pub record AtSplit {A : Type 0} (level start half : ℕ) (node lower upper : Node A) : Type 0 where
+  pub low : level < 12
+  pub one : IsFalse (is_free lower && is_free upper)
+  pub halves : AtHalves level start half lower upper
+  pub lent : lent_in level start node ≡ lent_in_halves level start lower upper
+  pub free : free_in level start node ≡ free_in_halves level start lower upper
+
+pub at_split : {A : Type 0} (level start half : ℕ) (node : Node A) (p : _) (lower : Node A) (q : _) (upper : Node A)
+    → node ≡ Split' p lower q upper → IsTree level node → half ≡ size_of (level + 1) → AtSplit level start half node lower upper
+at_split level start half node p lower q upper e tree size =
+    subst (λ (other : Node _). AtSplit level start half other lower upper) (sym e) (here (subst (λ (other : Node _). IsTree level other) e tree))
+  where
+    here : IsTree level (Split' p lower q upper) → AtSplit level start half (Split' p lower q upper) lower upper
+    here tree = record {
+      low = tree.0;
+      one = tree.1;
+      halves = record { low_tree = tree.2; high_tree = tree.3; size = size };
+      lent = refl;
+      free = refl;
+    }
+
+-- A part that is lent in a node lies in it.
+pub lent_part_lies_in : {A : Type 0} (part : Span) (level start : ℕ) (node : Node A) → IsTree level node → IsTrue (is_lent (lent_in level start node) part)
+    → LiesIn start (start + size_of level) part
+lent_part_lies_in part level start node tree e = of_list (lent_in level start node) (lent_lies_in level start node tree) e
+  where
+    same : (a b c d : ℕ) → ((a == b) && (c == d)) ≡ true → (a ≡ b) × (c ≡ d)
+    same a b c d e = (grind (arith, nat_tests), grind (arith, nat_tests))
+
+    moved : (leaf : LentLeaf) → is_same part (span_of leaf) ≡ true → LeafIn start (start + size_of level) leaf → LiesIn start (start + size_of level) part
+    moved leaf e lies = let both = same leaf.start part.start leaf.level part.level e in record {
+      from = rw (← both.0) lies.from;
+      to = rw (← both.0, ← both.1) lies.to;
+    }
+
+    of_list : (xs : List LentLeaf) → AllByRecursion (LeafIn start (start + size_of level)) xs → is_lent xs part ≡ true → LiesIn start (start + size_of level) part
+    of_list [] all e = absurd (cc)
+    of_list (leaf ∷ xs) all e = elim (is_same part (span_of leaf)) as (λ b. is_same part (span_of leaf) ≡ b → (b || is_lent xs part) ≡ true → LiesIn start (start + size_of level) part) [
+      | true ↦ λ f e. moved leaf f all.0
+      | false ↦ λ f e. of_list xs all.1 e
+    ] refl e
+
+-- A part that is lent in two halves is lent in the half where it starts.
+pub lower_lent : {A : Type 0} (part : Span) (level start half : ℕ) (lower upper : Node A) → AtHalves level start half lower upper → part.start < start + half
+    → IsTrue (is_lent (lent_in_halves level start lower upper) part) → IsTrue (is_lent (lent_in (level + 1) start lower) part)
+lower_lent part level start half lower upper s h e =
+    or_left (is_lent (lent_in (level + 1) start lower) part) (is_lent (lent_in (level + 1) (start + size_of (level + 1)) upper) part)
+    (any-none (λ leaf. is_same part (span_of leaf)) (lent_in (level + 1) (start + size_of (level + 1)) upper)
+    (none_above part (level + 1) (start + size_of (level + 1)) upper s.high_tree (omega (arith, s.size))))
+    (sym (list_any-append (λ (leaf : LentLeaf). is_same part (span_of leaf)) (lent_in (level + 1) start lower) (lent_in (level + 1) (start + size_of (level + 1)) upper)) ∙ e)
+  where
+    or_left : (x y : Bool) → y ≡ false → (x || y) ≡ true → x ≡ true
+    or_left true y e f = refl
+    or_left false y e f = absurd (cc)
+
+pub upper_lent : {A : Type 0} (part : Span) (level start half : ℕ) (lower upper : Node A) → AtHalves level start half lower upper → start + half ≤ part.start
+    → IsTrue (is_lent (lent_in_halves level start lower upper) part) → IsTrue (is_lent (lent_in (level + 1) (start + half) upper) part)
+upper_lent part level start half lower upper s h e =
+    or_right (is_lent (lent_in (level + 1) start lower) part) (is_lent (lent_in (level + 1) (start + half) upper) part)
+    (any-none (λ leaf. is_same part (span_of leaf)) (lent_in (level + 1) start lower) (none_below part (level + 1) start lower s.low_tree (omega (arith, s.size))))
+    (sym (list_any-append (λ (leaf : LentLeaf). is_same part (span_of leaf)) (lent_in (level + 1) start lower) (lent_in (level + 1) (start + half) upper))
+    ∙ ap (λ (n : ℕ). is_lent (lent_in (level + 1) start lower ++ lent_in (level + 1) (start + n) upper) part) s.size ∙ e)
+  where
+    or_right : (x y : Bool) → x ≡ false → (x || y) ≡ true → y ≡ true
+    or_right true y e f = absurd (cc)
+    or_right false y e f = f
+
+-- A change of one leaf: it acts on each part of a list apart, and leaves those without the leaf.
+pub record ActsAt (part : Span) (change : List LentLeaf → List LentLeaf) : Type 0 where
+  pub joined : (xs ys : List LentLeaf) → change (xs ++ ys) ≡ change xs ++ change ys
+  pub others : (xs : List LentLeaf) → NonePass (λ leaf. is_same part (span_of leaf)) xs → change xs ≡ xs
+
+pub front_acts : (part : Span) (front : ℕ) → ActsAt part (with_front part front)
+front_acts part front = record {
+  joined = λ xs ys. map-append (λ (leaf : LentLeaf). cond (is_same part (span_of leaf)) (record leaf { front = front }) leaf) xs ys;
+  others = λ xs none. map-none (λ leaf. is_same part (span_of leaf)) (λ leaf. record leaf { front = front }) xs none;
+}
+
+pub parent_acts : (part : Span) (front : ℕ) → ActsAt part (with_parent part front)
+parent_acts part front = record {
+  joined = λ xs ys. map-append (λ (leaf : LentLeaf). cond (is_same part (span_of leaf)) (record leaf { level = leaf.level - 1; front = front }) leaf) xs ys;
+  others = λ xs none. map-none (λ leaf. is_same part (span_of leaf)) (λ leaf. record leaf { level = leaf.level - 1; front = front }) xs none;
+}
+
+pub without_acts : (part : Span) → ActsAt part (without_leaf part)
+without_acts part = record {
+  joined = λ xs ys. filter-append (λ (leaf : LentLeaf). not (is_same part (span_of leaf))) xs ys;
+  others = λ xs none. filter-none (λ leaf. is_same part (span_of leaf)) xs none;
+}
+
+-- What changes the half where the leaf is changes the two halves.
+pub lower_changed : {A : Type 0} (level start half : ℕ) (lower upper now : Node A) (part : Span) (change : List LentLeaf → List LentLeaf) → ActsAt part change
+    → AtHalves level start half lower upper → part.start < start + half → lent_in (level + 1) start now ≡ change (lent_in (level + 1) start lower)
+    → lent_in_halves level start now upper ≡ change (lent_in_halves level start lower upper)
+lower_changed level start half lower upper now part change acts s h e = sym
+    (acts.joined (lent_in (level + 1) start lower) (lent_in (level + 1) (start + size_of (level + 1)) upper)
+    ∙ ap (λ (ys : List LentLeaf). change (lent_in (level + 1) start lower) ++ ys)
+    (acts.others (lent_in (level + 1) (start + size_of (level + 1)) upper)
+    (none_above part (level + 1) (start + size_of (level + 1)) upper s.high_tree (omega (arith, s.size))))
+    ∙ ap (λ (xs : List LentLeaf). xs ++ lent_in (level + 1) (start + size_of (level + 1)) upper) (sym e))
+
+pub upper_changed : {A : Type 0} (level start half : ℕ) (lower upper now : Node A) (part : Span) (change : List LentLeaf → List LentLeaf) → ActsAt part change
+    → AtHalves level start half lower upper → start + half ≤ part.start → lent_in (level + 1) (start + half) now ≡ change (lent_in (level + 1) (start + half) upper)
+    → lent_in_halves level start lower now ≡ change (lent_in_halves level start lower upper)
+upper_changed level start half lower upper now part change acts s h e = sym
+    (acts.joined (lent_in (level + 1) start lower) (lent_in (level + 1) (start + size_of (level + 1)) upper)
+    ∙ ap (λ (xs : List LentLeaf). xs ++ change (lent_in (level + 1) (start + size_of (level + 1)) upper))
+    (acts.others (lent_in (level + 1) start lower) (none_below part (level + 1) start lower s.low_tree (omega (arith, s.size))))
+    ∙ ap (λ (ys : List LentLeaf). lent_in (level + 1) start lower ++ ys)
+    (sym (subst (λ (n : ℕ). lent_in (level + 1) (start + n) now ≡ change (lent_in (level + 1) (start + n) upper)) s.size e)))
+
+-- A free leaf that covers an offset in a half is found in the two halves.
+pub lower_found : {A : Type 0} (offset level start : ℕ) (lower upper : Node A) (part : Span) → find (covers offset) (free_in (level + 1) start lower) ≡ Some part
+    → find (covers offset) (free_in_halves level start lower upper) ≡ Some part
+lower_found offset level start lower upper part e =
+    find-append (covers offset) (free_in (level + 1) start lower) (free_in (level + 1) (start + size_of (level + 1)) upper) ∙ rw e refl
+
+pub upper_found : {A : Type 0} (offset level start half : ℕ) (lower upper : Node A) (part : Span) → IsTree (level + 1) lower → half ≡ size_of (level + 1)
+    → start + half ≤ offset → find (covers offset) (free_in (level + 1) (start + half) upper) ≡ Some part
+    → find (covers offset) (free_in_halves level start lower upper) ≡ Some part
+upper_found offset level start half lower upper part tree size h e =
+    find-append (covers offset) (free_in (level + 1) start lower) (free_in (level + 1) (start + size_of (level + 1)) upper)
+    ∙ rw (
+      find-none (covers offset) (free_in (level + 1) start lower) (none_covers_below offset (level + 1) start lower tree (omega (arith, size))),
+      subst (λ (n : ℕ). find (covers offset) (free_in (level + 1) (start + n) upper) ≡ Some part) size e,
+    ) refl
+
+-- The leaf that covers an offset is the leaf of the half where the offset is.
+pub lower_leaf : {A : Type 0} (offset level start : ℕ) (lower upper : Node A) (part : Span) (leaf : Leaf)
+    → IsLeafAt offset part leaf (lent_in (level + 1) start lower) (free_in (level + 1) start lower)
+    → IsLeafAt offset part leaf (lent_in_halves level start lower upper) (free_in_halves level start lower upper)
+lower_leaf offset level start lower upper part FreeLeaf e = lower_found offset level start lower upper part e
+lower_leaf offset level start lower upper part (LentTo owner front) e =
+    find-append (λ (leaf : LentLeaf). covers offset (span_of leaf)) (lent_in (level + 1) start lower) (lent_in (level + 1) (start + size_of (level + 1)) upper) ∙ rw e refl
+
+pub upper_leaf : {A : Type 0} (offset level start half : ℕ) (lower upper : Node A) (part : Span) (leaf : Leaf) → IsTree (level + 1) lower → half ≡ size_of (level + 1) → start + half ≤ offset
+    → IsLeafAt offset part leaf (lent_in (level + 1) (start + half) upper) (free_in (level + 1) (start + half) upper)
+    → IsLeafAt offset part leaf (lent_in_halves level start lower upper) (free_in_halves level start lower upper)
+upper_leaf offset level start half lower upper part FreeLeaf tree size h e = upper_found offset level start half lower upper part tree size h e
+upper_leaf offset level start half lower upper part (LentTo owner front) tree size h e =
+    find-append (λ (leaf : LentLeaf). covers offset (span_of leaf)) (lent_in (level + 1) start lower) (lent_in (level + 1) (start + size_of (level + 1)) upper)
+    ∙ rw (
+      find-none (λ leaf. covers offset (span_of leaf)) (lent_in (level + 1) start lower) (none_lent_covers_below offset (level + 1) start lower tree (omega (arith, size))),
+      subst (λ (n : ℕ). find (λ leaf. covers offset (span_of leaf)) (lent_in (level + 1) (start + n) upper) ≡ Some (leaf_of part owner front)) size e,
+    ) refl
+
+-- A node that is merged whole is the free leaf that covers the part that was lent in it.
+pub whole_found : {A : Type 0} (part : Span) (level start : ℕ) (node : Node A) (result : Span) → IsTree level node → IsTrue (is_lent (lent_in level start node) part)
+    → result.start ≡ start → result.level ≡ level → find (covers part.start) (record { start = start; level = level } ∷ []) ≡ Some result
+whole_found part level start node result tree lent e f =
+    rw (covered start part.start (size_of level) lies.from (omega (arith, lies.to, size_of-some part.level))) (rw (← e, ← f) refl)
+  where
+    lies : LiesIn start (start + size_of level) part
+    lies = lent_part_lies_in part level start node tree lent
+
+    covered : (a b s : ℕ) → a ≤ b → b < a + s → (nat_le a b && nat_lt b (a + s)) ≡ true
+    covered a b s h k = grind (arith, nat_tests)
+
+-- What holds of a value holds of it where it is passed on.
+pub passed_on : (result : Option Span) (span : Span) (P : Span → Type 0) → IfSome result (λ other. other ≡ span) → P span → IfSome result P
+passed_on (Some other) span P e h = subst P (sym e) h
+passed_on None span P e h = tt
+
+pub on_ok : {T E : Type 0} (P Q : Type 0) (result : Result T E) → (P → Q) → OnOk result P → OnOk result Q
+on_ok P Q (Ok value) step h = step h
+on_ok P Q (Err e) step h = tt

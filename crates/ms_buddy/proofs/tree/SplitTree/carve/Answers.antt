@@ -1,0 +1,24 @@
+-- The free leaves of the tree are the free parts that its lent leaves leave over.
+use Rattle.std.proofs.Common.{arith, refl, sym, ap, ◌∙◌}
+use Rattle.ms_buddy.specs.Leaves.{free_of}
+use Rattle.ms_buddy.proofs.FreeLemmas.{free_of-tree}
+use Rattle.ms_buddy.proofs.CarveLemmas.{ends_in}
+use Rattle.ms_buddy.proofs.KeptLemmas.{no_room_exactly}
+use Rattle.ms_buddy.proofs.tree.SplitTree.carve.Goals as goal
+
+pub carve-requires-clause-inside : goal.carve-requires-clause-inside
+carve-requires-clause-inside g c = record {
+  low = omega arith;
+  from = omega arith;
+  to = ends_in (record { start = c.args.at; level = c.args.level }) 0 0 (omega arith, c.requires.aligned) (omega arith, refl) (omega arith) (omega arith) c.requires.in_root;
+}
+
+pub returns-clause-no_room : goal.returns-clause-no_room
+returns-clause-no_room g c =
+    let e = sym (ap free_of c.self.view_is) ∙ free_of-tree c.self.inside.node c.self.invariant in
+    rw e (no_room_exactly (record { start = c.args.at; level = c.args.level }) _ c.carve.result c.carve.ensures.room c.carve.ensures.refusal)
+
+pub returns-clause-refusal : goal.returns-clause-refusal
+returns-clause-refusal g c =
+    let e = sym (ap free_of c.self.view_is) ∙ free_of-tree c.self.inside.node c.self.invariant in
+    rw e c.carve.ensures.refusal

@@ -1,0 +1,4 @@
+pub mod Leaves
+pub mod Tree
+pub mod Walk
+pub mod Laws

@@ -1,0 +1,58 @@
+-- What a node of the split tree stands for, given its level and where it starts.
+use Rattle.std.specs.Prelude.{◌≡◌, ℕ, ◌+◌, ◌<◌, ◌≤◌, ◌%◌, Bool, true, false, ◌&&◌, List, [], ◌∷◌, ◌++◌, Option, Some, None, IsFalse}
+use Rattle.ms_base.specs.declared.span.Span.{Span}
+use Rattle.ms_base.specs.Level.{size_of}
+use Rattle.ms_buddy.specs.Leaves.{LentLeaf}
+use Rattle.ms_buddy.specs.declared.node.Node.{Node}
+use Rattle.ms_buddy.specs.declared.node.Node.TheVariants.{Free, Lent, Split'}
+
+-- A node's place: a part of the root.
+pub record IsPlace (level start : ℕ) : Type 0 where
+  pub level_fits : level ≤ 12
+  pub aligned : start % size_of level ≡ 0
+  pub in_root : start + size_of level ≤ 524288
+
+-- The node is one free leaf.
+abbrev pub is_free : {A : Type 0} → Node A → Bool
+is_free Free = true
+is_free (Lent owner front) = false
+is_free (Split' p lower q upper) = false
+
+-- No split has two free halves or is of level 12, and each front has a word and fits.
+abbrev pub IsTree : {A : Type 0} → ℕ → Node A → Type 0
+IsTree level Free = Unit {0}
+IsTree level (Lent owner front) = (0 < front) × (front ≤ size_of level)
+IsTree level (Split' p lower q upper) =
+    (level < 12) × IsFalse (is_free lower && is_free upper) × IsTree (level + 1) lower × IsTree (level + 1) upper
+
+-- The lent leaves of the node, in order of address.
+abbrev pub lent_in : {A : Type 0} → ℕ → ℕ → Node A → List LentLeaf
+lent_in level start Free = []
+lent_in level start (Lent owner front) = record { start = start; level = level; owner = owner; front = front } ∷ []
+lent_in level start (Split' p lower q upper) =
+    lent_in (level + 1) start lower ++ lent_in (level + 1) (start + size_of (level + 1)) upper
+
+-- The free leaves of the node, in order of address.
+abbrev pub free_in : {A : Type 0} → ℕ → ℕ → Node A → List Span
+free_in level start Free = record { start = start; level = level } ∷ []
+free_in level start (Lent owner front) = []
+free_in level start (Split' p lower q upper) =
+    free_in (level + 1) start lower ++ free_in (level + 1) (start + size_of (level + 1)) upper
+
+-- The lent leaves of two halves of a part of that level, and their free leaves.
+abbrev pub lent_in_halves : {A : Type 0} → ℕ → ℕ → Node A → Node A → List LentLeaf
+lent_in_halves level start lower upper = lent_in (level + 1) start lower ++ lent_in (level + 1) (start + size_of (level + 1)) upper
+
+abbrev pub free_in_halves : {A : Type 0} → ℕ → ℕ → Node A → Node A → List Span
+free_in_halves level start lower upper = free_in (level + 1) start lower ++ free_in (level + 1) (start + size_of (level + 1)) upper
+
+-- The part lies in that part of a lower or the same level.
+pub record IsInside (level start : ℕ) (part : Span) : Type 0 where
+  pub low : level ≤ part.level
+  pub from : start ≤ part.start
+  pub to : part.start + size_of part.level ≤ start + size_of level
+
+-- The leaves are those of the two halves, or, where someone holds the whole, its one leaf.
+abbrev pub IsEnlarged : {A : Type 0} → ℕ → ℕ → Option ℕ → ℕ → Node A → Node A → List LentLeaf → Type 0
+IsEnlarged level start None front lower upper lent = lent_in_halves level start lower upper ≡ lent
+IsEnlarged level start (Some owner) front lower upper lent = record { start = start; level = level; owner = owner; front = front } ∷ [] ≡ lent

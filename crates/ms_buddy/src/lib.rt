@@ -1,0 +1,19 @@
+//! The split tree of one root chunk: which parts of it are lent, to whom and with which front, and
+//! which are free.
+//!
+//! Apart because it needs nothing of the pool that keeps one tree for each root: no limit, no
+//! granule, and any allocator. Contracts see a tree as the list of its lent leaves in order of
+//! address, `specs/Leaves.antt`; the free leaves are a function of that list. Stands on `ms_base`,
+//! and on `arrayvec` for the stack of a walk. Only `carve` takes memory.
+#![tactic(auto)]
+
+pub mod laws;
+mod leaves;
+mod node;
+#[cfg(test)]
+mod tests;
+mod tree;
+
+pub use leaves::FreeLeaves;
+pub use node::Leaf;
+pub use tree::SplitTree;

@@ -1,0 +1,164 @@
+//! The split tree of one root chunk, and what callers may do with it.
+//!
+//!     word 0          512        1024                  2048
+//!          +----------+----------+---------------------+----
+//!          | lent, 10 | free, 10 |      free, 9        | ...      (a number is a level)
+//!          +----------+----------+---------------------+----
+//!            leader     follower
+//!
+//! Kept true: the leaves cover the root, none overlap, and no split has two free halves, so a free
+//! leaf is as large as it can be. `release` of the lent leaf merges up to the root:
+//!
+//!          | lent, 10 | free, 10 |      free, 9        |        free, 8        | ...
+//!          | free, 10 | free, 10 |      free, 9        |        free, 8        | ...
+//!          |      free, 9        |      free, 9        |        free, 8        | ...
+//!          |                  free, 8                  |        free, 8        | ...
+//!          |                             free, 0                                   |
+//!
+//! Each call but `free_leaves` touches the 13 nodes at most on one path. Only `carve` takes memory,
+//! two boxes for each level that it splits; `release` and `enlarge` give boxes back.
+//! After RootChunkArea in HotSpot's rootChunkArea.hpp, which has a list in place of the tree.
+ghost use Rattle.std.specs.Prelude.{◌≡◌, ◌+◌, ◌*◌, ◌%◌, ◌<◌, ◌≤◌, ◌≢◌, ◌↔◌, [], ◌∷◌, Some, Err, IsTrue, IsFalse, IsOk, IfOk, OnOk, IfErr, OnErr};
+ghost use Rattle.std.specs.List.{find};
+ghost use Rattle.ms_base.specs.Level.{size_of};
+ghost use Rattle.ms_buddy.specs.Leaves.{AreLeaves, IsCarveRefusal, IsLeafAt, can_enlarge, covers, fits_in, free_of, is_lent, leaf_of, parent_of, root, span_at, with_front, with_leaf, with_parent, without_leaf};
+
+use crate::leaves::FreeLeaves;
+use crate::node::{Leaf, Node, part};
+use ms_base::{Level, Refusal, Span};
+use std::alloc::Allocator;
+use std::marker::Model;
+
+/// The split tree of one root chunk of 524288 words, which are numbered from 0. Contracts see the
+/// list of its lent leaves, in order of address. After JEP 387.
+#[derive(Drop)]
+pub struct SplitTree<A: Allocator> {
+    node: Node<A>,
+}
+
+impl<A: Allocator> Model for SplitTree<A> {
+    ghost use Rattle.std.specs.Prelude.{List};
+    ghost use Rattle.ms_buddy.specs.Leaves.{LentLeaf};
+    ghost use Rattle.ms_buddy.specs.Tree.{IsTree, lent_in};
+
+    ghost Value = { List LentLeaf };
+
+    ghost view = { λ t. lent_in 0 0 t.node };
+
+    ghost invariant = { λ t. IsTree 0 t.node };
+}
+
+impl<A: Allocator> SplitTree<A> {
+    /// Makes a tree of one free leaf, the whole root. Takes no memory.
+    pub fn new() -> SplitTree<A>
+        ensures { result ≡ [] }
+    {
+        SplitTree { node: Node::Free }
+    }
+
+    /// Tells whether the root is one free leaf. A caller also learns here what is true of the lent
+    /// leaves of every tree. Takes no memory.
+    pub fn is_whole(&self) -> bool
+        ensures whole { IsTrue result ↔ (free_of self.now ≡ root ∷ []) }
+        ensures none_lent { IsTrue result ↔ (self.now ≡ []) }
+        ensures leaves { AreLeaves self.now }
+    {
+        self.node.is_free()
+    }
+
+    /// Answers the leaf that covers an offset in words, 0 to 524287, and where it is. This is the
+    /// caller's test for a lent leaf. Takes no memory.
+    pub fn leaf_at(&self, offset: u64) -> (Span, Leaf)
+        requires { offset < 524288 }
+        ensures covers { IsTrue (covers offset result.0) }
+        ensures leaf { IsLeafAt offset result.0 result.1 self.now (free_of self.now) }
+        ensures lent { result.1 ≢ Leaf.Free → IsTrue (is_lent self.now result.0) }
+    {
+        self.node.leaf_at(0, 0, offset)
+    }
+
+    /// Goes through the free leaves in order of address, each as large as it can be. Takes no
+    /// memory.
+    pub fn free_leaves(&self) -> FreeLeaves<'_, A>
+        ensures { result ≡ free_of self.now }
+    {
+        FreeLeaves::new(&self.node)
+    }
+
+    /// Changes the front of a lent leaf, in words from 1 to its size; the other leaves stay. Takes
+    /// no memory.
+    pub fn set_front(&mut self, span: Span, front: u64)
+        requires lent { IsTrue (is_lent self.old span) }
+        requires some { 0 < front }
+        requires within { front ≤ size_of span.level }
+        ensures { self.new ≡ with_front span front self.old }
+    {
+        self.node.set_front(0, 0, span, front);
+    }
+
+    /// Takes a lent leaf out and answers the free leaf that results: it merges with its buddy for
+    /// as long as that is one free leaf. The other lent leaves stay. Takes no memory. After
+    /// HotSpot, rootChunkArea.cpp.
+    pub fn release(&mut self, span: Span) -> Span
+        requires { IsTrue (is_lent self.old span) }
+        ensures lent { self.new ≡ without_leaf span self.old }
+        ensures free { find (covers span.start) (free_of self.new) ≡ Some result }
+    {
+        self.node.release(0, 0, span)
+    }
+
+    /// Makes a lent leaf its parent, with a front in words from 1 to the parent's size, and answers
+    /// the parent. The other lent leaves stay. Refuses with `NoRoom` and the leaf's level where the
+    /// leaf is the root or a follower, or its buddy is not one free leaf; then nothing changes.
+    /// Takes no memory. After HotSpot, rootChunkArea.cpp.
+    pub fn enlarge(&mut self, span: Span, front: u64) -> Result<Span, Refusal>
+        requires lent { IsTrue (is_lent self.old span) }
+        requires some { 0 < front }
+        requires within { front ≤ 2 * size_of span.level }
+        ensures parent { IfOk result (λ part. part ≡ parent_of span) }
+        ensures lent { OnOk result (self.new ≡ with_parent span front self.old) }
+        ensures room { IsOk result ↔ IsTrue (can_enlarge span (free_of self.old)) }
+        ensures no_room { IfErr result (λ refusal. refusal ≡ Refusal.NoRoom span.level) }
+        ensures unchanged { OnErr result (self.new ≡ self.old) }
+    {
+        let start = span.start;
+        let level = span.level.number();
+        match self.node.enlarge(0, 0, span, front) {
+            Ok(()) => Ok(part(start, level - 1)),
+            Err(refusal) => Err(refusal),
+        }
+    }
+}
+
+impl<A: Allocator + Clone> SplitTree<A> {
+    /// Lends the part of that level at an offset in words, 0 to 524287, to an owner, with a front
+    /// in words from 1 to the part's size. The other lent leaves stay. Refuses with `NoRoom` and
+    /// the level where the part does not lie in one free leaf, and with `OutOfMemory` where the
+    /// allocator refuses a box, which a part that is a free leaf itself does not need. All boxes
+    /// are made before the tree is changed, so a refusal changes nothing. After HotSpot,
+    /// rootChunkArea.cpp.
+    pub fn carve(
+        &mut self,
+        alloc: A,
+        level: Level,
+        at: u64,
+        owner: u32,
+        front: u64,
+    ) -> Result<(), Refusal>
+        requires in_root { at < 524288 }
+        requires aligned { at % size_of level ≡ 0 }
+        requires some { 0 < front }
+        requires within { front ≤ size_of level }
+        ensures lent { OnOk result
+            (self.new ≡ with_leaf (leaf_of (span_at at level) owner front) self.old) }
+        ensures no_room { (result ≡ Err (Refusal.NoRoom level))
+            ↔ IsFalse (fits_in (span_at at level) (free_of self.old)) }
+        ensures refusal { IfErr result
+            (λ refusal. IsCarveRefusal (span_at at level) (free_of self.old) refusal) }
+        ensures unchanged { OnErr result (self.new ≡ self.old) }
+    {
+        let _ = level.number();
+        self.node
+            .carve(alloc, 0, 0, Span { start: at, level }, owner, front)
+    }
+}
