@@ -4,7 +4,6 @@ use Rattle.ms_base.specs.Interval.{meets_any}
 use Rattle.ms_blocks.specs.FreeBlocks.{KeptBlocks, MayBeKept, run_of, by_start}
 use Rattle.ms_blocks.specs.Tree.{blocks_of}
 use Rattle.ms_blocks.specs.Tended.{kept_blocks}
-use Rattle.ms_blocks.specs.declared.tree.Tree.{Tree}
 use Rattle.ms_blocks.specs.declared.free_blocks.FreeBlocks.TheInside.{Inside}
 use Rattle.ms_blocks.proofs.TendedLemmas.{adds}
 use Rattle.ms_blocks.proofs.free_blocks.FreeBlocks.add.Goals as goal
