@@ -1,14 +1,12 @@
 //! What no clause says: that memory which is there is given, and what a refusal leaves at run time;
-//! and that the definitions mean what is wanted, by blocks worked out by hand. Run with each growth
-//! refused in turn (`rt try --test --fail-alloc 1..`), these tests pass too.
-ghost use Rattle.std.specs.Prelude.{◌≡◌, ◌+◌, ◌*◌, ◌-◌, ◌≤◌, ◌<◌, IfOk, OnOk};
-ghost use Rattle.std.specs.List.{AllByRecursion};
+//! and that the definitions mean what is wanted, by blocks worked out by hand. With the Nth growth
+//! refused, by `rt try --test --fail-alloc N`, these tests pass too.
+ghost use Rattle.std.specs.Prelude.{◌≡◌, ◌≤◌};
 
 use super::*;
 use ms_base::{Block, Refusal};
 use std::alloc::Global;
 use std::process::Abort;
-use std::test::Fail;
 
 fn block(start: u64, words: u64) -> Block
     ensures start { result.start ≡ start }

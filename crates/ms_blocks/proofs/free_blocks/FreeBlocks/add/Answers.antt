@@ -1,27 +1,39 @@
-use Rattle.std.proofs.Common.{arith, vec_len}
+use Rattle.std.proofs.Common.{◌≡◌, ◌+◌, ◌^◌, ◌<◌, ◌≤◌, false, subst, sym, arith, vec_len}
+use Rattle.ms_base.specs.declared.span.Block.{Block}
+use Rattle.ms_base.specs.Interval.{meets_any}
+use Rattle.ms_blocks.specs.FreeBlocks.{KeptBlocks, MayBeKept, run_of, by_start}
 use Rattle.ms_blocks.specs.Tree.{blocks_of}
-use Rattle.ms_blocks.proofs.TendedLemmas.{Adds, adds}
-use Rattle.ms_blocks.specs.FreeBlocks.{MayBeKept, run_of, by_start}
+use Rattle.ms_blocks.specs.Tended.{kept_blocks}
+use Rattle.ms_blocks.specs.declared.free_blocks.FreeBlocks.TheInside.{Inside}
+use Rattle.ms_blocks.proofs.TendedLemmas.{adds}
 use Rattle.ms_blocks.proofs.free_blocks.FreeBlocks.add.Goals as goal
-use Rattle.ms_blocks.proofs.free_blocks.FreeBlocks.add.Goals.{After-struct_known-1}
 
--- What the addition makes of the fields.
-added : (c : After-struct_known-1) → Adds c.self.inside c.args.block c.insert.new.tree
-added c =
-    let may : MayBeKept (by_start (blocks_of c.self.inside.tree)) (run_of c.args.block) = record {
-      some = c.requires.words;
-      ends = c.requires.ends;
-      apart = rw (← c.self.view_is) at c.requires.apart;
-    } in
-    adds c.self.inside c.args.block c.insert.new.tree c.self.invariant may c.insert.ensures
+-- What is asked of the block, said of the fields.
+may : (f : Inside) (now : KeptBlocks) (block : Block) → kept_blocks f ≡ now → 2 ≤ block.words
+    → block.start + block.words < 2 ^ 64 → meets_any (run_of block) now.kept ≡ false
+    → MayBeKept (by_start (blocks_of f.tree)) (run_of block)
+may f now block seen some ends apart = record {
+  some = some;
+  ends = ends;
+  apart = subst (λ (blocks : KeptBlocks). meets_any (run_of block) blocks.kept ≡ false) (sym seen) apart;
+}
 
 pub overflow_add-self-2 : goal.overflow_add-self-2
-overflow_add-self-2 c = omega (arith, (added c).sum_fits)
+overflow_add-self-2 c =
+    let asked = may c.self.inside c.args.self.now c.args.block c.self.view_is
+    c.requires.words c.requires.ends c.requires.apart in
+    omega (arith, (adds c.self.inside c.args.block c.insert.new.tree c.self.invariant asked c.insert.ensures).sum_fits)
 
 pub invariant_of-self : goal.invariant_of-self
 invariant_of-self c =
-    rw c.pop.ensures.capacity ((added (goal.at.invariant_of-self c).After-struct_known-1).tended
-    (vec_len c.pop.new.self) (omega (arith, c.in-Some.ensures.cases)))
+    let asked = may c.self.inside c.args.self.now c.args.block c.self.view_is
+    c.requires.words c.requires.ends c.requires.apart in
+    let added = adds c.self.inside c.args.block c.insert.new.tree c.self.invariant asked c.insert.ensures in
+    rw c.pop.ensures.capacity (added.tended (vec_len c.pop.new.self) (omega (arith, c.in-Some.ensures.cases)))
 
 pub returns-clause-kept : goal.returns-clause-kept
-returns-clause-kept c = rw (← c.self.view_is) (added (goal.at.returns-clause-kept c).After-struct_known-1).runs
+returns-clause-kept c =
+    let asked = may c.self.inside c.args.self.now c.args.block c.self.view_is
+    c.requires.words c.requires.ends c.requires.apart in
+    rw (← c.self.view_is)
+    (adds c.self.inside c.args.block c.insert.new.tree c.self.invariant asked c.insert.ensures).runs

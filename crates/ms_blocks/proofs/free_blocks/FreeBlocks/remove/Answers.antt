@@ -5,14 +5,18 @@ use Rattle.ms_blocks.specs.Tended.{AreTended}
 use Rattle.ms_blocks.proofs.BestFitLemmas.{best_fit-found, best_fit-none}
 use Rattle.ms_blocks.proofs.TendedLemmas.{Takes, takes, Misses, misses}
 use Rattle.ms_blocks.proofs.free_blocks.FreeBlocks.remove.Goals as goal
-use Rattle.ms_blocks.proofs.free_blocks.FreeBlocks.remove.Goals.{In-None, After-block-1}
+use Rattle.ms_blocks.proofs.free_blocks.FreeBlocks.remove.Goals.{In-None, In-Some}
 
 -- What the removal makes of the fields, with a fit and without one.
-taken : (c : After-block-1) → Takes c.self.inside c.args.words c.in-Some.fork.value.block c.take_fit.new.tree
-taken c = takes c.self.inside c.args.words c.in-Some.fork.value.block c.take_fit.new.tree c.self.invariant c.in-Some.ensures.found c.in-Some.ensures.left
+taken : (c : In-Some) → Takes c.self.inside c.args.words c.in-Some.fork.value.block c.take_fit.new.tree
+taken c =
+    takes c.self.inside c.args.words c.in-Some.fork.value.block c.take_fit.new.tree c.self.invariant
+    c.in-Some.ensures.found c.in-Some.ensures.left
 
 missed : (c : In-None) → Misses c.self.inside c.args.words c.take_fit.new.tree
-missed c = misses c.self.inside c.args.words c.take_fit.new.tree c.self.invariant c.in-None.ensures.found c.in-None.ensures.left
+missed c =
+    misses c.self.inside c.args.words c.take_fit.new.tree c.self.invariant
+    c.in-None.ensures.found c.in-None.ensures.left
 
 pub invariant_of-self : goal.invariant_of-self
 invariant_of-self c =
@@ -20,23 +24,23 @@ invariant_of-self c =
     (vec_capacity f.spare) f.count f.total) (missed c).same c.self.invariant
 
 pub overflow_sub-self : goal.overflow_sub-self
-overflow_sub-self c = (taken c).counted
+overflow_sub-self c = (taken (goal.at.overflow_sub-self c).In-Some).counted
 
 pub overflow_sub-self-in-Some : goal.overflow_sub-self-in-Some
-overflow_sub-self-in-Some c = rw c.deref.ensures (taken (goal.at.overflow_sub-self-in-Some c).After-block-1).summed
+overflow_sub-self-in-Some c = rw c.deref.ensures (taken (goal.at.overflow_sub-self-in-Some c).In-Some).summed
 
 pub unreachable-requires : goal.unreachable-requires
 unreachable-requires c =
     absurd (omega (
       arith,
-      (taken (goal.at.unreachable-requires c).After-block-1).counted,
+      (taken (goal.at.unreachable-requires c).In-Some).counted,
       c.self.invariant.placed,
       c.in-Err.ensures.full,
     ))
 
 pub invariant_of-self-in-Some : goal.invariant_of-self-in-Some
 invariant_of-self-in-Some c =
-    rw (c.deref.ensures, c.in-Ok.ensures.len) ((taken (goal.at.invariant_of-self-in-Some c).After-block-1).tended
+    rw (c.deref.ensures, c.in-Ok.ensures.len) ((taken (goal.at.invariant_of-self-in-Some c).In-Some).tended
     (vec_capacity c.push.new.self) c.in-Ok.ensures.capacity)
 
 pub returns-in-None-clause-none : goal.returns-in-None-clause-none
@@ -55,7 +59,7 @@ pub returns-in-Ok-clause-best : goal.returns-in-Ok-clause-best
 returns-in-Ok-clause-best c = rw (
   ← c.self.view_is,
   c.deref.ensures,
-) (taken (goal.at.returns-in-Ok-clause-best c).After-block-1).best
+) (taken (goal.at.returns-in-Ok-clause-best c).In-Some).best
 
 pub returns-in-Ok-clause-answer : goal.returns-in-Ok-clause-answer
 returns-in-Ok-clause-answer c =
@@ -67,7 +71,7 @@ pub returns-in-Ok-clause-taken : goal.returns-in-Ok-clause-taken
 returns-in-Ok-clause-taken c = rw (
   ← c.self.view_is,
   c.deref.ensures,
-) (taken (goal.at.returns-in-Ok-clause-taken c).After-block-1).runs
+) (taken (goal.at.returns-in-Ok-clause-taken c).In-Some).runs
 
 pub returns-in-Ok-clause-back : goal.returns-in-Ok-clause-back
-returns-in-Ok-clause-back c = rw c.deref.ensures (taken (goal.at.returns-in-Ok-clause-back c).After-block-1).back
+returns-in-Ok-clause-back c = rw c.deref.ensures (taken (goal.at.returns-in-Ok-clause-back c).In-Some).back
