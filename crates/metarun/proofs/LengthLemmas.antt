@@ -1,6 +1,6 @@
 -- A text that reads as a trace is short: it has at most 100000 lines of 80 bytes. Used by
 -- `session`, which reads no more of its input than that and one byte.
-use Rattle.std.proofs.Common.{◌≡◌, ◌≤◌, ℕ, ◌+◌, ◌-◌, ◌*◌, ◌==◌, Bool, true, false, cond, List, [], ◌∷◌, length, refl, sym, ap, ◌∙◌, arith}
+use Rattle.std.proofs.Common.{◌≡◌, ◌≤◌, ℕ, ◌+◌, ◌-◌, ◌*◌, ◌==◌, Bool, true, false, cond, List, [], ◌∷◌, length, refl, ◌∙◌, arith}
 use Rattle.std.specs.List.{slice_split, onto_first}
 use Rattle.ms_trace.specs.declared.trace.Line.{Line}
 use Rattle.ms_trace.specs.declared.trace.Trace.{Trace}
@@ -8,7 +8,7 @@ use Rattle.ms_trace.specs.Grammar.{lines_of, without_empty_end}
 use Rattle.ms_trace.specs.Spelling.{ReadsFrom, ReadsAs}
 
 -- The bytes of parts, and one for the end of each.
-abbrev ended : List (List ℕ) → ℕ
+abbrev pub ended : List (List ℕ) → ℕ
 ended [] = 0
 ended (part ∷ parts) = length part + 1 + ended parts
 
@@ -17,7 +17,7 @@ ended_onto_first byte [] some = absurd (omega (arith, some))
 ended_onto_first byte (part ∷ parts) some = omega arith
 
 -- A text is as long as its parts with their ends, but for the last end.
-ended_parts : (p : ℕ → Bool) (text : List ℕ) → ended (slice_split p text) ≡ length text + 1
+pub ended_parts : (p : ℕ → Bool) (text : List ℕ) → ended (slice_split p text) ≡ length text + 1
 ended_parts p [] = refl
 ended_parts p (byte ∷ text) =
     elim (p byte) as (λ ends. ended (cond ends ([] ∷ slice_split p text) (onto_first byte (slice_split p text))) ≡ length (byte ∷ text) + 1) [

@@ -2,3 +2,4 @@ pub mod DeviceLemmas
 pub mod SessionLemmas
 pub mod LengthLemmas
 pub mod ReadingLemmas
+pub mod FaultLemmas

@@ -7,7 +7,6 @@ use Rattle.ms_base.specs.declared.step.Step.{Step}
 use Rattle.ms_base.specs.declared.step.Reply.{Reply}
 use Rattle.ms_base.specs.declared.step.Reply.TheVariants.{Ok as Done}
 use Rattle.ms_base.specs.State.{Machine}
-use Rattle.ms_base.specs.Transition.{Transition}
 use Rattle.ms_base.specs.Run.{Run}
 use Rattle.ms_trace.specs.declared.trace.Command.{Command}
 use Rattle.ms_trace.specs.declared.trace.Command.TheVariants.{New, Alloc, Write, Read, Free, Unload, Purge, Sync, Report}

@@ -1,5 +1,5 @@
 //! A session: the whole input is read and parsed, then run, then answered.
-ghost use Rattle.std.specs.Prelude.{◌≡◌, ◌*◌, ◌≤◌, ◌<◌, ◌⊎◌, ℕ, List, IfOk, IfErr, IfSome, take, string_bytes};
+ghost use Rattle.std.specs.Prelude.{◌≡◌, ◌*◌, ◌≤◌, ◌<◌, ◌⊎◌, ℕ, List, IfOk, IfErr, IfSome, string_bytes};
 ghost use Rattle.std.specs.Io.KnownBytes.{Appends, Keeps};
 ghost use Rattle.ms_trace.specs.declared.fault.FaultKind.{FaultKind};
 ghost use Rattle.ms_trace.specs.Faults.{HasFault};
@@ -31,7 +31,7 @@ pub fn session<R: Read, W: Write, E: Write>(
         × IsOutput options.now.addresses options.now.settings bytes written
         × Appends (W.contents output.old) (W.contents output.new) written) }
     ensures faulty { result ≡ 1 → IfSome (R.remaining input.old) (λ bytes. (line : ℕ)
-        × (kind : FaultKind) × HasFault (take 8100001 bytes) line kind) }
+        × (kind : FaultKind) × HasFault bytes line kind) }
     ensures untouched { (result ≡ 1) ⊎ (result ≡ 3)
         → Keeps (W.contents output.old) (W.contents output.new) }
     ensures statuses { (result ≡ 0) ⊎ (result ≡ 1) ⊎ (result ≡ 3) ⊎ (result ≡ 5) }
@@ -54,7 +54,7 @@ fn answer_to<R: Read>(alloc: Global, options: &Options, input: &mut R) -> Result
     ensures ok { IfOk result (λ text. IfSome (R.remaining input.old)
         (λ bytes. IsOutput options.now.addresses options.now.settings bytes (string_bytes text))) }
     ensures err { IfErr result (λ failure. IfSome (R.remaining input.old)
-        (λ bytes. Blames (take 8100001 bytes) failure)) }
+        (λ bytes. Blames bytes failure)) }
 {
     let text = read_text(alloc, input)?;
     let trace = parse(alloc, &text)?;

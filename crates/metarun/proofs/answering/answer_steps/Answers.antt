@@ -1,10 +1,9 @@
-use Rattle.std.proofs.Common.{◌≡◌, ◌≤◌, ap, subst, sym, ◌∙◌, ℕ, List, length, take, slice_get, Some, arith}
+use Rattle.std.proofs.Common.{◌≡◌, ap, subst, sym, ◌∙◌, List, length, slice_get, arith}
 use Rattle.ms_base.specs.declared.step.Step.{Step}
 use Rattle.ms_base.specs.declared.step.Reply.{Reply}
 use Rattle.std.specs.Prelude.{string_bytes, ◌++◌}
 use Rattle.ms_base.specs.Run.{Run}
-use Rattle.ms_trace.specs.declared.trace.Line.{Line}
-use Rattle.metarun.specs.Session.{leading_steps, reply_lines, Outputs}
+use Rattle.metarun.specs.Session.{leading_steps, reply_lines}
 use Rattle.metarun.proofs.SessionLemmas.{leading_within, leading_stops, outputs_of_steps, length_of_run}
 use Rattle.metarun.proofs.answering.answer_steps.Goals as goal
 

@@ -1,8 +1,8 @@
-use Rattle.std.proofs.Common.{◌≡◌, subst, sym, arith, List, ℕ}
+use Rattle.std.proofs.Common.{subst, arith, List, ℕ}
 use Rattle.std.proofs.lemmas.Result.{err_from_is_err_and}
 use Rattle.ms_trace.specs.Faults.{BlamesText}
 use Rattle.ms_trace.specs.Spelling.{ReadsAs}
-use Rattle.metarun.proofs.ReadingLemmas.{IsRead, blames_beginning, outputs_whole}
+use Rattle.metarun.proofs.ReadingLemmas.{blames_whole, outputs_whole}
 use Rattle.metarun.proofs.session.answer_to.Goals as goal
 
 pub returns-in_err-trace-clause-err : goal.returns-in_err-trace-clause-err
@@ -10,7 +10,7 @@ returns-in_err-trace-clause-err g c =
     let told = err_from_is_err_and c.from_residual-in_err-trace.result c.from_residual-in_err-trace.ensures.1 in
     let length_is = c.in_ok-text.text.ok.0 in
     let blames = subst (λ (bytes : List ℕ). BlamesText bytes c.in_err-trace.field-0.0) c.deref.ensures.value c.in_err-trace.ensures.faults in
-    rw (told.1, told.2) (blames_beginning _ _ c.in_ok-text.text.items c.in_err-trace.field-0.0 (record {
+    rw (told.1, told.2) (blames_whole _ _ c.in_ok-text.text.items c.in_err-trace.field-0.0 (record {
       beginning = c.in_ok-text.ensures.bytes;
       most = omega (arith, length_is, c.in_ok-text.ensures.most);
       whole = λ short. c.in_ok-text.ensures.whole (omega (arith, length_is, short));
