@@ -56,6 +56,7 @@ pub fn clear_part(loaders: &Loaders, slots: &[u32], wanted: Level, most: Level) 
     requires order { wanted ≤ most }
     requires below { All (λ slot. slot < 64) slots.now }
     ensures none { IfNone result (All (IsFull (chunks_held loaders.now.entries) most) slots.now) }
+    ensures wanted { IfSome result (λ part. wanted ≤ part.level) }
     ensures serves { IfSome result (λ part. part.level ≤ most) }
     ensures clear { IfSome result (IsClear (chunks_held loaders.now.entries) slots.now) }
 {
