@@ -2,10 +2,9 @@
 -- stay as they are when more is read, and a line that isn't is too long, or one too many. Used by
 -- `answer_to`.
 use Rattle.std.proofs.Common.{◌≡◌, ◌≤◌, ◌<◌, ◌⊎◌, ℕ, ◌+◌, ◌*◌, ◌==◌, Bool, true, false, cond, List, [], ◌∷◌, ◌++◌, Some, None, length, refl, sym, ap, ◌∙◌, arith, inl, inr, append_assoc, length-append}
-use Rattle.std.specs.Prelude.{nat_lt}
 use Rattle.std.specs.List.{slice_split, onto_first}
-use Rattle.std.proofs.lemmas.Bool.{cases_lt}
-use Rattle.std.proofs.lemmas.Bool.Decides.{nat_tests}
+use Rattle.std.proofs.lemmas.Bool.{cases_lt, lt-ltb, le-ltb}
+use Rattle.std.proofs.lemmas.List.Splits.{length-slice_split}
 use Rattle.ms_trace.specs.declared.fault.FaultKind.{FaultKind}
 use Rattle.ms_trace.specs.declared.fault.FaultKind.TheVariants.{TooManyLines, LineTooLong}
 use Rattle.ms_trace.specs.Grammar.{without_empty_end}
@@ -49,16 +48,7 @@ cut_joined [] more some = absurd (omega (arith, some))
 cut_joined (part ∷ parts) more some = refl
 
 has_a_part : (p : ℕ → Bool) (text : List ℕ) → 1 ≤ length (slice_split p text)
-has_a_part p [] = omega arith
-has_a_part p (byte ∷ text) =
-    elim (p byte) as (λ ends. 1 ≤ length (cond ends ([] ∷ slice_split p text) (onto_first byte (slice_split p text)))) [
-      | true ↦ omega arith
-      | false ↦ onto (slice_split p text)
-    ]
-  where
-    onto : (parts : List (List ℕ)) → 1 ≤ length (onto_first byte parts)
-    onto [] = omega arith
-    onto (part ∷ parts) = omega arith
+has_a_part p text = omega (arith, length-slice_split p text)
 
 -- The parts of a longer text.
 split_longer : (p : ℕ → Bool) (text more : List ℕ) → slice_split p (text ++ more) ≡ joined (slice_split p text) (slice_split p more)
@@ -109,18 +99,12 @@ keeps_lines ([] ∷ []) line rest some = let kept = keeps_lines [] line rest som
 keeps_lines ([] ∷ part ∷ before) line rest some = let kept = keeps_lines (part ∷ before) line rest some in
     (kept.0, ap (λ (all : List (List ℕ)). [] ∷ all) kept.1)
 
-test_lt : (a b : ℕ) → a < b → nat_lt a b ≡ true
-test_lt a b below = grind (arith, nat_tests)
-
-test_not : (a b : ℕ) → b ≤ a → nat_lt a b ≡ false
-test_not a b above = grind (arith, nat_tests)
-
 -- The first two checks, whatever the line is else.
 too_many : (number : ℕ) (line : List ℕ) → 100000 < number → fault_of number line ≡ Some TooManyLines
-too_many number line high = rw (test_lt 100000 number high) refl
+too_many number line high = rw (lt-ltb 100000 number high) refl
 
 too_long : (number : ℕ) (line : List ℕ) → number ≤ 100000 → 80 < length line → fault_of number line ≡ Some LineTooLong
-too_long number line low long = rw (test_not 100000 number low, test_lt 80 (length line) long) refl
+too_long number line low long = rw (le-ltb 100000 number low, lt-ltb 80 (length line) long) refl
 
 -- A line without a fault is short and has a small number.
 none_is_short : (number : ℕ) (line : List ℕ) → fault_of number line ≡ None → (number ≤ 100000) × (length line ≤ 80)

@@ -5,7 +5,7 @@ use Rattle.std.specs.List.{All}
 use Rattle.std.specs.List.Sorted.{IsStrictlyIncreasing}
 use Rattle.std.specs.Ordering.{nat_cmp}
 use Rattle.std.specs.BTreeSet.{insert_key}
-use Rattle.std.proofs.lemmas.Bool.{cases_order}
+use Rattle.std.proofs.lemmas.Bool.{cases_order, and_parts, or_left}
 use Rattle.std.proofs.lemmas.Bool.Decides.{nat_tests}
 use Rattle.std.proofs.lemmas.List.Folds.{Any-from_list_any}
 use Rattle.std.proofs.lemmas.Nat.{div-add-mod', mod_below, mul-le}
@@ -37,11 +37,6 @@ pub range_fits : (nodes : NodesState) (first count : ℕ) → AreSound nodes →
 range_fits nodes first zero sound some few reserved fits = omega arith
 range_fits nodes first (suc count) sound some few reserved fits =
     omega (arith, granule_below nodes (first + count) sound some (reserved (first + count) (omega arith) (omega arith)))
-
-both_hold : (a b : Bool) → (a && b) ≡ true → (a ≡ true) × (b ≡ true)
-both_hold true true e = (refl, refl)
-both_hold true false e = absurd (cc)
-both_hold false b e = absurd (cc)
 
 -- Granules of reserved slots are committed.
 pub sound_with : (nodes : NodesState) (granules : List ℕ) (first count : ℕ) → AreSound nodes
@@ -76,15 +71,12 @@ sound_without nodes granules first count sound after rising within = record {
   slots = sound.slots;
   granules = rising;
   inside = λ granule member. sound.inside granule
-      (both_hold (not (is_in_range first count granule)) (is_among nodes.granules granule)
+      (and_parts (not (is_in_range first count granule)) (is_among nodes.granules granule)
       (sym (is_among-without_range nodes.granules first count granule)
       ∙ ap (λ members. is_among members granule) (sym after) ∙ member)).1;
   reserved = sound.reserved;
   committed = within;
 }
-
-or_here : (a b : Bool) → a ≡ true → (a || b) ≡ true
-or_here a b e = ap (λ v. v || b) e
 
 -- A slot is reserved: those reserved before stay so.
 pub sound_reserve : (nodes : NodesState) (slots : List ℕ) (slot : ℕ) → AreSound nodes
@@ -95,7 +87,7 @@ sound_reserve nodes slots slot sound after set within = record {
   granules = sound.granules;
   inside = λ granule member. ap (λ members. is_among members (granule / slot_granules nodes)) after
       ∙ is_among-insert_key nodes.slots slot (granule / slot_granules nodes)
-      ∙ or_here (is_among nodes.slots (granule / slot_granules nodes)) (slot == granule / slot_granules nodes)
+      ∙ or_left (is_among nodes.slots (granule / slot_granules nodes)) (slot == granule / slot_granules nodes)
       (sound.inside granule member);
   reserved = within;
   committed = sound.committed;
@@ -144,7 +136,7 @@ sound_unreserve nodes slots granules slot sound some slots_after granules_after 
   slots = set;
   granules = rising;
   inside = λ granule member.
-      let kept = both_hold (not (is_in_range (slot * n) n granule)) (is_among nodes.granules granule)
+      let kept = and_parts (not (is_in_range (slot * n) n granule)) (is_among nodes.granules granule)
       (sym (is_among-without_range nodes.granules (slot * n) n granule)
       ∙ ap (λ members. is_among members granule) (sym granules_after) ∙ member) in
       ap (λ members. is_among members (granule / n)) slots_after

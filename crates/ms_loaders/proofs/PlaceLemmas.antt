@@ -1,11 +1,11 @@
 -- The parts of a level in a slot, by their numbers; for placing.rt and the search's answer.
-use Rattle.std.proofs.Common.{◌≡◌, ◌≢◌, ◌≤◌, ◌<◌, ℕ, ◌+◌, ◌-◌, ◌*◌, ◌/◌, ◌%◌, ◌^◌, ◌⊎◌, true, false, List, [], ◌∷◌, length, refl, sym, ap, subst, ◌∙◌, inl, inr, arith}
+use Rattle.std.proofs.Common.{◌≡◌, ◌≢◌, ◌≤◌, ◌<◌, ℕ, ◌+◌, ◌*◌, ◌/◌, ◌%◌, ◌^◌, ◌⊎◌, true, false, List, [], ◌∷◌, length, refl, sym, ap, subst, ◌∙◌, inl, inr, arith}
 use Rattle.std.specs.Prelude.{◌==◌, IsTrue}
 use Rattle.std.specs.List.{All, AllByRecursion, list_all}
 use Rattle.std.proofs.lemmas.Bool.{and_parts, or_cases, cases_lt}
 use Rattle.std.proofs.lemmas.Bool.Decides.{nat_tests}
 use Rattle.std.proofs.lemmas.List.Elements.{recursion_from_All}
-use Rattle.std.proofs.lemmas.Nat.{pow-add, pow_pos, mul-add-lt, div-mul-add, div-add-mod'}
+use Rattle.std.proofs.lemmas.Nat.{pow_pos, mul-add-lt, div-mul-add, div-add-mod'}
 use Rattle.std.proofs.Math.Nat.{add-mul, mul_assoc, mul_comm, mul-mod_left, mul-add-mod_self_right, div-lt_iff_lt-mul, mul-le-mul_left}
 use Rattle.std.proofs.lemmas.Bool.{eqb-true}
 use Rattle.ms_base.specs.declared.span.Chunk.{Chunk}
@@ -20,7 +20,7 @@ use Rattle.ms_base.specs.State.{Machine, PoolState, chunks_held, pool_of}
 use Rattle.ms_base.specs.Good.{IsGood, IsSoundPool}
 use Rattle.ms_base.proofs.HalvesLemmas.{size_some}
 use Rattle.ms_base.proofs.PartLemmas.{by_number}
-use Rattle.ms_base.proofs.GranuleLemmas.{ends_in_node}
+use Rattle.ms_base.proofs.GranuleLemmas.{ends_in_node, node_by_level}
 use Rattle.ms_base.proofs.RoomLemmas.{room_is_clear}
 use Rattle.ms_loaders.specs.Placing.{place_in, IsFull, IsLendable}
 
@@ -37,11 +37,6 @@ whole_div : (k s : ℕ) → 1 ≤ s → k * s / s ≡ k
 whole_div k s some = let e : k * s ≡ k * s + 0 = omega arith in rw e (div-mul-add k s 0 (omega arith))
 
 -- A node has so many parts of a level.
-node_by_level : (level : ℕ) → level ≤ 12 → node_words ≡ 2 ^ (level + 1) * size_of level
-node_by_level level h =
-    let e : 20 ≡ (level + 1) + (19 - level) = omega arith in
-    ap (λ (n : ℕ). 2 ^ n) e ∙ pow-add 2 (level + 1) (19 - level)
-
 parts_in_node : (level : ℕ) → level ≤ 12 → node_words / size_of level ≡ 2 ^ (level + 1)
 parts_in_node level h = ap (λ (n : ℕ). n / size_of level) (node_by_level level h) ∙ whole_div (2 ^ (level + 1)) (size_of level) (size_some level)
 
