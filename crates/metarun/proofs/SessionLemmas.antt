@@ -9,11 +9,12 @@ use Rattle.ms_base.specs.declared.step.Reply.TheVariants.{Ok as Done}
 use Rattle.ms_base.specs.State.{Machine}
 use Rattle.ms_base.specs.Run.{Run}
 use Rattle.ms_trace.specs.declared.trace.Command.{Command}
-use Rattle.ms_trace.specs.declared.trace.Command.TheVariants.{New, Alloc, Write, Read, Free, Unload, Purge, Sync, Report}
+use Rattle.ms_trace.specs.declared.trace.Command.TheVariants.{Step as Asks, Sync, Report}
 use Rattle.ms_trace.specs.declared.trace.Line.{Line}
-use Rattle.ms_base.specs.Totals.{committed_words, used_words}
-use Rattle.metarun.specs.ReplyText.{reply_line, short_lines}
-use Rattle.metarun.specs.Session.{step_of, Advances, report_of, Outputs, steps_first, leading_steps, reply_lines}
+use Rattle.ms_base.specs.ReplyText.{reply_line}
+use Rattle.ms_trace.specs.Steps.{step_of}
+use Rattle.metarun.specs.ShortReport.{short_lines, all_committed, all_used}
+use Rattle.metarun.specs.Session.{Advances, report_of, Outputs, steps_first, leading_steps, reply_lines}
 
 -- What is written for some lines, and then for others.
 pub outputs_append : (addresses : Bool) (old mid new : Machine) (lines more : List Line) (text added : List ℕ)
@@ -32,13 +33,7 @@ outputs_append addresses old mid new (line ∷ lines) more text added first seco
 
 -- A command that asks a step has no report.
 no_report : (command : Command) (asked : Step) (m : Machine) → step_of command ≡ Some asked → report_of command m ≡ []
-no_report (New loader kind) asked m asks = refl
-no_report (Alloc loader block words) asked m asks = refl
-no_report (Write loader block index value) asked m asks = refl
-no_report (Read loader block index) asked m asks = refl
-no_report (Free loader block) asked m asks = refl
-no_report (Unload loader) asked m asks = refl
-no_report Purge asked m asks = refl
+no_report (Asks step) asked m asks = refl
 no_report Sync asked m asks = refl
 no_report Report asked m asks = absurd (cc)
 
@@ -143,10 +138,10 @@ answers_next addresses old mid lines at line text whole first more next = (
 
 -- A report follows the reply to its command.
 pub adds_report : (addresses : Bool) (m : Machine) (line : Line) (number committed used : ℕ) (text replied whole : List ℕ)
-    → line.command ≡ Report → number ≡ line.number → committed ≡ committed_words m → used ≡ used_words m
+    → line.command ≡ Report → number ≡ line.number → committed ≡ all_committed m → used ≡ all_used m
     → replied ≡ text ++ reply_line addresses number Done → whole ≡ replied ++ short_lines committed used → Adds addresses m (line ∷ []) text whole m
 adds_report addresses m line number committed used text replied whole asks same now_committed now_used first more = (
   reply_line addresses line.number Done ++ report_of line.command m,
-  rw (more, first, same, now_committed, now_used, asks) (append_assoc text (reply_line addresses line.number Done) (short_lines (committed_words m) (used_words m))),
+  rw (more, first, same, now_committed, now_used, asks) (append_assoc text (reply_line addresses line.number Done) (short_lines (all_committed m) (all_used m))),
   outputs_of_one addresses m line (rw asks refl),
 )

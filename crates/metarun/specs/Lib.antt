@@ -1,3 +1,3 @@
-pub mod ReplyText
+pub mod ShortReport
 pub mod Failure
 pub mod Session

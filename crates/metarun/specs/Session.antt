@@ -1,31 +1,19 @@
 -- What a session writes for a trace (this project's choice).
 use Rattle.std.specs.Prelude.{◌≡◌, ℕ, Bool, List, [], ◌∷◌, ◌++◌, Option, Some, None}
 use Rattle.ms_base.specs.declared.step.Step.{Step}
-use Rattle.ms_base.specs.declared.step.Step.TheVariants as step
 use Rattle.ms_base.specs.declared.step.Reply.{Reply}
 use Rattle.ms_base.specs.declared.step.Reply.TheVariants.{Ok as Done}
 use Rattle.ms_base.specs.declared.settings.Settings.{Settings}
-use Rattle.ms_base.specs.State.{Machine, empty_machine}
+use Rattle.ms_base.specs.State.{Machine, empty_machine, limits_of}
 use Rattle.ms_base.specs.Transition.{Transition}
-use Rattle.ms_loaders.specs.System.{limits_of}
 use Rattle.ms_trace.specs.declared.trace.Command.{Command}
-use Rattle.ms_trace.specs.declared.trace.Command.TheVariants.{New, Alloc, Write, Read, Free, Unload, Purge, Sync, Report}
+use Rattle.ms_trace.specs.declared.trace.Command.TheVariants.{Report}
 use Rattle.ms_trace.specs.declared.trace.Line.{Line}
 use Rattle.ms_trace.specs.declared.trace.Trace.{Trace}
 use Rattle.ms_trace.specs.Spelling.{ReadsAs}
-use Rattle.metarun.specs.ReplyText.{reply_line, short_report}
-
--- The step that a command asks of the machine; a sync and a report ask none.
-abbrev pub step_of : Command → Option Step
-step_of (New loader kind) = Some (step.New loader kind)
-step_of (Alloc loader block words) = Some (step.Alloc loader block words)
-step_of (Write loader block index value) = Some (step.Write loader block index value)
-step_of (Read loader block index) = Some (step.Read loader block index)
-step_of (Free loader block) = Some (step.Free loader block)
-step_of (Unload loader) = Some (step.Unload loader)
-step_of Purge = Some step.Purge
-step_of Sync = None
-step_of Report = None
+use Rattle.ms_trace.specs.Steps.{step_of}
+use Rattle.ms_base.specs.ReplyText.{reply_line}
+use Rattle.metarun.specs.ShortReport.{short_report}
 
 -- A step is answered by a transition of the machine; where none is asked, all is well and nothing
 -- changes.

@@ -1,11 +1,11 @@
 //! Answering the commands of a trace: each stretch of steps by one run of the system, and what
 //! stands between two stretches, a `sync` or a `report`, by itself.
 ghost use Rattle.std.specs.Prelude.{◌≡◌, ◌*◌, ◌≤◌, ◌++◌, ℕ, List, IfOk, OnOk, take, length, string_bytes, slice_get, Some, None, [], ◌∷◌};
-ghost use Rattle.ms_base.specs.State.{Machine, empty_machine};
+ghost use Rattle.ms_base.specs.State.{Machine, empty_machine, limits_of};
 ghost use Rattle.ms_base.specs.Run.{Run};
-ghost use Rattle.ms_loaders.specs.System.{limits_of};
 ghost use Rattle.ms_trace.specs.declared.trace.Line.{Line};
-ghost use Rattle.metarun.specs.Session.{step_of, leading_steps, reply_lines, Outputs};
+ghost use Rattle.ms_trace.specs.Steps.{step_of};
+ghost use Rattle.metarun.specs.Session.{leading_steps, reply_lines, Outputs};
 
 use crate::options::Options;
 use crate::texts::{push_reply_line, push_short_report};
@@ -16,7 +16,6 @@ use std::alloc::{AllocError, Global};
 
 /// Answers the commands in their order, from a system without loaders on.
 pub fn answer_all(alloc: Global, options: &Options, lines: &[Line]) -> Result<String, AllocError>
-    requires { 128 * options.now.settings.nodes ≤ options.now.settings.max_granules }
     ensures { IfOk result (λ text. (last : Machine) × Outputs options.now.addresses
         (empty_machine (limits_of options.now.settings)) lines.now (string_bytes text) last) }
 {
@@ -66,7 +65,7 @@ fn leading(alloc: Global, lines: &[Line]) -> Result<Vec<Step>, AllocError>
 {
     let mut steps = Vec::new(alloc);
     for line in lines {
-        let Some(step) = step_of(line.command) else {
+        let Command::Step(step) = line.command else {
             return Ok(steps);
         };
         steps.push(step)?;
@@ -108,46 +107,4 @@ fn answer_between(
         push_short_report(text, system.committed(), system.used())?;
     }
     Ok(())
-}
-
-/// Tells the step that a command asks of the machine; a sync and a report ask none.
-fn step_of(command: Command) -> Option<Step>
-    ensures { result ≡ step_of command }
-{
-    Some(match command {
-        Command::New { loader, kind } => Step::New { loader, kind },
-        Command::Alloc {
-            loader,
-            block,
-            words,
-        } => Step::Alloc {
-            loader,
-            block,
-            words,
-        },
-        Command::Write {
-            loader,
-            block,
-            index,
-            value,
-        } => Step::Write {
-            loader,
-            block,
-            index,
-            value,
-        },
-        Command::Read {
-            loader,
-            block,
-            index,
-        } => Step::Read {
-            loader,
-            block,
-            index,
-        },
-        Command::Free { loader, block } => Step::Free { loader, block },
-        Command::Unload { loader } => Step::Unload { loader },
-        Command::Purge => Step::Purge,
-        Command::Sync | Command::Report => return None,
-    })
 }

@@ -26,7 +26,6 @@ pub fn session<R: Read, W: Write, E: Write>(
     output: &mut W,
     errors: &mut E,
 ) -> u8
-    requires { 128 * options.now.settings.nodes ≤ options.now.settings.max_granules }
     ensures answered { result ≡ 0 → IfSome (R.remaining input.old) (λ bytes. (written : List ℕ)
         × IsOutput options.now.addresses options.now.settings bytes written
         × Appends (W.contents output.old) (W.contents output.new) written) }
@@ -50,7 +49,6 @@ pub fn session<R: Read, W: Write, E: Write>(
 
 /// Reads a trace, runs it, and gives the text that answers it.
 fn answer_to<R: Read>(alloc: Global, options: &Options, input: &mut R) -> Result<String, Failure>
-    requires { 128 * options.now.settings.nodes ≤ options.now.settings.max_granules }
     ensures ok { IfOk result (λ text. IfSome (R.remaining input.old)
         (λ bytes. IsOutput options.now.addresses options.now.settings bytes (string_bytes text))) }
     ensures err { IfErr result (λ failure. IfSome (R.remaining input.old)

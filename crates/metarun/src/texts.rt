@@ -1,6 +1,7 @@
 //! The text of replies and of the short report.
 ghost use Rattle.std.specs.Prelude.{◌≡◌, ◌++◌, IfOk, OnOk, OnErr, string_bytes, codes, decimal, replicate};
-ghost use Rattle.metarun.specs.ReplyText.{name_of, reply_text, reply_line, number_line, short_lines};
+ghost use Rattle.ms_base.specs.ReplyText.{name_of, reply_text, reply_line};
+ghost use Rattle.metarun.specs.ShortReport.{number_line, short_lines};
 
 use itoa::Buffer;
 use ms_base::{Refusal, Reply};

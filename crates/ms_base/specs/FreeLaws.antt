@@ -1,18 +1,22 @@
 -- What the list of free parts amounts to: laws about it, each the contract of a function of `laws`.
-use Rattle.std.specs.Prelude.{◌≡◌, ℕ, ◌*◌, nat_lt, ◌≤◌, Bool, cond, List, ◌++◌, map, IsTrue, IsFalse}
+use Rattle.std.specs.Prelude.{◌≡◌, ℕ, ◌*◌, ◌<◌, ◌≤◌, Bool, cond, List, ◌++◌, map, IsTrue, IsFalse}
 use Rattle.std.specs.List.{All, Contains, list_any, count_by}
 use Rattle.std.specs.List.Sorted.{IsStrictlyIncreasing}
 use Rattle.ms_base.specs.declared.span.Chunk.{Chunk}
 use Rattle.ms_base.specs.declared.span.Span.{Span}
+use Rattle.ms_base.specs.declared.policy.Policy.{Policy}
+use Rattle.ms_base.specs.Policy.{keeps}
 use Rattle.ms_base.specs.Interval.{meet, lies_in}
 use Rattle.ms_base.specs.Level.{size_of}
 use Rattle.ms_base.specs.Part.{IsPart, buddy_start, slot_of, is_reserved}
 use Rattle.ms_base.specs.Held.{AreHeld, words_of, meets_chunk}
 use Rattle.ms_base.specs.FreeParts.{IsFreePart, free_parts}
-use Rattle.ms_base.specs.Committed.{is_committed, committed_granules}
+use Rattle.ms_base.specs.Committed.{committed_with}
 use Rattle.ms_base.specs.State.{PoolState}
-use Rattle.ms_base.specs.Pick.{is_committed_enough}
+use Rattle.ms_base.specs.Pick.{granule_in, has_committed, is_committed_enough}
+use Rattle.ms_base.specs.Good.{IsSoundPool}
 use Rattle.ms_base.specs.Causes.{has_room, has_committed_room}
+use Rattle.ms_base.specs.PoolSteps.{taken, grown}
 
 -- The part of a level that starts at a word.
 abbrev pub part_at : ℕ → ℕ → Span
@@ -85,45 +89,45 @@ NoFreeBuddies =
     (held : List Chunk) (slots : List ℕ) (part other : Span) → Contains (free_parts held slots) part
     → Contains (free_parts held slots) other → AreBuddies part other → ⊥
 
--- A granule has the words of a level.
-pub record IsGranule (granule : ℕ) : Type 0 where
-  pub level : ℕ
-  pub below : level ≤ 12
-  pub is : granule ≡ size_of level
+-- A granule that meets a free part is committed where the part is smaller than a granule; where it
+-- is not, none is under the policies balanced and aggressive.
+pub record IsCommittedBySize (pool : PoolState) (part : Span) (number : ℕ) : Type 0 where
+  pub small : size_of part.level < granule_in pool → IsTrue (has_committed pool number)
+  pub large : IsFalse (keeps pool.limits.policy) → granule_in pool ≤ size_of part.level → IsFalse (has_committed pool number)
 
--- A granule that meets a free part is committed exactly where the part is smaller than a granule.
--- So a part as large as a granule has none that is committed, and a smaller one has its own.
 abbrev pub FreePartsAreCommittedBySize : Type 0
 FreePartsAreCommittedBySize =
-    (granule number : ℕ) (held : List Chunk) (slots : List ℕ) (part : Span) → IsGranule granule
-    → AreHeld granule slots held → Contains (free_parts held slots) part
-    → IsTrue (meet part.start (size_of part.level) (number * granule) granule)
-    → is_committed granule held number ≡ nat_lt (size_of part.level) granule
+    (pool : PoolState) (part : Span) (number : ℕ) → IsSoundPool pool → Contains (free_parts pool.held pool.slots) part
+    → IsTrue (meet part.start (size_of part.level) (number * granule_in pool) (granule_in pool)) → IsCommittedBySize pool part number
 
--- A free part is committed enough for words that it can hold exactly where it is smaller than a
--- granule.
+-- A free part is committed enough for words that it can hold where it is smaller than a granule;
+-- where it is not, it isn't under the policies balanced and aggressive.
+pub record IsEnoughBySize (pool : PoolState) (part : Span) (words : ℕ) : Type 0 where
+  pub small : size_of part.level < granule_in pool → IsTrue (is_committed_enough pool words part)
+  pub large : IsFalse (keeps pool.limits.policy) → granule_in pool ≤ size_of part.level → IsFalse (is_committed_enough pool words part)
+
 abbrev pub EnoughIsBySize : Type 0
 EnoughIsBySize =
-    (pool : PoolState) (part : Span) (words : ℕ) → IsGranule pool.limits.granule
-    → AreHeld pool.limits.granule pool.slots pool.held → Contains (free_parts pool.held pool.slots) part
-    → 1 ≤ words → words ≤ size_of part.level
-    → is_committed_enough pool words part ≡ nat_lt (size_of part.level) pool.limits.granule
+    (pool : PoolState) (part : Span) (words : ℕ) → IsSoundPool pool → Contains (free_parts pool.held pool.slots) part
+    → 1 ≤ words → words ≤ size_of part.level → IsEnoughBySize pool part words
 
 -- The part of the pool of a level that starts at a word is committed enough for words.
 abbrev pub is_enough_at : PoolState → ℕ → ℕ → ℕ → Bool
 is_enough_at pool start level words = is_committed_enough pool words (part_at start level)
 
--- There is committed room for words at a level exactly where a clear part of that level is
--- committed enough for them.
+-- Where there is committed room for words at a level, a clear part of that level is committed enough
+-- for them. The other way round holds under the policies balanced and aggressive: under policy none
+-- the free part around it may not be committed from its start on.
 pub record HasCommittedRoomWhereClear (pool : PoolState) (m words : ℕ) : Type 0 where
-  pub room : (start : ℕ) → IsClearIn pool start m → IsTrue (is_enough_at pool start m words) → IsTrue (has_committed_room pool m words)
+  pub room :
+      IsFalse (keeps pool.limits.policy) → (start : ℕ) → IsClearIn pool start m → IsTrue (is_enough_at pool start m words)
+      → IsTrue (has_committed_room pool m words)
   pub clear : IsTrue (has_committed_room pool m words) → (start : ℕ) × IsClearIn pool start m × IsTrue (is_enough_at pool start m words)
   pub full : ((start : ℕ) → IsClearIn pool start m → IsFalse (is_enough_at pool start m words)) → IsFalse (has_committed_room pool m words)
 
 abbrev pub CommittedRoomIsClear : Type 0
 CommittedRoomIsClear =
-    (pool : PoolState) (m words : ℕ) → m ≤ 12 → 1 ≤ words → words ≤ size_of m → IsGranule pool.limits.granule
-    → AreHeld pool.limits.granule pool.slots pool.held → HasCommittedRoomWhereClear pool m words
+    (pool : PoolState) (m words : ℕ) → m ≤ 12 → 1 ≤ words → words ≤ size_of m → IsSoundPool pool → HasCommittedRoomWhereClear pool m words
 
 -- The words of a part.
 abbrev pub words_of_part : Span → ℕ × ℕ
@@ -137,7 +141,7 @@ runs_in_roots held slots = map words_of held ++ map words_of_part (free_parts he
 -- none.
 abbrev pub RootsAreCoveredOnce : Type 0
 RootsAreCoveredOnce =
-    (granule word : ℕ) (held : List Chunk) (slots : List ℕ) → AreHeld granule slots held → IsStrictlyIncreasing slots
+    (policy : Policy) (word : ℕ) (held : List Chunk) (slots : List ℕ) → AreHeld policy slots held → IsStrictlyIncreasing slots
     → count_by (λ run. lies_in (word, 1) run) (runs_in_roots held slots) ≡ cond (is_reserved slots (slot_of word)) 1 0
 
 -- Two lists of chunks are alike where each test that some chunk of the one passes, some chunk of
@@ -146,9 +150,22 @@ abbrev pub AreAlike : List Chunk → List Chunk → Type 0
 AreAlike held other = (test : Chunk → Bool) → list_any test held ≡ list_any test other
 
 -- Alike chunks leave the same free parts and the same granules committed.
-pub record LeavesTheSame (granule : ℕ) (slots : List ℕ) (held other : List Chunk) : Type 0 where
+pub record LeavesTheSame (policy : Policy) (before slots : List ℕ) (held other : List Chunk) : Type 0 where
   pub free : free_parts held slots ≡ free_parts other slots
-  pub committed : committed_granules granule held slots ≡ committed_granules granule other slots
+  pub committed : committed_with policy before held slots ≡ committed_with policy before other slots
 
 abbrev pub AlikeChunksLeaveTheSame : Type 0
-AlikeChunksLeaveTheSame = (granule : ℕ) (slots : List ℕ) (held other : List Chunk) → AreAlike held other → LeavesTheSame granule slots held other
+AlikeChunksLeaveTheSame =
+    (policy : Policy) (before slots : List ℕ) (held other : List Chunk) → AreAlike held other → LeavesTheSame policy before slots held other
+
+-- The pool with other held chunks.
+abbrev pub with_held : PoolState → List Chunk → PoolState
+with_held pool other = record pool { held = other }
+
+-- The pool answers the same with the other chunks, want of memory aside.
+pub record AnswersTheSame (pool : PoolState) (other : List Chunk) : Type 0 where
+  pub taking : (p m words : ℕ) → taken (with_held pool other) p m words ≡ taken pool p m words
+  pub growing : (chunk : Chunk) (total : ℕ) (may_enlarge : Bool) → grown (with_held pool other) chunk total may_enlarge ≡ grown pool chunk total may_enlarge
+
+abbrev pub AlikeChunksAnswerTheSame : Type 0
+AlikeChunksAnswerTheSame = (pool : PoolState) (other : List Chunk) → AreAlike pool.held other → AnswersTheSame pool other

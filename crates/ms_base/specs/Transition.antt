@@ -1,22 +1,27 @@
 -- The steps of the interval machine: what a request may do, and why it may be refused.
-use Rattle.std.specs.Prelude.{◌≡◌, ℕ, ◌+◌, ◌<◌, ◌≤◌, ◌^◌, ◌-◌, ◌⊎◌, List, [], ◌∷◌, ◌++◌, length, replicate, slice_get, slice_set, Some, None}
+use Rattle.std.specs.Prelude.{◌≡◌, ℕ, ◌+◌, ◌<◌, ◌≤◌, ◌^◌, ◌⊎◌, List, [], ◌∷◌, ◌++◌, length, replicate, slice_get, slice_set, Some, None, IsTrue}
 use Rattle.std.specs.List.{filter}
+use Rattle.ms_base.specs.declared.kind.Space.{Space}
+use Rattle.ms_base.specs.declared.kind.Space.TheVariants.{NonClass, Class}
+use Rattle.ms_base.specs.declared.policy.Policy.{Policy}
 use Rattle.ms_base.specs.declared.span.Chunk.{Chunk}
 use Rattle.ms_base.specs.declared.words.LiveBlock.{LiveBlock}
 use Rattle.ms_base.specs.declared.step.Step.{Step}
-use Rattle.ms_base.specs.declared.step.Step.TheVariants.{New, Alloc, Write, Read, Free, Unload, Purge}
+use Rattle.ms_base.specs.declared.step.Step.TheVariants.{New, Alloc, Calloc, Write, Read, Free, Unload, Purge}
 use Rattle.ms_base.specs.declared.step.Reply.{Reply}
 use Rattle.ms_base.specs.declared.step.Reply.TheVariants.{Ok as Done, At, Value, Refused}
 use Rattle.ms_base.specs.declared.refusal.Refusal.{Refusal}
 use Rattle.ms_base.specs.declared.refusal.Refusal.TheVariants.{ZeroWords, TooLarge, CommitLimit, ReserveLimit, OutOfRange, OutOfMemory, NoLoader, LoaderExists, NoBlock, BlockExists, IdsUsedUp}
-use Rattle.ms_base.specs.Level.{size_of, level_that_holds}
+use Rattle.ms_base.specs.Level.{root_words, size_of, level_that_holds}
+use Rattle.ms_base.specs.Spaces.{is_in, space_at}
 use Rattle.ms_base.specs.Held.{has_chunk_in}
 use Rattle.ms_base.specs.Names.{named, with_new, with_changed, without}
 use Rattle.ms_base.specs.Front.{front_for}
 use Rattle.ms_base.specs.PoolSteps.{slots_with}
 use Rattle.ms_base.specs.Causes.{ReserveCause, CommitCause}
-use Rattle.ms_base.specs.State.{ArenaState, LoaderState, Machine, empty_loader, chunks_held, pool_of}
+use Rattle.ms_base.specs.State.{ArenaState, LoaderState, Machine, empty_loader, arena_of, with_arena, chunks_held, slots_in, with_slots, pool_of, recommitted}
 use Rattle.ms_base.specs.Live.{block_words}
+use Rattle.ms_base.specs.Asks.{wanted_level}
 use Rattle.ms_base.specs.Good.{IsGood}
 
 -- The loader of that name is this one.
@@ -57,7 +62,7 @@ pub record IsGrown (old new : Chunk) : Type 0 where
   pub level : (new.level ≡ old.level) ⊎ (old.level ≡ new.level + 1)
   pub front : old.front < new.front
 
--- An arena's chunks and the reserved slots as a request for n words may change them.
+-- An arena's chunks and the reserved slots of its space, as a request for n words may change them.
 pub record Change : Type 0 where
   pub chunks : List Chunk
   pub slots : List ℕ
@@ -73,33 +78,36 @@ pub record GrowsOne (old new : Change) : Type 0 where
   pub slots : new.slots ≡ old.slots
 
 -- One chunk is added last, in a reserved slot or in one that is reserved for it.
-pub record AddsOne (granule n : ℕ) (old new : Change) : Type 0 where
+pub record AddsOne (policy : Policy) (n : ℕ) (old new : Change) : Type 0 where
   pub added : Chunk
-  pub front : added.front ≡ front_for granule (size_of added.level) n
+  pub front : added.front ≡ front_for policy (size_of added.level) n
   pub chunks : new.chunks ≡ old.chunks ++ added ∷ []
   pub slots : new.slots ≡ slots_with old.slots added.start
 
 -- A request for n words leaves the chunks, grows one, or adds one.
-abbrev pub MayChange : ℕ → ℕ → Change → Change → Type 0
-MayChange granule n old new = (new ≡ old) ⊎ GrowsOne old new ⊎ AddsOne granule n old new
+abbrev pub MayChange : Policy → ℕ → Change → Change → Type 0
+MayChange policy n old new = (new ≡ old) ⊎ GrowsOne old new ⊎ AddsOne policy n old new
 
--- An allocation that is served: the loader has one block more, new zeros, and its arena may change
--- as above. Where the block lies, which tops rise and what is kept are left open: the good state
--- says that it fits.
-pub record Allocates (old : Machine) (name block words start : ℕ) (new : Machine) : Type 0 where
+-- The loader with a new block of zeros, and another arena in a space.
+abbrev pub with_allocated : Space → LoaderState → ArenaState → ℕ → LiveBlock → LoaderState
+with_allocated space loader arena name block = with_arena space (record loader { blocks = with_new loader.blocks name block }) arena
+
+-- An allocation that is served in a space: the loader has one block more, new zeros in that space,
+-- and its arena there may change as above; the committed granules follow. Where the block lies,
+-- which tops rise and what is kept are left open: the good state says that it fits.
+pub record Allocates (old : Machine) (space : Space) (name block words start : ℕ) (new : Machine) : Type 0 where
   pub some : 1 ≤ words
-  pub fits : words ≤ 524288
+  pub fits : words ≤ root_words
   pub before : LoaderState
   pub arena : ArenaState
   pub slots : List ℕ
   pub found : HasLoader old name before
   pub unused : named before.blocks block ≡ None
-  pub changes : MayChange old.limits.granule (block_words words)
-      (record { chunks = before.arena.chunks; slots = old.slots }) (record { chunks = arena.chunks; slots = slots })
-  pub after : new ≡ record old {
-    loaders = with_changed old.loaders name (record before { arena = arena; blocks = with_new before.blocks block (zeroed start (block_words words)) });
-    slots = slots;
-  }
+  pub inside : IsTrue (is_in space start)
+  pub changes : MayChange old.limits.policy (block_words words)
+      (record { chunks = (arena_of space before).chunks; slots = slots_in space old }) (record { chunks = arena.chunks; slots = slots })
+  pub after : new
+      ≡ recommitted (with_slots space (with_loader old name (with_allocated space before arena block (zeroed start (block_words words)))) slots)
 
 -- A word of a block is written.
 pub record Writes (old : Machine) (name block index value : ℕ) (new : Machine) : Type 0 where
@@ -117,33 +125,39 @@ pub record Reads (old : Machine) (name block index value : ℕ) (new : Machine) 
   pub word : slice_get found.contents index ≡ Some value
   pub after : new ≡ old
 
--- A block is freed: it is live no more, and what its arena keeps may change.
+-- The loader without a block, and with other free blocks in a space.
+abbrev pub with_freed : Space → LoaderState → ℕ → List (ℕ × ℕ) → LoaderState
+with_freed space loader name kept =
+    with_arena space (record loader { blocks = without loader.blocks name }) (record (arena_of space loader) { kept = kept })
+
+-- A block is freed: it is live no more, and what the arena of its space keeps may change.
 pub record Frees (old : Machine) (name block : ℕ) (new : Machine) : Type 0 where
   pub loader : LoaderState
   pub found : LiveBlock
   pub kept : List (ℕ × ℕ)
   pub has : HasBlock old name block loader found
-  pub after : new ≡ with_loader old name (record loader { arena = record loader.arena { kept = kept }; blocks = without loader.blocks block })
+  pub after : new ≡ with_loader old name (with_freed (space_at found.start) loader block kept)
 
--- A loader is unloaded: all that was its own goes with it.
+-- A loader is unloaded: all that was its own goes with it, and the committed granules follow.
 pub record Unloads (old : Machine) (name : ℕ) (new : Machine) : Type 0 where
   pub loader : LoaderState
   pub has : HasLoader old name loader
-  pub after : new ≡ record old { loaders = without old.loaders name }
+  pub after : new ≡ recommitted (record old { loaders = without old.loaders name })
 
--- A loader is made, with nothing of its own but an owner number.
+-- A loader is made, with nothing of its own but an owner number for each of its arenas.
 pub record Makes (old : Machine) (name : ℕ) (loader : LoaderState) (new : Machine) : Type 0 where
   pub unused : LacksLoader old name
-  pub after : new ≡ record old { loaders = with_new old.loaders name loader; given = old.given + 1 }
+  pub after : new ≡ record old { loaders = with_new old.loaders name loader; given = old.given + 2 }
 
--- The nodes without a chunk go.
+-- The nodes without a chunk go, and their granules; the class space's nodes stay.
 abbrev pub purged : Machine → Machine
-purged m = record m { slots = filter (has_chunk_in (chunks_held m.loaders)) m.slots }
+purged m = recommitted (record m { slots = filter (has_chunk_in (chunks_held NonClass m.loaders)) m.slots })
 
 -- What each request that is served changes, and what it is answered. No other reply is given.
 abbrev pub Serves : Machine → Step → Reply → Machine → Type 0
 Serves old (New name kind) Done new = Makes old name (empty_loader kind) new
-Serves old (Alloc name block words) (At start) new = Allocates old name block words start new
+Serves old (Alloc name block words) (At start) new = Allocates old NonClass name block words start new
+Serves old (Calloc name block words) (At start) new = Allocates old Class name block words start new
 Serves old (Write name block index value) Done new = Writes old name block index value new
 Serves old (Read name block index) (Value value) new = Reads old name block index value new
 Serves old (Free name block) Done new = Frees old name block new
@@ -174,28 +188,38 @@ pub record IsPast (m : Machine) (name block index words : ℕ) : Type 0 where
 pub record IsServable (m : Machine) (name block words : ℕ) : Type 0 where
   pub lacks : LacksBlock m name block
   pub some : 1 ≤ words
-  pub fits : words ≤ 524288
+  pub fits : words ≤ root_words
 
--- Why a loader is not made, in the order of the checks: the name is taken, the owner numbers are
--- used up, memory is wanting.
+-- Two owner numbers are left of 1 to 2^32 - 1, one for each of a loader's arenas.
+abbrev pub HasOwnerNumbers : Machine → Type 0
+HasOwnerNumbers m = m.given + 2 < 2 ^ 32
+
+-- Why a loader is not made, in the order of the checks: the name is taken, fewer than two owner
+-- numbers are left, memory is wanting.
 abbrev pub NewCause : Machine → ℕ → Refusal → Type 0
 NewCause m name LoaderExists = LoaderIsThere m name
-NewCause m name IdsUsedUp = LacksLoader m name × (m.given ≡ 2 ^ 32 - 1)
-NewCause m name OutOfMemory = LacksLoader m name × (m.given < 2 ^ 32 - 1)
+NewCause m name IdsUsedUp = LacksLoader m name × (2 ^ 32 ≤ m.given + 2)
+NewCause m name OutOfMemory = LacksLoader m name × HasOwnerNumbers m
 NewCause m name _ = ⊥
 
--- Why a block is not allocated, in the order of the checks.
-abbrev pub AllocCause : Machine → ℕ → ℕ → ℕ → Refusal → Type 0
-AllocCause m name block words NoLoader = LacksLoader m name
-AllocCause m name block words BlockExists = BlockIsThere m name block
-AllocCause m name block words ZeroWords = LacksBlock m name block × (words ≡ 0)
-AllocCause m name block words TooLarge = LacksBlock m name block × (524288 < words)
-AllocCause m name block words (ReserveLimit nodes limit) =
-    IsServable m name block words × ReserveCause (pool_of m) (level_that_holds (block_words words)) nodes limit
-AllocCause m name block words (CommitLimit committed limit need) =
-    IsServable m name block words × CommitCause (pool_of m) (level_that_holds (block_words words)) (block_words words) committed limit need
-AllocCause m name block words OutOfMemory = IsServable m name block words
-AllocCause m name block words _ = ⊥
+-- The commit limit is met by a loader's request for so many words in a space, with these numbers.
+pub record CommitsTooMuch (m : Machine) (space : Space) (name words committed limit need : ℕ) : Type 0 where
+  pub loader : LoaderState
+  pub has : HasLoader m name loader
+  pub cause : CommitCause (pool_of space m) (wanted_level loader.kind space (arena_of space loader) words) (level_that_holds words) words committed limit need
+
+-- Why a block is not allocated in a space, in the order of the checks.
+abbrev pub AllocCause : Machine → Space → ℕ → ℕ → ℕ → Refusal → Type 0
+AllocCause m space name block words NoLoader = LacksLoader m name
+AllocCause m space name block words BlockExists = BlockIsThere m name block
+AllocCause m space name block words ZeroWords = LacksBlock m name block × (words ≡ 0)
+AllocCause m space name block words TooLarge = LacksBlock m name block × (root_words < words)
+AllocCause m space name block words (ReserveLimit nodes limit) =
+    IsServable m name block words × ReserveCause (pool_of space m) (level_that_holds (block_words words)) nodes limit
+AllocCause m space name block words (CommitLimit committed limit need) =
+    IsServable m name block words × CommitsTooMuch m space name (block_words words) committed limit need
+AllocCause m space name block words OutOfMemory = IsServable m name block words
+AllocCause m space name block words _ = ⊥
 
 -- Why a named block is not found, or has no such word.
 abbrev pub BlockCause : Machine → ℕ → ℕ → Refusal → Type 0
@@ -210,7 +234,8 @@ WordCause m name block index refusal = BlockCause m name block refusal
 -- Why a request may be refused.
 abbrev pub Cause : Machine → Step → Refusal → Type 0
 Cause m (New name kind) refusal = NewCause m name refusal
-Cause m (Alloc name block words) refusal = AllocCause m name block words refusal
+Cause m (Alloc name block words) refusal = AllocCause m NonClass name block words refusal
+Cause m (Calloc name block words) refusal = AllocCause m Class name block words refusal
 Cause m (Write name block index value) refusal = WordCause m name block index refusal
 Cause m (Read name block index) refusal = WordCause m name block index refusal
 Cause m (Free name block) refusal = BlockCause m name block refusal
@@ -219,9 +244,9 @@ Cause m (Unload name) _ = ⊥
 Cause m Purge _ = ⊥
 
 -- What a refusal leaves: all as it was, but that a loader which was refused for want of memory may
--- have used up an owner number.
+-- have used up its owner numbers.
 abbrev pub Leaves : Machine → Step → Refusal → Machine → Type 0
-Leaves old (New name kind) OutOfMemory new = (new ≡ old) ⊎ (new ≡ record old { given = old.given + 1 })
+Leaves old (New name kind) OutOfMemory new = (new ≡ old) ⊎ (new ≡ record old { given = old.given + 2 })
 Leaves old _ _ new = new ≡ old
 
 -- From old, the machine may give this reply to the request and go on to new.

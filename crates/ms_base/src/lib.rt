@@ -13,8 +13,10 @@
 mod kind;
 pub mod laws;
 mod level;
+mod policy;
 mod refusal;
 mod settings;
+mod sizes;
 mod span;
 mod step;
 #[cfg(test)]
@@ -23,8 +25,10 @@ mod words;
 
 pub use kind::{Kind, Space, growth};
 pub use level::{Level, level_for};
+pub use policy::{Policy, granule};
 pub use refusal::Refusal;
 pub use settings::Settings;
+pub use sizes::{CLASS_SLOTS, NODE_WORDS, ROOT_WORDS, SLOTS};
 pub use span::{Block, Chunk, Span, share_word};
 pub use step::{Reply, Step};
 pub use words::{LiveBlock, Words};

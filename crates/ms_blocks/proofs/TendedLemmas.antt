@@ -120,13 +120,13 @@ tended_without blocks rest n found room places after count total tended e shrink
     })
 
 -- What an addition makes of the fields.
-pub record Adds (f : Inside) (block : Block) (grown : Tree) : Type 0 where
+pub record Adds {A : Type 0} (f : Inside A) (block : Block) (grown : Tree A) : Type 0 where
   pub sum_fits : f.total + block.words < 2 ^ 64
   pub tended : (left : ℕ) → left + 1 ≡ vec_len f.spare
       → AreTended (blocks_of grown) left (vec_capacity f.spare) (f.count + 1) (f.total + block.words)
   pub runs : by_start (blocks_of grown) ≡ with_new (by_start (blocks_of f.tree)) block.start block.words
 
-pub adds : (f : Inside) (block : Block) (grown : Tree) → IsTended f
+pub adds : {A : Type 0} (f : Inside A) (block : Block) (grown : Tree A) → IsTended f
     → MayBeKept (by_start (blocks_of f.tree)) (run_of block)
     → (IsRanked (blocks_of f.tree) → blocks_of grown ≡ with_ranked (blocks_of f.tree) block)
     → Adds f block grown
@@ -146,7 +146,7 @@ fit_may_be_kept blocks n found differ laid e =
     (subst (LieFrom 0) split.0 laid) split.1
 
 -- What a removal makes of the fields, with a fit and without one.
-pub record Takes (f : Inside) (words : ℕ) (found : Block) (rest : Tree) : Type 0 where
+pub record Takes {A : Type 0} (f : Inside A) (words : ℕ) (found : Block) (rest : Tree A) : Type 0 where
   pub counted : 1 ≤ f.count
   pub summed : found.words ≤ f.total
   pub tended : (places : ℕ) → vec_capacity f.spare ≤ places
@@ -155,7 +155,7 @@ pub record Takes (f : Inside) (words : ℕ) (found : Block) (rest : Tree) : Type
   pub runs : by_start (blocks_of rest) ≡ without (by_start (blocks_of f.tree)) found.start
   pub back : MayBeKept (by_start (blocks_of rest)) (run_of found)
 
-pub takes : (f : Inside) (words : ℕ) (found : Block) (rest : Tree) → IsTended f
+pub takes : {A : Type 0} (f : Inside A) (words : ℕ) (found : Block) (rest : Tree A) → IsTended f
     → (IsRanked (blocks_of f.tree) → first_fit (blocks_of f.tree) words ≡ Some found)
     → (IsRanked (blocks_of f.tree) → blocks_of rest ≡ without_fit (blocks_of f.tree) words) → Takes f words found rest
 takes f words found rest tended found_is left =
@@ -172,11 +172,11 @@ takes f words found rest tended found_is left =
           (fit_may_be_kept blocks words found tended.differ tended.laid e);
     }
 
-pub record Misses (f : Inside) (words : ℕ) (rest : Tree) : Type 0 where
+pub record Misses {A : Type 0} (f : Inside A) (words : ℕ) (rest : Tree A) : Type 0 where
   pub same : blocks_of f.tree ≡ blocks_of rest
   pub none : NoneFits (by_start (blocks_of f.tree)) words
 
-pub misses : (f : Inside) (words : ℕ) (rest : Tree) → IsTended f
+pub misses : {A : Type 0} (f : Inside A) (words : ℕ) (rest : Tree A) → IsTended f
     → (IsRanked (blocks_of f.tree) → first_fit (blocks_of f.tree) words ≡ None)
     → (IsRanked (blocks_of f.tree) → blocks_of rest ≡ without_fit (blocks_of f.tree) words) → Misses f words rest
 misses f words rest tended none left = record {

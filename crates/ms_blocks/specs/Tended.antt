@@ -7,7 +7,7 @@ use Rattle.ms_blocks.specs.Rank.{IsRanked}
 use Rattle.ms_blocks.specs.Tree.{blocks_of}
 
 -- The tree's blocks as runs, and as much room as there are spare nodes.
-abbrev pub kept_blocks : Inside → KeptBlocks
+abbrev pub kept_blocks : {A : Type 0} → Inside A → KeptBlocks
 kept_blocks f = record { kept = by_start (blocks_of f.tree); room = vec_len f.spare }
 
 -- The blocks are in rank, their runs lie apart, they are counted and summed, and the spare nodes
@@ -20,5 +20,5 @@ pub record AreTended (blocks : List Block) (room places count total : ℕ) : Typ
   pub summed : total ≡ words_in (by_start blocks)
   pub placed : room + count ≤ places
 
-abbrev pub IsTended : Inside → Type 0
+abbrev pub IsTended : {A : Type 0} → Inside A → Type 0
 IsTended f = AreTended (blocks_of f.tree) (vec_len f.spare) (vec_capacity f.spare) f.count f.total

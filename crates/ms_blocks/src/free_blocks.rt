@@ -15,21 +15,21 @@ ghost use Rattle.ms_blocks.specs.FreeBlocks.{KeptBlocks, AreKept, MayBeKept, IsB
 
 use crate::tree::{Fork, Tree, insert, take_fit};
 use ms_base::{Block, Refusal};
-use std::alloc::{AllocError, Global};
+use std::alloc::{AllocError, Allocator, Global};
 use std::marker::Model;
 
 /// The words that an arena keeps for its next allocations: blocks that don't meet, each of at
 /// least two words, and room for more of them. A start is a word number, and a size is in words.
 /// Adding and removing take time that grows like the logarithm of the blocks kept.
 #[derive(Drop)]
-pub struct FreeBlocks {
-    tree: Tree,
-    spare: Vec<Box<Fork>>,
+pub struct FreeBlocks<A: Allocator = Global> {
+    tree: Tree<A>,
+    spare: Vec<Box<Fork<A>, A>, A>,
     count: usize,
     total: u64,
 }
 
-impl Model for FreeBlocks {
+impl<A: Allocator> Model for FreeBlocks<A> {
     ghost use Rattle.ms_blocks.specs.FreeBlocks.{KeptBlocks};
 
     ghost Value = { KeptBlocks };
@@ -41,10 +41,10 @@ impl Model for FreeBlocks {
     ghost invariant = { IsTended };
 }
 
-impl FreeBlocks {
+impl<A: Allocator> FreeBlocks<A> {
     /// Makes an empty collection with no room, which takes its memory from the allocator. Takes
     /// none yet.
-    pub fn new(alloc: Global) -> FreeBlocks
+    pub fn new(alloc: A) -> FreeBlocks<A>
         ensures { result ≡ record { kept = []; room = 0 } }
     {
         FreeBlocks {
@@ -52,28 +52,6 @@ impl FreeBlocks {
             spare: Vec::new(alloc),
             count: 0,
             total: 0,
-        }
-    }
-
-    /// Makes room for `n` more blocks, where there is less; the blocks stay. Answers OutOfMemory
-    /// where a growth was refused, and then blocks and room are as before. The memory of a block
-    /// that is removed stays as room. This project's choice.
-    pub fn reserve(&mut self, n: usize) -> Result<(), Refusal>
-        ensures ok { OnOk result (self.new ≡ record self.old { room = max self.old.room n }) }
-        ensures enough { n ≤ self.old.room → IsOk result }
-        ensures refusal { IfErr result (λ refusal. refusal ≡ Refusal.OutOfMemory) }
-        ensures unchanged { OnErr result (self.new ≡ self.old) }
-    {
-        let room = self.spare.len();
-        if n <= room {
-            return Ok(());
-        }
-        match fill(&mut self.spare, n, self.count) {
-            Ok(()) => Ok(()),
-            Err(_) => {
-                self.spare.truncate(room);
-                Err(Refusal::OutOfMemory)
-            }
         }
     }
 
@@ -147,19 +125,47 @@ impl FreeBlocks {
     }
 }
 
+impl<A: Allocator + Clone> FreeBlocks<A> {
+    /// Makes room for `n` more blocks, where there is less; the blocks stay. Answers OutOfMemory
+    /// where a growth was refused, and then blocks and room are as before. The memory of a block
+    /// that is removed stays as room. This project's choice.
+    pub fn reserve(&mut self, n: usize) -> Result<(), Refusal>
+        ensures ok { OnOk result (self.new ≡ record self.old { room = max self.old.room n }) }
+        ensures enough { n ≤ self.old.room → IsOk result }
+        ensures refusal { IfErr result (λ refusal. refusal ≡ Refusal.OutOfMemory) }
+        ensures unchanged { OnErr result (self.new ≡ self.old) }
+    {
+        let room = self.spare.len();
+        if n <= room {
+            return Ok(());
+        }
+        match fill(&mut self.spare, n, self.count) {
+            Ok(()) => Ok(()),
+            Err(_) => {
+                self.spare.truncate(room);
+                Err(Refusal::OutOfMemory)
+            }
+        }
+    }
+}
+
 /// Fills up to so many spare forks, with places for those of the tree. A refusal leaves what was
 /// made.
-fn fill(spare: &mut Vec<Box<Fork>>, room: usize, count: usize) -> Result<(), AllocError>
+fn fill<A: Allocator + Clone>(
+    spare: &mut Vec<Box<Fork<A>, A>, A>,
+    room: usize,
+    count: usize,
+) -> Result<(), AllocError>
     requires { vec_len spare.old < room }
     ensures filled { OnOk result (vec_len spare.new ≡ room) }
     ensures places { OnOk result (room + count ≤ vec_capacity spare.new) }
     ensures longer { vec_len spare.old ≤ vec_len spare.new }
     ensures larger { vec_capacity spare.old ≤ vec_capacity spare.new }
 {
-    let alloc = *spare.allocator();
     // All places first, so that what can't be had is refused at once.
     spare.reserve(room - spare.len())?;
     for _ in spare.len()..room {
+        let alloc = spare.allocator().clone()?;
         spare.push(Box::new(alloc, Fork::spare())?)?;
     }
     spare.reserve(count)

@@ -17,28 +17,29 @@ ghost use Rattle.ms_blocks.specs.Rank.{IsRanked, ranks_before, with_ranked, firs
 ghost use Rattle.ms_blocks.specs.Tree.{blocks_of};
 
 use ms_base::Block;
+use std::alloc::Allocator;
 use std::mem;
 
 /// A tree of blocks: empty, or forked at one of them.
 #[cycle(tree)]
 #[derive(Drop)]
-pub enum Tree {
+pub enum Tree<A: Allocator> {
     Empty,
-    Forked(Box<Fork>),
+    Forked(Box<Fork<A>, A>),
 }
 
 /// A block, and the trees of those that rank before and behind it.
 #[cycle(tree)]
 #[derive(Drop)]
-pub struct Fork {
-    left: Tree,
+pub struct Fork<A: Allocator> {
+    left: Tree<A>,
     pub block: Block,
-    right: Tree,
+    right: Tree<A>,
 }
 
-impl Fork {
+impl<A: Allocator> Fork<A> {
     /// Makes a fork that is in no tree yet.
-    pub fn spare() -> Fork {
+    pub fn spare() -> Fork<A> {
         Fork {
             left: Tree::Empty,
             block: Block { start: 0, words: 0 },
@@ -48,7 +49,7 @@ impl Fork {
 }
 
 /// Adds the spare fork's block to those of a ranked tree.
-pub fn insert(tree: &mut Tree, spare: Box<Fork>)
+pub fn insert<A: Allocator>(tree: &mut Tree<A>, spare: Box<Fork<A>, A>)
     ensures { IsRanked (blocks_of tree.old) →
         blocks_of tree.new ≡ with_ranked (blocks_of tree.old) spare.value.block }
 {
@@ -56,7 +57,7 @@ pub fn insert(tree: &mut Tree, spare: Box<Fork>)
 }
 
 /// Takes the first block of a ranked tree that has so many words, with its fork.
-pub fn take_fit(tree: &mut Tree, words: u64) -> Option<Box<Fork>>
+pub fn take_fit<A: Allocator>(tree: &mut Tree<A>, words: u64) -> Option<Box<Fork<A>, A>>
     ensures found { IsRanked (blocks_of tree.old) →
         first_fit (blocks_of tree.old) words ≡ option_map (λ fork. fork.value.block) result }
     ensures left { IsRanked (blocks_of tree.old) →
@@ -68,7 +69,7 @@ pub fn take_fit(tree: &mut Tree, words: u64) -> Option<Box<Fork>>
 }
 
 /// The tree with a fork more: it goes on top of the first tree on its way that weighs less.
-fn with_fork(tree: Tree, mut spare: Box<Fork>) -> Tree
+fn with_fork<A: Allocator>(tree: Tree<A>, mut spare: Box<Fork<A>, A>) -> Tree<A>
     ensures { IsRanked (blocks_of tree) →
         blocks_of result ≡ with_ranked (blocks_of tree) spare.value.block }
 {
@@ -93,7 +94,7 @@ fn with_fork(tree: Tree, mut spare: Box<Fork>) -> Tree
 
 /// The tree without its first fit, and that one's fork: the fork on the way that fits, and has
 /// nothing to its left that does.
-fn without_fork(tree: Tree, words: u64) -> (Tree, Option<Box<Fork>>)
+fn without_fork<A: Allocator>(tree: Tree<A>, words: u64) -> (Tree<A>, Option<Box<Fork<A>, A>>)
     ensures found { IsRanked (blocks_of tree) →
         first_fit (blocks_of tree) words ≡ option_map (λ fork. fork.value.block) result.1 }
     ensures left { IsRanked (blocks_of tree) →
@@ -121,7 +122,7 @@ fn without_fork(tree: Tree, words: u64) -> (Tree, Option<Box<Fork>>)
 }
 
 /// Cuts a ranked tree in two: the blocks that rank before the one at hand, and the others.
-fn cut(tree: Tree, at: &Block) -> (Tree, Tree)
+fn cut<A: Allocator>(tree: Tree<A>, at: &Block) -> (Tree<A>, Tree<A>)
     ensures { IsRanked (blocks_of tree) →
         with_ranked (blocks_of tree) at.now ≡ blocks_of result.0 ++ at.now ∷ blocks_of result.1 }
 {
@@ -142,7 +143,7 @@ fn cut(tree: Tree, at: &Block) -> (Tree, Tree)
 }
 
 /// Joins two trees, the blocks of the first before those of the second.
-fn join(before: Tree, behind: Tree) -> Tree
+fn join<A: Allocator>(before: Tree<A>, behind: Tree<A>) -> Tree<A>
     ensures { blocks_of result ≡ blocks_of before ++ blocks_of behind }
 {
     match (before, behind) {
@@ -171,7 +172,7 @@ fn ranks_first(one: &Block, other: &Block) -> bool
 
 /// Draws a weight from the block's start. Two rounds of multiplying, since after one of them
 /// starts at even distances have weights that rise or fall in long runs.
-fn weight(fork: &Fork) -> u64 {
+fn weight<A: Allocator>(fork: &Fork<A>) -> u64 {
     let spread = fork.block.start.wrapping_mul(0x9e37_79b9_7f4a_7c15);
     (spread ^ (spread >> 32)).wrapping_mul(0xd6e8_feb8_6659_fd93)
 }

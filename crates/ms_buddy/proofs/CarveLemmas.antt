@@ -11,7 +11,7 @@ use Rattle.ms_base.specs.declared.refusal.Refusal.TheVariants.{NoRoom, OutOfMemo
 use Rattle.ms_base.specs.Interval.{meet, lies_in}
 use Rattle.ms_base.specs.Level.{size_of}
 use Rattle.ms_base.specs.Part.{IsPart}
-use Rattle.ms_base.proofs.PartLemmas.{parts_are_nested_or_apart}
+use Rattle.ms_base.proofs.free.PartLemmas.{parts_are_nested_or_apart}
 use Rattle.ms_buddy.specs.declared.node.Node.{Node}
 use Rattle.ms_buddy.specs.Leaves.{LentLeaf, IsCarveRefusal, is_same, fits_in, words_of, with_leaf}
 use Rattle.ms_buddy.specs.Tree.{IsInside, IsPlace, IsTree, lent_in, free_in, lent_in_halves, free_in_halves}

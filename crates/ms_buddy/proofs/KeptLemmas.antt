@@ -6,7 +6,7 @@ use Rattle.std.proofs.lemmas.Bool.Decides.{nat_tests}
 use Rattle.ms_base.specs.declared.span.Span.{Span}
 use Rattle.ms_base.specs.declared.refusal.Refusal.{Refusal}
 use Rattle.ms_base.specs.declared.refusal.Refusal.TheVariants.{NoRoom, OutOfMemory}
-use Rattle.ms_base.specs.Level.{size_of}
+use Rattle.ms_base.specs.Level.{root_words, size_of}
 use Rattle.ms_base.specs.Part.{IsPart}
 use Rattle.ms_buddy.specs.declared.node.Node.{Node}
 use Rattle.ms_buddy.specs.declared.node.Node.TheVariants.{Free, Lent, Split'}
@@ -56,7 +56,7 @@ lent_fronts level start (Split' p lower q upper) tree =
 pub are_leaves : {A : Type 0} (node : Node A) → IsTree 0 node → AreLeaves (lent_in 0 0 node)
 are_leaves node tree = record {
   parts = lent_parts 0 0 node tree root_place;
-  in_root = all_weaker (LeafIn 0 524288) (λ leaf. leaf.start + size_of leaf.level ≤ 524288) (λ leaf lies. lies.to) (lent_in 0 0 node) (lent_lies_in 0 0 node tree);
+  in_root = all_weaker (LeafIn 0 root_words) (λ leaf. leaf.start + size_of leaf.level ≤ root_words) (λ leaf lies. lies.to) (lent_in 0 0 node) (lent_lies_in 0 0 node tree);
   fronts = lent_fronts 0 0 node tree;
   in_order = lent_in_order 0 0 node tree;
 }

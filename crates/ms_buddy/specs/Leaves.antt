@@ -9,7 +9,7 @@ use Rattle.ms_base.specs.declared.refusal.Refusal.TheVariants.{NoRoom, OutOfMemo
 use Rattle.ms_buddy.specs.declared.node.Leaf.{Leaf}
 use Rattle.ms_buddy.specs.declared.node.Leaf.TheVariants.{Free, Lent}
 use Rattle.ms_base.specs.Interval.{lies_in}
-use Rattle.ms_base.specs.Level.{size_of}
+use Rattle.ms_base.specs.Level.{root_words, size_of}
 use Rattle.ms_base.specs.Part.{IsPart, is_leader, buddy_start}
 use Rattle.ms_base.specs.FreeParts.{free_within}
 
@@ -113,6 +113,6 @@ AreInOrder (leaf ∷ lent) = AllByRecursion (λ later. leaf.start + size_of leaf
 -- and fits, and they stand in order of address and share no word.
 pub record AreLeaves (lent : List LentLeaf) : Type 0 where
   pub parts : AllByRecursion (λ leaf. IsPart leaf.start leaf.level) lent
-  pub in_root : AllByRecursion (λ leaf. leaf.start + size_of leaf.level ≤ 524288) lent
+  pub in_root : AllByRecursion (λ leaf. leaf.start + size_of leaf.level ≤ root_words) lent
   pub fronts : AllByRecursion (λ leaf. (0 < leaf.front) × (leaf.front ≤ size_of leaf.level)) lent
   pub in_order : AreInOrder lent

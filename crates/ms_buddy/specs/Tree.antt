@@ -1,7 +1,7 @@
 -- What a node of the split tree stands for, given its level and where it starts.
 use Rattle.std.specs.Prelude.{◌≡◌, ℕ, ◌+◌, ◌<◌, ◌≤◌, ◌%◌, Bool, true, false, ◌&&◌, List, [], ◌∷◌, ◌++◌, Option, Some, None, IsFalse}
 use Rattle.ms_base.specs.declared.span.Span.{Span}
-use Rattle.ms_base.specs.Level.{size_of}
+use Rattle.ms_base.specs.Level.{root_words, size_of}
 use Rattle.ms_buddy.specs.Leaves.{LentLeaf}
 use Rattle.ms_buddy.specs.declared.node.Node.{Node}
 use Rattle.ms_buddy.specs.declared.node.Node.TheVariants.{Free, Lent, Split'}
@@ -10,7 +10,7 @@ use Rattle.ms_buddy.specs.declared.node.Node.TheVariants.{Free, Lent, Split'}
 pub record IsPlace (level start : ℕ) : Type 0 where
   pub level_fits : level ≤ 12
   pub aligned : start % size_of level ≡ 0
-  pub in_root : start + size_of level ≤ 524288
+  pub in_root : start + size_of level ≤ root_words
 
 -- The node is one free leaf.
 abbrev pub is_free : {A : Type 0} → Node A → Bool

@@ -6,6 +6,7 @@
 //! `with_lent` alone, and given back as halves merge.
 ghost use Rattle.std.specs.Prelude.{◌≡◌, ℕ, ◌+◌, ◌*◌, ◌<◌, ◌≤◌, ◌&&◌, ◌↔◌, false, [], ◌∷◌, Some, IsTrue, IsFalse, IfSome, OnSome, IfNone, IsOk, IfOk, OnOk, IfErr, OnErr};
 ghost use Rattle.std.specs.List.{find};
+ghost use Rattle.ms_base.specs.declared.sizes.TheConstants.{ROOT_WORDS};
 ghost use Rattle.ms_base.specs.Level.{size_of};
 ghost use Rattle.ms_base.specs.Part.{IsPart};
 ghost use Rattle.ms_buddy.specs.Leaves.{IsCarveRefusal, IsLeafAt, can_enlarge, covers, fits_in, is_lent, leaf_of, with_front, with_leaf, with_parent, without_leaf};
@@ -35,7 +36,7 @@ pub(crate) fn half_of(level: u8) -> u64
     requires { level < 12 }
     ensures size { result ≡ size_of (level + 1) }
     ensures some { 0 < result }
-    ensures small { result ≤ 524288 }
+    ensures small { result ≤ ROOT_WORDS }
 {
     Level::new(level + 1).words()
 }

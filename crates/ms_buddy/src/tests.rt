@@ -1,6 +1,7 @@
 //! What no clause says: that a call succeeds where memory is ample, that it gives back what it took
 //! where it is refused, and rows worked by hand.
 ghost use Rattle.std.specs.Prelude.{◌<◌, ◌≤◌};
+ghost use Rattle.ms_base.specs.declared.sizes.TheConstants.{ROOT_WORDS};
 
 use super::{Leaf, SplitTree};
 use linked_list_allocator::LocalHeap;
@@ -11,7 +12,7 @@ use std::test::Fail;
 
 /// Releases the leaf that covers the offset, where it is lent.
 fn release_at<A: Allocator>(tree: &mut SplitTree<A>, offset: u64) -> Option<Span>
-    requires { offset < 524288 }
+    requires { offset < ROOT_WORDS }
 {
     match tree.leaf_at(offset) {
         (_, Leaf::Free) => None,
@@ -25,7 +26,7 @@ fn enlarge_at<A: Allocator>(
     offset: u64,
     front: u64,
 ) -> Option<Result<Span, Refusal>>
-    requires { offset < 524288 }
+    requires { offset < ROOT_WORDS }
 {
     match tree.leaf_at(offset) {
         (_, Leaf::Free) => None,
@@ -41,7 +42,7 @@ fn enlarge_at<A: Allocator>(
 /// Changes the front of the leaf that covers the offset, where it is lent and the front is in
 /// range.
 fn set_front_at<A: Allocator>(tree: &mut SplitTree<A>, offset: u64, front: u64)
-    requires { offset < 524288 }
+    requires { offset < ROOT_WORDS }
 {
     if let (span, Leaf::Lent { .. }) = tree.leaf_at(offset) {
         if front > 0 && front <= span.level.words() {

@@ -20,6 +20,7 @@
 //! After RootChunkArea in HotSpot's rootChunkArea.hpp, which has a list in place of the tree.
 ghost use Rattle.std.specs.Prelude.{◌≡◌, ◌+◌, ◌*◌, ◌%◌, ◌<◌, ◌≤◌, ◌≢◌, ◌↔◌, [], ◌∷◌, Some, Err, IsTrue, IsFalse, IsOk, IfOk, OnOk, IfErr, OnErr};
 ghost use Rattle.std.specs.List.{find};
+ghost use Rattle.ms_base.specs.declared.sizes.TheConstants.{ROOT_WORDS};
 ghost use Rattle.ms_base.specs.Level.{size_of};
 ghost use Rattle.ms_buddy.specs.Leaves.{AreLeaves, IsCarveRefusal, IsLeafAt, can_enlarge, covers, fits_in, free_of, is_lent, leaf_of, parent_of, root, span_at, with_front, with_leaf, with_parent, without_leaf};
 
@@ -29,7 +30,7 @@ use ms_base::{Level, Refusal, Span};
 use std::alloc::Allocator;
 use std::marker::Model;
 
-/// The split tree of one root chunk of 524288 words, which are numbered from 0. Contracts see the
+/// The split tree of one root chunk, whose words are numbered from 0. Contracts see the
 /// list of its lent leaves, in order of address. After JEP 387.
 #[derive(Drop)]
 pub struct SplitTree<A: Allocator> {
@@ -69,7 +70,7 @@ impl<A: Allocator> SplitTree<A> {
     /// Answers the leaf that covers an offset in words, 0 to 524287, and where it is. This is the
     /// caller's test for a lent leaf. Takes no memory.
     pub fn leaf_at(&self, offset: u64) -> (Span, Leaf)
-        requires { offset < 524288 }
+        requires { offset < ROOT_WORDS }
         ensures covers { IsTrue (covers offset result.0) }
         ensures leaf { IsLeafAt offset result.0 result.1 self.now (free_of self.now) }
         ensures lent { result.1 ≢ Leaf.Free → IsTrue (is_lent self.now result.0) }
@@ -145,7 +146,7 @@ impl<A: Allocator + Clone> SplitTree<A> {
         owner: u32,
         front: u64,
     ) -> Result<(), Refusal>
-        requires in_root { at < 524288 }
+        requires in_root { at < ROOT_WORDS }
         requires aligned { at % size_of level ≡ 0 }
         requires some { 0 < front }
         requires within { front ≤ size_of level }

@@ -1,16 +1,18 @@
 -- What the code of `Nodes` keeps, and what callers see of it: ranges, the number that is missing,
 -- and the limit.
-use Rattle.std.proofs.Common.{◌≡◌, ◌≤◌, ◌<◌, ℕ, ◌+◌, ◌-◌, ◌*◌, ◌^◌, List, length, sym, ap, ◌∙◌, subst, arith}
+use Rattle.std.proofs.Common.{◌≡◌, ◌≤◌, ◌<◌, ℕ, ◌+◌, ◌-◌, ◌*◌, ◌^◌, false, ◌||◌, List, length, sym, ap, ◌∙◌, subst, arith}
 use Rattle.std.specs.Prelude.{IsTrue}
 use Rattle.std.specs.List.Sorted.{IsStrictlyIncreasing}
 use Rattle.ms_base.specs.Part.{is_reserved}
+use Rattle.ms_base.specs.Spaces.{first_class_slot}
+use Rattle.ms_base.specs.Committed.{is_among}
 use Rattle.ms_base.specs.declared.refusal.Refusal.TheVariants.{CommitLimit}
 use Rattle.ms_commit.specs.declared.nodes.Nodes.TheInside.{Inside}
-use Rattle.ms_commit.specs.NumberSet.{with_range, without_range, without_number, count_within, count_missing, IsSetBelow}
-use Rattle.ms_commit.specs.Nodes.{NodesState, slot_granules, AreInReserved, granules_with}
+use Rattle.ms_commit.specs.NumberSet.{is_in_range, with_range, without_range, without_number, count_within, count_missing, IsSetBelow}
+use Rattle.ms_commit.specs.Nodes.{NodesState, node_granules, all_slots, AreInReserved, granules_with}
 use Rattle.ms_commit.specs.Keeping.{state_of, AreKept}
 use Rattle.ms_commit.proofs.SetLemmas.{count_missing-within}
-use Rattle.ms_commit.proofs.NodesLemmas.{member_below, granule_below, range_fits, sound_with, sound_without, sound_unreserve}
+use Rattle.ms_commit.proofs.NodesLemmas.{reserved_either, reserved_low, granule_below, range_fits, sound_with, sound_without, sound_unreserve}
 
 -- What is asked for of the nodes that callers see holds of those that are kept.
 range_in_kept : (kept : Inside) (now : NodesState) (first count : ℕ) → state_of kept ≡ now
@@ -19,18 +21,25 @@ range_in_kept : (kept : Inside) (now : NodesState) (first count : ℕ) → state
 range_in_kept kept now first count seen reserved = subst (λ nodes. AreInReserved nodes first count) (sym seen) reserved
 
 pub slot_in_kept : (kept : Inside) (now : NodesState) (slot : ℕ) → state_of kept ≡ now
-    → IsTrue (is_reserved now.slots slot)
+    → IsTrue (is_reserved (all_slots now) slot) → slot < first_class_slot
     → IsTrue (is_reserved kept.slots slot)
-slot_in_kept kept now slot seen reserved =
-    subst (λ (nodes : NodesState). IsTrue (is_reserved nodes.slots slot)) (sym seen) reserved
+slot_in_kept kept now slot seen reserved low =
+    sym (reserved_low (state_of kept) slot low)
+    ∙ subst (λ (nodes : NodesState). IsTrue (is_reserved (all_slots nodes) slot)) (sym seen) reserved
 
-pub slot_below : (kept : Inside) (slot : ℕ) → AreKept kept → IsTrue (is_reserved kept.slots slot) → slot < 64
-slot_below kept slot holds reserved = member_below 64 kept.slots slot holds.sound.slots.below reserved
+-- Past the slots of the mask come those of the class space.
+pub reserved_past : (kept : Inside) (now : NodesState) (slot : ℕ) → state_of kept ≡ now
+    → is_among kept.slots slot ≡ false
+    → is_in_range first_class_slot kept.class_slots slot ≡ is_reserved (all_slots now) slot
+reserved_past kept now slot seen missing =
+    ap (λ b. b || is_in_range first_class_slot kept.class_slots slot) (sym missing)
+    ∙ sym (reserved_either (state_of kept) slot)
+    ∙ ap (λ (nodes : NodesState). is_reserved (all_slots nodes) slot) seen
 
 -- Granules of reserved slots have bits in the mask, and their range ends at a number of 64 bits.
 pub range_is_kept : (kept : Inside) (now : NodesState) (first count : ℕ) → AreKept kept → state_of kept ≡ now
     → AreInReserved now first count → first < 2 ^ 64
-    → ((k : ℕ) → first ≤ k → k < first + count → k < 8192) × (first + count < 2 ^ 64)
+    → ((k : ℕ) → first ≤ k → k < first + count → k < 40960) × (first + count < 2 ^ 64)
 range_is_kept kept now first count holds seen asked fits = (
   λ k low high. omega (arith, granule_below (state_of kept) k holds.sound some (reserved k low high), few),
   range_fits (state_of kept) first count holds.sound some few reserved fits,
@@ -39,10 +48,10 @@ range_is_kept kept now first count holds seen asked fits = (
     reserved : AreInReserved (state_of kept) first count
     reserved = range_in_kept kept now first count seen asked
 
-    some : 0 < slot_granules (state_of kept)
+    some : 0 < node_granules (state_of kept)
     some = omega (arith, holds.slot_is, holds.slot_some)
 
-    few : slot_granules (state_of kept) ≤ 128
+    few : node_granules (state_of kept) ≤ 512
     few = omega (arith, holds.slot_is, holds.slot_few)
 
 -- The numbers of a range that aren't present are missing.
@@ -145,7 +154,7 @@ kept_without kept granules first count present holds counted after rising sizes 
 -- What is kept once a slot is unreserved with its granules.
 pub kept_unreserve : (kept : Inside) (slots granules : List ℕ) (slot cleared : ℕ) → AreKept kept
     → cleared ≡ count_within kept.granules (slot * kept.slot_granules) kept.slot_granules
-    → slots ≡ without_number kept.slots slot → length slots + 1 ≡ length kept.slots → IsSetBelow 64 slots
+    → slots ≡ without_number kept.slots slot → length slots + 1 ≡ length kept.slots → IsSetBelow first_class_slot slots
     → granules ≡ without_range kept.granules (slot * kept.slot_granules) kept.slot_granules
     → IsStrictlyIncreasing granules
     → length granules + count_within kept.granules (slot * kept.slot_granules) kept.slot_granules ≡ length kept.granules

@@ -7,4 +7,5 @@ pub mod MemberLemmas
 pub mod NodesLemmas
 pub mod KeepingLemmas
 pub mod SameLemmas
+pub mod SpaceLemmas
 pub mod ModelLemmas

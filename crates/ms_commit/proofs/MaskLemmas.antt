@@ -8,7 +8,8 @@ use Rattle.std.proofs.lemmas.Bool.{cases_lt, cases_eq}
 use Rattle.std.proofs.lemmas.Bool.Decides.{nat_tests}
 use Rattle.std.proofs.lemmas.List.{get_or_past, get_or-set_same, get_or-set_other, length-set}
 use Rattle.std.proofs.lemmas.Nat.Bits.{bit_at_and, bit_at_or, bit_at_not, bit_at-lt, bit_at-zero, bit_at_ones, bit_at_ones_above, bit_at_mask_inside, bit_at_mask_below, bit_at-trailing_ones, ones_shl, ones_shr}
-use Rattle.ms_commit.specs.NumberSet.{is_among, is_in_range}
+use Rattle.ms_base.specs.Committed.{is_among}
+use Rattle.ms_commit.specs.NumberSet.{is_in_range}
 use Rattle.ms_commit.specs.Mask.{is_one, is_set, members_of, IsLowestClear}
 use Rattle.ms_commit.proofs.RangeLemmas.{is_among-filter, is_among-range}
 

@@ -1,5 +1,5 @@
 -- The nodes' granules against the model's: a set in rising order is the committed granules where
--- its members are those that hold a word of a front and lie in a reserved slot; and the range of
+-- its members are those that are committed now and lie in a reserved slot; and the range of
 -- granules that some words meet. For the crates above, and the law on committed granules.
 use Rattle.std.proofs.Common.{◌≡◌, ◌≤◌, ◌<◌, ℕ, zero, suc, ◌+◌, ◌-◌, ◌*◌, ◌/◌, ◌%◌, ◌&&◌, ◌||◌, List, [], ◌∷◌, ◌++◌, refl, sym, ap, ap₂, ◌∙◌, inl, inr, arith}
 use Rattle.std.specs.Prelude.{◌==◌}
@@ -15,13 +15,32 @@ use Rattle.std.proofs.lemmas.Map.Keys.{sorted_from_strictly_increasing, IsStrict
 use Rattle.std.proofs.lemmas.Nat.{div-add-mod', mod_below, mul-le, le-div}
 use Rattle.std.proofs.Math.Nat.{div-mul-le_self}
 use Rattle.ms_base.specs.declared.span.Chunk.{Chunk}
-use Rattle.ms_base.specs.Part.{node_words, is_reserved}
+use Rattle.ms_base.specs.Part.{is_reserved}
 use Rattle.ms_base.specs.Interval.{meet}
-use Rattle.ms_base.specs.Committed.{is_committed, granules_of, granules_meeting, committed_granules}
-use Rattle.ms_commit.specs.NumberSet.{is_among, is_in_range}
+use Rattle.ms_base.specs.declared.kind.Space.{Space}
+use Rattle.ms_base.specs.declared.kind.Space.TheVariants.{NonClass, Class}
+use Rattle.ms_base.specs.Spaces.{first_class_slot}
+use Rattle.ms_base.specs.declared.policy.Policy.{Policy}
+use Rattle.ms_base.specs.declared.policy.Policy.TheVariants.{Balanced, Aggressive, None as Never}
+use Rattle.ms_base.specs.Policy.{granule_of, slot_granules}
+use Rattle.ms_base.specs.Committed.{is_among, is_committed_now, granules_of, granules_meeting, committed_with}
+use Rattle.ms_commit.specs.Nodes.{IsGranuleSize, NodesState, node_granules, slots_of, is_granule_of, granules_in, AreSound}
+use Rattle.ms_commit.specs.NumberSet.{is_in_range}
 use Rattle.ms_commit.proofs.RangeLemmas.{is_among-filter, is_among-range}
+use Rattle.ms_commit.proofs.SetLemmas.{IsStrictlyIncreasing-range}
 use Rattle.ms_commit.proofs.NodesLemmas.{next_slot, in_own_slot}
 use Rattle.ms_commit.proofs.SameLemmas.{same_sets}
+
+-- Each policy's granule is a size that nodes may be made with, and a node has some.
+pub granule_is_size : (policy : Policy) → IsGranuleSize (granule_of policy)
+granule_is_size Balanced = inl refl
+granule_is_size Aggressive = inr refl
+granule_is_size Never = inl refl
+
+some_in_node : (policy : Policy) → 0 < slot_granules (granule_of policy)
+some_in_node Balanced = omega arith
+some_in_node Aggressive = omega arith
+some_in_node Never = omega arith
 
 -- The granules of slots are those whose slot is there.
 is_among-slots : (n : ℕ) (slots : List ℕ) (k : ℕ) → 0 < n
@@ -31,12 +50,13 @@ is_among-slots n (slot ∷ slots) k some =
     list_any-append (λ other. other == k) (range_with_len (slot * n) n) (flat_map (λ s. range_with_len (s * n) n) slots)
     ∙ ap₂ (λ a b. a || b) (is_among-range (slot * n) n k ∙ in_own_slot slot n k some) (is_among-slots n slots k some)
 
-pub is_among-committed : (granule : ℕ) (held : List Chunk) (slots : List ℕ) (k : ℕ) → 0 < node_words / granule
-    → is_among (committed_granules granule held slots) k
-    ≡ (is_committed granule held k && is_reserved slots (k / (node_words / granule)))
-is_among-committed granule held slots k some =
-    is_among-filter (is_committed granule held) (flat_map (granules_of granule) slots) k
-    ∙ ap (λ b. is_committed granule held k && b) (is_among-slots (node_words / granule) slots k some)
+pub is_among-committed : (policy : Policy) (before : List ℕ) (held : List Chunk) (slots : List ℕ) (k : ℕ)
+    → is_among (committed_with policy before held slots) k
+    ≡ (is_committed_now policy before held k && is_reserved slots (k / slot_granules (granule_of policy)))
+is_among-committed policy before held slots k =
+    is_among-filter (is_committed_now policy before held) (flat_map (granules_of (granule_of policy)) slots) k
+    ∙ ap (λ b. is_committed_now policy before held k && b)
+    (is_among-slots (slot_granules (granule_of policy)) slots k (some_in_node policy))
 
 -- A range before numbers that rise from its end on.
 abbrev AreFrom : ℕ → List ℕ → Type 0
@@ -92,21 +112,41 @@ slots_sorted n (slot ∷ slots) rise =
     range_sorted (slot * n) n (flat_map (λ s. range_with_len (s * n) n) slots) (slots_from n slot slots rise.0 rise.1)
     (slots_sorted n slots rise.1)
 
-pub committed_rise : (granule : ℕ) (held : List Chunk) (slots : List ℕ) → IsStrictlyIncreasing slots
-    → IsStrictlyIncreasing (committed_granules granule held slots)
-committed_rise granule held slots rise =
-    IsStrictlyIncreasing-filter (is_committed granule held) (flat_map (granules_of granule) slots)
+pub committed_rise : (policy : Policy) (before : List ℕ) (held : List Chunk) (slots : List ℕ)
+    → IsStrictlyIncreasing slots
+    → IsStrictlyIncreasing (committed_with policy before held slots)
+committed_rise policy before held slots rise =
+    IsStrictlyIncreasing-filter (is_committed_now policy before held) (flat_map (granules_of (granule_of policy)) slots)
     (IsStrictlyIncreasing-from_sorted _
-    (slots_sorted (node_words / granule) slots (sorted_from_strictly_increasing slots rise)))
+    (slots_sorted (slot_granules (granule_of policy)) slots (sorted_from_strictly_increasing slots rise)))
 
-pub granules_are_committed : (granule : ℕ) (held : List Chunk) (slots members : List ℕ) → 0 < node_words / granule
+pub granules_are_committed : (policy : Policy) (before : List ℕ) (held : List Chunk) (slots members : List ℕ)
     → IsStrictlyIncreasing slots → IsStrictlyIncreasing members
-    → ((k : ℕ) → is_among members k ≡ (is_committed granule held k && is_reserved slots (k / (node_words / granule))))
-    → members ≡ committed_granules granule held slots
-granules_are_committed granule held slots members some rise rising same =
-    same_sets members (committed_granules granule held slots) (sorted_from_strictly_increasing members rising)
-    (sorted_from_strictly_increasing (committed_granules granule held slots) (committed_rise granule held slots rise))
-    (λ k. same k ∙ sym (is_among-committed granule held slots k some))
+    → ((k : ℕ) → is_among members k
+    ≡ (is_committed_now policy before held k && is_reserved slots (k / slot_granules (granule_of policy))))
+    → members ≡ committed_with policy before held slots
+granules_are_committed policy before held slots members rise rising same =
+    same_sets members (committed_with policy before held slots) (sorted_from_strictly_increasing members rising)
+    (sorted_from_strictly_increasing (committed_with policy before held slots)
+    (committed_rise policy before held slots rise))
+    (λ k. same k ∙ sym (is_among-committed policy before held slots k))
+
+-- The slots of either space rise, and so a space's granules are the model's by their members.
+pub slots_rise : (space : Space) (nodes : NodesState) → AreSound nodes → IsStrictlyIncreasing (slots_of space nodes)
+slots_rise NonClass nodes sound = sound.slots.rising
+slots_rise Class nodes sound = IsStrictlyIncreasing-range first_class_slot nodes.class_slots
+
+pub space_is_committed : (policy : Policy) (space : Space) (nodes : NodesState) (before : List ℕ) (held : List Chunk)
+    → AreSound nodes → nodes.limits.granule ≡ granule_of policy
+    → ((k : ℕ) → is_among (granules_in space nodes) k
+    ≡ (is_committed_now policy before held k && is_reserved (slots_of space nodes) (k / node_granules nodes)))
+    → granules_in space nodes ≡ committed_with policy before held (slots_of space nodes)
+space_is_committed policy space nodes before held sound size same =
+    granules_are_committed policy before held (slots_of space nodes) (granules_in space nodes)
+    (slots_rise space nodes sound)
+    (IsStrictlyIncreasing-filter (is_granule_of space (node_granules nodes)) nodes.granules sound.granules)
+    (λ k. same k ∙ ap (λ granule. is_committed_now policy before held k
+    && is_reserved (slots_of space nodes) (k / slot_granules granule)) size)
 
 -- The granules that meet some words are those of which a word is among them.
 meet_by_ends : (first last k start words at granule : ℕ) → first ≤ last → 0 < words

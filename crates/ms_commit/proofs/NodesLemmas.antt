@@ -5,14 +5,17 @@ use Rattle.std.specs.List.{All}
 use Rattle.std.specs.List.Sorted.{IsStrictlyIncreasing}
 use Rattle.std.specs.Ordering.{nat_cmp}
 use Rattle.std.specs.BTreeSet.{insert_key}
-use Rattle.std.proofs.lemmas.Bool.{cases_order, and_parts, or_left}
+use Rattle.std.proofs.lemmas.Bool.{cases_order, and_parts, or_cases, or_right}
 use Rattle.std.proofs.lemmas.Bool.Decides.{nat_tests}
-use Rattle.std.proofs.lemmas.List.Folds.{Any-from_list_any}
+use Rattle.std.proofs.lemmas.List.Folds.{Any-from_list_any, list_any-append}
 use Rattle.std.proofs.lemmas.Nat.{div-add-mod', mod_below, mul-le}
 use Rattle.std.proofs.Math.Nat.{div-lt_iff_lt-mul, add-mul}
-use Rattle.ms_commit.specs.NumberSet.{is_among, is_in_range, with_range, without_range, without_number, IsSetBelow}
-use Rattle.ms_commit.specs.Nodes.{NodesState, slot_granules, IsInReserved, AreInReserved, AreSound}
-use Rattle.ms_commit.proofs.RangeLemmas.{is_among-filter}
+use Rattle.ms_base.specs.Part.{is_reserved}
+use Rattle.ms_base.specs.Spaces.{first_class_slot, class_slots}
+use Rattle.ms_base.specs.Committed.{is_among}
+use Rattle.ms_commit.specs.NumberSet.{is_in_range, with_range, without_range, without_number, IsSetBelow}
+use Rattle.ms_commit.specs.Nodes.{NodesState, node_granules, all_slots, IsInReserved, AreInReserved, AreSound}
+use Rattle.ms_commit.proofs.RangeLemmas.{or_false, is_among-filter, is_among-range}
 use Rattle.ms_commit.proofs.SameLemmas.{is_among-insert_key}
 use Rattle.ms_commit.proofs.SetLemmas.{is_among-with_range, is_among-without_range}
 
@@ -26,14 +29,37 @@ member_below bound members k all member =
     same : (other k : ℕ) → (other == k) ≡ true → other < bound → k < bound
     same other k e under = grind (arith, e)
 
--- A granule of a reserved slot has a bit in a mask of 64 slots.
-pub granule_below : (nodes : NodesState) (granule : ℕ) → AreSound nodes → 0 < slot_granules nodes
-    → IsInReserved nodes granule → granule < 64 * slot_granules nodes
-granule_below nodes granule sound some reserved =
-    (div-lt_iff_lt-mul some).0 (member_below 64 nodes.slots (granule / slot_granules nodes) sound.slots.below reserved)
+-- A slot is reserved where it is one of those below the class space's, or one of these.
+pub reserved_either : (nodes : NodesState) (slot : ℕ)
+    → is_reserved (all_slots nodes) slot
+    ≡ (is_reserved nodes.slots slot || is_in_range first_class_slot nodes.class_slots slot)
+reserved_either nodes slot =
+    list_any-append (λ other. other == slot) nodes.slots (class_slots nodes.class_slots)
+    ∙ ap (λ b. is_reserved nodes.slots slot || b) (is_among-range first_class_slot nodes.class_slots slot)
 
-pub range_fits : (nodes : NodesState) (first count : ℕ) → AreSound nodes → 0 < slot_granules nodes
-    → slot_granules nodes ≤ 128 → AreInReserved nodes first count → first < 2 ^ 64 → first + count < 2 ^ 64
+pub reserved_low : (nodes : NodesState) (slot : ℕ) → slot < first_class_slot
+    → is_reserved (all_slots nodes) slot ≡ is_reserved nodes.slots slot
+reserved_low nodes slot low = reserved_either nodes slot ∙ or_false (is_reserved nodes.slots slot)
+    (is_in_range first_class_slot nodes.class_slots slot) (grind (arith, nat_tests))
+
+slot_bounded : (nodes : NodesState) (slot : ℕ) → AreSound nodes → is_reserved (all_slots nodes) slot ≡ true → slot < 80
+slot_bounded nodes slot sound reserved = elim (or_cases (is_reserved nodes.slots slot)
+    (is_in_range first_class_slot nodes.class_slots slot) (sym (reserved_either nodes slot) ∙ reserved)) [
+      | inl low ↦ omega (arith, member_below first_class_slot nodes.slots slot sound.slots.below low)
+      | inr high ↦ class_bounded slot nodes.class_slots sound.class_slots high
+    ]
+  where
+    class_bounded : (slot count : ℕ) → count ≤ 16 → is_in_range 64 count slot ≡ true → slot < 80
+    class_bounded slot count few within = grind (arith, nat_tests)
+
+-- A granule of a reserved slot has a bit in a mask of 80 slots.
+pub granule_below : (nodes : NodesState) (granule : ℕ) → AreSound nodes → 0 < node_granules nodes
+    → IsInReserved nodes granule → granule < 80 * node_granules nodes
+granule_below nodes granule sound some reserved =
+    (div-lt_iff_lt-mul some).0 (slot_bounded nodes (granule / node_granules nodes) sound reserved)
+
+pub range_fits : (nodes : NodesState) (first count : ℕ) → AreSound nodes → 0 < node_granules nodes
+    → node_granules nodes ≤ 512 → AreInReserved nodes first count → first < 2 ^ 64 → first + count < 2 ^ 64
 range_fits nodes first zero sound some few reserved fits = omega arith
 range_fits nodes first (suc count) sound some few reserved fits =
     omega (arith, granule_below nodes (first + count) sound some (reserved (first + count) (omega arith) (omega arith)))
@@ -45,7 +71,9 @@ pub sound_with : (nodes : NodesState) (granules : List ℕ) (first count : ℕ) 
     → length granules ≤ nodes.limits.granules
     → AreSound (record nodes { granules = granules })
 sound_with nodes granules first count sound reserved after rising within = record {
+  size = sound.size;
   slots = sound.slots;
+  class_slots = sound.class_slots;
   granules = rising;
   inside =
       λ granule member. from_either granule (is_among nodes.granules granule)
@@ -68,7 +96,9 @@ pub sound_without : (nodes : NodesState) (granules : List ℕ) (first count : �
     → length granules ≤ nodes.limits.granules
     → AreSound (record nodes { granules = granules })
 sound_without nodes granules first count sound after rising within = record {
+  size = sound.size;
   slots = sound.slots;
+  class_slots = sound.class_slots;
   granules = rising;
   inside = λ granule member. sound.inside granule
       (and_parts (not (is_in_range first count granule)) (is_among nodes.granules granule)
@@ -81,17 +111,29 @@ sound_without nodes granules first count sound after rising within = record {
 -- A slot is reserved: those reserved before stay so.
 pub sound_reserve : (nodes : NodesState) (slots : List ℕ) (slot : ℕ) → AreSound nodes
     → slots ≡ insert_key nat_cmp nodes.slots slot
-    → IsSetBelow 64 slots → length slots ≤ nodes.limits.nodes → AreSound (record nodes { slots = slots })
+    → IsSetBelow first_class_slot slots → length slots ≤ nodes.limits.nodes → AreSound (record nodes { slots = slots })
 sound_reserve nodes slots slot sound after set within = record {
+  size = sound.size;
   slots = set;
+  class_slots = sound.class_slots;
   granules = sound.granules;
-  inside = λ granule member. ap (λ members. is_among members (granule / slot_granules nodes)) after
-      ∙ is_among-insert_key nodes.slots slot (granule / slot_granules nodes)
-      ∙ or_left (is_among nodes.slots (granule / slot_granules nodes)) (slot == granule / slot_granules nodes)
-      (sound.inside granule member);
+  inside = λ granule member. still (granule / node_granules nodes) (sound.inside granule member);
   reserved = within;
   committed = sound.committed;
 }
+  where
+    more : (a b c : Bool) → (a || c) ≡ true → ((a || b) || c) ≡ true
+    more true b c h = refl
+    more false b c h = or_right b c h
+
+    still : (k : ℕ) → is_reserved (all_slots nodes) k ≡ true
+        → is_reserved (all_slots (record nodes { slots = slots })) k ≡ true
+    still k before =
+        reserved_either (record nodes { slots = slots }) k
+        ∙ ap (λ b. b || is_in_range first_class_slot nodes.class_slots k)
+        (ap (λ members. is_among members k) after ∙ is_among-insert_key nodes.slots slot k)
+        ∙ more (is_among nodes.slots k) (slot == k) (is_in_range first_class_slot nodes.class_slots k)
+        (sym (reserved_either nodes k) ∙ before)
 
 -- The granules of a slot end where those of the next begin.
 pub next_slot : (slot later n : ℕ) → slot < later → slot * n + n ≤ later * n
@@ -126,26 +168,38 @@ other_slot slot n k some outside = turned slot (k / n) (ap not (sym (in_own_slot
 
 -- A slot is unreserved with its granules.
 pub sound_unreserve : (nodes : NodesState) (slots granules : List ℕ) (slot : ℕ) → AreSound nodes
-    → 0 < slot_granules nodes
+    → 0 < node_granules nodes
     → slots ≡ without_number nodes.slots slot
-    → granules ≡ without_range nodes.granules (slot * slot_granules nodes) (slot_granules nodes)
-    → IsSetBelow 64 slots → IsStrictlyIncreasing granules → length slots ≤ nodes.limits.nodes
+    → granules ≡ without_range nodes.granules (slot * node_granules nodes) (node_granules nodes)
+    → IsSetBelow first_class_slot slots → IsStrictlyIncreasing granules → length slots ≤ nodes.limits.nodes
     → length granules ≤ nodes.limits.granules
     → AreSound (record nodes { slots = slots; granules = granules })
 sound_unreserve nodes slots granules slot sound some slots_after granules_after set rising few within = record {
+  size = sound.size;
   slots = set;
+  class_slots = sound.class_slots;
   granules = rising;
   inside = λ granule member.
       let kept = and_parts (not (is_in_range (slot * n) n granule)) (is_among nodes.granules granule)
       (sym (is_among-without_range nodes.granules (slot * n) n granule)
       ∙ ap (λ members. is_among members granule) (sym granules_after) ∙ member) in
-      ap (λ members. is_among members (granule / n)) slots_after
-      ∙ is_among-filter (λ other. not (other == slot)) nodes.slots (granule / n)
-      ∙ ap (λ b. b && is_among nodes.slots (granule / n)) (other_slot slot n granule some kept.0)
-      ∙ sound.inside granule kept.1;
+      still (granule / n) (other_slot slot n granule some kept.0) (sound.inside granule kept.1);
   reserved = few;
   committed = within;
 }
   where
     n : ℕ
-    n = slot_granules nodes
+    n = node_granules nodes
+
+    stays : (a b c : Bool) → b ≡ true → (a || c) ≡ true → ((b && a) || c) ≡ true
+    stays a true c e h = h
+    stays a false c e h = absurd (cc)
+
+    still : (k : ℕ) → not (k == slot) ≡ true → is_reserved (all_slots nodes) k ≡ true
+        → is_reserved (all_slots (record nodes { slots = slots })) k ≡ true
+    still k other before =
+        reserved_either (record nodes { slots = slots }) k
+        ∙ ap (λ b. b || is_in_range first_class_slot nodes.class_slots k)
+        (ap (λ members. is_among members k) slots_after ∙ is_among-filter (λ s. not (s == slot)) nodes.slots k)
+        ∙ stays (is_among nodes.slots k) (not (k == slot)) (is_in_range first_class_slot nodes.class_slots k) other
+        (sym (reserved_either nodes k) ∙ before)

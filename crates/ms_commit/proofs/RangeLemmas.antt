@@ -10,7 +10,8 @@ use Rattle.std.proofs.lemmas.List.Elements.{filter-append}
 use Rattle.std.proofs.lemmas.List.FromFn.{length-range_with_len}
 use Rattle.std.proofs.lemmas.List.Sums.{length-filter, count_by-le-length}
 use Rattle.std.proofs.lemmas.Map.Views.{any-filter_same}
-use Rattle.ms_commit.specs.NumberSet.{is_among, is_in_range}
+use Rattle.ms_base.specs.Committed.{is_among}
+use Rattle.ms_commit.specs.NumberSet.{is_in_range}
 
 -- A range is a first part and the rest.
 pub range-split : (a m n : ℕ) → range_with_len a (m + n) ≡ range_with_len a m ++ range_with_len (a + m) n

@@ -10,7 +10,7 @@ use Rattle.std.specs.declared.cmp.Ordering.TheVariants.{Less, Equal, Greater}
 use Rattle.std.specs.BTreeSet.{insert_key}
 use Rattle.std.proofs.lemmas.Bool.{false≢true, cases_lt, cases_order}
 use Rattle.std.proofs.lemmas.Bool.Decides.{nat_tests}
-use Rattle.ms_commit.specs.NumberSet.{is_among}
+use Rattle.ms_base.specs.Committed.{is_among}
 
 -- A set with a number added has its members and the number.
 pub is_among-insert_key : (members : List ℕ) (number k : ℕ)

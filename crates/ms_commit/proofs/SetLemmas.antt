@@ -12,23 +12,25 @@ use Rattle.std.proofs.lemmas.List.Filters.{length-filter_both}
 use Rattle.std.proofs.lemmas.List.Folds.{list_any-append}
 use Rattle.std.proofs.lemmas.List.FromFn.{length-range_with_len, get_or-range_with_len}
 use Rattle.std.proofs.lemmas.List.Kept.{IsStrictlyIncreasing-filter}
-use Rattle.ms_commit.specs.NumberSet.{is_among, is_in_range, with_range, without_range, count_within, count_missing, IsSetBelow}
+use Rattle.ms_base.specs.Committed.{is_among}
+use Rattle.ms_commit.specs.NumberSet.{is_in_range, with_range, without_range, count_within, count_missing, IsSetBelow}
 use Rattle.ms_commit.proofs.RangeLemmas.{and_true, and_false, or_true, or_false, filter-cut, filter-filter, filter_agree_in, filter_all_in, filter_none_in, filter-window, is_among-filter, is_among-range}
 use Rattle.ms_commit.proofs.CountLemmas.{length-kept}
+
+-- A range rises.
+pub IsStrictlyIncreasing-range : (a n : ℕ) → IsStrictlyIncreasing (range_with_len a n)
+IsStrictlyIncreasing-range a n k h =
+    let here = get_or-range_with_len a n k 0 (omega (arith, length-range_with_len a n)) in
+    let next = get_or-range_with_len a n (k + 1) 0 (omega (arith, length-range_with_len a n)) in
+    omega (arith, here, next)
 
 -- A filter of the numbers below a bound is a set below it.
 pub IsSetBelow-filter : (p : ℕ → Bool) (n : ℕ) → IsSetBelow n (filter p (range_with_len 0 n))
 IsSetBelow-filter p n = record {
-  rising = IsStrictlyIncreasing-filter p (range_with_len 0 n) rising;
+  rising = IsStrictlyIncreasing-filter p (range_with_len 0 n) (IsStrictlyIncreasing-range 0 n);
   below = All-filter p (λ k. k < n) (range_with_len 0 n) below;
 }
   where
-    rising : IsStrictlyIncreasing (range_with_len 0 n)
-    rising k h =
-        let here = get_or-range_with_len 0 n k 0 (omega (arith, length-range_with_len 0 n)) in
-        let next = get_or-range_with_len 0 n (k + 1) 0 (omega (arith, length-range_with_len 0 n)) in
-        omega (arith, here, next)
-
     below : All (λ k. k < n) (range_with_len 0 n)
     below k d h =
         omega (

@@ -1,11 +1,8 @@
 -- Sets of numbers, as the lists of their members in rising order (this project's choice).
 use Rattle.std.specs.Prelude.{ℕ, ◌+◌, ◌<◌, Bool, not, ◌==◌, ◌&&◌, nat_lt, nat_le, List, ◌++◌, length}
-use Rattle.std.specs.List.{All, list_any, filter, range_with_len}
+use Rattle.std.specs.List.{All, filter, range_with_len}
 use Rattle.std.specs.List.Sorted.{IsStrictlyIncreasing}
-
--- The number is a member.
-abbrev pub is_among : List ℕ → ℕ → Bool
-is_among members number = list_any (λ other. other == number) members
+use Rattle.ms_base.specs.Committed.{is_among}
 
 -- The number is one of so many from the first on.
 abbrev pub is_in_range : ℕ → ℕ → ℕ → Bool

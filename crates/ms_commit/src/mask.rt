@@ -35,7 +35,8 @@ impl<const WORDS: usize> Mask<WORDS> {
     ghost use Rattle.std.specs.Ordering.{nat_cmp};
     ghost use Rattle.std.specs.BTreeSet.{insert_key};
     ghost use Rattle.ms_base.specs.Pick.{lowest_unreserved};
-    ghost use Rattle.ms_commit.specs.NumberSet.{is_among, count_within, with_range, without_range, without_number, IsSetBelow};
+    ghost use Rattle.ms_base.specs.Committed.{is_among};
+    ghost use Rattle.ms_commit.specs.NumberSet.{count_within, with_range, without_range, without_number, IsSetBelow};
 
     /// Makes the empty set.
     pub fn empty() -> Mask<WORDS>

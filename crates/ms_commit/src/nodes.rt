@@ -7,23 +7,24 @@
 //!      ##.....#####......... ..................... ####..........      # a committed granule
 //!      0                 127 128               255 256
 //!
+//! From slot 64 on come those of the class space, at most 16. They are reserved from the start and
+//! stay so; only their granules change.
 //! Kept true: slots and granules are counted, both counts are within their limits, and each
-//! committed granule lies in a reserved slot. A slot has as many granules as fit into a node, so a
-//! smaller granule needs a longer mask and nothing else. Nothing here takes memory.
+//! committed granule lies in a reserved slot. A slot has as many granules as fit into a node: 128
+//! of 8192 words, as drawn here, or 512 of 2048. One limit counts the granules of both spaces.
+//! Nothing here takes memory.
 //! After HotSpot's virtualSpaceNode.hpp and commitLimiter.hpp; there each node has a mask of its
-//! own, and here one mask has all slots.
+//! own, and here one mask has all slots. The class space's slots are this project's choice.
 ghost use Rattle.std.specs.Prelude.{◌≡◌, ◌≤◌};
 
 use crate::mask::Mask;
-use ms_base::Refusal;
+use ms_base::{CLASS_SLOTS, NODE_WORDS, Refusal, SLOTS};
 use std::marker::Model;
 
-/// The words of a node: two root chunks.
-const NODE_WORDS: u64 = 1_048_576;
-/// Words of the mask of slots: 64 slots.
-const SLOT_MASK: usize = 1;
-/// Words of the mask of granules: 64 slots of 128 granules, as many as there are of 8192 words.
-const GRANULE_MASK: usize = 128;
+/// Words of the mask of the slots below those of the class space.
+const SLOT_MASK: usize = SLOTS as usize / 64;
+/// Words of the mask of granules: 80 slots of 512 granules, as many as there are of 2048 words.
+const GRANULE_MASK: usize = (SLOTS + CLASS_SLOTS) as usize * 8;
 
 /// Which node slots are reserved and which granules are committed, each within its limit. The
 /// limits are this project's choice; HotSpot has them in CommitLimiter and as reserved sizes.
@@ -37,6 +38,7 @@ pub struct Nodes {
     granule_limit: u64,
     granule: u64,
     slot_granules: u64,
+    class_slots: u32,
 }
 
 impl Model for Nodes {
@@ -54,22 +56,28 @@ impl Model for Nodes {
 impl Nodes {
     ghost use Rattle.std.specs.Prelude.{◌≡◌, ◌+◌, ◌^◌, ◌<◌, ◌≤◌, ◌↔◌, IsTrue, IsErr, IfOk, IfErr, OnOk, OnErr, length};
     ghost use Rattle.ms_base.specs.Part.{is_reserved};
+    ghost use Rattle.ms_base.specs.declared.sizes.TheConstants.{SLOTS, CLASS_SLOTS};
     ghost use Rattle.ms_base.specs.Pick.{lowest_unreserved};
-    ghost use Rattle.ms_commit.specs.NumberSet.{is_among, count_missing};
-    ghost use Rattle.ms_commit.specs.Nodes.{no_nodes, AreInReserved, with_slot, without_slot, with_granules, without_granules, granules_with, AreSound};
+    ghost use Rattle.ms_base.specs.Committed.{is_among};
+    ghost use Rattle.ms_commit.specs.NumberSet.{count_missing};
+    ghost use Rattle.ms_commit.specs.Nodes.{IsGranuleSize, all_slots, no_nodes, AreInReserved, with_slot, without_slot, with_granules, without_granules, granules_with, AreSound};
 
-    /// Makes nodes of which none is reserved. The node limit is 1 to 64 nodes; the granule limit
-    /// is in granules, any number; a granule has 8192 words, 64 KB, the default of JEP 387.
-    pub fn new(node_limit: u32, granule_limit: u64, granule: u64) -> Nodes
+    /// Makes nodes of which only the slots of the class space are reserved, 64 and up, 0 to 16 of
+    /// them. The node limit is 1 to 64 nodes besides these; the granule limit is in granules of
+    /// both spaces, any number; a granule has 8192 words, 64 KB, the default of JEP 387, or 2048.
+    pub fn new(node_limit: u32, granule_limit: u64, granule: u64, class_slots: u32) -> Nodes
         requires some { 1 ≤ node_limit }
-        requires few { node_limit ≤ 64 }
-        requires granule_size { granule ≡ 8192 }
+        requires few { node_limit ≤ SLOTS }
+        requires granule_size { IsGranuleSize granule }
+        requires class_few { class_slots ≤ CLASS_SLOTS }
         ensures { result
-            ≡ no_nodes (record {
+            ≡ no_nodes
+            (record {
               nodes = node_limit;
               granules = granule_limit;
               granule = granule;
-            }) }
+            })
+            class_slots }
     {
         Nodes {
             slots: Mask::empty(),
@@ -80,14 +88,16 @@ impl Nodes {
             granule_limit,
             granule,
             slot_granules: NODE_WORDS / granule,
+            class_slots,
         }
     }
 
-    /// Reserves the lowest slot that isn't reserved, and answers its number, 0 to 63.
-    /// ReserveLimit comes where as many slots are reserved as may be. Takes no memory.
+    /// Reserves the lowest slot that isn't reserved, and answers its number, 0 to 63, never that
+    /// of a class slot. ReserveLimit comes where as many slots below 64 are reserved as may be.
+    /// Takes no memory.
     pub fn reserve(&mut self) -> Result<u32, Refusal>
         ensures lowest { IfOk result (λ slot. slot ≡ lowest_unreserved self.old.slots) }
-        ensures within { IfOk result (λ slot. slot < 64) }
+        ensures within { IfOk result (λ slot. slot < SLOTS) }
         ensures added { IfOk result (λ slot. self.new ≡ with_slot self.old slot) }
         ensures granted { OnOk result (length self.old.slots < self.old.limits.nodes) }
         ensures reserve_limit { IsErr result ↔ (length self.old.slots ≡ self.old.limits.nodes) }
@@ -108,9 +118,10 @@ impl Nodes {
         }
     }
 
-    /// Unreserves a reserved slot and uncommits its granules. Takes no memory.
+    /// Unreserves a reserved slot, 0 to 63, and uncommits its granules. Takes no memory.
     pub fn unreserve(&mut self, slot: u32)
-        requires { IsTrue (is_reserved self.old.slots slot) }
+        requires reserved { IsTrue (is_reserved (all_slots self.old) slot) }
+        requires below { slot < SLOTS }
         ensures { self.new ≡ without_slot self.old slot }
     {
         let count = self.slot_granules as usize;
@@ -124,7 +135,7 @@ impl Nodes {
 
     /// Commits a range of granules of reserved slots, given by its first and how many they are,
     /// and answers how many of them weren't committed. CommitLimit comes where these would pass
-    /// the granule limit, with their number as what is needed. Takes no memory.
+    /// the granule limit of both spaces, with their number as what is needed. Takes no memory.
     pub fn commit(&mut self, first: u64, count: u64) -> Result<u64, Refusal>
         requires { AreInReserved self.old first count }
         ensures newly { IfOk result (λ newly. newly ≡ count_missing self.old.granules first count) }
@@ -179,7 +190,7 @@ impl Nodes {
         self.granules.contains(granule as usize)
     }
 
-    /// Tells how many granules are committed.
+    /// Tells how many granules are committed, in both spaces.
     pub fn committed(&self) -> u64
         ensures count { result ≡ length self.now.granules }
         ensures sound { AreSound self.now }
@@ -194,21 +205,21 @@ impl Nodes {
         self.granule_limit
     }
 
-    /// Tells the words of a granule.
+    /// Tells the words of a granule, 8192 or 2048.
     pub fn granule(&self) -> u64
         ensures { result ≡ self.now.limits.granule }
     {
         self.granule
     }
 
-    /// Tells whether a slot is reserved; none from 64 on is.
+    /// Tells whether a slot is reserved; of those from 64 on, the class space's are.
     pub fn is_reserved(&self, slot: u32) -> bool
-        ensures { result ≡ is_reserved self.now.slots slot }
+        ensures { result ≡ is_reserved (all_slots self.now) slot }
     {
-        self.slots.contains(slot as usize)
+        self.slots.contains(slot as usize) || SLOTS <= slot && slot < SLOTS + self.class_slots
     }
 
-    /// Tells how many slots are reserved.
+    /// Tells how many slots below 64 are reserved.
     pub fn reserved(&self) -> u32
         ensures count { result ≡ length self.now.slots }
         ensures sound { AreSound self.now }
@@ -216,10 +227,17 @@ impl Nodes {
         self.reserved
     }
 
-    /// Tells the limit of reserved slots, 1 to 64.
+    /// Tells the limit of reserved slots below 64, 1 to 64.
     pub fn node_limit(&self) -> u32
         ensures { result ≡ self.now.limits.nodes }
     {
         self.node_limit
+    }
+
+    /// Tells how many slots the class space has, 0 to 16.
+    pub fn class_slots(&self) -> u32
+        ensures { result ≡ self.now.class_slots }
+    {
+        self.class_slots
     }
 }

@@ -1,5 +1,7 @@
 //! That the definitions are the ones meant, on a worked row and at the borders of mask words, and
 //! that each call does what it says when it is run. Everything else is in the clauses.
+ghost use Rattle.ms_commit.specs.Nodes.{AreInReserved};
+
 use super::*;
 use ms_base::Refusal;
 use std::process::Abort;
@@ -13,6 +15,8 @@ enum Call {
     Uncommit(u64, u64),
     Committed,
     IsCommitted(u64),
+    Reserved,
+    IsReserved(u32),
 }
 
 /// What it is answered.
@@ -26,20 +30,30 @@ enum Answer {
     Told(bool),
 }
 
-/// Commits a range that meets two slots at most, and sees first that they are reserved.
+/// Sees that a range meets two slots at most, and that they are reserved.
+fn sees_reserved(rt: &impl Abort, nodes: &Nodes, first: u64, count: u64)
+    ensures { AreInReserved nodes.now first count }
+{
+    assert!(rt; 0 < count && first < 40960);
+    if nodes.granule() == 8192 {
+        assert!(rt; count <= 129);
+        assert!(rt; nodes.is_reserved((first / 128) as u32));
+        assert!(rt; nodes.is_reserved(((first + count - 1) / 128) as u32));
+    } else {
+        assert_eq!(rt; nodes.granule(), 2048);
+        assert!(rt; count <= 513);
+        assert!(rt; nodes.is_reserved((first / 512) as u32));
+        assert!(rt; nodes.is_reserved(((first + count - 1) / 512) as u32));
+    }
+}
+
 fn commit(rt: &impl Abort, nodes: &mut Nodes, first: u64, count: u64) -> Result<u64, Refusal> {
-    assert_eq!(rt; nodes.granule(), 8192);
-    assert!(rt; 0 < count && count <= 129 && first < 8192);
-    assert!(rt; nodes.is_reserved((first / 128) as u32));
-    assert!(rt; nodes.is_reserved(((first + count - 1) / 128) as u32));
+    sees_reserved(rt, nodes, first, count);
     nodes.commit(first, count)
 }
 
 fn uncommit(rt: &impl Abort, nodes: &mut Nodes, first: u64, count: u64) {
-    assert_eq!(rt; nodes.granule(), 8192);
-    assert!(rt; 0 < count && count <= 129 && first < 8192);
-    assert!(rt; nodes.is_reserved((first / 128) as u32));
-    assert!(rt; nodes.is_reserved(((first + count - 1) / 128) as u32));
+    sees_reserved(rt, nodes, first, count);
     nodes.uncommit(first, count);
 }
 
@@ -50,6 +64,7 @@ fn missing(rt: &impl Abort, nodes: &Nodes, first: u64, count: u64) -> u64 {
 
 fn unreserve(rt: &impl Abort, nodes: &mut Nodes, slot: u32) {
     assert!(rt; nodes.is_reserved(slot));
+    assert!(rt; slot < 64);
     nodes.unreserve(slot);
 }
 
@@ -73,6 +88,8 @@ fn carry_out(rt: &impl Abort, nodes: &mut Nodes, call: Call) -> Answer {
         }
         Call::Committed => Answer::Count(nodes.committed()),
         Call::IsCommitted(granule) => Answer::Told(nodes.is_committed(granule)),
+        Call::Reserved => Answer::Count(u64::from(nodes.reserved())),
+        Call::IsReserved(slot) => Answer::Told(nodes.is_reserved(slot)),
     }
 }
 
@@ -103,7 +120,46 @@ fn two_nodes_share_three_granules(rt: HostRuntime) {
         (Call::Reserve, Answer::Slot(1)),
         (Call::IsCommitted(128), Answer::Told(false)),
     ];
-    let mut nodes = Nodes::new(2, 3, 8192);
+    let mut nodes = Nodes::new(2, 3, 8192, 0);
+    for (call, want) in rows {
+        assert_eq!(rt; carry_out(&rt, &mut nodes, call), want, "at {call:?}");
+    }
+}
+
+#[test]
+fn both_spaces_share_five_granules_of_2048_words(rt: HostRuntime) {
+    let reserve_limit = Refusal::ReserveLimit { nodes: 1, limit: 1 };
+    let commit_limit = Refusal::CommitLimit {
+        committed: 4,
+        limit: 5,
+        need: 2,
+    };
+    let rows = [
+        (Call::Reserved, Answer::Count(0)),
+        (Call::IsReserved(63), Answer::Told(false)),
+        (Call::IsReserved(64), Answer::Told(true)),
+        (Call::IsReserved(65), Answer::Told(true)),
+        (Call::IsReserved(66), Answer::Told(false)),
+        (Call::Reserve, Answer::Slot(0)),
+        (Call::Reserve, Answer::Refused(reserve_limit)),
+        (Call::Reserved, Answer::Count(1)),
+        (Call::Commit(510, 2), Answer::Newly(2)),
+        (Call::Commit(32768, 2), Answer::Newly(2)),
+        (Call::Commit(33279, 2), Answer::Refused(commit_limit)),
+        (Call::IsCommitted(33279), Answer::Told(false)),
+        (Call::Commit(33279, 1), Answer::Newly(1)),
+        (Call::Committed, Answer::Count(5)),
+        (Call::Unreserve(0), Answer::Done),
+        (Call::Committed, Answer::Count(3)),
+        (Call::IsCommitted(511), Answer::Told(false)),
+        (Call::IsCommitted(32768), Answer::Told(true)),
+        (Call::Uncommit(32769, 511), Answer::Done),
+        (Call::Committed, Answer::Count(1)),
+        (Call::IsReserved(64), Answer::Told(true)),
+        (Call::Reserve, Answer::Slot(0)),
+        (Call::IsCommitted(510), Answer::Told(false)),
+    ];
+    let mut nodes = Nodes::new(1, 5, 2048, 2);
     for (call, want) in rows {
         assert_eq!(rt; carry_out(&rt, &mut nodes, call), want, "at {call:?}");
     }
@@ -138,7 +194,7 @@ fn ranges_may_start_and_end_anywhere_in_a_word(rt: HostRuntime) {
         (255, 1),
     ];
     for (first, count) in rows {
-        let mut nodes = Nodes::new(2, 8192, 8192);
+        let mut nodes = Nodes::new(2, 8192, 8192, 0);
         assert_eq!(rt; nodes.reserve(), Ok(0));
         assert_eq!(rt; nodes.reserve(), Ok(1));
         assert_eq!(rt;
@@ -172,7 +228,7 @@ fn ranges_may_start_and_end_anywhere_in_a_word(rt: HostRuntime) {
 
 #[test]
 fn the_first_and_last_granules_of_the_first_and_last_slots(rt: HostRuntime) {
-    let mut nodes = Nodes::new(64, 4, 8192);
+    let mut nodes = Nodes::new(64, 4, 8192, 0);
     for slot in 0..64 {
         assert_eq!(rt; nodes.reserve(), Ok(slot));
     }
@@ -197,7 +253,7 @@ fn the_first_and_last_granules_of_the_first_and_last_slots(rt: HostRuntime) {
 
 #[test]
 fn everything_is_committed_and_taken_back(rt: HostRuntime) {
-    let mut nodes = Nodes::new(64, 40960, 8192);
+    let mut nodes = Nodes::new(64, 40960, 8192, 0);
     assert_eq!(rt; nodes.node_limit(), 64);
     assert_eq!(rt; nodes.granule_limit(), 40960);
     for slot in 0..64 {
@@ -220,5 +276,35 @@ fn everything_is_committed_and_taken_back(rt: HostRuntime) {
         unreserve(&rt, &mut nodes, slot);
     }
     assert_eq!(rt; nodes.reserved(), 0);
+    assert_eq!(rt; nodes.committed(), 0);
+}
+
+#[test]
+fn granules_of_2048_words_fill_eighty_slots(rt: HostRuntime) {
+    let mut nodes = Nodes::new(64, 40960, 2048, 16);
+    assert_eq!(rt; nodes.class_slots(), 16);
+    for slot in 0..64 {
+        assert_eq!(rt; nodes.reserve(), Ok(slot));
+    }
+    for slot in 0..80 {
+        assert_eq!(rt; commit(&rt, &mut nodes, slot * 512, 512), Ok(512));
+    }
+    assert_eq!(rt; nodes.committed(), 40960);
+    assert_eq!(rt; nodes.reserved(), 64);
+    assert!(rt; nodes.is_reserved(79) && !nodes.is_reserved(80));
+    assert!(rt; nodes.is_committed(40959) && !nodes.is_committed(40960));
+    let full = Refusal::ReserveLimit {
+        nodes: 64,
+        limit: 64,
+    };
+    assert_eq!(rt; nodes.reserve(), Err(full));
+    for slot in 0..64 {
+        unreserve(&rt, &mut nodes, slot);
+    }
+    assert_eq!(rt; nodes.reserved(), 0);
+    assert_eq!(rt; nodes.committed(), 8192);
+    for slot in 64..80 {
+        uncommit(&rt, &mut nodes, slot * 512, 512);
+    }
     assert_eq!(rt; nodes.committed(), 0);
 }

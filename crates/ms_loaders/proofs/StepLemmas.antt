@@ -1,63 +1,337 @@
--- What a loader's call does to its machine: a step is served or refused, and the machine stays good.
-use Rattle.std.proofs.Common.{◌≡◌, ℕ, true, false, None, Some, Option, refl, ap}
-use Rattle.std.specs.Option.{is_some}
+-- An allocation of a system is a step of its machine: which chunks and slots it changes, and why it is
+-- refused.
+use Rattle.std.proofs.Common.{◌≡◌, ◌≤◌, ◌<◌, ◌+◌, ◌-◌, ℕ, zero, suc, Bool, true, false, ◌⊎◌, Some, None, Result, Ok, Err, List, [], ◌∷◌, ◌++◌, length, map, cond, refl, sym, ap, ◌∙◌, subst, inl, inr, arith, if◌then◌else◌}
+use Rattle.std.specs.Prelude.{◌==◌, slice_get, slice_set, IsTrue}
+use Rattle.std.specs.List.{All, AllByRecursion, Contains}
+use Rattle.std.specs.List.Sorted.{IsPermutation}
+use Rattle.std.proofs.lemmas.List.Elements.{recursion_from_All, All-contains_itself}
+use Rattle.std.proofs.lemmas.List.Sorted.{All-permutation}
+use Rattle.std.specs.Ordering.{nat_cmp}
+use Rattle.std.specs.BTreeMap.{is_at}
+use Rattle.std.proofs.lemmas.Map.Steps.{set_value_same}
+use Rattle.ms_base.specs.declared.kind.Kind.{Kind}
+use Rattle.ms_base.specs.declared.kind.Space.{Space}
+use Rattle.ms_base.specs.declared.kind.Space.TheVariants.{NonClass, Class}
+use Rattle.ms_base.specs.declared.policy.Policy.{Policy}
+use Rattle.ms_base.specs.declared.span.Chunk.{Chunk}
+use Rattle.ms_base.specs.declared.span.Block.{Block}
+use Rattle.ms_base.specs.declared.words.LiveBlock.{LiveBlock}
 use Rattle.ms_base.specs.declared.refusal.Refusal.{Refusal}
-use Rattle.ms_base.specs.declared.refusal.Refusal.TheVariants.{OutOfRange, NoBlock}
-use Rattle.ms_base.specs.State.{LoaderState, Machine}
+use Rattle.ms_base.specs.declared.refusal.Refusal.TheVariants.{ZeroWords, TooLarge, CommitLimit, ReserveLimit, NotLive, OutOfRange, OutOfMemory, NoLoader, LoaderExists, NoBlock, BlockExists, IdsUsedUp, NoRoom}
+use Rattle.ms_base.specs.Level.{size_of, root_words, level_that_holds}
+use Rattle.ms_base.specs.Front.{front_for}
+use Rattle.ms_base.specs.Spaces.{by_space, is_in}
+use Rattle.ms_base.specs.FreeLaws.{with_held}
+use Rattle.ms_base.specs.Names.{named, with_new, with_changed}
+use Rattle.ms_base.specs.Live.{block_words}
+use Rattle.ms_base.specs.Place.{last_place}
+use Rattle.ms_base.specs.Asks.{wanted_level}
+use Rattle.ms_base.specs.Pick.{chunk_picked}
+use Rattle.ms_base.specs.Causes.{meets_reserve_limit, meets_commit_limit, committed_count, node_limit, granules_needed, ReserveCause, CommitCause}
+use Rattle.ms_base.specs.PoolSteps.{taken, slots_with}
+use Rattle.ms_base.specs.State.{ArenaState, LoaderState, Machine, PoolState, arena_of, chunks_held, slots_in, with_slots, pool_of, recommitted as machine_recommitted}
 use Rattle.ms_base.specs.Good.{IsGood}
-use Rattle.ms_base.specs.Transition.{HasLoader, with_loader, Writes, Frees, BlockCause, WordCause}
-use Rattle.ms_base.proofs.BlockLemmas.{good_with_write, good_with_free}
-use Rattle.ms_loaders.specs.Loader.{WritesWord, FreesBlock, LacksWord, LacksName}
+use Rattle.ms_base.specs.Transition.{HasLoader, LacksBlock, with_loader, with_allocated, zeroed, Change, IsGrown, GrowsOne, AddsOne, MayChange, Allocates, BlockIsThere, IsServable, CommitsTooMuch, AllocCause}
+use Rattle.ms_base.specs.SumLaws.{GrowsWell}
+use Rattle.ms_base.proofs.entries.EntryLemmas.{Split, split_at}
+use Rattle.ms_base.proofs.runs.ApartLemmas.{All-middle_of}
+use Rattle.ms_base.proofs.machine.GoodLemmas.{chunks_split}
+use Rattle.ms_base.proofs.machine.ChangeLemmas.{changed, slots_same, unchanged_pools}
+use Rattle.ms_base.proofs.arena.BlockLemmas.{arena_there}
+use Rattle.ms_base.proofs.free.AlikeLemmas.{permuted_are_alike}
+use Rattle.ms_base.proofs.free.OrderLemmas.{taken_alike}
+use Rattle.ms_base.proofs.granules.GrowingLemmas.{growing_keeps_the_limit}
+use Rattle.ms_pool.specs.Tallies.{Tallies}
+use Rattle.ms_pool.specs.Ledger.{Loan, Ledger, held_in, state_in, with_loan, with_lent, with_grown}
+use Rattle.ms_pool.specs.Calls.{tallied, Took, Grew}
+use Rattle.ms_arena.specs.Arena.{ArenaView, IsAskable, PlaceRefused}
+use Rattle.ms_loaders.specs.Loader.{LoaderView, IsSoundView, IsArenaOf, AfterAlloc, AsksArena, NameRefused, AllocatesBlock}
+use Rattle.ms_loaders.specs.System.{states_of, machine_of, AreTogether}
+use Rattle.ms_loaders.proofs.MappedLemmas.{found-mapped, changed-mapped}
+use Rattle.ms_loaders.proofs.OutcomeLemmas.{SameBut, GrownBy, LentBy, IsMade, IsNotMade, TakeCause, picked_is}
+use Rattle.ms_loaders.proofs.AskedLemmas.{outcome}
+use Rattle.ms_loaders.proofs.FitLemmas.{fits, machine_is_good, recommitted_machine}
+use Rattle.ms_loaders.proofs.ServedLemmas.{apart_of}
 
-pub found : {X : Type 0} (o : Option X) → is_some o ≡ true → (x : X) × (o ≡ Some x)
-found None e = absurd (cc)
-found (Some x) e = (x, refl)
+-- The refusals, as answers.
+abbrev reserve : ℕ → ℕ → Result Chunk Refusal
+reserve nodes limit = Err (ReserveLimit nodes limit)
 
-pub missing : {X : Type 0} (o : Option X) → is_some o ≡ false → o ≡ None
-missing None e = refl
-missing (Some x) e = absurd (cc)
+abbrev commit : ℕ → ℕ → ℕ → Result Chunk Refusal
+commit committed limit need = Err (CommitLimit committed limit need)
 
--- A word written.
-pub write_is_good : (m : Machine) (name block index value : ℕ) (loader other : LoaderState) → HasLoader m name loader
-    → WritesWord loader block index value other → IsGood m → IsGood (with_loader m name other)
-write_is_good m name block index value loader other has writes good =
-    rw writes.after (good_with_write m name block loader writes.found index value (record { loader_is = has; block_is = writes.has }) good)
+abbrev state_of : LoaderView → LoaderState
+state_of loader = loader.state
 
-pub write_is_served : (m : Machine) (name block index value : ℕ) (loader other : LoaderState) → HasLoader m name loader
-    → WritesWord loader block index value other → Writes m name block index value (with_loader m name other)
-write_is_served m name block index value loader other has writes = record {
-  loader = loader;
-  found = writes.found;
-  has = record { loader_is = has; block_is = writes.has };
-  within = writes.within;
-  after = ap (with_loader m name) writes.after;
+-- A loader of the system is one of the machine.
+pub has_loader : (ledger : Ledger) (loaders : List (ℕ × LoaderView)) (name : ℕ) (v : LoaderView) → named loaders name ≡ Some v → HasLoader (machine_of ledger loaders) name v.state
+has_loader ledger loaders name v found = found-mapped state_of loaders name v found
+
+-- The machine where a loader changed, before the granules follow.
+pub machine_with : (ledger : Ledger) (loaders : List (ℕ × LoaderView)) (name : ℕ) (v : LoaderView)
+    → machine_of ledger (with_changed loaders name v) ≡ with_loader (machine_of ledger loaders) name v.state
+machine_with ledger loaders name v = ap (λ (l : List (ℕ × LoaderState)). record (machine_of ledger loaders) { loaders = l }) (changed-mapped state_of loaders name v)
+
+-- What a made block changes of chunks and slots, and the machine then.
+record IsStep (space : Space) (old new : Ledger) (loaders : List (ℕ × LoaderView)) (name n : ℕ) (was is : LoaderView) (chunks : List Chunk) : Type 0 where
+  slots : List ℕ
+  changes : MayChange old.limits.policy n (record { chunks = (arena_of space was.state).chunks; slots = slots_in space (machine_of old loaders) }) (record { chunks = chunks; slots = slots })
+  after : machine_of new (with_changed loaders name is) ≡ machine_recommitted (with_slots space (with_loader (machine_of old loaders) name is.state) slots)
+
+abbrev change : List Chunk → List ℕ → Change
+change chunks slots = record { chunks = chunks; slots = slots }
+
+same_change : (chunks other : List Chunk) (slots : List ℕ) → other ≡ chunks → change other slots ≡ change chunks slots
+same_change chunks other slots e = ap (λ (l : List Chunk). change l slots) e
+
+-- No chunk is touched.
+stays : (space : Space) (old new : Ledger) (loaders : List (ℕ × LoaderView)) (name n : ℕ) (was is : LoaderView) (chunks : List Chunk) → new ≡ old
+    → chunks ≡ (arena_of space was.state).chunks → IsGood (machine_of new (with_changed loaders name is)) → IsStep space old new loaders name n was is chunks
+stays space old new loaders name n was is chunks same as_they good = record {
+  slots = slots_in space (machine_of old loaders);
+  changes = inl (same_change (arena_of space was.state).chunks chunks (slots_in space (machine_of old loaders)) as_they);
+  after = machine ∙ sym (unchanged_pools space (machine_of old loaders) name is.state (subst IsGood machine good));
 }
+  where
+    machine : machine_of new (with_changed loaders name is) ≡ with_loader (machine_of old loaders) name is.state
+    machine = ap (λ (l : Ledger). machine_of l (with_changed loaders name is)) same ∙ machine_with old loaders name is
 
--- A block freed.
-pub free_is_good : (m : Machine) (name block : ℕ) (loader other : LoaderState) → HasLoader m name loader
-    → FreesBlock loader block other → IsGood m → IsGood (with_loader m name other)
-free_is_good m name block loader other has frees good =
-    rw frees.after (good_with_free m name block loader frees.found (record { loader_is = has; block_is = frees.has }) good)
+-- A chunk is at a place of a list.
+set_same : (chunks : List Chunk) (place : ℕ) (chunk : Chunk) → slice_get chunks place ≡ Some chunk → slice_set chunks place chunk ≡ chunks
+set_same [] place chunk found = absurd (cc)
+set_same (c ∷ chunks) zero chunk found = let its : chunk ≡ c = cc in ap (λ (d : Chunk). d ∷ chunks) its
+set_same (c ∷ chunks) (suc place) chunk found = ap (λ (l : List Chunk). c ∷ l) (set_same chunks place chunk found)
 
-pub free_is_served : (m : Machine) (name block : ℕ) (loader other : LoaderState) → HasLoader m name loader
-    → FreesBlock loader block other → Frees m name block (with_loader m name other)
-free_is_served m name block loader other has frees = record {
-  loader = loader;
-  found = frees.found;
-  kept = loader.arena.kept;
-  has = record { loader_is = has; block_is = frees.has };
-  after = ap (with_loader m name) frees.after;
+-- What holds of all chunks of a space holds of a loader's.
+each_of_loader : (P : Chunk → Type 0) (space : Space) (m : Machine) (name : ℕ) (loader : LoaderState) → HasLoader m name loader → All P (chunks_held space m.loaders)
+    → All P (arena_of space loader).chunks
+each_of_loader P space m name loader found all =
+    let split = split_at m.loaders name loader found in
+    All-middle_of P (chunks_held space split.before) (arena_of space loader).chunks (chunks_held space split.after)
+    (rw (ap (chunks_held space) split.is ∙ chunks_split space split.before split.after name loader) at all)
+
+at_place : (P : Chunk → Type 0) (chunks : List Chunk) (place : ℕ) (chunk : Chunk) → AllByRecursion P chunks → slice_get chunks place ≡ Some chunk → P chunk
+at_place P [] place chunk all found = absurd (cc)
+at_place P (c ∷ chunks) zero chunk all found = let its : c ≡ chunk = cc in subst P its all.0
+at_place P (c ∷ chunks) (suc place) chunk all found = at_place P chunks place chunk all.1 found
+
+is_held : (space : Space) (old : Ledger) (loaders : List (ℕ × LoaderView)) (name : ℕ) (was : LoaderView) (place : ℕ) (chunk : Chunk) → AreTogether old loaders → named loaders name ≡ Some was
+    → slice_get (arena_of space was.state).chunks place ≡ Some chunk → Contains (held_in space old) chunk
+is_held space old loaders name was place chunk its found at_it =
+    at_place (Contains held) (arena_of space was.state).chunks place chunk
+    (recursion_from_All (Contains held) (arena_of space was.state).chunks
+    (each_of_loader (Contains held) space (machine_of old loaders) name was.state (has_loader old loaders name was found)
+    (All-permutation (Contains held) held (chunks_held space (states_of loaders)) (fits old loaders its.loaders_sound its.served space) (All-contains_itself held)))) at_it
+  where
+    held : List Chunk
+    held = held_in space old
+
+-- The current chunk grows.
+grows : (space : Space) (old new : Ledger) (loaders : List (ℕ × LoaderView)) (name n : ℕ) (was is : LoaderView) (after : ArenaState) → named loaders name ≡ Some was
+    → AreTogether old loaders → AreTogether new (with_changed loaders name is) → GrownBy space old new (arena_of space was.state) after → IsStep space old new loaders name n was is after.chunks
+grows space old new loaders name n was is after found its now grown = record {
+  slots = slots_in space m;
+  changes = elim well.changes [
+    | inl same ↦ inl (same_change before.chunks after.chunks (slots_in space m)
+        (grown.chunks ∙ ap (slice_set before.chunks (last_place before)) same ∙ set_same before.chunks (last_place before) grown.chunk grown.at_it))
+    | inr more ↦ inr (inl (record { place = last_place before; was = grown.chunk; is = grown.greater; found = grown.at_it; grown = more; chunks = grown.chunks; slots = refl }))
+  ];
+  after = ap (λ (l : Ledger). machine_of l (with_changed loaders name is)) grown.ledger
+      ∙ recommitted_machine mid (with_changed loaders name is) (λ one. subst (λ (l : Ledger). IsPermutation (held_in one l) (chunks_held one (states_of (with_changed loaders name is)))) grown.ledger (fits new (with_changed loaders name is) now.loaders_sound now.served one))
+      ∙ ap machine_recommitted (machine_with old loaders name is)
+      ∙ ap machine_recommitted (sym (slots_same space (with_loader m name is.state)));
 }
+  where
+    m : Machine
+    m = machine_of old loaders
 
--- Why a loader can't write a word, or free a block, is why the machine can't.
-pub write_is_refused : (m : Machine) (name block index : ℕ) (loader : LoaderState) (refusal : Refusal) → HasLoader m name loader
-    → LacksWord loader block index refusal → WordCause m name block index refusal
-write_is_refused m name block index loader NoBlock has lacks = record { loader = loader; loader_is = has; unused = lacks }
-write_is_refused m name block index loader (OutOfRange words) has past =
-    record { loader = loader; found = past.found; has = record { loader_is = has; block_is = past.has }; words_are = past.words_are; past = past.past }
-write_is_refused m name block index loader _ has lacks = absurd lacks
+    before : ArenaState
+    before = arena_of space was.state
 
-pub free_is_refused : (m : Machine) (name block : ℕ) (loader : LoaderState) (refusal : Refusal) → HasLoader m name loader
-    → LacksName loader block refusal → BlockCause m name block refusal
-free_is_refused m name block loader NoBlock has lacks = record { loader = loader; loader_is = has; unused = lacks }
-free_is_refused m name block loader _ has lacks = absurd lacks
+    mid : Ledger
+    mid = record old { loans = map (λ (loan : Loan). cond (loan.chunk.start == grown.greater.start) (record loan { chunk = grown.greater }) loan) old.loans }
+
+    well : GrowsWell (state_in space old) grown.chunk grown.greater grown.total
+    well = growing_keeps_the_limit (state_in space old) grown.chunk grown.greater grown.total grown.may (its.ledger_sound.spaces space)
+        (is_held space old loaders name was (last_place before) grown.chunk its found grown.at_it) grown.grows
+
+-- A chunk is lent.
+lends : (space : Space) (old new : Ledger) (loaders : List (ℕ × LoaderView)) (name n owner : ℕ) (was is : LoaderView) (after : ArenaState)
+    → AreTogether new (with_changed loaders name is) → LentBy space owner n old new (arena_of space was.state) after → IsStep space old new loaders name n was is after.chunks
+lends space old new loaders name n owner was is after now lent = record {
+  slots = slots_with (slots_in space m) lent.chunk.start;
+  changes = inr (inr (record { added = lent.chunk; front = front; chunks = lent.chunks; slots = refl }));
+  after = ap (λ (l : Ledger). machine_of l (with_changed loaders name is)) lent.ledger
+      ∙ recommitted_machine (mid space) (with_changed loaders name is) (λ one. subst (λ (l : Ledger). IsPermutation (held_in one l) (chunks_held one (states_of (with_changed loaders name is)))) lent.ledger (fits new (with_changed loaders name is) now.loaders_sound now.served one))
+      ∙ ap machine_recommitted (slots_are space);
+}
+  where
+    m : Machine
+    m = machine_of old loaders
+
+    mid : Space → Ledger
+    mid one = record (tallied old lent.tallies) {
+      loans = with_loan (record { owner = owner; chunk = lent.chunk }) old.loans;
+      slots = by_space one (slots_with old.slots lent.chunk.start) old.slots;
+    }
+
+    front : lent.chunk.front ≡ front_for old.limits.policy (size_of lent.chunk.level) n
+    front = subst (λ (c : Chunk). c.front ≡ front_for old.limits.policy (size_of c.level) n) (sym (picked_is (state_in space old) lent.p lent.m n lent.chunk lent.picks)) refl
+
+    slots_are : (one : Space) → machine_of (mid one) (with_changed loaders name is) ≡ with_slots one (with_loader m name is.state) (slots_with (slots_in one m) lent.chunk.start)
+    slots_are NonClass = ap (λ (o : Machine). record o { slots = slots_with old.slots lent.chunk.start }) (machine_with old loaders name is)
+    slots_are Class = machine_with old loaders name is
+
+-- The limit that a refused request meets, as the machine tells it.
+is_reserve : (pool : PoolState) (p m words nodes limit : ℕ) → taken pool p m words ≡ Err (ReserveLimit nodes limit) → ReserveCause pool m nodes limit
+is_reserve pool p m words nodes limit is = go (meets_reserve_limit pool m) (meets_commit_limit pool p m words) refl is
+  where
+    numbers : (a b : ℕ) → reserve a b ≡ reserve nodes limit → (nodes ≡ a) × (limit ≡ b)
+    numbers a b e = (cc, cc)
+
+    go : (a b : Bool) → meets_reserve_limit pool m ≡ a
+        → (if a then Err (ReserveLimit (length pool.slots) (node_limit pool)) else if b then Err (CommitLimit (committed_count pool) pool.limits.granules (granules_needed pool p m words)) else Ok (chunk_picked pool p m words)) ≡ Err (ReserveLimit nodes limit)
+        → ReserveCause pool m nodes limit
+    go true b e is = let its = numbers (length pool.slots) (node_limit pool) is in record { met = e; nodes_are = its.0; limit_is = its.1 }
+    go false true e is = absurd (cc)
+    go false false e is = absurd (cc)
+
+is_commit : (pool : PoolState) (p m words committed limit need : ℕ) → taken pool p m words ≡ Err (CommitLimit committed limit need) → CommitCause pool p m words committed limit need
+is_commit pool p m words committed limit need is = go (meets_reserve_limit pool m) (meets_commit_limit pool p m words) refl is
+  where
+    numbers : (a b c : ℕ) → commit a b c ≡ commit committed limit need → (committed ≡ a) × (limit ≡ b) × (need ≡ c)
+    numbers a b c e = (cc, cc, cc)
+
+    go : (a b : Bool) → meets_commit_limit pool p m words ≡ b
+        → (if a then Err (ReserveLimit (length pool.slots) (node_limit pool)) else if b then Err (CommitLimit (committed_count pool) pool.limits.granules (granules_needed pool p m words)) else Ok (chunk_picked pool p m words)) ≡ Err (CommitLimit committed limit need)
+        → CommitCause pool p m words committed limit need
+    go true b e is = absurd (cc)
+    go false true e is = let its = numbers (committed_count pool) pool.limits.granules (granules_needed pool p m words) is in record { met = e; committed_are = its.0; limit_is = its.1; need_is = its.2 }
+    go false false e is = absurd (cc)
+
+-- So an allocation that is answered by a block is served.
+made_is_step : (space : Space) (old new : Ledger) (loaders : List (ℕ × LoaderView)) (name words : ℕ) (was is : LoaderView) (made : Block) (arena after : ArenaView) → named loaders name ≡ Some was
+    → IsArenaOf space was arena → AreTogether old loaders → AreTogether new (with_changed loaders name is) → IsMade arena words old made after new
+    → IsStep space old new loaders name (block_words words) was is after.books.chunks
+made_is_step space old new loaders name words was is made arena after found its before now how = elim how.how [
+  | inl same ↦ stays space old new loaders name (block_words words) was is after.books.chunks same.1 (same.0 ∙ ap (λ (a : ArenaState). a.chunks) its.books) (machine_is_good new (with_changed loaders name is) now)
+  | inr other ↦ elim other [
+    | inl grown ↦ grows space old new loaders name (block_words words) was is after.books found before now
+        (subst (λ (s : Space). GrownBy s old new (arena_of space was.state) after.books) its.space_is (subst (λ (a : ArenaState). GrownBy arena.space old new a after.books) its.books grown))
+    | inr lent ↦ lends space old new loaders name (block_words words) arena.owner was is after.books now
+        (subst (λ (s : Space). LentBy s arena.owner (block_words words) old new (arena_of space was.state) after.books) its.space_is (subst (λ (a : ArenaState). LentBy arena.space arena.owner (block_words words) old new a after.books) its.books lent))
+  ]
+]
+
+pub alloc_is_served : (space : Space) (old new : Ledger) (loaders : List (ℕ × LoaderView)) (name block words : ℕ) (was is : LoaderView) (made : Block) → named loaders name ≡ Some was
+    → AllocatesBlock Grew Took old.limits.policy space was block words old (Ok made) is new → IsSoundView was → AreTogether old loaders → AreTogether new (with_changed loaders name is)
+    → Allocates (machine_of old loaders) space name block words made.start (machine_of new (with_changed loaders name is))
+alloc_is_served space old new loaders name block words was is made found (inl refused) sound before now = absurd (let e = refused.answer_is in cc)
+alloc_is_served space old new loaders name block words was is made found (inr asks) sound before now = record {
+  some = how.askable.some;
+  fits = how.askable.fits;
+  before = was.state;
+  arena = asks.is.books;
+  slots = step.slots;
+  found = has_loader old loaders name was found;
+  unused = asks.unused;
+  inside = asks.follows.0;
+  changes = step.changes;
+  after = step.after ∙ ap (λ (l : LoaderState). machine_recommitted (with_slots space (with_loader (machine_of old loaders) name l) step.slots)) state;
+}
+  where
+    how : IsMade asks.was words old made asks.is new
+    how = outcome asks.was words old (Ok made) asks.is new (apart_of space was asks.was sound asks.arena) asks.allocates
+
+    step : IsStep space old new loaders name (block_words words) was is asks.is.books.chunks
+    step = made_is_step space old new loaders name words was is made asks.was asks.is found asks.arena before now how
+
+    state : is.state ≡ with_allocated space was.state asks.is.books block (zeroed made.start (block_words words))
+    state = ap state_of asks.follows.1 ∙ ap (λ (n : ℕ). with_allocated space was.state asks.is.books block (zeroed made.start n)) how.words_are
+
+-- And one that is refused is refused for that cause.
+module _ (space : Space) (old : Ledger) (loaders : List (ℕ × LoaderView)) (name block words : ℕ) (was : LoaderView) (found : named loaders name ≡ Some was) (its : AreTogether old loaders) where
+  lacks : named was.state.blocks block ≡ None → LacksBlock (machine_of old loaders) name block
+  lacks unused = record { loader = was.state; loader_is = has_loader old loaders name was found; unused = unused }
+
+  servable : named was.state.blocks block ≡ None → IsAskable words → IsServable (machine_of old loaders) name block words
+  servable unused askable = record { lacks = lacks unused; some = askable.some; fits = askable.fits }
+
+  by_place : (refusal : Refusal) → named was.state.blocks block ≡ None → PlaceRefused words refusal → AllocCause (machine_of old loaders) space name block words refusal
+  by_place ZeroWords unused cause = (lacks unused, cause)
+  by_place TooLarge unused cause = (lacks unused, cause)
+  by_place OutOfMemory unused cause = servable unused cause
+  by_place _ unused cause = absurd cause
+
+  by_name : (refusal : Refusal) → NameRefused was block words refusal → AllocCause (machine_of old loaders) space name block words refusal
+  by_name BlockExists cause = record { loader = was.state; found = cause.0; has = record { loader_is = has_loader old loaders name was found; block_is = cause.1 } }
+  by_name ZeroWords cause = by_place ZeroWords cause.0 cause.1
+  by_name TooLarge cause = by_place TooLarge cause.0 cause.1
+  by_name OutOfMemory cause = by_place OutOfMemory cause.0 cause.1
+  by_name _ cause = absurd cause.1
+
+  in_machine : (p m n : ℕ) → taken (pool_of space (machine_of old loaders)) p m n ≡ taken (state_in space old) p m n
+  in_machine p m n = taken_alike (state_in space old) (chunks_held space (states_of loaders)) (permuted_are_alike (held_in space old) (chunks_held space (states_of loaders)) (fits old loaders its.loaders_sound its.served space)) p m n
+
+  by_take : (refusal : Refusal) → named was.state.blocks block ≡ None → IsAskable words
+      → TakeCause (state_in space old) (wanted_level was.state.kind space (arena_of space was.state) (block_words words)) (level_that_holds (block_words words)) (block_words words) refusal
+      → AllocCause (machine_of old loaders) space name block words refusal
+  by_take (CommitLimit committed limit need) unused askable cause = (
+    servable unused askable,
+    record {
+      loader = was.state;
+      has = has_loader old loaders name was found;
+      cause = is_commit (pool_of space (machine_of old loaders)) p m n committed limit need (in_machine p m n ∙ cause);
+    },
+  )
+    where
+      n : ℕ
+      n = block_words words
+
+      p : ℕ
+      p = wanted_level was.state.kind space (arena_of space was.state) n
+
+      m : ℕ
+      m = level_that_holds n
+  by_take (ReserveLimit nodes limit) unused askable cause = (
+    servable unused askable,
+    is_reserve (pool_of space (machine_of old loaders)) (wanted_level was.state.kind space (arena_of space was.state) (block_words words)) (level_that_holds (block_words words)) (block_words words) nodes limit
+        (in_machine (wanted_level was.state.kind space (arena_of space was.state) (block_words words)) (level_that_holds (block_words words)) (block_words words) ∙ cause),
+  )
+  by_take OutOfMemory unused askable cause = servable unused askable
+  by_take _ unused askable cause = absurd cause
+
+-- The machine is as it was.
+same_machine : (old new : Ledger) (loaders : List (ℕ × LoaderView)) (name : ℕ) (was is : LoaderView) → named loaders name ≡ Some was → is ≡ was → SameBut old new
+    → machine_of new (with_changed loaders name is) ≡ machine_of old loaders
+same_machine old new loaders name was is found same but =
+    ap (λ (l : Ledger). machine_of l (with_changed loaders name is)) but.is
+    ∙ ap (machine_of old) (ap (with_changed loaders name) same ∙ set_value_same (is_at (nat_cmp name)) loaders was found)
+
+abbrev refused : Refusal → Result Block Refusal
+refused refusal = Err refusal
+
+same_refusal : (a b : Refusal) → refused a ≡ refused b → b ≡ a
+same_refusal a b e = cc
+
+pub alloc_is_refused : (space : Space) (old new : Ledger) (loaders : List (ℕ × LoaderView)) (name block words : ℕ) (was is : LoaderView) (refusal : Refusal) → named loaders name ≡ Some was
+    → AllocatesBlock Grew Took old.limits.policy space was block words old (Err refusal) is new → IsSoundView was → AreTogether old loaders
+    → AllocCause (machine_of old loaders) space name block words refusal × (machine_of new (with_changed loaders name is) ≡ machine_of old loaders)
+alloc_is_refused space old new loaders name block words was is refusal found (inl not) sound its = (
+  subst (λ (r : Refusal). AllocCause (machine_of old loaders) space name block words r) (same_refusal refusal not.refusal not.answer_is)
+      (by_name space old loaders name block words was found its not.refusal not.cause),
+  same_machine old new loaders name was is found not.loader (record { tallies = old.tallies; is = not.source }),
+)
+alloc_is_refused space old new loaders name block words was is refusal found (inr asks) sound its = (
+  elim how.cause [
+    | inl place ↦ by_place space old loaders name block words was found its refusal asks.unused place
+    | inr take ↦ by_take space old loaders name block words was found its refusal asks.unused take.0
+        (subst (λ (k : Kind). TakeCause (state_in space old) (wanted_level k space (arena_of space was.state) (block_words words)) (level_that_holds (block_words words)) (block_words words) refusal) asks.arena.kind
+        (subst (λ (s : Space). TakeCause (state_in s old) (wanted_level asks.was.kind s (arena_of space was.state) (block_words words)) (level_that_holds (block_words words)) (block_words words) refusal) asks.arena.space_is
+        (subst (λ (a : ArenaState). TakeCause (state_in asks.was.space old) (wanted_level asks.was.kind asks.was.space a (block_words words)) (level_that_holds (block_words words)) (block_words words) refusal) asks.arena.books take.1)))
+  ],
+  same_machine old new loaders name was is found asks.follows how.ledger,
+)
+  where
+    how : IsNotMade asks.was words old refusal new
+    how = outcome asks.was words old (Err refusal) asks.is new (apart_of space was asks.was sound asks.arena) asks.allocates

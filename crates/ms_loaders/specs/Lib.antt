@@ -1,4 +1,6 @@
 pub mod Loader
-pub mod Placing
+pub mod LoaderInside
+pub mod Naming
+pub mod Loaders
 pub mod System
-pub mod Inside
+pub mod SystemInside

@@ -1,32 +1,60 @@
--- What a system's calls give and change.
-use Rattle.std.specs.Prelude.{ℕ, List, Result, Ok, Err}
-use Rattle.ms_base.specs.declared.span.Chunk.{Chunk}
-use Rattle.ms_base.specs.declared.span.Span.{Span}
-use Rattle.ms_base.specs.Level.{size_of}
-use Rattle.ms_base.specs.Front.{front_for}
-use Rattle.ms_base.specs.declared.settings.Settings.{Settings}
+-- What the parts of a system stand for together, and what holds of them.
+use Rattle.std.specs.Prelude.{◌≡◌, ℕ, ◌≤◌, ◌==◌, Bool, List, [], ◌∷◌, length, map, Result, Ok, Err, IsTrue}
+use Rattle.std.specs.List.{All, flat_map, count_by}
+use Rattle.std.specs.Map.{values_of}
+use Rattle.ms_base.specs.declared.kind.Space.{Space}
+use Rattle.ms_base.specs.declared.kind.Space.TheVariants.{NonClass, Class}
 use Rattle.ms_base.specs.declared.step.Reply.{Reply}
 use Rattle.ms_base.specs.declared.step.Reply.TheVariants.{Refused}
 use Rattle.ms_base.specs.declared.refusal.Refusal.{Refusal}
-use Rattle.ms_base.specs.Names.{with_changed}
-use Rattle.ms_base.specs.PoolSteps.{slots_with}
-use Rattle.ms_base.specs.State.{LoaderState, Limits, Machine}
-use Rattle.ms_loaders.specs.Loader.{with_chunk}
+use Rattle.ms_base.specs.Names.{AreNamed}
+use Rattle.ms_base.specs.Committed.{is_among}
+use Rattle.ms_base.specs.State.{LoaderState, Machine}
+use Rattle.ms_pool.specs.Account.{AccountState}
+use Rattle.ms_pool.specs.Ledger.{Loan, Ledger, Serves, IsSoundLedger}
+use Rattle.ms_loaders.specs.Loader.{LoaderView, account_in, IsSoundView}
 
--- The limits that settings give; a granule has 8192 words.
-abbrev pub limits_of : Settings → Limits
-limits_of settings = record { nodes = settings.nodes; granules = settings.max_granules; granule = 8192 }
+-- The states of loaders by name.
+abbrev pub states_of : List (ℕ × LoaderView) → List (ℕ × LoaderState)
+states_of loaders = map (λ (entry : ℕ × LoaderView). (entry.0, entry.1.state)) loaders
 
--- The chunk at a part whose front is for so many words.
-abbrev pub chunk_at : Span → ℕ → Chunk
-chunk_at part words = record { start = part.start; level = part.level; front = front_for 8192 (size_of part.level) words }
+-- The accounts of loaders, two of each.
+abbrev pub accounts_of : List (ℕ × LoaderView) → List AccountState
+accounts_of loaders = flat_map (λ (loader : LoaderView). account_in NonClass loader ∷ account_in Class loader ∷ []) (values_of loaders)
 
--- The machine where a loader is lent a chunk with a block at its start.
-abbrev pub with_lent : Machine → ℕ → LoaderState → ℕ → Chunk → List ℕ → Machine
-with_lent m name loader block chunk contents = record m {
-  loaders = with_changed m.loaders name (with_chunk loader block chunk contents);
-  slots = slots_with m.slots chunk.start;
+abbrev pub owners_of : List (ℕ × LoaderView) → List ℕ
+owners_of loaders = map (λ (account : AccountState). account.owner) (accounts_of loaders)
+
+-- The machine that a pool and its loaders are.
+abbrev pub machine_of : Ledger → List (ℕ × LoaderView) → Machine
+machine_of ledger loaders = record {
+  loaders = states_of loaders;
+  slots = ledger.slots;
+  committed = ledger.committed;
+  class_committed = ledger.class_committed;
+  given = ledger.given;
+  limits = ledger.limits;
 }
+
+-- No number stands twice in the list.
+abbrev pub AreDistinct : List ℕ → Type 0
+AreDistinct numbers = (number : ℕ) → count_by (λ other. other == number) numbers ≤ 1
+
+-- The pool serves the loaders' accounts and lends to no other: their owners differ, and as many
+-- accounts are open in each space as there are loaders.
+pub record AreServed (ledger : Ledger) (loaders : List (ℕ × LoaderView)) : Type 0 where
+  pub served : All (Serves ledger) (accounts_of loaders)
+  pub distinct : AreDistinct (owners_of loaders)
+  pub no_other : All (λ (loan : Loan). IsTrue (is_among (owners_of loaders) loan.owner)) ledger.loans
+  pub opened : ledger.opened ≡ length loaders
+  pub class_opened : ledger.class_opened ≡ length loaders
+
+-- What is true of a pool and its loaders.
+pub record AreTogether (ledger : Ledger) (loaders : List (ℕ × LoaderView)) : Type 0 where
+  pub ledger_sound : IsSoundLedger ledger
+  pub loaders_sound : All IsSoundView (values_of loaders)
+  pub names : AreNamed loaders
+  pub served : AreServed ledger loaders
 
 -- The reply that a result stands for.
 abbrev pub reply_of : Result Reply Refusal → Reply

@@ -1,24 +1,23 @@
-//! Class loaders by name over a plain list of chunks: the whole machine in one thread.
+//! Class loaders by name over one pool: the whole machine in one thread.
 //!
-//!     System ── loaders by name ── Loader ── chunks  |== 10 ==|....|  |=== 300 ===|....|
-//!        │                           │                 top      front
-//!        └── reserved slots          └── blocks by name, each at the start of a chunk of its own
+//!     System ── Loaders, by name ── Loader ── blocks by name
+//!        │                            ├── Arena ─────── account ─┐
+//!        │                            └── Arena, classes' ─ account ─┤
+//!        └── Pool, of both spaces <── lends chunks to ───────────┘
 //!
 //! Kept true: the state of a `System` is a good state of the machine, and each step is one of its
-//! transitions. Every block has a chunk of its own for now, so the words of a freed block are waste
-//! until its loader is unloaded. Apart because everything above speaks of steps and replies, and
-//! nothing below does. Stands on `ms_base`. What takes memory: `new`, `new_loader`, `step` and
-//! `run`; nothing waits.
+//! transitions. Apart because everything above speaks of steps and replies, and nothing below does:
+//! the pool knows accounts, the arena knows no names. Stands on `ms_pool` and `ms_arena`, by their
+//! contracts alone. What takes memory: `System::new`, `new_loader`, `step` and `run`, a loader's
+//! `alloc` and `calloc`, `Loaders::insert`; nothing waits, but for a source that does.
 #![tactic(auto)]
 
-mod committing;
-mod held;
 mod loader;
-mod placing;
-mod slots;
+mod loaders;
+mod naming;
 mod system;
-#[cfg(test)]
-mod tests;
 
+pub use loader::Loader;
+pub use loaders::Loaders;
 pub use ms_base::{Reply, Step};
 pub use system::System;

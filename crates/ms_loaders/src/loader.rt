@@ -1,190 +1,218 @@
-//! One class loader: its kind, its chunks with their tops, and its blocks by name.
+//! One class loader: an arena in each space, and the names of its blocks.
 //!
-//! Each block lies at the start of a chunk of its own, so a chunk's top is the words of its block.
-//! Kept true: there are as many tops as chunks. Only `add` takes memory.
-ghost use Rattle.std.specs.Prelude.{◌≡◌, ℕ, ◌+◌, ◌*◌, ◌^◌, ◌<◌, ◌≤◌, IfOk, IfErr, OnOk, OnErr, [], length, min};
-ghost use Rattle.std.specs.Option.{is_some};
-ghost use Rattle.ms_base.specs.Interval.{meet};
-ghost use Rattle.ms_base.specs.Held.{meets_chunk, has_chunk_in};
-ghost use Rattle.ms_base.specs.Committed.{is_committed};
-ghost use Rattle.ms_base.specs.Growth.{growth_level};
-ghost use Rattle.ms_base.specs.State.{LoaderState, empty_loader};
+//!     names     3 -> [10, 14)    7 -> [0, 10)    9 -> [67108864, ..)
+//!                       |             |              |
+//!     arenas    [ live | live | free ..  ]       [ live | ..      ]   the class space's
+//!
+//! Kept true: the named blocks that lie in a space are the live blocks of its arena, one to one; a
+//! block's space is decided by where it starts. Stands on `ms_arena`. Only `alloc` and `calloc` take
+//! memory; they wait as their source does. After each change of an arena `account` is called: it
+//! costs nothing, and tells what is true of every arena.
+ghost use Rattle.std.specs.Prelude.{◌≡◌, ◌≢◌, ◌+◌, ◌<◌, ◌^◌, IfOk, IfErr, OnOk, OnErr, []};
+ghost use Rattle.ms_base.specs.declared.kind.Space.TheVariants.{NonClass, Class};
+ghost use Rattle.ms_base.specs.Spaces.{is_in};
 ghost use Rattle.ms_base.specs.Totals.{used_of};
-ghost use Rattle.ms_base.specs.Names.{named};
-ghost use Rattle.ms_loaders.specs.Loader.{with_chunk, HasWord, WritesWord, FreesBlock, LacksWord, LacksName};
+ghost use Rattle.ms_pool.specs.Account.{AccountState};
+ghost use Rattle.ms_loaders.specs.Loader.{account_in, new_loader, with_state, IsSoundView, AllocatesBlock, HasWord, WritesWord, FreesBlock, LacksWord, LacksName};
 
-use crate::committing::GRANULE_WORDS;
-use crate::held::NODE_WORDS;
-use ms_base::{Chunk, Kind, Level, LiveBlock, Refusal, Space, Words, growth, share_word};
-use std::alloc::{AllocError, Global};
+use crate::naming::{Names, enter, settle};
+use ms_arena::{Arena, ArenaTotals};
+use ms_base::{Block, Kind, NODE_WORDS, Refusal, SLOTS};
+use ms_pool::{Account, ChunkSource};
+use std::alloc::Global;
 use std::collections::BTreeMap;
 use std::marker::Model;
 
+/// One class loader. After HotSpot's ClassLoaderMetaspace, which has an arena in each space too; the
+/// names are this project's choice.
 #[derive(Drop)]
 pub struct Loader {
-    kind: Kind,
-    chunks: Vec<Chunk>,
-    tops: Vec<u64>,
-    blocks: BTreeMap<u32, LiveBlock>,
+    arena: Arena,
+    class_arena: Arena,
+    names: Names,
 }
 
 impl Model for Loader {
-    ghost use Rattle.std.specs.Prelude.{◌≡◌, [], length};
-    ghost use Rattle.ms_base.specs.State.{LoaderState};
+    ghost use Rattle.ms_loaders.specs.Loader.{LoaderView};
 
-    ghost Value = { LoaderState };
+    ghost Value = { LoaderView };
 
-    ghost view = { λ a. record { kind = a.kind; arena = record { chunks = a.chunks.items; tops = a.tops.items; kept = [] }; blocks = a.blocks.entries } };
+    ghost use Rattle.ms_loaders.specs.LoaderInside.{view_of, IsLoader};
 
-    ghost invariant = { λ a. length a.tops.items ≡ length a.chunks.items };
+    ghost view = { view_of };
+
+    ghost invariant = { IsLoader };
+}
+
+/// Tells whether a word lies in the class space.
+fn is_class(start: u64) -> bool
+    ensures { result ≡ is_in Class start }
+{
+    start >= u64::from(SLOTS) * NODE_WORDS
 }
 
 impl Loader {
-    pub fn new(alloc: Global, kind: Kind) -> Loader
-        ensures { result ≡ empty_loader kind }
+    /// Makes a loader over two accounts that hold no chunk, one of each space, the first not the
+    /// class space's. Takes no memory yet.
+    pub fn new(alloc: Global, account: Account, class_account: Account, kind: Kind) -> Loader
+        requires empty { account.chunks ≡ [] }
+        requires class_empty { class_account.chunks ≡ [] }
+        requires space { account.space ≡ NonClass }
+        requires class_space { class_account.space ≡ Class }
+        ensures made { result ≡ new_loader account class_account kind }
+        ensures sound { IsSoundView result }
     {
         Loader {
-            kind,
-            chunks: Vec::new(alloc),
-            tops: Vec::new(alloc),
-            blocks: BTreeMap::new(alloc),
+            arena: Arena::new(alloc, account, kind),
+            class_arena: Arena::new(alloc, class_account, kind),
+            names: BTreeMap::new(alloc),
         }
     }
 
-    /// Tells whether a chunk of the loader shares a word with the part.
-    pub fn meets(&self, start: u64, level: Level) -> bool
-        ensures { result ≡ meets_chunk self.now.arena.chunks start level }
+    /// Allocates a block of so many words, at least two, under a new name; its words are 0. Refused
+    /// with `BlockExists` where the name is used, then as the arena refuses; a refusal leaves the
+    /// loader as it was. Takes memory.
+    pub fn alloc<S: ChunkSource>(
+        &mut self,
+        source: &mut S,
+        name: u32,
+        words: u64,
+    ) -> Result<Block, Refusal>
+        requires { S.serves source.old (account_in NonClass self.old) }
+        ensures served { S.serves source.new (account_in NonClass self.new) }
+        ensures others { (other : AccountState) → other.owner ≢ self.old.owner
+            → S.serves source.old other → S.serves source.new other }
+        ensures counted { S.opened source.new ≡ S.opened source.old }
+        ensures limits { S.limits source.new ≡ S.limits source.old }
+        ensures allocates { AllocatesBlock S.grew S.took (S.limits source.old).policy NonClass self.old
+            name words source.old result self.new source.new }
+        ensures unchanged { OnErr result (self.new ≡ self.old) }
+        ensures sound { IsSoundView self.new }
     {
-        self.chunks.iter().any(|chunk| share_word(
-            chunk.start,
-            chunk.level.words(),
-            start,
-            level.words(),
-        ))
+        match enter(&mut self.names, name, words) {
+            Ok(()) => {}
+            Err(refusal) => return Err(refusal),
+        }
+        // The name stands before the arena is asked, since entering it takes memory; it is taken out
+        // again where the arena refuses, so a refusal leaves no name.
+        let answer = self.arena.alloc(source, words);
+        let _ = self.arena.account();
+        settle(&mut self.names, name, answer)
     }
 
-    /// Tells whether the granule holds a word of the front of a chunk of the loader.
-    pub fn commits(&self, granule: u64) -> bool
-        requires { granule < 8192 }
-        ensures { result ≡ is_committed 8192 self.now.arena.chunks granule }
+    /// Allocates a block of the class space, as `alloc` does one of the other space. Takes memory.
+    pub fn calloc<S: ChunkSource>(
+        &mut self,
+        source: &mut S,
+        name: u32,
+        words: u64,
+    ) -> Result<Block, Refusal>
+        requires { S.serves source.old (account_in Class self.old) }
+        ensures served { S.serves source.new (account_in Class self.new) }
+        ensures others { (other : AccountState) → other.owner ≢ self.old.class_owner
+            → S.serves source.old other → S.serves source.new other }
+        ensures counted { S.opened source.new ≡ S.opened source.old }
+        ensures limits { S.limits source.new ≡ S.limits source.old }
+        ensures allocates { AllocatesBlock S.grew S.took (S.limits source.old).policy Class self.old
+            name words source.old result self.new source.new }
+        ensures unchanged { OnErr result (self.new ≡ self.old) }
+        ensures sound { IsSoundView self.new }
     {
-        self.chunks.iter().any(|chunk| reaches(chunk, granule))
+        match enter(&mut self.names, name, words) {
+            Ok(()) => {}
+            Err(refusal) => return Err(refusal),
+        }
+        let answer = self.class_arena.alloc(source, words);
+        let _ = self.class_arena.account();
+        settle(&mut self.names, name, answer)
     }
 
-    /// Tells whether a chunk of the loader lies in the slot's node.
-    pub fn has_chunk_in(&self, slot: u32) -> bool
-        ensures { result ≡ has_chunk_in self.now.arena.chunks slot }
+    /// Reads a word of a named block, by its index from 0 on. Refused with `NoBlock`, and with
+    /// `OutOfRange` and the block's words where the index is past its end. Takes no memory.
+    pub fn read(&self, name: u32, index: u64) -> Result<u64, Refusal>
+        ensures value { IfOk result (HasWord self.now.state name index) }
+        ensures refused { IfErr result (LacksWord self.now.state name index) }
     {
-        self.chunks
-            .iter()
-            .any(|chunk| chunk.start / NODE_WORDS == u64::from(slot))
+        let Some(block) = self.names.get(&name) else {
+            return Err(Refusal::NoBlock);
+        };
+        if is_class(block.start) {
+            self.class_arena.read(*block, index)
+        } else {
+            self.arena.read(*block, index)
+        }
     }
 
-    /// Tells the words in use: the sum of the tops.
+    /// Writes a word of a named block, by its index from 0 on; all else stays. Refused as `read` is,
+    /// and then nothing changes. Takes no memory.
+    pub fn write(&mut self, name: u32, index: u64, value: u64) -> Result<(), Refusal>
+        ensures written { OnOk result (WritesWord self.old.state name index value self.new.state) }
+        ensures refused { IfErr result (LacksWord self.old.state name index) }
+        ensures unchanged { OnErr result (self.new ≡ self.old) }
+        ensures owners { self.new ≡ with_state self.old self.new.state }
+        ensures sound { IsSoundView self.new }
+    {
+        let block = match self.names.get(&name) {
+            Some(block) => *block,
+            None => return Err(Refusal::NoBlock),
+        };
+        if is_class(block.start) {
+            let answer = self.class_arena.write(block, index, value);
+            let _ = self.class_arena.account();
+            answer
+        } else {
+            let answer = self.arena.write(block, index, value);
+            let _ = self.arena.account();
+            answer
+        }
+    }
+
+    /// Frees a named block: its words become a free block of its arena, and its name may be used
+    /// anew. Refused with `NoBlock`, and then nothing changes. Takes no memory.
+    pub fn free(&mut self, name: u32) -> Result<(), Refusal>
+        ensures freed { OnOk result (FreesBlock self.old.state name self.new.state) }
+        ensures refused { IfErr result (LacksName self.old.state name) }
+        ensures unchanged { OnErr result (self.new ≡ self.old) }
+        ensures owners { self.new ≡ with_state self.old self.new.state }
+        ensures sound { IsSoundView self.new }
+    {
+        let Some(block) = self.names.remove(&name) else {
+            return Err(Refusal::NoBlock);
+        };
+        if is_class(block.start) {
+            let answer = self.class_arena.free(block);
+            let _ = self.class_arena.account();
+            answer
+        } else {
+            let answer = self.arena.free(block);
+            let _ = self.arena.account();
+            answer
+        }
+    }
+
+    /// Gives the accounts back, the class space's last, and drops all else. Takes no memory.
+    pub fn into_accounts(self) -> (Account, Account)
+        ensures account { result.0 ≡ account_in NonClass self }
+        ensures class_account { result.1 ≡ account_in Class self }
+    {
+        (self.arena.into_account(), self.class_arena.into_account())
+    }
+
+    /// Lends the accounts, the class space's last. A caller also learns here what is true of every
+    /// loader. Takes no memory.
+    pub fn accounts(&self) -> (&Account, &Account)
+        ensures account { result.0.now ≡ account_in NonClass self.now }
+        ensures class_account { result.1.now ≡ account_in Class self.now }
+        ensures sound { IsSoundView self.now }
+    {
+        (self.arena.account(), self.class_arena.account())
+    }
+
+    /// Tells how many words are in use, in both spaces: the sum of the tops. Takes no memory.
     pub fn used(&self) -> u64
-        requires { used_of self.now.arena < 2 ^ 64 }
-        ensures { result ≡ used_of self.now.arena }
+        requires { used_of self.now.state.arena + used_of self.now.state.class_arena < 2 ^ 64 }
+        ensures { result ≡ used_of self.now.state.arena + used_of self.now.state.class_arena }
     {
-        self.tops.iter().sum()
-    }
-
-    /// Tells whether the loader has a block of the name.
-    pub fn has_block(&self, block: u32) -> bool
-        ensures { result ≡ is_some (named self.now.blocks block) }
-    {
-        self.blocks.contains_key(&block)
-    }
-
-    /// Answers the level of the loader's next chunk: the one its kind wants by the number of chunks
-    /// it holds, but at most the one given.
-    pub fn next_level(&self, most: Level) -> Level
-        ensures level { result
-            ≡ min (growth_level self.now.kind Space.NonClass (length self.now.arena.chunks)) most }
-        ensures whole { length self.now.arena.tops ≡ length self.now.arena.chunks }
-    {
-        let chunks = u32::try_from(self.chunks.len()).unwrap_or(u32::MAX);
-        growth(self.kind, Space::NonClass, chunks).min(most)
-    }
-
-    /// Adds a chunk with a block at its start, whose words are all in use.
-    pub fn add(&mut self, block: u32, chunk: Chunk, contents: Words) -> Result<(), AllocError>
-        ensures ok { OnOk result (self.new ≡ with_chunk self.old block chunk contents) }
-        ensures err { OnErr result (self.new ≡ self.old) }
-    {
-        self.chunks.reserve(1)?;
-        self.tops.reserve(1)?;
-        let top = contents.len() as u64;
-        let live = LiveBlock {
-            start: chunk.start,
-            contents,
-        };
-        match self.blocks.insert(block, live) {
-            Ok(_) => {}
-            Err(_) => return Err(AllocError),
-        }
-        self.chunks.push_reserved(chunk);
-        self.tops.push_reserved(top);
-        Ok(())
-    }
-
-    /// Reads a word of a block.
-    pub fn read(&self, block: u32, index: u64) -> Result<u64, Refusal>
-        ensures ok { IfOk result (HasWord self.now block index) }
-        ensures err { IfErr result (LacksWord self.now block index) }
-    {
-        let Some(live) = self.blocks.get(&block) else {
-            return Err(Refusal::NoBlock);
-        };
-        let words = live.contents.len();
-        if index >= words as u64 {
-            return Err(Refusal::OutOfRange {
-                words: words as u64,
-            });
-        }
-        Ok(live.contents.get(index as usize))
-    }
-
-    /// Writes a word of a block; the others stay.
-    pub fn write(&mut self, block: u32, index: u64, value: u64) -> Result<(), Refusal>
-        ensures ok { OnOk result (WritesWord self.old block index value self.new) }
-        ensures err { IfErr result (LacksWord self.old block index) }
-        ensures unchanged { OnErr result (self.new ≡ self.old) }
-    {
-        let Some(live) = self.blocks.get_mut(&block) else {
-            return Err(Refusal::NoBlock);
-        };
-        let words = live.contents.len();
-        if index >= words as u64 {
-            return Err(Refusal::OutOfRange {
-                words: words as u64,
-            });
-        }
-        live.contents.set(index as usize, value);
-        Ok(())
-    }
-
-    /// Frees a block; its words stay in use, as waste.
-    pub fn free(&mut self, block: u32) -> Result<(), Refusal>
-        ensures ok { OnOk result (FreesBlock self.old block self.new) }
-        ensures err { IfErr result (LacksName self.old block) }
-        ensures unchanged { OnErr result (self.new ≡ self.old) }
-    {
-        match self.blocks.remove(&block) {
-            Some(_) => Ok(()),
-            None => Err(Refusal::NoBlock),
-        }
-    }
-}
-
-/// Tells whether the granule holds a word of the chunk's front.
-fn reaches(chunk: &Chunk, granule: u64) -> bool
-    requires { granule < 8192 }
-    ensures { result ≡ meet chunk.now.start chunk.now.front (granule * 8192) 8192 }
-{
-    let first = granule * GRANULE_WORDS;
-    if chunk.start <= first {
-        first - chunk.start < chunk.front
-    } else {
-        chunk.start - first < GRANULE_WORDS
+        self.arena.used() + self.class_arena.used()
     }
 }

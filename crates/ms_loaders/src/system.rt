@@ -1,41 +1,34 @@
-//! The system: loaders by name, reserved slots, and the steps of the machine.
+//! The system: loaders by name over one pool, and the steps of the machine.
 //!
-//! Kept true: the machine that a system stands for is good, all nodes of its settings may be
-//! committed whole, and there is room for the slot of each. A step looks for its refusals in the
-//! machine's order, then makes all room, and changes something only then: so a refusal changes
-//! nothing. Takes memory for loaders, chunks, blocks and replies; nothing waits.
-ghost use Rattle.std.specs.Prelude.{◌≡◌, ℕ, ◌+◌, ◌*◌, ◌<◌, ◌≤◌, ◌↔◌, ◌⊎◌, IfOk, OnOk, OnErr, IfErr, [], ◌∷◌, ◌++◌, vec_len, true, Some, None, Ok, Err, length, IsTrue};
-ghost use Rattle.ms_base.specs.Level.{size_of};
-ghost use Rattle.ms_base.specs.Part.{is_reserved, slot_of};
-ghost use Rattle.ms_base.specs.State.{LoaderState, Machine, empty_machine};
-ghost use Rattle.ms_base.specs.Totals.{committed_words, used_words};
-ghost use Rattle.ms_base.specs.Names.{named};
+//! Kept true: the pool serves the two accounts of each loader and lends to no other, so the machine
+//! that a system stands for is good. A step looks for its refusals in the machine's order, and a
+//! refusal changes nothing, but that want of memory for a new loader uses its owner numbers up.
+//! After each change of the pool `committed` is called: it reads two counters, and tells what is true
+//! of every pool. Takes memory for loaders, chunks, blocks and replies; nothing waits.
+ghost use Rattle.std.specs.Prelude.{◌≡◌, ◌≢◌, ◌+◌, ◌↔◌, IfOk, OnOk, OnErr, IfErr, [], Err, length};
+ghost use Rattle.ms_base.specs.State.{empty_machine, limits_of};
+ghost use Rattle.ms_base.specs.Totals.{committed_words, used_words, over_spaces};
 ghost use Rattle.ms_base.specs.Good.{IsGood};
 ghost use Rattle.ms_base.specs.Transition.{Transition, LacksLoader};
 ghost use Rattle.ms_base.specs.Run.{Run};
-ghost use Rattle.ms_base.specs.SumLaws.{IsGivenBack};
-ghost use Rattle.ms_loaders.specs.Placing.{IsLendable, LacksPart};
-ghost use Rattle.ms_loaders.specs.System.{limits_of, chunk_at, with_lent, reply_of};
+ghost use Rattle.ms_base.specs.SumLaws.{HoldsNothing};
+ghost use Rattle.ms_loaders.specs.System.{reply_of};
 
-use crate::committing::{GRANULE_WORDS, NODE_GRANULES, count_committed, front};
-use crate::held::{Loaders, NODE_WORDS, is_held_in};
 use crate::loader::Loader;
-use crate::placing::clear_part;
-use crate::slots::{next_slot, reserve};
-use ms_base::{Chunk, Kind, Level, Refusal, Reply, Settings, Span, Step, Words, level_for};
+use crate::loaders::Loaders;
+use ms_base::{Kind, Policy, Refusal, Reply, Settings, Step, granule};
+use ms_pool::Pool;
 use std::alloc::{AllocError, Global};
-use std::collections::BTreeMap;
 use std::marker::Model;
 
-/// The interval machine in one thread: class loaders by name, each with an arena of its own, over
-/// nodes that are reserved as they are needed.
+/// The interval machine in one thread: class loaders by name, each with an arena in each space, over
+/// one pool.
 #[derive(Drop)]
 pub struct System {
     alloc: Global,
-    settings: Settings,
+    policy: Policy,
+    pool: Pool,
     loaders: Loaders,
-    slots: Vec<u32>,
-    given: u32,
 }
 
 impl Model for System {
@@ -43,138 +36,97 @@ impl Model for System {
 
     ghost Value = { Machine };
 
-    ghost use Rattle.ms_loaders.specs.Inside.{machine_of, IsSystem};
+    ghost use Rattle.ms_loaders.specs.SystemInside.{view_of, IsSystem};
 
-    ghost view = { machine_of };
+    ghost view = { view_of };
 
     ghost invariant = { IsSystem };
 }
 
 impl System {
-    /// Makes a system with no loader and no node. All nodes of the settings may be committed whole,
-    /// so the commit limit is never met. Takes memory for the slots of the nodes, and fails only
-    /// where that is refused. This project's choice.
+    /// Makes a system with no loader, and no node but the class space's. Takes memory for the pool,
+    /// and fails only where that is refused. This project's choice.
     pub fn new(alloc: Global, settings: Settings) -> Result<System, AllocError>
-        requires { 128 * settings.nodes ≤ settings.max_granules }
         ensures { IfOk result (λ system. system ≡ empty_machine (limits_of settings)) }
     {
+        let policy = settings.policy;
+        let pool = Pool::new(alloc, settings)?;
+        let _ = pool.committed();
         Ok(System {
             alloc,
-            settings,
-            loaders: BTreeMap::new(alloc),
-            slots: Vec::with_capacity(alloc, settings.nodes as usize)?,
-            given: 0,
+            policy,
+            pool,
+            loaders: Loaders::new(alloc),
         })
     }
 
-    /// Makes a loader with nothing of its own but an owner number: a step of the machine. Takes
-    /// memory. Refused with `LoaderExists`, with `IdsUsedUp` where all owner numbers were given
-    /// out, and with `OutOfMemory`, in that order; a refusal changes nothing. This project's choice.
+    /// Makes a loader with nothing of its own but two owner numbers: a step of the machine. Takes
+    /// memory. Refused with `LoaderExists`, with `IdsUsedUp` where fewer than two owner numbers are
+    /// left, and with `OutOfMemory`, in that order; the first two change nothing, the last may have
+    /// used two owner numbers up. This project's choice.
     pub fn new_loader(&mut self, name: u16, kind: Kind) -> Result<(), Refusal>
         ensures served { OnOk result (Transition self.old (Step.New name kind) Reply.Ok self.new) }
         ensures refused { IfErr result
             (λ refusal. Transition self.old (Step.New name kind) (Reply.Refused refusal) self.new) }
-        ensures unchanged { OnErr result (self.new ≡ self.old) }
+        ensures unchanged { IfErr result
+            (λ refusal. refusal ≢ Refusal.OutOfMemory → self.new ≡ self.old) }
     {
-        if self.loaders.contains_key(&name) {
+        if self.loaders.contains(name) {
             return Err(Refusal::LoaderExists);
         }
-        if self.given == u32::MAX {
-            return Err(Refusal::IdsUsedUp);
-        }
-        match self.loaders.insert(name, Loader::new(self.alloc, kind)) {
-            Ok(_) => {
-                self.given += 1;
+        let (account, class_account) = match self.pool.open_both() {
+            Ok(accounts) => accounts,
+            Err(refusal) => return Err(refusal),
+        };
+        let loader = Loader::new(self.alloc, account, class_account, kind);
+        match self.loaders.insert(name, loader) {
+            Ok(()) => {
+                let _ = self.pool.committed();
                 Ok(())
             }
-            Err(_) => Err(Refusal::OutOfMemory),
+            Err((refusal, loader)) => {
+                let (account, class_account) = loader.into_accounts();
+                self.pool.close_both(account, class_account);
+                let _ = self.pool.committed();
+                Err(refusal)
+            }
         }
     }
 
-    /// Allocates a block of zeros, in a chunk of its own.
+    /// Allocates a block of zeros.
     fn allocate(&mut self, name: u16, block: u32, words: u64) -> Result<u64, Refusal>
         ensures served { IfOk result
             (λ start. Transition self.old (Step.Alloc name block words) (Reply.At start) self.new) }
         ensures refused { IfErr result
             (λ refusal. Transition self.old (Step.Alloc name block words) (Reply.Refused refusal) self.new) }
     {
-        let alloc = self.alloc;
-        let Some(loader) = self.loaders.get(&name) else {
+        let Some(loader) = self.loaders.get_mut(name) else {
             return Err(Refusal::NoLoader);
         };
-        if loader.has_block(block) {
-            return Err(Refusal::BlockExists);
-        }
-        if words == 0 {
-            return Err(Refusal::ZeroWords);
-        }
-        let length = words.max(2);
-        let Some(most) = level_for(length) else {
-            return Err(Refusal::TooLarge);
-        };
-        let wanted = loader.next_level(most);
-        let part = self.part_for(wanted, most)?;
-        let Ok(contents) = Words::zeros(alloc, length as usize) else {
-            return Err(Refusal::OutOfMemory);
-        };
-        let start = part.start;
-        match self.lend(name, part, block, contents) {
-            Ok(()) => Ok(start),
-            Err(_) => Err(Refusal::OutOfMemory),
+        let answer = loader.alloc(&mut self.pool, block, words);
+        let _ = self.pool.committed();
+        match answer {
+            Ok(made) => Ok(made.start),
+            Err(refusal) => Err(refusal),
         }
     }
 
-    /// Finds the part for a chunk of a level from the wanted one up to the most that serves: in a
-    /// reserved node, else the first of the wanted level in a new one.
-    fn part_for(&self, wanted: Level, most: Level) -> Result<Span, Refusal>
-        requires order { wanted ≤ most }
-        requires real { most ≤ 12 }
-        ensures ok { IfOk result (IsLendable self.now most) }
-        ensures err { IfErr result (LacksPart self.now most) }
+    /// Allocates a block of zeros in the class space.
+    fn allocate_class(&mut self, name: u16, block: u32, words: u64) -> Result<u64, Refusal>
+        ensures served { IfOk result
+            (λ start. Transition self.old (Step.Calloc name block words) (Reply.At start) self.new) }
+        ensures refused { IfErr result (λ refusal.
+            Transition self.old (Step.Calloc name block words) (Reply.Refused refusal) self.new) }
     {
-        if let Some(part) = clear_part(&self.loaders, &self.slots, wanted, most) {
-            return Ok(part);
-        }
-        let nodes = self.slots.len() as u32;
-        if nodes == self.settings.nodes {
-            return Err(Refusal::ReserveLimit {
-                nodes,
-                limit: self.settings.nodes,
-            });
-        }
-        Ok(Span {
-            start: u64::from(next_slot(&self.slots)) * NODE_WORDS,
-            level: wanted,
-        })
-    }
-
-    /// Lends the loader of that name, where there is one, a chunk at the part, committed for the
-    /// words of its block. Fails only where memory is refused.
-    fn lend(&mut self, name: u16, part: Span, block: u32, contents: Words) -> Result<(), AllocError>
-        requires fits { length contents ≤ size_of part.level }
-        requires below { slot_of part.start < 64 }
-        requires room { IsTrue (is_reserved self.old.slots (slot_of part.start))
-            ⊎ (length self.old.slots < self.old.limits.nodes) }
-        requires good { (loader : LoaderState) → named self.old.loaders name ≡ Some loader
-            → IsGood (with_lent self.old name loader block (chunk_at part (length contents)) contents) }
-        ensures ok { OnOk result ((loader : LoaderState) → named self.old.loaders name ≡ Some loader
-            → self.new ≡ with_lent self.old name loader block (chunk_at part (length contents)) contents) }
-        ensures err { OnErr result (self.new ≡ self.old) }
-    {
-        let chunk = Chunk {
-            start: part.start,
-            level: part.level,
-            front: front(part.level, contents.len() as u64),
+        let Some(loader) = self.loaders.get_mut(name) else {
+            return Err(Refusal::NoLoader);
         };
-        match self.loaders.get_mut(&name) {
-            None => return Ok(()),
-            Some(loader) => match loader.add(block, chunk, contents) {
-                Ok(()) => {}
-                Err(error) => return Err(error),
-            },
+        let answer = loader.calloc(&mut self.pool, block, words);
+        let _ = self.pool.committed();
+        match answer {
+            Ok(made) => Ok(made.start),
+            Err(refusal) => Err(refusal),
         }
-        reserve(&mut self.slots, (part.start / NODE_WORDS) as u32);
-        Ok(())
     }
 
     /// Unloads a loader: all that was its own goes with it, and its name may be used anew. Takes no
@@ -185,21 +137,26 @@ impl System {
         ensures refused { IfErr result
             (λ refusal. Transition self.old (Step.Unload name) (Reply.Refused refusal) self.new) }
     {
-        match self.loaders.remove(&name) {
-            Some(_) => Ok(()),
+        match self.loaders.remove(name) {
+            Some(loader) => {
+                let (account, class_account) = loader.into_accounts();
+                self.pool.close_both(account, class_account);
+                let _ = self.pool.committed();
+                Ok(())
+            }
             None => Err(Refusal::NoLoader),
         }
     }
 
-    /// Gives back the nodes in which no chunk is held, and tells how many. Takes no memory.
+    /// Gives back the nodes in which no chunk is held, and tells how many; those of the class space
+    /// stay. Takes no memory.
     pub fn purge(&mut self) -> u32
         ensures step { Transition self.old Step.Purge Reply.Ok self.new }
         ensures gone { result + length self.new.slots ≡ length self.old.slots }
     {
-        let before = self.slots.len();
-        let loaders = &self.loaders;
-        self.slots.retain(|slot| is_held_in(loaders, *slot));
-        (before - self.slots.len()) as u32
+        let gone = self.pool.purge();
+        let _ = self.pool.committed();
+        gone
     }
 
     /// Writes a word of a block; the others stay.
@@ -209,7 +166,7 @@ impl System {
         ensures refused { IfErr result (λ refusal.
             Transition self.old (Step.Write name block index value) (Reply.Refused refusal) self.new) }
     {
-        match self.loaders.get_mut(&name) {
+        match self.loaders.get_mut(name) {
             None => Err(Refusal::NoLoader),
             Some(loader) => match loader.write(block, index, value) {
                 Ok(()) => Ok(()),
@@ -225,19 +182,19 @@ impl System {
         ensures refused { IfErr result (λ refusal.
             Transition self.now (Step.Read name block index) (Reply.Refused refusal) self.now) }
     {
-        let Some(loader) = self.loaders.get(&name) else {
+        let Some(loader) = self.loaders.get(name) else {
             return Err(Refusal::NoLoader);
         };
         loader.read(block, index)
     }
 
-    /// Frees a block; its words stay in use, as waste.
+    /// Frees a block: its words become a free block of its arena.
     fn free(&mut self, name: u16, block: u32) -> Result<(), Refusal>
         ensures served { OnOk result (Transition self.old (Step.Free name block) Reply.Ok self.new) }
         ensures refused { IfErr result
             (λ refusal. Transition self.old (Step.Free name block) (Reply.Refused refusal) self.new) }
     {
-        match self.loaders.get_mut(&name) {
+        match self.loaders.get_mut(name) {
             None => Err(Refusal::NoLoader),
             Some(loader) => match loader.free(block) {
                 Ok(()) => Ok(()),
@@ -246,9 +203,10 @@ impl System {
         }
     }
 
-    /// Tells the words in use: the sum of the tops of all chunks. Takes no memory.
+    /// Tells the words in use, in both spaces: the sum of the tops of all chunks. Takes no memory, and
+    /// looks at each loader once.
     pub fn used(&self) -> u64
-        ensures { result ≡ used_words self.now }
+        ensures { result ≡ over_spaces (λ space. used_words space self.now) }
     {
         let mut words = 0;
         for loader in self.loaders.values() {
@@ -257,24 +215,18 @@ impl System {
         words
     }
 
-    /// Tells the committed words, a multiple of a granule's. Takes no memory.
+    /// Tells the committed words of both spaces, a multiple of a granule's. Takes no memory, and looks
+    /// at no chunk and no loader.
     pub fn committed(&self) -> u64
-        ensures { result ≡ committed_words self.now }
+        ensures { result ≡ over_spaces (λ space. committed_words space self.now) }
     {
-        let mut granules = 0;
-        for slot in &self.slots {
-            granules += count_committed(
-                &self.loaders,
-                u64::from(*slot) * NODE_GRANULES,
-                NODE_GRANULES,
-            );
-        }
-        granules * GRANULE_WORDS
+        self.pool.committed() * granule(self.policy)
     }
 
     /// Takes one step of the machine: answers what it is done with, or why it is refused, which
-    /// changes nothing. Words and indices are in words of 8 bytes. Takes memory for a new loader, a
-    /// block and its chunk. This project's choice, as are the machine and its refusals.
+    /// changes nothing but, for want of memory for a new loader, its owner numbers. Words and indices
+    /// are in words of 8 bytes. Takes memory for a new loader, a block and its chunk. This project's
+    /// choice, as are the machine and its refusals.
     pub fn step(&mut self, step: Step) -> Reply
         ensures step { Transition self.old step result self.new }
         ensures good { IsGood self.new }
@@ -302,6 +254,14 @@ impl System {
                 words,
             } => {
                 let start = self.allocate(loader, block, words)?;
+                Ok(Reply::At(start))
+            }
+            Step::Calloc {
+                loader,
+                block,
+                words,
+            } => {
+                let start = self.allocate_class(loader, block, words)?;
                 Ok(Reply::At(start))
             }
             Step::Write {
@@ -342,7 +302,7 @@ impl System {
         ensures run { IfOk result (λ replies. Run self.old steps.now replies.items self.new) }
         ensures before { IsGood self.old }
         ensures after { IsGood self.new }
-        ensures emptied { self.new.loaders ≡ [] → IsGivenBack self.new }
+        ensures emptied { self.new.loaders ≡ [] → HoldsNothing self.new }
         ensures unchanged { OnErr result (self.new ≡ self.old) }
     {
         let mut replies = Vec::with_capacity(self.alloc, steps.len())?;

@@ -3,8 +3,9 @@ use Rattle.std.proofs.Common.{◌≡◌, ℕ, ◌-◌, ◌^◌, ◌<◌, Bool, t
 use Rattle.std.proofs.lemmas.Slice.Eq.{bytes_eq-Decides}
 use Rattle.std.specs.Fmt.{decimal}
 use Rattle.std.specs.Str.{bytes_eq}
+use Rattle.ms_base.specs.declared.step.Step.TheVariants.{New, Alloc, Calloc, Write, Read, Free, Unload, Purge}
 use Rattle.ms_trace.specs.declared.trace.Command.{Command}
-use Rattle.ms_trace.specs.declared.trace.Command.TheVariants.{New, Alloc, Write, Read, Free, Unload, Purge, Sync, Report}
+use Rattle.ms_trace.specs.declared.trace.Command.TheVariants.{Step as Asks, Sync, Report}
 use Rattle.ms_trace.specs.Grammar.{Field, kind_field, loader_field, block_field, word_field}
 use Rattle.ms_trace.specs.Faults.{after_word_fault, command_fault}
 use Rattle.ms_trace.specs.Spelling.{command_fields, IsValid}
@@ -22,18 +23,20 @@ word_passes n h = number_passes (2 ^ 64 - 1) n (omega arith) h
 
 -- The fields of a valid command have no fault.
 pub valid_has_no_fault : (command : Command) → IsValid command → command_fault (command_fields command) ≡ None
-valid_has_no_fault (New loader kind) h = no_fault_from_pass (more (loader_passes loader h) (more (kind_passes kind) none))
-valid_has_no_fault (Alloc loader block words) (l, b, w) =
+valid_has_no_fault (Asks (New loader kind)) h = no_fault_from_pass (more (loader_passes loader h) (more (kind_passes kind) none))
+valid_has_no_fault (Asks (Alloc loader block words)) (l, b, w) =
     no_fault_from_pass (more (loader_passes loader l) (more (block_passes block b) (more (word_passes words w) none)))
-valid_has_no_fault (Write loader block index value) (l, b, i, v) =
+valid_has_no_fault (Asks (Calloc loader block words)) (l, b, w) =
+    no_fault_from_pass (more (loader_passes loader l) (more (block_passes block b) (more (word_passes words w) none)))
+valid_has_no_fault (Asks (Write loader block index value)) (l, b, i, v) =
     no_fault_from_pass
     (more (loader_passes loader l) (more (block_passes block b) (more (word_passes index i) (more (word_passes value v) none))))
-valid_has_no_fault (Read loader block index) (l, b, i) =
+valid_has_no_fault (Asks (Read loader block index)) (l, b, i) =
     no_fault_from_pass (more (loader_passes loader l) (more (block_passes block b) (more (word_passes index i) none)))
-valid_has_no_fault (Free loader block) (l, b) =
+valid_has_no_fault (Asks (Free loader block)) (l, b) =
     no_fault_from_pass (more (loader_passes loader l) (more (block_passes block b) none))
-valid_has_no_fault (Unload loader) h = no_fault_from_pass (more (loader_passes loader h) none)
-valid_has_no_fault Purge h = refl
+valid_has_no_fault (Asks (Unload loader)) h = no_fault_from_pass (more (loader_passes loader h) none)
+valid_has_no_fault (Asks Purge) h = refl
 valid_has_no_fault Sync h = refl
 valid_has_no_fault Report h = refl
 
@@ -58,7 +61,7 @@ new_read : {rest : List (List ℕ)} → Pass (loader_field ∷ kind_field ∷ []
 new_read (more loader (more kind none)) =
     let l : IsNumeral (2 ^ 16 - 1) _ = loader_read loader in
     let k : IsKindWord _ = kind_read kind in
-    record { command = New l.value k.kind; valid = omega (arith, l.low); fields_are = rw l.written (rw k.written refl) }
+    record { command = Asks (New l.value k.kind); valid = omega (arith, l.low); fields_are = rw l.written (rw k.written refl) }
 
 alloc_read : {rest : List (List ℕ)} → Pass (loader_field ∷ block_field ∷ word_field ∷ []) rest → IsSpelled (codes "alloc" ∷ rest)
 alloc_read (more loader (more block (more words none))) =
@@ -66,7 +69,18 @@ alloc_read (more loader (more block (more words none))) =
     let b : IsNumeral (2 ^ 32 - 1) _ = block_read block in
     let w : IsNumeral (2 ^ 64 - 1) _ = word_read words in
     record {
-      command = Alloc l.value b.value w.value;
+      command = Asks (Alloc l.value b.value w.value);
+      valid = (omega (arith, l.low), omega (arith, b.low), omega (arith, w.low));
+      fields_are = rw l.written (rw b.written (rw w.written refl));
+    }
+
+calloc_read : {rest : List (List ℕ)} → Pass (loader_field ∷ block_field ∷ word_field ∷ []) rest → IsSpelled (codes "calloc" ∷ rest)
+calloc_read (more loader (more block (more words none))) =
+    let l : IsNumeral (2 ^ 16 - 1) _ = loader_read loader in
+    let b : IsNumeral (2 ^ 32 - 1) _ = block_read block in
+    let w : IsNumeral (2 ^ 64 - 1) _ = word_read words in
+    record {
+      command = Asks (Calloc l.value b.value w.value);
       valid = (omega (arith, l.low), omega (arith, b.low), omega (arith, w.low));
       fields_are = rw l.written (rw b.written (rw w.written refl));
     }
@@ -78,7 +92,7 @@ write_read (more loader (more block (more index (more value none)))) =
     let i : IsNumeral (2 ^ 64 - 1) _ = word_read index in
     let v : IsNumeral (2 ^ 64 - 1) _ = word_read value in
     record {
-      command = Write l.value b.value i.value v.value;
+      command = Asks (Write l.value b.value i.value v.value);
       valid = (omega (arith, l.low), omega (arith, b.low), omega (arith, i.low), omega (arith, v.low));
       fields_are = rw l.written (rw b.written (rw i.written (rw v.written refl)));
     }
@@ -89,7 +103,7 @@ read_read (more loader (more block (more index none))) =
     let b : IsNumeral (2 ^ 32 - 1) _ = block_read block in
     let i : IsNumeral (2 ^ 64 - 1) _ = word_read index in
     record {
-      command = Read l.value b.value i.value;
+      command = Asks (Read l.value b.value i.value);
       valid = (omega (arith, l.low), omega (arith, b.low), omega (arith, i.low));
       fields_are = rw l.written (rw b.written (rw i.written refl));
     }
@@ -98,15 +112,15 @@ free_read : {rest : List (List ℕ)} → Pass (loader_field ∷ block_field ∷ 
 free_read (more loader (more block none)) =
     let l : IsNumeral (2 ^ 16 - 1) _ = loader_read loader in
     let b : IsNumeral (2 ^ 32 - 1) _ = block_read block in
-    record { command = Free l.value b.value; valid = (omega (arith, l.low), omega (arith, b.low)); fields_are = rw l.written (rw b.written refl) }
+    record { command = Asks (Free l.value b.value); valid = (omega (arith, l.low), omega (arith, b.low)); fields_are = rw l.written (rw b.written refl) }
 
 unload_read : {rest : List (List ℕ)} → Pass (loader_field ∷ []) rest → IsSpelled (codes "unload" ∷ rest)
 unload_read (more loader none) =
     let l : IsNumeral (2 ^ 16 - 1) _ = loader_read loader in
-    record { command = Unload l.value; valid = omega (arith, l.low); fields_are = rw l.written refl }
+    record { command = Asks (Unload l.value); valid = omega (arith, l.low); fields_are = rw l.written refl }
 
 purge_read : {rest : List (List ℕ)} → Pass [] rest → IsSpelled (codes "purge" ∷ rest)
-purge_read none = record { command = Purge; valid = tt; fields_are = refl }
+purge_read none = record { command = Asks Purge; valid = tt; fields_are = refl }
 
 sync_read : {rest : List (List ℕ)} → Pass [] rest → IsSpelled (codes "sync" ∷ rest)
 sync_read none = record { command = Sync; valid = tt; fields_are = refl }
@@ -131,6 +145,7 @@ command_from_no_fault [] e = cc
 command_from_no_fault (word ∷ rest) e =
     at_word _ (loader_field ∷ kind_field ∷ []) _ rest (λ same pass. named word (codes "new") rest same (new_read pass)) (λ e.
     at_word _ (loader_field ∷ block_field ∷ word_field ∷ []) _ rest (λ same pass. named word (codes "alloc") rest same (alloc_read pass)) (λ e.
+    at_word _ (loader_field ∷ block_field ∷ word_field ∷ []) _ rest (λ same pass. named word (codes "calloc") rest same (calloc_read pass)) (λ e.
     at_word _ (loader_field ∷ block_field ∷ word_field ∷ word_field ∷ []) _ rest (λ same pass. named word (codes "write") rest same (write_read pass)) (λ e.
     at_word _ (loader_field ∷ block_field ∷ word_field ∷ []) _ rest (λ same pass. named word (codes "read") rest same (read_read pass)) (λ e.
     at_word _ (loader_field ∷ block_field ∷ []) _ rest (λ same pass. named word (codes "free") rest same (free_read pass)) (λ e.
@@ -138,4 +153,4 @@ command_from_no_fault (word ∷ rest) e =
     at_word _ ([]) _ rest (λ same pass. named word (codes "purge") rest same (purge_read pass)) (λ e.
     at_word _ ([]) _ rest (λ same pass. named word (codes "sync") rest same (sync_read pass)) (λ e.
     at_word _ ([]) _ rest (λ same pass. named word (codes "report") rest same (report_read pass)) (λ e.
-    cc) e) e) e) e) e) e) e) e) e
+    cc) e) e) e) e) e) e) e) e) e) e

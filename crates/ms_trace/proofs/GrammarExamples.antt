@@ -2,7 +2,8 @@
 use Rattle.std.proofs.Common.{◌≡◌, [], ◌∷◌, refl, Some, None, inl, inr, arith, codes}
 use Rattle.std.specs.Prelude.{replicate, ◌++◌}
 use Rattle.ms_trace.specs.declared.fault.FaultKind.TheVariants.{TooManyLines, LineTooLong, UnknownCommand, FieldCount, BadKind, BadNumber, NumberTooLarge}
-use Rattle.ms_trace.specs.declared.trace.Command.TheVariants.{Purge, Sync}
+use Rattle.ms_base.specs.declared.step.Step.TheVariants.{Purge}
+use Rattle.ms_trace.specs.declared.trace.Command.TheVariants.{Step as Asks, Sync}
 use Rattle.ms_trace.specs.Grammar.{lines_of, fields_of}
 use Rattle.ms_trace.specs.Faults.{fault_of}
 use Rattle.ms_trace.specs.Spelling.{ReadsAs, text_of}
@@ -49,8 +50,11 @@ empty_kind = refl
 trailing_space : fault_of 1 (codes "purge ") ≡ Some FieldCount
 trailing_space = refl
 
-later_word : fault_of 1 (codes "calloc 1 1 1") ≡ Some UnknownCommand
-later_word = refl
+class_space_word : fault_of 1 (codes "calloc 1 1 1") ≡ None
+class_space_word = refl
+
+class_space_count : fault_of 1 (codes "calloc 1 1") ≡ Some FieldCount
+class_space_count = refl
 
 -- A comment of 80 bytes is accepted, one of 81 is too long; line 100001 is one too many, whatever
 -- it holds.
@@ -89,22 +93,22 @@ empty_fields : fields_of (codes " a  b ") ≡ [] ∷ codes "a" ∷ [] ∷ codes 
 empty_fields = refl
 
 -- A comment, a blank line and `purge` read as one command on line 3.
-one_command : ReadsAs (codes "# c\n\npurge") (record { lines = record { number = 3; command = Purge } ∷ [] })
+one_command : ReadsAs (codes "# c\n\npurge") (record { lines = record { number = 3; command = Asks Purge } ∷ [] })
 one_command = (
-  record { number = 3; command = Purge } ∷ [],
+  record { number = 3; command = Asks Purge } ∷ [],
   omega arith,
   omega arith,
   inl (refl, refl),
   (
-    record { number = 3; command = Purge } ∷ [],
+    record { number = 3; command = Asks Purge } ∷ [],
     omega arith,
     omega arith,
     inl (refl, refl),
-    ([], omega arith, omega arith, inr (record { command = Purge; valid = tt; spelled = refl; trace_is = refl }), refl),
+    ([], omega arith, omega arith, inr (record { command = Asks Purge; valid = tt; spelled = refl; trace_is = refl }), refl),
   ),
 )
 
-printed : text_of (record { lines = record { number = 2; command = Purge } ∷ record { number = 5; command = Sync } ∷ [] }) ≡ codes "\npurge\n\n\nsync\n"
+printed : text_of (record { lines = record { number = 2; command = Asks Purge } ∷ record { number = 5; command = Sync } ∷ [] }) ≡ codes "\npurge\n\n\nsync\n"
 printed = refl
 
 nothing_printed : text_of (record { lines = [] }) ≡ []

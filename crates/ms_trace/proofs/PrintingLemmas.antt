@@ -13,8 +13,9 @@ use Rattle.std.specs.List.{AllByRecursion, list_all, slice_split}
 use Rattle.std.specs.Str.{all_ascii_digits}
 use Rattle.ms_base.specs.declared.kind.Kind.{Kind}
 use Rattle.ms_base.specs.declared.kind.Kind.TheVariants.{Standard, Boot, Reflection, Hidden}
+use Rattle.ms_base.specs.declared.step.Step.TheVariants.{New, Alloc, Calloc, Write, Read, Free, Unload, Purge}
 use Rattle.ms_trace.specs.declared.trace.Command.{Command}
-use Rattle.ms_trace.specs.declared.trace.Command.TheVariants.{New, Alloc, Write, Read, Free, Unload, Purge, Sync, Report}
+use Rattle.ms_trace.specs.declared.trace.Command.TheVariants.{Step as Asks, Sync, Report}
 use Rattle.ms_trace.specs.declared.trace.Line.{Line}
 use Rattle.ms_trace.specs.Grammar.{kind_word, lines_of, without_empty_end, most_lines}
 use Rattle.ms_trace.specs.Spelling.{spelling_of, IsValid, ReadsFrom, rises_above, text_from}
@@ -57,17 +58,19 @@ both_clean : (one other : List ℕ) → is_clean one ≡ true → is_clean other
 both_clean one other e f = list_all-append _ one other ∙ and_from _ _ e f
 
 spelling_is_clean : (command : Command) → IsValid command → is_clean (spelling_of command) ≡ true
-spelling_is_clean (New loader kind) h = both_clean (decimal loader) (32 ∷ kind_word kind) (loader_is_clean loader h) (kind_is_clean kind)
-spelling_is_clean (Alloc loader block words) (l, b, w) =
+spelling_is_clean (Asks (New loader kind)) h = both_clean (decimal loader) (32 ∷ kind_word kind) (loader_is_clean loader h) (kind_is_clean kind)
+spelling_is_clean (Asks (Alloc loader block words)) (l, b, w) =
     both_clean (decimal loader) _ (loader_is_clean loader l) (both_clean (decimal block) (32 ∷ decimal words) (block_is_clean block b) (number_is_clean words w))
-spelling_is_clean (Write loader block index value) (l, b, i, v) =
+spelling_is_clean (Asks (Calloc loader block words)) (l, b, w) =
+    both_clean (decimal loader) _ (loader_is_clean loader l) (both_clean (decimal block) (32 ∷ decimal words) (block_is_clean block b) (number_is_clean words w))
+spelling_is_clean (Asks (Write loader block index value)) (l, b, i, v) =
     both_clean (decimal loader) _ (loader_is_clean loader l)
     (both_clean (decimal block) _ (block_is_clean block b) (both_clean (decimal index) (32 ∷ decimal value) (number_is_clean index i) (number_is_clean value v)))
-spelling_is_clean (Read loader block index) (l, b, i) =
+spelling_is_clean (Asks (Read loader block index)) (l, b, i) =
     both_clean (decimal loader) _ (loader_is_clean loader l) (both_clean (decimal block) (32 ∷ decimal index) (block_is_clean block b) (number_is_clean index i))
-spelling_is_clean (Free loader block) (l, b) = both_clean (decimal loader) (32 ∷ decimal block) (loader_is_clean loader l) (block_is_clean block b)
-spelling_is_clean (Unload loader) h = loader_is_clean loader h
-spelling_is_clean Purge h = refl
+spelling_is_clean (Asks (Free loader block)) (l, b) = both_clean (decimal loader) (32 ∷ decimal block) (loader_is_clean loader l) (block_is_clean block b)
+spelling_is_clean (Asks (Unload loader)) h = loader_is_clean loader h
+spelling_is_clean (Asks Purge) h = refl
 spelling_is_clean Sync h = refl
 spelling_is_clean Report h = refl
 

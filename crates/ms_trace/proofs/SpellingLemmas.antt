@@ -14,8 +14,9 @@ use Rattle.ms_base.specs.declared.kind.Kind.{Kind}
 use Rattle.ms_base.specs.declared.kind.Kind.TheVariants.{Standard, Boot, Reflection, Hidden}
 use Rattle.ms_trace.specs.declared.fault.FaultKind.{FaultKind}
 use Rattle.ms_trace.specs.declared.fault.FaultKind.TheVariants.{TooManyLines, LineTooLong}
+use Rattle.ms_base.specs.declared.step.Step.TheVariants.{New, Alloc, Calloc, Write, Read, Free, Unload, Purge}
 use Rattle.ms_trace.specs.declared.trace.Command.{Command}
-use Rattle.ms_trace.specs.declared.trace.Command.TheVariants.{New, Alloc, Write, Read, Free, Unload, Purge, Sync, Report}
+use Rattle.ms_trace.specs.declared.trace.Command.TheVariants.{Step as Asks, Sync, Report}
 use Rattle.ms_trace.specs.Grammar.{kind_word, fields_of, is_silent, most_lines, most_bytes}
 use Rattle.ms_trace.specs.Faults.{fault_of, command_fault}
 use Rattle.ms_trace.specs.Spelling.{command_fields, spelling_of, IsValid}
@@ -47,37 +48,42 @@ block_is_solid n h = decimal_has_no_space n (omega arith)
 
 -- The spelling of a valid command is cut into its fields.
 pub fields_of-spelling : (command : Command) → IsValid command → fields_of (spelling_of command) ≡ command_fields command
-fields_of-spelling (New loader kind) h =
+fields_of-spelling (Asks (New loader kind)) h =
     ap (λ fields. codes "new" ∷ fields) (fields_of-join _ (kind_word kind ∷ []) (loader_is_solid loader h) (kind_is_solid kind, tt))
-fields_of-spelling (Alloc loader block words) (l, b, w) =
+fields_of-spelling (Asks (Alloc loader block words)) (l, b, w) =
     ap (λ fields. codes "alloc" ∷ fields)
     (fields_of-join _ (decimal block ∷ decimal words ∷ []) (loader_is_solid loader l)
     (block_is_solid block b, (decimal_has_no_space words w, tt)))
-fields_of-spelling (Write loader block index value) (l, b, i, v) =
+fields_of-spelling (Asks (Calloc loader block words)) (l, b, w) =
+    ap (λ fields. codes "calloc" ∷ fields)
+    (fields_of-join _ (decimal block ∷ decimal words ∷ []) (loader_is_solid loader l)
+    (block_is_solid block b, (decimal_has_no_space words w, tt)))
+fields_of-spelling (Asks (Write loader block index value)) (l, b, i, v) =
     ap (λ fields. codes "write" ∷ fields)
     (fields_of-join _ (decimal block ∷ decimal index ∷ decimal value ∷ []) (loader_is_solid loader l)
     (block_is_solid block b, (decimal_has_no_space index i, (decimal_has_no_space value v, tt))))
-fields_of-spelling (Read loader block index) (l, b, i) =
+fields_of-spelling (Asks (Read loader block index)) (l, b, i) =
     ap (λ fields. codes "read" ∷ fields)
     (fields_of-join _ (decimal block ∷ decimal index ∷ []) (loader_is_solid loader l)
     (block_is_solid block b, (decimal_has_no_space index i, tt)))
-fields_of-spelling (Free loader block) (l, b) =
+fields_of-spelling (Asks (Free loader block)) (l, b) =
     ap (λ fields. codes "free" ∷ fields) (fields_of-join _ (decimal block ∷ []) (loader_is_solid loader l) (block_is_solid block b, tt))
-fields_of-spelling (Unload loader) h =
+fields_of-spelling (Asks (Unload loader)) h =
     ap (λ fields. codes "unload" ∷ fields) (fields_of-join _ [] (loader_is_solid loader h) tt)
-fields_of-spelling Purge h = refl
+fields_of-spelling (Asks Purge) h = refl
 fields_of-spelling Sync h = refl
 fields_of-spelling Report h = refl
 
 -- It is no silent line.
 pub spelling_is_not_silent : (command : Command) → is_silent (spelling_of command) ≡ false
-spelling_is_not_silent (New _ _) = refl
-spelling_is_not_silent (Alloc _ _ _) = refl
-spelling_is_not_silent (Write _ _ _ _) = refl
-spelling_is_not_silent (Read _ _ _) = refl
-spelling_is_not_silent (Free _ _) = refl
-spelling_is_not_silent (Unload _) = refl
-spelling_is_not_silent Purge = refl
+spelling_is_not_silent (Asks (New _ _)) = refl
+spelling_is_not_silent (Asks (Alloc _ _ _)) = refl
+spelling_is_not_silent (Asks (Calloc _ _ _)) = refl
+spelling_is_not_silent (Asks (Write _ _ _ _)) = refl
+spelling_is_not_silent (Asks (Read _ _ _)) = refl
+spelling_is_not_silent (Asks (Free _ _)) = refl
+spelling_is_not_silent (Asks (Unload _)) = refl
+spelling_is_not_silent (Asks Purge) = refl
 spelling_is_not_silent Sync = refl
 spelling_is_not_silent Report = refl
 
@@ -92,13 +98,14 @@ value_at k fields = digits_value 10 (get_or fields k [])
 
 abbrev command_at : List ℕ → List (List ℕ) → Command
 command_at word fields =
-    cond (bytes_eq word (codes "new")) (New (value_at 1 fields) (kind_of (get_or fields 2 [])))
-    (cond (bytes_eq word (codes "alloc")) (Alloc (value_at 1 fields) (value_at 2 fields) (value_at 3 fields))
-    (cond (bytes_eq word (codes "write")) (Write (value_at 1 fields) (value_at 2 fields) (value_at 3 fields) (value_at 4 fields))
-    (cond (bytes_eq word (codes "read")) (Read (value_at 1 fields) (value_at 2 fields) (value_at 3 fields))
-    (cond (bytes_eq word (codes "free")) (Free (value_at 1 fields) (value_at 2 fields))
-    (cond (bytes_eq word (codes "unload")) (Unload (value_at 1 fields))
-    (cond (bytes_eq word (codes "purge")) Purge (cond (bytes_eq word (codes "sync")) Sync Report)))))))
+    cond (bytes_eq word (codes "new")) (Asks (New (value_at 1 fields) (kind_of (get_or fields 2 []))))
+    (cond (bytes_eq word (codes "alloc")) (Asks (Alloc (value_at 1 fields) (value_at 2 fields) (value_at 3 fields)))
+    (cond (bytes_eq word (codes "calloc")) (Asks (Calloc (value_at 1 fields) (value_at 2 fields) (value_at 3 fields)))
+    (cond (bytes_eq word (codes "write")) (Asks (Write (value_at 1 fields) (value_at 2 fields) (value_at 3 fields) (value_at 4 fields)))
+    (cond (bytes_eq word (codes "read")) (Asks (Read (value_at 1 fields) (value_at 2 fields) (value_at 3 fields)))
+    (cond (bytes_eq word (codes "free")) (Asks (Free (value_at 1 fields) (value_at 2 fields)))
+    (cond (bytes_eq word (codes "unload")) (Asks (Unload (value_at 1 fields)))
+    (cond (bytes_eq word (codes "purge")) (Asks Purge) (cond (bytes_eq word (codes "sync")) Sync Report))))))))
 
 abbrev command_of : List (List ℕ) → Command
 command_of fields = command_at (get_or fields 0 []) fields
@@ -116,14 +123,15 @@ block_value : (n : ℕ) → n < 2 ^ 32 → digits_value 10 (decimal n) ≡ n
 block_value n h = value-decimal n (omega arith)
 
 command_of-fields : (command : Command) → IsValid command → command_of (command_fields command) ≡ command
-command_of-fields (New loader kind) h = rw (loader_value loader h) (rw (kind_of-word kind) refl)
-command_of-fields (Alloc loader block words) (l, b, w) = rw (loader_value loader l) (rw (block_value block b) (rw (value-decimal words w) refl))
-command_of-fields (Write loader block index value) (l, b, i, v) =
+command_of-fields (Asks (New loader kind)) h = rw (loader_value loader h) (rw (kind_of-word kind) refl)
+command_of-fields (Asks (Alloc loader block words)) (l, b, w) = rw (loader_value loader l) (rw (block_value block b) (rw (value-decimal words w) refl))
+command_of-fields (Asks (Calloc loader block words)) (l, b, w) = rw (loader_value loader l) (rw (block_value block b) (rw (value-decimal words w) refl))
+command_of-fields (Asks (Write loader block index value)) (l, b, i, v) =
     rw (loader_value loader l) (rw (block_value block b) (rw (value-decimal index i) (rw (value-decimal value v) refl)))
-command_of-fields (Read loader block index) (l, b, i) = rw (loader_value loader l) (rw (block_value block b) (rw (value-decimal index i) refl))
-command_of-fields (Free loader block) (l, b) = rw (loader_value loader l) (rw (block_value block b) refl)
-command_of-fields (Unload loader) h = rw (loader_value loader h) refl
-command_of-fields Purge h = refl
+command_of-fields (Asks (Read loader block index)) (l, b, i) = rw (loader_value loader l) (rw (block_value block b) (rw (value-decimal index i) refl))
+command_of-fields (Asks (Free loader block)) (l, b) = rw (loader_value loader l) (rw (block_value block b) refl)
+command_of-fields (Asks (Unload loader)) h = rw (loader_value loader h) refl
+command_of-fields (Asks Purge) h = refl
 command_of-fields Sync h = refl
 command_of-fields Report h = refl
 
@@ -151,16 +159,18 @@ kind_length Reflection = omega arith
 kind_length Hidden = omega arith
 
 pub spelling_is_short : (command : Command) → IsValid command → length (spelling_of command) ≤ most_bytes
-spelling_is_short (New loader kind) h = simp length-append (omega (arith, loader_length loader h, kind_length kind))
-spelling_is_short (Alloc loader block words) (l, b, w) =
+spelling_is_short (Asks (New loader kind)) h = simp length-append (omega (arith, loader_length loader h, kind_length kind))
+spelling_is_short (Asks (Alloc loader block words)) (l, b, w) =
     simp length-append (omega (arith, loader_length loader l, block_length block b, word_length words w))
-spelling_is_short (Write loader block index value) (l, b, i, v) =
+spelling_is_short (Asks (Calloc loader block words)) (l, b, w) =
+    simp length-append (omega (arith, loader_length loader l, block_length block b, word_length words w))
+spelling_is_short (Asks (Write loader block index value)) (l, b, i, v) =
     simp length-append (omega (arith, loader_length loader l, block_length block b, word_length index i, word_length value v))
-spelling_is_short (Read loader block index) (l, b, i) =
+spelling_is_short (Asks (Read loader block index)) (l, b, i) =
     simp length-append (omega (arith, loader_length loader l, block_length block b, word_length index i))
-spelling_is_short (Free loader block) (l, b) = simp length-append (omega (arith, loader_length loader l, block_length block b))
-spelling_is_short (Unload loader) h = omega (arith, loader_length loader h)
-spelling_is_short Purge h = omega arith
+spelling_is_short (Asks (Free loader block)) (l, b) = simp length-append (omega (arith, loader_length loader l, block_length block b))
+spelling_is_short (Asks (Unload loader)) h = omega (arith, loader_length loader h)
+spelling_is_short (Asks Purge) h = omega arith
 spelling_is_short Sync h = omega arith
 spelling_is_short Report h = omega arith
 

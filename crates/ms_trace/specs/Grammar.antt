@@ -33,6 +33,7 @@ abbrev pub commands : List (List ℕ × List Field)
 commands =
     (codes "new", loader_field ∷ kind_field ∷ [])
     ∷ (codes "alloc", loader_field ∷ block_field ∷ word_field ∷ [])
+    ∷ (codes "calloc", loader_field ∷ block_field ∷ word_field ∷ [])
     ∷ (codes "write", loader_field ∷ block_field ∷ word_field ∷ word_field ∷ [])
     ∷ (codes "read", loader_field ∷ block_field ∷ word_field ∷ [])
     ∷ (codes "free", loader_field ∷ block_field ∷ [])

@@ -2,21 +2,28 @@
 use Rattle.std.specs.Prelude.{◌≡◌, ℕ, ◌+◌, ◌-◌, ◌^◌, ◌≤◌, ◌<◌, ◌⊎◌, Bool, true, ◌&&◌, nat_lt, nat_le, List, [], ◌∷◌, ◌++◌, length, replicate, codes, IsTrue, ⊤}
 use Rattle.std.specs.List.{join_with_byte}
 use Rattle.std.specs.Fmt.{decimal}
+use Rattle.ms_base.specs.declared.step.Step.{Step}
+use Rattle.ms_base.specs.declared.step.Step.TheVariants.{New, Alloc, Calloc, Write, Read, Free, Unload, Purge}
 use Rattle.ms_trace.specs.declared.trace.Command.{Command}
-use Rattle.ms_trace.specs.declared.trace.Command.TheVariants.{New, Alloc, Write, Read, Free, Unload, Purge, Sync, Report}
+use Rattle.ms_trace.specs.declared.trace.Command.TheVariants.{Step as Asks, Sync, Report}
 use Rattle.ms_trace.specs.declared.trace.Line.{Line}
 use Rattle.ms_trace.specs.declared.trace.Trace.{Trace}
 use Rattle.ms_trace.specs.Grammar.{kind_word, lines_of, is_silent, most_lines, most_bytes}
 
--- The fields of a command, its word first, numbers in decimal without leading zeros.
+-- The fields of a step, its word first, numbers in decimal without leading zeros.
+abbrev pub step_fields : Step → List (List ℕ)
+step_fields (New loader kind) = codes "new" ∷ decimal loader ∷ kind_word kind ∷ []
+step_fields (Alloc loader block words) = codes "alloc" ∷ decimal loader ∷ decimal block ∷ decimal words ∷ []
+step_fields (Calloc loader block words) = codes "calloc" ∷ decimal loader ∷ decimal block ∷ decimal words ∷ []
+step_fields (Write loader block index value) = codes "write" ∷ decimal loader ∷ decimal block ∷ decimal index ∷ decimal value ∷ []
+step_fields (Read loader block index) = codes "read" ∷ decimal loader ∷ decimal block ∷ decimal index ∷ []
+step_fields (Free loader block) = codes "free" ∷ decimal loader ∷ decimal block ∷ []
+step_fields (Unload loader) = codes "unload" ∷ decimal loader ∷ []
+step_fields Purge = codes "purge" ∷ []
+
+-- The fields of a command, which are those of its step, or one word.
 abbrev pub command_fields : Command → List (List ℕ)
-command_fields (New loader kind) = codes "new" ∷ decimal loader ∷ kind_word kind ∷ []
-command_fields (Alloc loader block words) = codes "alloc" ∷ decimal loader ∷ decimal block ∷ decimal words ∷ []
-command_fields (Write loader block index value) = codes "write" ∷ decimal loader ∷ decimal block ∷ decimal index ∷ decimal value ∷ []
-command_fields (Read loader block index) = codes "read" ∷ decimal loader ∷ decimal block ∷ decimal index ∷ []
-command_fields (Free loader block) = codes "free" ∷ decimal loader ∷ decimal block ∷ []
-command_fields (Unload loader) = codes "unload" ∷ decimal loader ∷ []
-command_fields Purge = codes "purge" ∷ []
+command_fields (Asks step) = step_fields step
 command_fields Sync = codes "sync" ∷ []
 command_fields Report = codes "report" ∷ []
 
@@ -24,15 +31,20 @@ command_fields Report = codes "report" ∷ []
 abbrev pub spelling_of : Command → List ℕ
 spelling_of command = join_with_byte 32 (command_fields command)
 
--- The numbers of a command are within their bounds.
+-- The numbers of a step are within their bounds.
+abbrev pub IsValidStep : Step → Type 0
+IsValidStep (New loader kind) = loader < 2 ^ 16
+IsValidStep (Alloc loader block words) = (loader < 2 ^ 16) × (block < 2 ^ 32) × (words < 2 ^ 64)
+IsValidStep (Calloc loader block words) = (loader < 2 ^ 16) × (block < 2 ^ 32) × (words < 2 ^ 64)
+IsValidStep (Write loader block index value) = (loader < 2 ^ 16) × (block < 2 ^ 32) × (index < 2 ^ 64) × (value < 2 ^ 64)
+IsValidStep (Read loader block index) = (loader < 2 ^ 16) × (block < 2 ^ 32) × (index < 2 ^ 64)
+IsValidStep (Free loader block) = (loader < 2 ^ 16) × (block < 2 ^ 32)
+IsValidStep (Unload loader) = loader < 2 ^ 16
+IsValidStep Purge = ⊤
+
+-- So are those of a command, which are its step's.
 abbrev pub IsValid : Command → Type 0
-IsValid (New loader kind) = loader < 2 ^ 16
-IsValid (Alloc loader block words) = (loader < 2 ^ 16) × (block < 2 ^ 32) × (words < 2 ^ 64)
-IsValid (Write loader block index value) = (loader < 2 ^ 16) × (block < 2 ^ 32) × (index < 2 ^ 64) × (value < 2 ^ 64)
-IsValid (Read loader block index) = (loader < 2 ^ 16) × (block < 2 ^ 32) × (index < 2 ^ 64)
-IsValid (Free loader block) = (loader < 2 ^ 16) × (block < 2 ^ 32)
-IsValid (Unload loader) = loader < 2 ^ 16
-IsValid Purge = ⊤
+IsValid (Asks step) = IsValidStep step
 IsValid Sync = ⊤
 IsValid Report = ⊤
 

@@ -13,6 +13,7 @@ use crate::cutting::{cut_field, four_fields, no_fields, one_field, three_fields,
 use crate::fault::FaultKind;
 use crate::fields::{read_block, read_kind, read_loader, read_word};
 use crate::trace::{Command, MOST_LINES};
+use ms_base::Step;
 
 /// The greatest length of a line in bytes.
 const MOST_BYTES: usize = 80;
@@ -47,6 +48,8 @@ fn read_command(line: &[u8]) -> Result<Command, FaultKind>
         read_new(rest)
     } else if word == b"alloc".as_slice() {
         read_alloc(rest)
+    } else if word == b"calloc".as_slice() {
+        read_calloc(rest)
     } else if word == b"write".as_slice() {
         read_write(rest)
     } else if word == b"read".as_slice() {
@@ -73,10 +76,10 @@ fn read_new(rest: Option<&[u8]>) -> Result<Command, FaultKind>
     ensures valid { IfOk result IsValid }
 {
     let (loader, kind) = two_fields(rest)?;
-    Ok(Command::New {
+    Ok(Command::Step(Step::New {
         loader: read_loader(loader)?,
         kind: read_kind(kind)?,
-    })
+    }))
 }
 
 /// Reads what follows `alloc`: a loader, a block and its words.
@@ -86,11 +89,25 @@ fn read_alloc(rest: Option<&[u8]>) -> Result<Command, FaultKind>
     ensures valid { IfOk result IsValid }
 {
     let (loader, block, words) = three_fields(rest)?;
-    Ok(Command::Alloc {
+    Ok(Command::Step(Step::Alloc {
         loader: read_loader(loader)?,
         block: read_block(block)?,
         words: read_word(words)?,
-    })
+    }))
+}
+
+/// Reads what follows `calloc`: a loader, a block and its words.
+fn read_calloc(rest: Option<&[u8]>) -> Result<Command, FaultKind>
+    ensures fault { result_err result ≡ command_fault (codes "calloc" ∷ fields_in rest.entry) }
+    ensures fields { IfOk result (λ c. command_fields c ≡ codes "calloc" ∷ fields_in rest.entry) }
+    ensures valid { IfOk result IsValid }
+{
+    let (loader, block, words) = three_fields(rest)?;
+    Ok(Command::Step(Step::Calloc {
+        loader: read_loader(loader)?,
+        block: read_block(block)?,
+        words: read_word(words)?,
+    }))
 }
 
 /// Reads what follows `write`: a loader, a block, an index and a value.
@@ -100,12 +117,12 @@ fn read_write(rest: Option<&[u8]>) -> Result<Command, FaultKind>
     ensures valid { IfOk result IsValid }
 {
     let (loader, block, index, value) = four_fields(rest)?;
-    Ok(Command::Write {
+    Ok(Command::Step(Step::Write {
         loader: read_loader(loader)?,
         block: read_block(block)?,
         index: read_word(index)?,
         value: read_word(value)?,
-    })
+    }))
 }
 
 /// Reads what follows `read`: a loader, a block and an index.
@@ -115,11 +132,11 @@ fn read_read(rest: Option<&[u8]>) -> Result<Command, FaultKind>
     ensures valid { IfOk result IsValid }
 {
     let (loader, block, index) = three_fields(rest)?;
-    Ok(Command::Read {
+    Ok(Command::Step(Step::Read {
         loader: read_loader(loader)?,
         block: read_block(block)?,
         index: read_word(index)?,
-    })
+    }))
 }
 
 /// Reads what follows `free`: a loader and a block.
@@ -129,10 +146,10 @@ fn read_free(rest: Option<&[u8]>) -> Result<Command, FaultKind>
     ensures valid { IfOk result IsValid }
 {
     let (loader, block) = two_fields(rest)?;
-    Ok(Command::Free {
+    Ok(Command::Step(Step::Free {
         loader: read_loader(loader)?,
         block: read_block(block)?,
-    })
+    }))
 }
 
 /// Reads what follows `unload`: a loader.
@@ -142,9 +159,9 @@ fn read_unload(rest: Option<&[u8]>) -> Result<Command, FaultKind>
     ensures valid { IfOk result IsValid }
 {
     let loader = one_field(rest)?;
-    Ok(Command::Unload {
+    Ok(Command::Step(Step::Unload {
         loader: read_loader(loader)?,
-    })
+    }))
 }
 
 /// Reads what follows `purge`: nothing.
@@ -154,7 +171,7 @@ fn read_purge(rest: Option<&[u8]>) -> Result<Command, FaultKind>
     ensures valid { IfOk result IsValid }
 {
     no_fields(rest)?;
-    Ok(Command::Purge)
+    Ok(Command::Step(Step::Purge))
 }
 
 /// Reads what follows `sync`: nothing.

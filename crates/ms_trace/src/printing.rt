@@ -1,17 +1,18 @@
 //! Printing a trace as a text that reads as it.
 ghost use Rattle.std.specs.Prelude.{◌≡◌, ◌++◌, ◌∷◌, IfOk, OnOk, IsTrue, decimal, replicate};
+ghost use Rattle.std.specs.List.{join_with_byte};
 ghost use Rattle.ms_trace.specs.Grammar.{kind_word};
-ghost use Rattle.ms_trace.specs.Spelling.{IsValid, ReadsAs, rises_above, spelling_of, text_of};
+ghost use Rattle.ms_trace.specs.Spelling.{IsValid, IsValidStep, ReadsAs, rises_above, spelling_of, step_fields, text_of};
 
 use crate::trace::{Command, Trace};
 use itoa::Buffer;
-use ms_base::Kind;
-use std::alloc::{AllocError, Global};
+use ms_base::{Kind, Step};
+use std::alloc::{AllocError, Allocator};
 
 /// Prints a trace whose line numbers rise from 1 to 100000: each command with single spaces on the
 /// line of its number, empty lines in the gaps, and a newline after the last. The trace without
 /// commands is printed as no bytes. This project's choice.
-pub fn print(alloc: Global, trace: &Trace) -> Result<Vec<u8>, AllocError>
+pub fn print<A: Allocator>(alloc: A, trace: &Trace) -> Result<Vec<u8, A>, AllocError>
     requires { IsTrue (rises_above 0 trace.now.lines) }
     ensures text { IfOk result (λ text. text.items ≡ text_of trace.now) }
     ensures reads { IfOk result (λ text. ReadsAs text.items trace.now) }
@@ -28,7 +29,7 @@ pub fn print(alloc: Global, trace: &Trace) -> Result<Vec<u8>, AllocError>
 }
 
 /// Prints so many empty lines.
-fn print_gap(text: &mut Vec<u8>, lines: u32) -> Result<(), AllocError>
+fn print_gap<A: Allocator>(text: &mut Vec<u8, A>, lines: u32) -> Result<(), AllocError>
     ensures { OnOk result (text.new.items ≡ text.old.items ++ replicate lines 10) }
 {
     for _ in 0..lines {
@@ -38,66 +39,91 @@ fn print_gap(text: &mut Vec<u8>, lines: u32) -> Result<(), AllocError>
 }
 
 /// Prints a command.
-fn print_command(text: &mut Vec<u8>, command: Command) -> Result<(), AllocError>
+fn print_command<A: Allocator>(text: &mut Vec<u8, A>, command: Command) -> Result<(), AllocError>
     ensures printed { OnOk result (text.new.items ≡ text.old.items ++ spelling_of command) }
     ensures valid { IsValid command }
 {
     match command {
-        Command::New { loader, kind } => {
+        Command::Step(step) => print_step(text, step),
+        Command::Sync => text.extend_from_slice(b"sync".as_slice()),
+        Command::Report => text.extend_from_slice(b"report".as_slice()),
+    }
+}
+
+/// Prints a step.
+fn print_step<A: Allocator>(text: &mut Vec<u8, A>, step: Step) -> Result<(), AllocError>
+    ensures printed { OnOk result (text.new.items ≡ text.old.items ++ join_with_byte 32 (step_fields step)) }
+    ensures valid { IsValidStep step }
+{
+    match step {
+        Step::New { loader, kind } => {
             text.extend_from_slice(b"new".as_slice())?;
             print_number(text, u64::from(loader))?;
             print_kind(text, kind)?;
         }
-        Command::Alloc {
+        Step::Alloc {
             loader,
             block,
             words,
         } => {
-            text.extend_from_slice(b"alloc".as_slice())?;
-            print_number(text, u64::from(loader))?;
-            print_number(text, u64::from(block))?;
+            print_block(text, b"alloc".as_slice(), loader, block)?;
             print_number(text, words)?;
         }
-        Command::Write {
+        Step::Calloc {
+            loader,
+            block,
+            words,
+        } => {
+            print_block(text, b"calloc".as_slice(), loader, block)?;
+            print_number(text, words)?;
+        }
+        Step::Write {
             loader,
             block,
             index,
             value,
         } => {
-            text.extend_from_slice(b"write".as_slice())?;
-            print_number(text, u64::from(loader))?;
-            print_number(text, u64::from(block))?;
+            print_block(text, b"write".as_slice(), loader, block)?;
             print_number(text, index)?;
             print_number(text, value)?;
         }
-        Command::Read {
+        Step::Read {
             loader,
             block,
             index,
         } => {
-            text.extend_from_slice(b"read".as_slice())?;
-            print_number(text, u64::from(loader))?;
-            print_number(text, u64::from(block))?;
+            print_block(text, b"read".as_slice(), loader, block)?;
             print_number(text, index)?;
         }
-        Command::Free { loader, block } => {
-            text.extend_from_slice(b"free".as_slice())?;
-            print_number(text, u64::from(loader))?;
-            print_number(text, u64::from(block))?;
+        Step::Free { loader, block } => {
+            print_block(text, b"free".as_slice(), loader, block)?;
         }
-        Command::Unload { loader } => {
+        Step::Unload { loader } => {
             text.extend_from_slice(b"unload".as_slice())?;
             print_number(text, u64::from(loader))?;
         }
-        Command::Purge => text.extend_from_slice(b"purge".as_slice())?,
-        Command::Sync => text.extend_from_slice(b"sync".as_slice())?,
-        Command::Report => text.extend_from_slice(b"report".as_slice())?,
+        Step::Purge => text.extend_from_slice(b"purge".as_slice())?,
     }
     Ok(())
 }
 
+/// Prints a word, then a loader and a block.
+fn print_block<A: Allocator>(
+    text: &mut Vec<u8, A>,
+    word: &[u8],
+    loader: u16,
+    block: u32,
+) -> Result<(), AllocError>
+    ensures { OnOk result (text.new.items
+        ≡ text.old.items ++ word.now ++ 32 ∷ decimal loader ++ 32 ∷ decimal block) }
+{
+    text.extend_from_slice(word)?;
+    print_number(text, u64::from(loader))?;
+    print_number(text, u64::from(block))
+}
+
 /// Prints a space and a number.
-fn print_number(text: &mut Vec<u8>, number: u64) -> Result<(), AllocError>
+fn print_number<A: Allocator>(text: &mut Vec<u8, A>, number: u64) -> Result<(), AllocError>
     ensures { OnOk result (text.new.items ≡ text.old.items ++ 32 ∷ decimal number) }
 {
     let mut buffer = Buffer::new();
@@ -106,7 +132,7 @@ fn print_number(text: &mut Vec<u8>, number: u64) -> Result<(), AllocError>
 }
 
 /// Prints a space and the word of a kind.
-fn print_kind(text: &mut Vec<u8>, kind: Kind) -> Result<(), AllocError>
+fn print_kind<A: Allocator>(text: &mut Vec<u8, A>, kind: Kind) -> Result<(), AllocError>
     ensures { OnOk result (text.new.items ≡ text.old.items ++ 32 ∷ kind_word kind) }
 {
     let word = match kind {

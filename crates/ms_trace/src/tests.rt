@@ -1,8 +1,12 @@
 //! What no clause says: that the definitions are the grammar that was meant, by texts whose answers
 //! were found apart from this crate, that calls succeed where there is memory, and the printed
 //! names of faults.
+ghost use Rattle.std.specs.Prelude.{◌≤◌};
+
+use crate::reading::read_lines;
 use crate::{Command, FaultKind, Line, Lines, ParseFault, Trace, TraceFault, laws, parse, print};
-use ms_base::Kind;
+use linked_list_allocator::LocalHeap;
+use ms_base::{Kind, Step};
 use std::alloc::{AllocError, Global};
 use std::test::Fail;
 
@@ -61,7 +65,19 @@ fn each_line_has_its_first_fault(rt: HostRuntime) {
         (b" purge".as_slice(), FaultKind::UnknownCommand),
         (b"purge\r".as_slice(), FaultKind::UnknownCommand),
         (b"Purge".as_slice(), FaultKind::UnknownCommand),
-        (b"calloc 1 1 1".as_slice(), FaultKind::UnknownCommand),
+        (b"Calloc 1 1 1".as_slice(), FaultKind::UnknownCommand),
+        (b"calloc 1 1".as_slice(), FaultKind::FieldCount),
+        (b"calloc 1 1 1 1".as_slice(), FaultKind::FieldCount),
+        (b"calloc 1 01 10".as_slice(), FaultKind::BadNumber),
+        (b"calloc 65536 1 10".as_slice(), FaultKind::NumberTooLarge),
+        (
+            b"calloc 1 4294967296 10".as_slice(),
+            FaultKind::NumberTooLarge,
+        ),
+        (
+            b"calloc 1 1 18446744073709551616".as_slice(),
+            FaultKind::NumberTooLarge,
+        ),
         (
             b"nonsense 1 1 1 1 1 1".as_slice(),
             FaultKind::UnknownCommand,
@@ -130,7 +146,7 @@ fn a_trace_has_100000_lines_at_most(rt: HostRuntime) -> Result<(), Fail> {
         lines[99_999],
         Line {
             number: 100_000,
-            command: Command::Purge
+            command: Command::Step(Step::Purge)
         }
     );
     text.extend_from_slice(b"\n".as_slice())?;
@@ -165,12 +181,12 @@ fn a_text_of_more_than_8100000_bytes_has_a_fault(rt: HostRuntime) -> Result<(), 
 
 /// A text with each word.
 const ALL_WORDS: &[u8] =
-    b"new 1 hidden\nalloc 1 2 30\nwrite 1 2 3 40\n# done\n\nread 1 2 3\nfree 1 2\nunload 1\npurge\nsync\nreport\n";
+    b"new 1 hidden\nalloc 1 2 30\ncalloc 1 3 5\nwrite 1 2 3 40\n# done\n\nread 1 2 3\nfree 1 2\nunload 1\npurge\nsync\nreport\n";
 
 /// The fault of each beginning of that text by its length: none, UnknownCommand, FieldCount, BadKind
 /// or BadNumber, by their first letters.
 const FAULTS: &[u8] =
-    b".UUCCCKKKKKK..UUUUCCCCCN...UUUUCCCCCCCN...........UUUCCCCCN..UUUCCCN..UUUUUCN..UUUU..UUU..UUUUU..";
+    b".UUCCCKKKKKK..UUUUCCCCCN...UUUUUCCCCCN..UUUUCCCCCCCN...........UUUCCCCCN..UUUCCCN..UUUUUCN..UUUU..UUU..UUUUU..";
 
 /// The letter of a fault.
 fn letter_of(found: Option<ParseFault>) -> u8 {
@@ -206,57 +222,65 @@ fn each_word_gives_its_command(rt: HostRuntime) -> Result<(), Fail> {
     let expected = [
         Line {
             number: 1,
-            command: Command::New {
+            command: Command::Step(Step::New {
                 loader: 1,
                 kind: Kind::Hidden,
-            },
+            }),
         },
         Line {
             number: 2,
-            command: Command::Alloc {
+            command: Command::Step(Step::Alloc {
                 loader: 1,
                 block: 2,
                 words: 30,
-            },
+            }),
         },
         Line {
             number: 3,
-            command: Command::Write {
+            command: Command::Step(Step::Calloc {
+                loader: 1,
+                block: 3,
+                words: 5,
+            }),
+        },
+        Line {
+            number: 4,
+            command: Command::Step(Step::Write {
                 loader: 1,
                 block: 2,
                 index: 3,
                 value: 40,
-            },
-        },
-        Line {
-            number: 6,
-            command: Command::Read {
-                loader: 1,
-                block: 2,
-                index: 3,
-            },
+            }),
         },
         Line {
             number: 7,
-            command: Command::Free {
+            command: Command::Step(Step::Read {
                 loader: 1,
                 block: 2,
-            },
+                index: 3,
+            }),
         },
         Line {
             number: 8,
-            command: Command::Unload { loader: 1 },
+            command: Command::Step(Step::Free {
+                loader: 1,
+                block: 2,
+            }),
         },
         Line {
             number: 9,
-            command: Command::Purge,
+            command: Command::Step(Step::Unload { loader: 1 }),
         },
         Line {
             number: 10,
-            command: Command::Sync,
+            command: Command::Step(Step::Purge),
         },
         Line {
             number: 11,
+            command: Command::Sync,
+        },
+        Line {
+            number: 12,
             command: Command::Report,
         },
     ];
@@ -273,33 +297,33 @@ fn the_greatest_numbers_and_each_kind_are_read(rt: HostRuntime) -> Result<(), Fa
     let expected = [
         Line {
             number: 1,
-            command: Command::Write {
+            command: Command::Step(Step::Write {
                 loader: 65535,
                 block: 4294967295,
                 index: u64::MAX,
                 value: 0,
-            },
+            }),
         },
         Line {
             number: 2,
-            command: Command::New {
+            command: Command::Step(Step::New {
                 loader: 0,
                 kind: Kind::Standard,
-            },
+            }),
         },
         Line {
             number: 3,
-            command: Command::New {
+            command: Command::Step(Step::New {
                 loader: 1,
                 kind: Kind::Boot,
-            },
+            }),
         },
         Line {
             number: 4,
-            command: Command::New {
+            command: Command::Step(Step::New {
                 loader: 2,
                 kind: Kind::Reflection,
-            },
+            }),
         },
     ];
     assert!(rt; trace.lines.as_slice() == expected.as_slice());
@@ -311,50 +335,58 @@ fn a_trace_is_printed_with_its_gaps(rt: HostRuntime) -> Result<(), Fail> {
     let lines = [
         Line {
             number: 2,
-            command: Command::New {
+            command: Command::Step(Step::New {
                 loader: 7,
                 kind: Kind::Reflection,
-            },
+            }),
         },
         Line {
             number: 3,
-            command: Command::Alloc {
+            command: Command::Step(Step::Alloc {
                 loader: 7,
                 block: 0,
                 words: u64::MAX,
-            },
+            }),
+        },
+        Line {
+            number: 4,
+            command: Command::Step(Step::Calloc {
+                loader: 7,
+                block: 4294967295,
+                words: 1,
+            }),
         },
         Line {
             number: 6,
-            command: Command::Write {
+            command: Command::Step(Step::Write {
                 loader: 7,
                 block: 0,
                 index: 1,
                 value: 2,
-            },
+            }),
         },
         Line {
             number: 7,
-            command: Command::Read {
+            command: Command::Step(Step::Read {
                 loader: 7,
                 block: 0,
                 index: 1,
-            },
+            }),
         },
         Line {
             number: 8,
-            command: Command::Free {
+            command: Command::Step(Step::Free {
                 loader: 7,
                 block: 0,
-            },
+            }),
         },
         Line {
             number: 9,
-            command: Command::Unload { loader: 7 },
+            command: Command::Step(Step::Unload { loader: 7 }),
         },
         Line {
             number: 10,
-            command: Command::Purge,
+            command: Command::Step(Step::Purge),
         },
         Line {
             number: 11,
@@ -369,7 +401,7 @@ fn a_trace_is_printed_with_its_gaps(rt: HostRuntime) -> Result<(), Fail> {
     assert!(rt; trace.rises());
     let text = print(rt.alloc(), &trace)?;
     let expected =
-        b"\nnew 7 reflection\nalloc 7 0 18446744073709551615\n\n\nwrite 7 0 1 2\nread 7 0 1\nfree 7 0\nunload 7\npurge\nsync\n\nreport\n";
+        b"\nnew 7 reflection\nalloc 7 0 18446744073709551615\ncalloc 7 4294967295 1\n\nwrite 7 0 1 2\nread 7 0 1\nfree 7 0\nunload 7\npurge\nsync\n\nreport\n";
     assert!(rt; text.as_slice() == expected.as_slice());
     let back = parse(rt.alloc(), text.as_slice())?;
     assert!(rt; back.lines.as_slice() == lines.as_slice());
@@ -399,7 +431,7 @@ fn only_rising_numbers_up_to_100000_may_be_printed(rt: HostRuntime) -> Result<()
         let lines = [
             Line {
                 number: numbers[0],
-                command: Command::Purge,
+                command: Command::Step(Step::Purge),
             },
             Line {
                 number: numbers[1],
@@ -432,20 +464,67 @@ fn faults_are_printed_by_name(rt: HostRuntime) -> Result<(), Fail> {
     Ok(())
 }
 
+/// The bytes of a heap for tests, in units of 16.
+const UNITS: usize = 256;
+
+/// A vector that takes all but so many units of a heap.
+fn all_but(heap: &LocalHeap, units: usize) -> Result<Vec<u8, &LocalHeap>, AllocError>
+    requires { units ≤ 256 }
+{
+    Vec::with_capacity(heap, 16 * (UNITS - units))
+}
+
 #[test]
-fn a_refused_growth_is_want_of_memory(rt: HostRuntime) {
-    match parse(rt.alloc(), ALL_WORDS) {
-        Err(fault) => assert_eq!(rt; fault, ParseFault::OutOfMemory),
-        Ok(trace) => {
-            assert_eq!(rt; trace.lines.as_slice().len(), 9);
-            if trace.rises() {
-                match print(rt.alloc(), &trace) {
-                    Err(_) => {}
-                    Ok(text) => assert_eq!(rt; text.len(), 90),
-                }
+fn each_growth_of_reading_may_be_refused(rt: HostRuntime) -> Result<(), Fail> {
+    let mut refusals: u32 = 0;
+    for units in 0..UNITS {
+        let heap = LocalHeap::new(rt.alloc(), 16 * UNITS)?;
+        let taken = all_but(&heap, units)?;
+        let before = heap.used();
+        match read_lines(&heap, ALL_WORDS) {
+            Ok(lines) => assert_eq!(rt; lines.len(), 10),
+            Err(fault) => {
+                assert_eq!(rt; fault, ParseFault::OutOfMemory);
+                assert_eq!(rt; heap.used(), before);
+                // Each unit less is refused too.
+                assert_eq!(rt; refusals as usize, units);
+                refusals = refusals.saturating_add(1);
+                drop(taken);
+                let lines = read_lines(&heap, ALL_WORDS)?;
+                assert_eq!(rt; lines.len(), 10);
             }
         }
     }
+    assert!(rt; refusals > 0);
+    assert!(rt; (refusals as usize) < UNITS);
+    Ok(())
+}
+
+#[test]
+fn each_growth_of_printing_may_be_refused(rt: HostRuntime) -> Result<(), Fail> {
+    let trace = parse(rt.alloc(), ALL_WORDS)?;
+    assert!(rt; trace.rises());
+    let whole = print(rt.alloc(), &trace)?;
+    let mut refusals: u32 = 0;
+    for units in 0..UNITS {
+        let heap = LocalHeap::new(rt.alloc(), 16 * UNITS)?;
+        let taken = all_but(&heap, units)?;
+        let before = heap.used();
+        match print(&heap, &trace) {
+            Ok(text) => assert!(rt; text.as_slice() == whole.as_slice()),
+            Err(AllocError) => {
+                assert_eq!(rt; heap.used(), before);
+                assert_eq!(rt; refusals as usize, units);
+                refusals = refusals.saturating_add(1);
+                drop(taken);
+                let text = print(&heap, &trace)?;
+                assert!(rt; text.as_slice() == whole.as_slice());
+            }
+        }
+    }
+    assert!(rt; refusals > 0);
+    assert!(rt; (refusals as usize) < UNITS);
+    Ok(())
 }
 
 #[test]

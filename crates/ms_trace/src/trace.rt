@@ -2,45 +2,17 @@
 ghost use Rattle.std.specs.Prelude.{◌≡◌};
 ghost use Rattle.ms_trace.specs.Spelling.{rises_above};
 
-use ms_base::Kind;
+use ms_base::Step;
 use std::marker::Model;
 
 /// The greatest number of a line.
 pub(crate) const MOST_LINES: u32 = 100_000;
 
-/// What a line asks: a request to the machine, a point where all workers meet, or a report.
-/// Loaders are named by 0 to 65535, blocks of a loader by 0 to 4294967295; words and indices count
-/// words of 8 bytes. This project's choice.
+/// What a line asks: a step of the machine, a point where all workers meet, or a report. This
+/// project's choice.
 #[derive(Clone, Copy, Debug, PartialEq, Eq)]
 pub enum Command {
-    New {
-        loader: u16,
-        kind: Kind,
-    },
-    Alloc {
-        loader: u16,
-        block: u32,
-        words: u64,
-    },
-    Write {
-        loader: u16,
-        block: u32,
-        index: u64,
-        value: u64,
-    },
-    Read {
-        loader: u16,
-        block: u32,
-        index: u64,
-    },
-    Free {
-        loader: u16,
-        block: u32,
-    },
-    Unload {
-        loader: u16,
-    },
-    Purge,
+    Step(Step),
     Sync,
     Report,
 }

@@ -1,9 +1,12 @@
 //! What no clause says: that a session answers where memory is ample, worked rows, the texts on
 //! standard error, and the statuses where devices fail.
-ghost use Rattle.std.specs.Prelude.{◌*◌, ◌≤◌};
+ghost use Rattle.std.specs.Prelude.{◌≡◌, ◌*◌, ◌≤◌};
+
+mod examples;
+mod rows;
 
 use super::*;
-use ms_base::Settings;
+use ms_base::{Policy, Settings};
 use std::io;
 use std::process::Abort;
 
@@ -15,9 +18,7 @@ fn expect_with(
     status: u8,
     output: &str,
     errors: &str,
-)
-    requires { 128 * options.now.settings.nodes ≤ options.now.settings.max_granules }
-{
+) {
     let mut input = text;
     let mut out = Vec::new(rt.alloc());
     let mut err = Vec::new(rt.alloc());
@@ -145,12 +146,23 @@ fn a_purged_slot_is_reserved_anew(rt: HostRuntime) {
 }
 
 #[test]
+fn without_a_class_space_no_part_of_it_is_free(rt: HostRuntime) {
+    let text =
+        "calloc 1 1 10\nnew 1 standard\ncalloc 1 1 10\nalloc 1 1 10\ncalloc 1 1 0\ncalloc 1 2 0\ncalloc 1 2 524289\nread 1 2 0\ncalloc 1 2 524288\nreport\n";
+    let output =
+        "1 refused NoLoader\n2 ok\n3 refused ReserveLimit\n4 at 0\n5 refused BlockExists\n6 refused ZeroWords\n7 refused TooLarge\n8 refused NoBlock\n9 refused ReserveLimit\n10 ok\n  committed           8192\n  used                  10\n";
+    expect(&rt, true, text.as_bytes(), 0, output, "");
+}
+
+#[test]
 fn the_nodes_have_a_limit(rt: HostRuntime) {
     let options = Options {
         settings: Settings {
             workers: 1,
             nodes: 1,
             max_granules: 8192,
+            policy: Policy::Balanced,
+            class_nodes: 0,
         },
         addresses: true,
     };

@@ -1,7 +1,6 @@
 use Rattle.std.proofs.Common.{◌-◌, ◌≤◌, take, length}
 use Rattle.std.specs.Prelude.{string_bytes}
-use Rattle.ms_base.specs.State.{empty_machine}
-use Rattle.ms_loaders.specs.System.{limits_of}
+use Rattle.ms_base.specs.State.{empty_machine, limits_of}
 use Rattle.metarun.specs.Session.{Outputs}
 use Rattle.metarun.proofs.answering.answer_all.Given as goal
 

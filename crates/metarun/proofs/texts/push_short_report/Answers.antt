@@ -1,6 +1,6 @@
 use Rattle.std.proofs.Common.{ap, ◌∙◌, ◌++◌, List, ℕ, append_assoc, codes}
 use Rattle.std.specs.Prelude.{string_bytes}
-use Rattle.metarun.specs.ReplyText.{number_line}
+use Rattle.metarun.specs.ShortReport.{number_line}
 use Rattle.metarun.proofs.texts.push_short_report.Goals as goal
 
 pub returns : goal.returns

@@ -5,7 +5,7 @@ use Rattle.ms_blocks.proofs.tree.+cut.Goals as goal
 use Rattle.ms_blocks.proofs.RankLemmas.{cut_right, cut_left}
 
 pub returns-then-ranks_first : goal.returns-then-ranks_first
-returns-then-ranks_first t c ranked =
+returns-then-ranks_first g t c ranked =
     let fork = c.in-Forked.fork.value in
     let before : ranks_before fork.block c.args.at.now ≡ true = cc in
     rw (c.in-Forked.is, c.deref_mut-then-ranks_first.ensures.value, c.deref_mut.ensures.value)
@@ -17,7 +17,7 @@ returns-then-ranks_first t c ranked =
     ) at c.cut-before.ensures))
 
 pub returns-else-ranks_first : goal.returns-else-ranks_first
-returns-else-ranks_first t c ranked =
+returns-else-ranks_first g t c ranked =
     let fork = c.in-Forked.fork.value in
     let cutting = c.cut-before-else-ranks_first in
     let behind : ranks_before fork.block c.args.at.now ≡ false = cc in

@@ -5,7 +5,7 @@ use Rattle.ms_blocks.proofs.tree.+with_fork.Goals as goal
 use Rattle.ms_blocks.proofs.RankLemmas.{insert_right, insert_left}
 
 pub returns-then-ranks_first : goal.returns-then-ranks_first
-returns-then-ranks_first t c ranked =
+returns-then-ranks_first g t c ranked =
     let fork = c.in-Forked.fork.value in
     let before : ranks_before fork.block c.args.spare.value.block ≡ true = cc in
     rw (c.in-Forked.is, c.deref_mut-then-ranks_first.ensures.value, c.deref_mut.ensures.value)
@@ -17,7 +17,7 @@ returns-then-ranks_first t c ranked =
     ) at c.with_fork.ensures))
 
 pub returns-else-ranks_first : goal.returns-else-ranks_first
-returns-else-ranks_first t c ranked =
+returns-else-ranks_first g t c ranked =
     let fork = c.in-Forked.fork.value in
     let behind : ranks_before fork.block c.args.spare.value.block ≡ false = cc in
     rw (c.in-Forked.is, c.deref_mut-else-ranks_first-2.ensures.value, c.deref_mut-else-ranks_first.ensures.value)

@@ -4,7 +4,7 @@ use Rattle.ms_blocks.proofs.tree.+without_fork.Goals as goal
 use Rattle.ms_blocks.proofs.RankLemmas.{take_right, find_right, take_left, find_left, take_middle, find_middle}
 
 pub returns-then-deref-words-clause-found : goal.returns-then-deref-words-clause-found
-returns-then-deref-words-clause-found t c ranked =
+returns-then-deref-words-clause-found g t c ranked =
     let fork = c.in-Forked.fork.value in
     rw c.in-Forked.is (find_right (blocks_of fork.left) (blocks_of fork.right) fork.block c.args.words
     (option_map (λ fork. fork.value.block) c.without_fork-right.result.1)
@@ -14,7 +14,7 @@ returns-then-deref-words-clause-found t c ranked =
     ) at c.without_fork-right.ensures.found))
 
 pub returns-then-deref-words-clause-left : goal.returns-then-deref-words-clause-left
-returns-then-deref-words-clause-left t c ranked =
+returns-then-deref-words-clause-left g t c ranked =
     let fork = c.in-Forked.fork.value in
     rw (c.in-Forked.is, c.deref_mut-then-deref-words.ensures.value, c.deref_mut.ensures.value)
     (take_right (blocks_of fork.left) (blocks_of fork.right)
@@ -25,7 +25,7 @@ returns-then-deref-words-clause-left t c ranked =
     ) at c.without_fork-right.ensures.left))
 
 pub returns-in-Some-clause-found : goal.returns-in-Some-clause-found
-returns-in-Some-clause-found t c ranked =
+returns-in-Some-clause-found g t c ranked =
     let fork = c.in-Forked.fork.value in
     rw c.in-Forked.is (find_left (blocks_of fork.left)
     (blocks_of fork.right) fork.block c.in-Some.found.value.block c.args.words
@@ -36,7 +36,7 @@ returns-in-Some-clause-found t c ranked =
     ) at c.without_fork-left.ensures.found))
 
 pub returns-in-Some-clause-left : goal.returns-in-Some-clause-left
-returns-in-Some-clause-left t c ranked =
+returns-in-Some-clause-left g t c ranked =
     let fork = c.in-Forked.fork.value in
     rw (c.in-Forked.is, c.deref_mut-in-Some.ensures.value, c.deref_mut-2.ensures.value)
     (take_left (blocks_of fork.left) (blocks_of fork.right)
@@ -46,7 +46,7 @@ returns-in-Some-clause-left t c ranked =
     (rw (c.replace-2.ensures.value, c.deref_mut-2.ensures.value) at c.without_fork-left.ensures.left))
 
 pub returns-in-None-clause-found : goal.returns-in-None-clause-found
-returns-in-None-clause-found t c ranked =
+returns-in-None-clause-found g t c ranked =
     let fork = c.in-Forked.fork.value in
     rw (c.in-Forked.is, c.deref_mut-in-None.ensures.value, c.deref_mut-2.ensures.value)
     (find_middle (blocks_of fork.left) (blocks_of fork.right) fork.block c.args.words
@@ -57,7 +57,7 @@ returns-in-None-clause-found t c ranked =
     ) at c.without_fork-left.ensures.found))
 
 pub returns-in-None-clause-left : goal.returns-in-None-clause-left
-returns-in-None-clause-left t c ranked =
+returns-in-None-clause-left g t c ranked =
     let fork = c.in-Forked.fork.value in
     rw c.in-Forked.is
     (take_middle (blocks_of fork.left) (blocks_of fork.right) (blocks_of c.without_fork-left.result.0)

@@ -1,6 +1,7 @@
 use Rattle.std.proofs.Common.{◌≡◌, Bool, true, false, ◌&&◌, not, refl, ◌∙◌}
 use Rattle.std.specs.Prelude.{◌==◌}
-use Rattle.ms_commit.specs.NumberSet.{is_among, is_in_range}
+use Rattle.ms_base.specs.Committed.{is_among}
+use Rattle.ms_commit.specs.NumberSet.{is_in_range}
 use Rattle.ms_commit.proofs.RangeLemmas.{is_among-filter}
 use Rattle.ms_commit.proofs.SameLemmas.{is_among-insert_key}
 use Rattle.ms_commit.proofs.SetLemmas.{is_among-with_range, is_among-without_range}

@@ -9,7 +9,7 @@ use Rattle.ms_trace.proofs.PrintingLemmas.{line_printed, rises_on, printed_reads
 use Rattle.ms_trace.proofs.printing.print.Goals as goal
 
 pub loop-line-preserved : goal.loop-line-preserved
-loop-line-preserved c =
+loop-line-preserved g c =
     let items : List Line = c.as_slice-line-items.result.now in
     record {
       printed = rw c.in_ok-extend_from_slice.ensures.items
@@ -22,7 +22,7 @@ loop-line-preserved c =
     }
 
 pub returns-clause-reads : goal.returns-clause-reads
-returns-clause-reads c =
+returns-clause-reads g c =
     let items : List Line = c.as_slice-line-items.result.now in
     let all : take c.loop-line.line-index items ≡ items = grind (arith, common_steps) in
     let none : drop c.loop-line.line-index items ≡ [] = grind (arith, common_steps) in

@@ -3,4 +3,4 @@ use Rattle.std.proofs.Common.{◌≡◌, ◌++◌, replicate}
 use Rattle.ms_trace.proofs.printing.print_gap.Given as goal
 
 abbrev pub invariant-loop : goal.invariant-loop
-invariant-loop l = l.text.items ≡ l.fn.text.items ++ replicate l.counter 10
+invariant-loop g l = l.text.items ≡ l.fn.text.items ++ replicate l.counter 10

@@ -9,7 +9,7 @@ use Rattle.ms_blocks.proofs.TendedLemmas.{adds}
 use Rattle.ms_blocks.proofs.free_blocks.FreeBlocks.add.Goals as goal
 
 -- What is asked of the block, said of the fields.
-may : (f : Inside) (now : KeptBlocks) (block : Block) → kept_blocks f ≡ now → 2 ≤ block.words
+may : {A : Type 0} (f : Inside A) (now : KeptBlocks) (block : Block) → kept_blocks f ≡ now → 2 ≤ block.words
     → block.start + block.words < 2 ^ 64 → meets_any (run_of block) now.kept ≡ false
     → MayBeKept (by_start (blocks_of f.tree)) (run_of block)
 may f now block seen some ends apart = record {
@@ -19,20 +19,20 @@ may f now block seen some ends apart = record {
 }
 
 pub overflow_add-self-2 : goal.overflow_add-self-2
-overflow_add-self-2 c =
+overflow_add-self-2 g c =
     let asked = may c.self.inside c.args.self.now c.args.block c.self.view_is
     c.requires.words c.requires.ends c.requires.apart in
     omega (arith, (adds c.self.inside c.args.block c.insert.new.tree c.self.invariant asked c.insert.ensures).sum_fits)
 
 pub invariant_of-self : goal.invariant_of-self
-invariant_of-self c =
+invariant_of-self g c =
     let asked = may c.self.inside c.args.self.now c.args.block c.self.view_is
     c.requires.words c.requires.ends c.requires.apart in
     let added = adds c.self.inside c.args.block c.insert.new.tree c.self.invariant asked c.insert.ensures in
     rw c.pop.ensures.capacity (added.tended (vec_len c.pop.new.self) (omega (arith, c.in-Some.ensures.cases)))
 
 pub returns-clause-kept : goal.returns-clause-kept
-returns-clause-kept c =
+returns-clause-kept g c =
     let asked = may c.self.inside c.args.self.now c.args.block c.self.view_is
     c.requires.words c.requires.ends c.requires.apart in
     rw (← c.self.view_is)

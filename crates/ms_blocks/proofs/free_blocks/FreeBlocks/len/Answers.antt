@@ -5,5 +5,5 @@ use Rattle.ms_blocks.proofs.free_blocks.FreeBlocks.len.Goals as goal
 use Rattle.ms_blocks.proofs.LaidLemmas.{laid_are_kept}
 
 pub returns-clause-apart : goal.returns-clause-apart
-returns-clause-apart c = subst (λ (blocks : KeptBlocks). AreKept blocks.kept) c.self.view_is
+returns-clause-apart g c = subst (λ (blocks : KeptBlocks). AreKept blocks.kept) c.self.view_is
     (laid_are_kept 0 (by_start (blocks_of c.self.inside.tree)) c.self.invariant.laid)

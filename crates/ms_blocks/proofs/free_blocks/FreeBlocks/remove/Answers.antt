@@ -4,74 +4,75 @@ use Rattle.ms_blocks.specs.FreeBlocks.{KeptBlocks, LieFrom, run_of, by_start}
 use Rattle.ms_blocks.specs.Tended.{AreTended}
 use Rattle.ms_blocks.proofs.BestFitLemmas.{best_fit-found, best_fit-none}
 use Rattle.ms_blocks.proofs.TendedLemmas.{Takes, takes, Misses, misses}
+use Rattle.ms_blocks.proofs.free_blocks.FreeBlocks.remove.Given.{Over}
 use Rattle.ms_blocks.proofs.free_blocks.FreeBlocks.remove.Goals as goal
 use Rattle.ms_blocks.proofs.free_blocks.FreeBlocks.remove.Goals.{In-None, In-Some}
 
 -- What the removal makes of the fields, with a fit and without one.
-taken : (c : In-Some) → Takes c.self.inside c.args.words c.in-Some.fork.value.block c.take_fit.new.tree
-taken c =
+taken : (g : Over) (c : In-Some g) → Takes c.self.inside c.args.words c.in-Some.fork.value.block c.take_fit.new.tree
+taken g c =
     takes c.self.inside c.args.words c.in-Some.fork.value.block c.take_fit.new.tree c.self.invariant
     c.in-Some.ensures.found c.in-Some.ensures.left
 
-missed : (c : In-None) → Misses c.self.inside c.args.words c.take_fit.new.tree
-missed c =
+missed : (g : Over) (c : In-None g) → Misses c.self.inside c.args.words c.take_fit.new.tree
+missed g c =
     misses c.self.inside c.args.words c.take_fit.new.tree c.self.invariant
     c.in-None.ensures.found c.in-None.ensures.left
 
 pub invariant_of-self : goal.invariant_of-self
-invariant_of-self c =
+invariant_of-self g c =
     let f = c.self.inside in subst (λ (blocks : List Block). AreTended blocks (vec_len f.spare)
-    (vec_capacity f.spare) f.count f.total) (missed c).same c.self.invariant
+    (vec_capacity f.spare) f.count f.total) (missed g c).same c.self.invariant
 
 pub overflow_sub-self : goal.overflow_sub-self
-overflow_sub-self c = (taken (goal.at.overflow_sub-self c).In-Some).counted
+overflow_sub-self g c = (taken g (goal.at.overflow_sub-self g c).In-Some).counted
 
 pub overflow_sub-self-in-Some : goal.overflow_sub-self-in-Some
-overflow_sub-self-in-Some c = rw c.deref.ensures (taken (goal.at.overflow_sub-self-in-Some c).In-Some).summed
+overflow_sub-self-in-Some g c = rw c.deref.ensures (taken g (goal.at.overflow_sub-self-in-Some g c).In-Some).summed
 
 pub unreachable-requires : goal.unreachable-requires
-unreachable-requires c =
+unreachable-requires g c =
     absurd (omega (
       arith,
-      (taken (goal.at.unreachable-requires c).In-Some).counted,
+      (taken g (goal.at.unreachable-requires g c).In-Some).counted,
       c.self.invariant.placed,
       c.in-Err.ensures.full,
     ))
 
 pub invariant_of-self-in-Some : goal.invariant_of-self-in-Some
-invariant_of-self-in-Some c =
-    rw (c.deref.ensures, c.in-Ok.ensures.len) ((taken (goal.at.invariant_of-self-in-Some c).In-Some).tended
+invariant_of-self-in-Some g c =
+    rw (c.deref.ensures, c.in-Ok.ensures.len) ((taken g (goal.at.invariant_of-self-in-Some g c).In-Some).tended
     (vec_capacity c.push.new.self) c.in-Ok.ensures.capacity)
 
 pub returns-in-None-clause-none : goal.returns-in-None-clause-none
-returns-in-None-clause-none c = rw (← c.self.view_is) (missed c).none
+returns-in-None-clause-none g c = rw (← c.self.view_is) (missed g c).none
 
 pub returns-in-None-clause-answer : goal.returns-in-None-clause-answer
-returns-in-None-clause-answer c = sym (best_fit-none c.args.self.now.kept c.args.words (returns-in-None-clause-none c))
+returns-in-None-clause-answer g c = sym (best_fit-none c.args.self.now.kept c.args.words (returns-in-None-clause-none g c))
 
 pub returns-in-None-clause-unchanged : goal.returns-in-None-clause-unchanged
-returns-in-None-clause-unchanged c =
+returns-in-None-clause-unchanged g c =
     ap (λ (blocks : List Block). let seen : KeptBlocks =
-    record { kept = by_start blocks; room = vec_len c.self.inside.spare } in seen) (sym (missed c).same)
+    record { kept = by_start blocks; room = vec_len c.self.inside.spare } in seen) (sym (missed g c).same)
     ∙ c.self.view_is
 
 pub returns-in-Ok-clause-best : goal.returns-in-Ok-clause-best
-returns-in-Ok-clause-best c = rw (
+returns-in-Ok-clause-best g c = rw (
   ← c.self.view_is,
   c.deref.ensures,
-) (taken (goal.at.returns-in-Ok-clause-best c).In-Some).best
+) (taken g (goal.at.returns-in-Ok-clause-best g c).In-Some).best
 
 pub returns-in-Ok-clause-answer : goal.returns-in-Ok-clause-answer
-returns-in-Ok-clause-answer c =
+returns-in-Ok-clause-answer g c =
     let laid = subst (λ (blocks : KeptBlocks). LieFrom 0 blocks.kept) c.self.view_is c.self.invariant.laid in
     sym (best_fit-found 0 c.args.self.now.kept c.args.words (run_of c.deref.result.now.block) laid
-    (returns-in-Ok-clause-best c))
+    (returns-in-Ok-clause-best g c))
 
 pub returns-in-Ok-clause-taken : goal.returns-in-Ok-clause-taken
-returns-in-Ok-clause-taken c = rw (
+returns-in-Ok-clause-taken g c = rw (
   ← c.self.view_is,
   c.deref.ensures,
-) (taken (goal.at.returns-in-Ok-clause-taken c).In-Some).runs
+) (taken g (goal.at.returns-in-Ok-clause-taken g c).In-Some).runs
 
 pub returns-in-Ok-clause-back : goal.returns-in-Ok-clause-back
-returns-in-Ok-clause-back c = rw c.deref.ensures (taken (goal.at.returns-in-Ok-clause-back c).In-Some).back
+returns-in-Ok-clause-back g c = rw c.deref.ensures (taken g (goal.at.returns-in-Ok-clause-back g c).In-Some).back

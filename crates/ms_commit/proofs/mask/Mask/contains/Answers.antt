@@ -2,7 +2,7 @@ use Rattle.std.proofs.Common.{◌≡◌, ◌/◌, ◌%◌, false, get_or, sym, a
 use Rattle.std.specs.Prelude.{◌==◌, nat_lt}
 use Rattle.std.proofs.lemmas.Bool.Decides.{nat_tests}
 use Rattle.std.proofs.lemmas.Nat.Bits.{shr_and_one}
-use Rattle.ms_commit.specs.NumberSet.{is_among}
+use Rattle.ms_base.specs.Committed.{is_among}
 use Rattle.ms_commit.proofs.MaskLemmas.{is_among-members, is_set-past}
 use Rattle.ms_commit.proofs.mask.Mask.contains.Goals as goal
 

@@ -1,7 +1,7 @@
 use Rattle.std.proofs.Common.{◌≡◌, ℕ, ◌+◌, List, false, length, ap, ◌∙◌, subst, arith}
 use Rattle.std.specs.Ordering.{nat_cmp}
 use Rattle.std.specs.BTreeSet.{insert_key}
-use Rattle.ms_commit.specs.NumberSet.{is_among}
+use Rattle.ms_base.specs.Committed.{is_among}
 use Rattle.ms_commit.specs.Mask.{members_of}
 use Rattle.ms_commit.proofs.MemberLemmas.{members_insert, counted_with, count_within-one, IsSetBelow-members}
 use Rattle.ms_commit.proofs.mask.Mask.insert.Goals as goal

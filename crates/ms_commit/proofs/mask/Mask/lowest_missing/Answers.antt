@@ -2,7 +2,7 @@ use Rattle.std.proofs.Common.{◌*◌, Option, Some, None, length, sym, ap, ◌�
 use Rattle.std.specs.Option.{IfNone}
 use Rattle.std.proofs.lemmas.Option.{IfSome_then}
 use Rattle.ms_base.specs.Pick.{lowest_unreserved}
-use Rattle.ms_commit.specs.NumberSet.{is_among}
+use Rattle.ms_base.specs.Committed.{is_among}
 use Rattle.ms_commit.proofs.MaskLemmas.{is_among-members}
 use Rattle.ms_commit.proofs.MemberLemmas.{lowest_is_unreserved, length-members_full}
 use Rattle.ms_commit.proofs.mask.Mask.lowest_missing.Goals as goal

@@ -1,5 +1,6 @@
 use Rattle.std.proofs.Common.{◌≡◌, ℕ, ◌+◌, List, true, length, ap, ◌∙◌, subst, arith}
-use Rattle.ms_commit.specs.NumberSet.{is_among, without_number}
+use Rattle.ms_base.specs.Committed.{is_among}
+use Rattle.ms_commit.specs.NumberSet.{without_number}
 use Rattle.ms_commit.specs.Mask.{members_of}
 use Rattle.ms_commit.proofs.MemberLemmas.{members_remove, counted_without, count_within-one, IsSetBelow-members}
 use Rattle.ms_commit.proofs.mask.Mask.remove.Goals as goal

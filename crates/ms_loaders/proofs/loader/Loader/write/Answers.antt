@@ -1,10 +1,45 @@
-use Rattle.std.proofs.Common.{sym}
-use Rattle.std.specs.Ordering.{nat_cmp}
-use Rattle.std.specs.BTreeMap.{is_at}
-use Rattle.std.proofs.lemmas.Map.Steps.{set_value_same}
+use Rattle.std.proofs.Common.{sym, ◌∙◌}
+use Rattle.ms_base.specs.declared.kind.Space.TheVariants.{NonClass, Class}
+use Rattle.ms_loaders.specs.LoaderInside.{live_at}
+use Rattle.ms_loaders.proofs.MappedLemmas.{missing-mapped}
+use Rattle.ms_loaders.proofs.ViewLemmas.{view_is_sound}
+use Rattle.ms_loaders.proofs.LoaderLemmas.{err_then, contents_at, word_is_written, word_is_lacking, not_class}
 use Rattle.ms_loaders.proofs.loader.Loader.write.Goals as goal
 
-pub returns-then-index-words-clause-unchanged : goal.returns-then-index-words-clause-unchanged
-returns-then-index-words-clause-unchanged c =
-    rw ((c.get_mut.follows.holds c.in-Some.live.now).0, set_value_same (is_at (nat_cmp c.args.block)) c.self.inside.blocks.entries c.in-Some.live.now (sym c.in-Some.ensures.value))
-    c.self.view_is
+pub returns-in-None-clause-refused : goal.returns-in-None-clause-refused
+returns-in-None-clause-refused c = rw (← c.self.view_is) (missing-mapped (live_at (contents_at c.self.inside)) c.self.inside.names.entries c.args.name (sym c.in-None.ensures.value))
+
+pub returns-in-None-clause-sound : goal.returns-in-None-clause-sound
+returns-in-None-clause-sound c = rw (← c.self.view_is) (view_is_sound c.self.inside c.self.invariant)
+
+pub invariant_of-self : goal.invariant_of-self
+invariant_of-self c = (word_is_written c.self.inside c.self.invariant Class c.args.name c.in-Some.block.now (sym c.in-Some.ensures.value) (sym c.is_class.ensures ∙ c.if-is_class.true)
+    c.write-answer.result c.args.index c.args.value c.write-answer.new.self c.write-answer.ensures.written c.write-answer.ensures.unchanged c.account.ensures.sound).loader
+
+pub returns-then-is_class-clause-written : goal.returns-then-is_class-clause-written
+returns-then-is_class-clause-written c = rw (← c.self.view_is) (word_is_written c.self.inside c.self.invariant Class c.args.name c.in-Some.block.now (sym c.in-Some.ensures.value) (sym c.is_class.ensures ∙ c.if-is_class.true)
+    c.write-answer.result c.args.index c.args.value c.write-answer.new.self c.write-answer.ensures.written c.write-answer.ensures.unchanged c.account.ensures.sound).done
+
+pub returns-then-is_class-clause-refused : goal.returns-then-is_class-clause-refused
+returns-then-is_class-clause-refused c = rw (← c.self.view_is) (err_then _ _ c.write-answer.result
+    (word_is_lacking c.self.inside c.self.invariant Class c.args.name c.in-Some.block.now (sym c.in-Some.ensures.value) (sym c.is_class.ensures ∙ c.if-is_class.true) c.args.index) c.write-answer.ensures.refused)
+
+pub returns-then-is_class-clause-sound : goal.returns-then-is_class-clause-sound
+returns-then-is_class-clause-sound c = view_is_sound _ (word_is_written c.self.inside c.self.invariant Class c.args.name c.in-Some.block.now (sym c.in-Some.ensures.value) (sym c.is_class.ensures ∙ c.if-is_class.true)
+    c.write-answer.result c.args.index c.args.value c.write-answer.new.self c.write-answer.ensures.written c.write-answer.ensures.unchanged c.account.ensures.sound).loader
+
+pub invariant_of-self-else-is_class : goal.invariant_of-self-else-is_class
+invariant_of-self-else-is_class c = (word_is_written c.self.inside c.self.invariant NonClass c.args.name c.in-Some.block.now (sym c.in-Some.ensures.value) (not_class c.in-Some.block.now.start (sym c.is_class.ensures ∙ c.if-is_class.false))
+    c.write-answer-else-is_class.result c.args.index c.args.value c.write-answer-else-is_class.new.self c.write-answer-else-is_class.ensures.written c.write-answer-else-is_class.ensures.unchanged c.account-else-is_class.ensures.sound).loader
+
+pub returns-else-is_class-clause-written : goal.returns-else-is_class-clause-written
+returns-else-is_class-clause-written c = rw (← c.self.view_is) (word_is_written c.self.inside c.self.invariant NonClass c.args.name c.in-Some.block.now (sym c.in-Some.ensures.value) (not_class c.in-Some.block.now.start (sym c.is_class.ensures ∙ c.if-is_class.false))
+    c.write-answer-else-is_class.result c.args.index c.args.value c.write-answer-else-is_class.new.self c.write-answer-else-is_class.ensures.written c.write-answer-else-is_class.ensures.unchanged c.account-else-is_class.ensures.sound).done
+
+pub returns-else-is_class-clause-refused : goal.returns-else-is_class-clause-refused
+returns-else-is_class-clause-refused c = rw (← c.self.view_is) (err_then _ _ c.write-answer-else-is_class.result
+    (word_is_lacking c.self.inside c.self.invariant NonClass c.args.name c.in-Some.block.now (sym c.in-Some.ensures.value) (not_class c.in-Some.block.now.start (sym c.is_class.ensures ∙ c.if-is_class.false)) c.args.index) c.write-answer-else-is_class.ensures.refused)
+
+pub returns-else-is_class-clause-sound : goal.returns-else-is_class-clause-sound
+returns-else-is_class-clause-sound c = view_is_sound _ (word_is_written c.self.inside c.self.invariant NonClass c.args.name c.in-Some.block.now (sym c.in-Some.ensures.value) (not_class c.in-Some.block.now.start (sym c.is_class.ensures ∙ c.if-is_class.false))
+    c.write-answer-else-is_class.result c.args.index c.args.value c.write-answer-else-is_class.new.self c.write-answer-else-is_class.ensures.written c.write-answer-else-is_class.ensures.unchanged c.account-else-is_class.ensures.sound).loader

@@ -1,25 +1,65 @@
-use Rattle.std.proofs.Common.{refl, sym, ◌∙◌, arith}
-use Rattle.ms_base.proofs.GoodLemmas.{good_with_new_loader}
-use Rattle.ms_loaders.proofs.StepLemmas.{found, missing}
+use Rattle.std.proofs.Common.{sym, refl, ap, ◌∙◌, subst, inr}
+use Rattle.ms_base.specs.declared.kind.Space.TheVariants.{NonClass, Class}
+use Rattle.ms_base.specs.Names.{named}
+use Rattle.ms_pool.specs.Account.{AccountState}
+use Rattle.ms_pool.specs.Ledger.{Ledger, Serves, IsSoundLedger, with_both_closed}
+use Rattle.ms_loaders.specs.Loader.{LoaderView, account_in, new_loader, IsSoundView}
+use Rattle.ms_loaders.proofs.MappedLemmas.{missing-mapped}
+use Rattle.ms_loaders.proofs.FitLemmas.{machine_is_good}
+use Rattle.ms_loaders.proofs.StepLemmas.{has_loader}
+use Rattle.ms_loaders.proofs.CallLemmas.{found, missing}
+use Rattle.ms_loaders.proofs.CloseLemmas.{with_both, first_account, second_account, first_served, second_served, together_made, machine_made}
+use Rattle.ms_loaders.proofs.UnloadLemmas.{together_again, numbers_used, numbers_left, insert_is_refused}
 use Rattle.ms_loaders.proofs.system.System.new_loader.Goals as goal
 
-pub returns-then-contains_key-clause-refused : goal.returns-then-contains_key-clause-refused
-returns-then-contains_key-clause-refused c =
-    let there = found _ (sym c.contains_key.ensures ∙ c.if-contains_key.true) in
-    rw (← c.self.view_is) (record { loader = there.0; has = there.1 }, refl)
+pub returns-then-contains-clause-refused : goal.returns-then-contains-clause-refused
+returns-then-contains-clause-refused c =
+    let there = found (named c.self.inside.loaders c.args.name) (sym c.contains.ensures ∙ c.if-contains.true) in
+    (rw (← c.self.view_is) (record { loader = there.0.state; has = has_loader c.self.inside.pool c.self.inside.loaders c.args.name there.0 there.1 }), refl)
 
-pub invariant_of-self : goal.invariant_of-self
-invariant_of-self c =
-    rw (c.in-Ok.ensures.entries, c.new.ensures) (record {
-      good = good_with_new_loader _ c.args.name c.args.kind (missing _ (sym c.contains_key.ensures ∙ c.if-contains_key.false)) (omega (arith, c.self.invariant.good.given, c.if-self.false)) c.self.invariant.good;
-      ample = c.self.invariant.ample;
-      room = c.self.invariant.room;
-    })
+pub returns-in-Err-clause-refused : goal.returns-in-Err-clause-refused
+returns-in-Err-clause-refused c = rw (c.in-Err.ensures.0, c.in-Err.ensures.2, ← c.self.view_is)
+    ((missing-mapped (λ (loader : LoaderView). loader.state) c.self.inside.loaders c.args.name (missing (named c.self.inside.loaders c.args.name) (sym c.contains.ensures ∙ c.if-contains.false)), c.in-Err.ensures.1), refl)
 
-pub returns-in-Ok-clause-served : goal.returns-in-Ok-clause-served
-returns-in-Ok-clause-served c =
-    let none = missing _ (sym c.contains_key.ensures ∙ c.if-contains_key.false) in
-    rw (← c.self.view_is) (
-      record { unused = none; after = rw (c.in-Ok.ensures.entries, c.new.ensures) refl },
-      rw (c.in-Ok.ensures.entries, c.new.ensures) (good_with_new_loader _ c.args.name c.args.kind none (omega (arith, c.self.invariant.good.given, c.if-self.false)) c.self.invariant.good),
-    )
+pub invariant_of-self-in-Ok-insert : goal.invariant_of-self-in-Ok-insert
+invariant_of-self-in-Ok-insert c = rw (c.in-Ok-insert.ensures.inserted, (c.new-loader.ensures.made ∙ ap (λ (p : AccountState × AccountState). new_loader p.0 p.1 c.args.kind) c.in-Ok.ensures.0), c.in-Ok.ensures.1) (record {
+  together = together_made c.self.inside.pool c.self.inside.loaders c.args.name c.args.kind (missing (named c.self.inside.loaders c.args.name) (sym c.contains.ensures ∙ c.if-contains.false)) c.self.invariant.together (subst IsSoundLedger c.in-Ok.ensures.1 c.committed.ensures.sound) (subst IsSoundView (c.new-loader.ensures.made ∙ ap (λ (p : AccountState × AccountState). new_loader p.0 p.1 c.args.kind) c.in-Ok.ensures.0) c.new-loader.ensures.sound);
+  policy_is = c.self.invariant.policy_is;
+})
+
+pub close_both-requires-clause-served : goal.close_both-requires-clause-served
+close_both-requires-clause-served c = subst (Serves c.open_both.new.self) (sym (c.into_accounts-account.ensures.account ∙ ap (account_in NonClass) (c.in-Err-insert.ensures.back ∙ (c.new-loader.ensures.made ∙ ap (λ (p : AccountState × AccountState). new_loader p.0 p.1 c.args.kind) c.in-Ok.ensures.0))))
+    (subst (λ (l : Ledger). Serves l (first_account c.self.inside.pool)) (sym c.in-Ok.ensures.1) (first_served c.self.inside.pool c.self.inside.loaders c.args.name c.args.kind (missing (named c.self.inside.loaders c.args.name) (sym c.contains.ensures ∙ c.if-contains.false)) c.self.invariant.together))
+
+pub close_both-requires-clause-class_served : goal.close_both-requires-clause-class_served
+close_both-requires-clause-class_served c = subst (Serves c.open_both.new.self) (sym (c.into_accounts-account.ensures.class_account ∙ ap (account_in Class) (c.in-Err-insert.ensures.back ∙ (c.new-loader.ensures.made ∙ ap (λ (p : AccountState × AccountState). new_loader p.0 p.1 c.args.kind) c.in-Ok.ensures.0))))
+    (subst (λ (l : Ledger). Serves l (second_account c.self.inside.pool)) (sym c.in-Ok.ensures.1) (second_served c.self.inside.pool c.self.inside.loaders c.args.name c.args.kind (missing (named c.self.inside.loaders c.args.name) (sym c.contains.ensures ∙ c.if-contains.false)) c.self.invariant.together))
+
+pub invariant_of-self-in-Err-insert : goal.invariant_of-self-in-Err-insert
+invariant_of-self-in-Err-insert c = rw c.in-Err-insert.ensures.unchanged (record {
+  together = together_again c.self.inside.pool c.close_both.new.self c.self.inside.loaders (c.close_both.ensures ∙ ap (λ (l : Ledger). with_both_closed l c.into_accounts-account.result.0 c.into_accounts-account.result.1) c.in-Ok.ensures.1
+      ∙ ap (λ (a : AccountState). with_both_closed (with_both c.self.inside.pool) a c.into_accounts-account.result.1) (c.into_accounts-account.ensures.account ∙ ap (account_in NonClass) (c.in-Err-insert.ensures.back ∙ (c.new-loader.ensures.made ∙ ap (λ (p : AccountState × AccountState). new_loader p.0 p.1 c.args.kind) c.in-Ok.ensures.0)))
+      ∙ ap (with_both_closed (with_both c.self.inside.pool) (first_account c.self.inside.pool)) (c.into_accounts-account.ensures.class_account ∙ ap (account_in Class) (c.in-Err-insert.ensures.back ∙ (c.new-loader.ensures.made ∙ ap (λ (p : AccountState × AccountState). new_loader p.0 p.1 c.args.kind) c.in-Ok.ensures.0)))) c.committed-in-Err-insert.ensures.sound c.self.invariant.together;
+  policy_is = c.self.invariant.policy_is ∙ ap (λ (l : Ledger). l.limits.policy) (sym (c.close_both.ensures ∙ ap (λ (l : Ledger). with_both_closed l c.into_accounts-account.result.0 c.into_accounts-account.result.1) c.in-Ok.ensures.1
+      ∙ ap (λ (a : AccountState). with_both_closed (with_both c.self.inside.pool) a c.into_accounts-account.result.1) (c.into_accounts-account.ensures.account ∙ ap (account_in NonClass) (c.in-Err-insert.ensures.back ∙ (c.new-loader.ensures.made ∙ ap (λ (p : AccountState × AccountState). new_loader p.0 p.1 c.args.kind) c.in-Ok.ensures.0)))
+      ∙ ap (with_both_closed (with_both c.self.inside.pool) (first_account c.self.inside.pool)) (c.into_accounts-account.ensures.class_account ∙ ap (account_in Class) (c.in-Err-insert.ensures.back ∙ (c.new-loader.ensures.made ∙ ap (λ (p : AccountState × AccountState). new_loader p.0 p.1 c.args.kind) c.in-Ok.ensures.0)))));
+})
+
+pub returns-in-Ok-insert-clause-served : goal.returns-in-Ok-insert-clause-served
+returns-in-Ok-insert-clause-served c = rw (c.in-Ok-insert.ensures.inserted, (c.new-loader.ensures.made ∙ ap (λ (p : AccountState × AccountState). new_loader p.0 p.1 c.args.kind) c.in-Ok.ensures.0), c.in-Ok.ensures.1, ← c.self.view_is) (
+  record { unused = missing-mapped (λ (loader : LoaderView). loader.state) c.self.inside.loaders c.args.name (missing (named c.self.inside.loaders c.args.name) (sym c.contains.ensures ∙ c.if-contains.false)); after = machine_made c.self.inside.pool c.self.inside.loaders c.args.name c.args.kind (missing (named c.self.inside.loaders c.args.name) (sym c.contains.ensures ∙ c.if-contains.false)) c.self.invariant.together },
+  machine_is_good (with_both c.self.inside.pool) _ (together_made c.self.inside.pool c.self.inside.loaders c.args.name c.args.kind (missing (named c.self.inside.loaders c.args.name) (sym c.contains.ensures ∙ c.if-contains.false)) c.self.invariant.together (subst IsSoundLedger c.in-Ok.ensures.1 c.committed.ensures.sound) (subst IsSoundView (c.new-loader.ensures.made ∙ ap (λ (p : AccountState × AccountState). new_loader p.0 p.1 c.args.kind) c.in-Ok.ensures.0) c.new-loader.ensures.sound)),
+)
+
+pub returns-in-Err-insert-clause-refused : goal.returns-in-Err-insert-clause-refused
+returns-in-Err-insert-clause-refused c = rw (insert_is_refused c.self.inside.loaders c.args.name c.in-Err-insert.refusal (missing (named c.self.inside.loaders c.args.name) (sym c.contains.ensures ∙ c.if-contains.false)) c.in-Err-insert.ensures.refused, c.in-Err-insert.ensures.unchanged, ← c.self.view_is) (
+  (
+    missing-mapped (λ (loader : LoaderView). loader.state) c.self.inside.loaders c.args.name (missing (named c.self.inside.loaders c.args.name) (sym c.contains.ensures ∙ c.if-contains.false)),
+    numbers_left c.self.inside.pool c.close_both.new.self c.self.inside.loaders (c.close_both.ensures ∙ ap (λ (l : Ledger). with_both_closed l c.into_accounts-account.result.0 c.into_accounts-account.result.1) c.in-Ok.ensures.1
+        ∙ ap (λ (a : AccountState). with_both_closed (with_both c.self.inside.pool) a c.into_accounts-account.result.1) (c.into_accounts-account.ensures.account ∙ ap (account_in NonClass) (c.in-Err-insert.ensures.back ∙ (c.new-loader.ensures.made ∙ ap (λ (p : AccountState × AccountState). new_loader p.0 p.1 c.args.kind) c.in-Ok.ensures.0)))
+        ∙ ap (with_both_closed (with_both c.self.inside.pool) (first_account c.self.inside.pool)) (c.into_accounts-account.ensures.class_account ∙ ap (account_in Class) (c.in-Err-insert.ensures.back ∙ (c.new-loader.ensures.made ∙ ap (λ (p : AccountState × AccountState). new_loader p.0 p.1 c.args.kind) c.in-Ok.ensures.0)))) c.committed-in-Err-insert.ensures.sound c.self.invariant.together,
+  ),
+  inr (numbers_used c.self.inside.pool c.close_both.new.self c.self.inside.loaders (c.close_both.ensures ∙ ap (λ (l : Ledger). with_both_closed l c.into_accounts-account.result.0 c.into_accounts-account.result.1) c.in-Ok.ensures.1
+      ∙ ap (λ (a : AccountState). with_both_closed (with_both c.self.inside.pool) a c.into_accounts-account.result.1) (c.into_accounts-account.ensures.account ∙ ap (account_in NonClass) (c.in-Err-insert.ensures.back ∙ (c.new-loader.ensures.made ∙ ap (λ (p : AccountState × AccountState). new_loader p.0 p.1 c.args.kind) c.in-Ok.ensures.0)))
+      ∙ ap (with_both_closed (with_both c.self.inside.pool) (first_account c.self.inside.pool)) (c.into_accounts-account.ensures.class_account ∙ ap (account_in Class) (c.in-Err-insert.ensures.back ∙ (c.new-loader.ensures.made ∙ ap (λ (p : AccountState × AccountState). new_loader p.0 p.1 c.args.kind) c.in-Ok.ensures.0)))) c.committed-in-Err-insert.ensures.sound c.self.invariant.together),
+)

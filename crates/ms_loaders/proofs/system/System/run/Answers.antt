@@ -1,12 +1,23 @@
-use Rattle.std.proofs.Common.{◌≡◌, sym, take, get_or, arith}
+use Rattle.std.proofs.Common.{◌≡◌, sym, take, get_or, arith, subst}
 use Rattle.std.proofs.lemmas.List.{take_more}
 use Rattle.ms_base.specs.declared.step.Step.TheVariants.{New}
 use Rattle.ms_base.specs.declared.kind.Kind.TheVariants.{Standard}
-use Rattle.ms_base.proofs.FrontSumLemmas.{nothing_is_left}
+use Rattle.ms_base.specs.Good.{IsGood}
+use Rattle.ms_base.proofs.granules.FrontSumLemmas.{nothing_is_left}
 use Rattle.ms_loaders.specs.System.{reply_of}
+use Rattle.ms_loaders.proofs.FitLemmas.{machine_is_good}
 use Rattle.ms_loaders.proofs.RunLemmas.{run_on}
 use Rattle.ms_loaders.proofs.system.System.run.Goals as goal
 use Rattle.ms_loaders.proofs.system.System.run.Goals.{in-Ok, in-Err}
+
+pub returns-in_err-replies-clause-before : goal.returns-in_err-replies-clause-before
+returns-in_err-replies-clause-before c = subst IsGood c.self.view_is (machine_is_good c.self.inside.pool c.self.inside.loaders c.self.invariant.together)
+
+pub returns-in_err-replies-clause-after : goal.returns-in_err-replies-clause-after
+returns-in_err-replies-clause-after c = subst IsGood c.self.view_is (machine_is_good c.self.inside.pool c.self.inside.loaders c.self.invariant.together)
+
+pub returns-in_err-replies-clause-emptied : goal.returns-in_err-replies-clause-emptied
+returns-in_err-replies-clause-emptied c = nothing_is_left _ (subst IsGood c.self.view_is (machine_is_good c.self.inside.pool c.self.inside.loaders c.self.invariant.together))
 
 pub loop-step-preserved : goal.loop-step-preserved
 loop-step-preserved c =
@@ -20,8 +31,11 @@ loop-step-preserved c =
       room = omega (arith, c.push_reserved.ensures.capacity, c.loop-step.invariant.room);
     }
 
-pub returns-in_err-replies-clause-emptied : goal.returns-in_err-replies-clause-emptied
-returns-in_err-replies-clause-emptied c = nothing_is_left _
+pub returns-clause-before : goal.returns-clause-before
+returns-clause-before c = subst IsGood c.self.view_is (machine_is_good c.self.inside.pool c.self.inside.loaders c.self.invariant.together)
+
+pub returns-clause-after : goal.returns-clause-after
+returns-clause-after c = subst IsGood c.self-2.view_is (machine_is_good c.self-2.inside.pool c.self-2.inside.loaders c.self-2.invariant.together)
 
 pub returns-clause-emptied : goal.returns-clause-emptied
-returns-clause-emptied c = nothing_is_left _
+returns-clause-emptied c = nothing_is_left _ (subst IsGood c.self-2.view_is (machine_is_good c.self-2.inside.pool c.self-2.inside.loaders c.self-2.invariant.together))

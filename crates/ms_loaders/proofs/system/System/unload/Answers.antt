@@ -1,27 +1,52 @@
-use Rattle.std.proofs.Common.{refl, sym}
-use Rattle.ms_base.proofs.GoodLemmas.{good_without_loader}
+use Rattle.std.proofs.Common.{sym, refl, ap, ◌∙◌, subst}
+use Rattle.ms_base.specs.declared.kind.Space.TheVariants.{NonClass, Class}
+use Rattle.ms_pool.specs.Account.{AccountState}
+use Rattle.ms_pool.specs.Ledger.{Serves, Ledger, with_both_closed}
+use Rattle.ms_base.specs.State.{Machine}
+use Rattle.ms_base.specs.Transition.{HasLoader}
+use Rattle.ms_loaders.specs.Loader.{LoaderView, account_in}
+use Rattle.ms_loaders.proofs.StepLemmas.{has_loader}
+use Rattle.ms_loaders.proofs.MappedLemmas.{missing-mapped, without_missing}
+use Rattle.ms_loaders.proofs.ServedLemmas.{own_served}
+use Rattle.ms_loaders.proofs.UnloadLemmas.{together_unloaded, is_unloaded}
 use Rattle.ms_loaders.proofs.system.System.unload.Goals as goal
-use Rattle.ms_loaders.proofs.system.System.unload.Goals.{in-Some, in-None}
+
+pub close_both-requires-clause-served : goal.close_both-requires-clause-served
+close_both-requires-clause-served c = subst (Serves c.self.inside.pool) (sym c.into_accounts-account.ensures.account)
+    (own_served NonClass c.self.inside.pool c.self.inside.loaders c.args.name c.in-Some.loader (sym c.remove.ensures.found ∙ c.in-Some.is) c.self.invariant.together.served)
+
+pub close_both-requires-clause-class_served : goal.close_both-requires-clause-class_served
+close_both-requires-clause-class_served c = subst (Serves c.self.inside.pool) (sym c.into_accounts-account.ensures.class_account)
+    (own_served Class c.self.inside.pool c.self.inside.loaders c.args.name c.in-Some.loader (sym c.remove.ensures.found ∙ c.in-Some.is) c.self.invariant.together.served)
 
 pub invariant_of-self : goal.invariant_of-self
-invariant_of-self c = elim c.match-remove.branch [
-  | in-Some w ↦ record {
-    good = rw c.remove.ensures.entries (good_without_loader _ c.args.name w.in-Some.field-0 (sym w.in-Some.ensures.value) c.self.invariant.good);
-    ample = c.self.invariant.ample;
-    room = c.self.invariant.room;
-  }
-  | in-None w ↦ record {
-    good = rw w.in-None.ensures.unchanged c.self.invariant.good;
-    ample = c.self.invariant.ample;
-    room = c.self.invariant.room;
-  }
-]
+invariant_of-self c = rw c.remove.ensures.rest (record {
+  together = together_unloaded c.self.inside.pool c.close_both.new.self c.self.inside.loaders c.args.name c.in-Some.loader (sym c.remove.ensures.found ∙ c.in-Some.is)
+      (c.close_both.ensures ∙ ap (λ (a : AccountState). with_both_closed c.self.inside.pool a c.into_accounts-account.result.1) c.into_accounts-account.ensures.account
+      ∙ ap (with_both_closed c.self.inside.pool (account_in NonClass c.in-Some.loader)) c.into_accounts-account.ensures.class_account) c.committed.ensures.sound c.self.invariant.together;
+  policy_is = c.self.invariant.policy_is ∙ ap (λ (l : Ledger). l.limits.policy) (sym c.close_both.ensures);
+})
 
-pub returns-clause-served : goal.returns-clause-served
-returns-clause-served c = elim c.match-remove.branch [
-  | in-Some w ↦ rw (w.result-is, ← c.self.view_is, c.remove.ensures.entries) (
-    record { loader = w.in-Some.field-0; has = sym w.in-Some.ensures.value; after = refl },
-    good_without_loader _ c.args.name w.in-Some.field-0 (sym w.in-Some.ensures.value) c.self.invariant.good,
-  )
-  | in-None w ↦ rw w.result-is tt
-]
+pub invariant_of-self-in-None : goal.invariant_of-self-in-None
+invariant_of-self-in-None c = rw (c.remove.ensures.rest, without_missing c.self.inside.loaders c.args.name (sym c.remove.ensures.found ∙ c.in-None.is)) c.self.invariant
+
+pub returns-in-Some-clause-served : goal.returns-in-Some-clause-served
+returns-in-Some-clause-served c = rw (← c.self.view_is, c.remove.ensures.rest) (is_unloaded c.self.inside.pool c.close_both.new.self c.self.inside.loaders c.args.name c.in-Some.loader (sym c.remove.ensures.found ∙ c.in-Some.is)
+    (c.close_both.ensures ∙ ap (λ (a : AccountState). with_both_closed c.self.inside.pool a c.into_accounts-account.result.1) c.into_accounts-account.ensures.account
+    ∙ ap (with_both_closed c.self.inside.pool (account_in NonClass c.in-Some.loader)) c.into_accounts-account.ensures.class_account) c.committed.ensures.sound c.self.invariant.together)
+
+pub returns-in-Some-clause-no_loader : goal.returns-in-Some-clause-no_loader
+returns-in-Some-clause-no_loader c = (
+  (λ e. absurd (cc)),
+  λ lacks. absurd (
+      let has = subst (λ (m : Machine). HasLoader m c.args.name c.in-Some.loader.state) c.self.view_is (has_loader c.self.inside.pool c.self.inside.loaders c.args.name c.in-Some.loader (sym c.remove.ensures.found ∙ c.in-Some.is)) in cc),
+)
+
+pub returns-in-None-clause-no_loader : goal.returns-in-None-clause-no_loader
+returns-in-None-clause-no_loader c = ((λ e. rw (← c.self.view_is) (missing-mapped (λ (loader : LoaderView). loader.state) c.self.inside.loaders c.args.name (sym c.remove.ensures.found ∙ c.in-None.is))), λ lacks. refl)
+
+pub returns-in-None-clause-refused : goal.returns-in-None-clause-refused
+returns-in-None-clause-refused c = (
+  rw (← c.self.view_is) (missing-mapped (λ (loader : LoaderView). loader.state) c.self.inside.loaders c.args.name (sym c.remove.ensures.found ∙ c.in-None.is)),
+  rw (← c.self.view_is, c.remove.ensures.rest, without_missing c.self.inside.loaders c.args.name (sym c.remove.ensures.found ∙ c.in-None.is)) refl,
+)

@@ -1,17 +1,27 @@
-use Rattle.std.proofs.Common.{arith}
+use Rattle.std.proofs.Common.{◌≡◌, ◌≤◌, ◌+◌, ◌*◌, ℕ, List, sym, ap, subst, ◌∙◌, arith}
+use Rattle.std.specs.List.{sum_by}
 use Rattle.std.proofs.lemmas.List.Sums.{sum_by-cons}
-use Rattle.ms_base.specs.State.{LoaderState}
-use Rattle.ms_base.specs.Totals.{used_of}
-use Rattle.ms_loaders.specs.Inside.{machine_of}
-use Rattle.ms_base.proofs.SumLemmas.{used_below}
+use Rattle.ms_base.specs.declared.kind.Space.TheVariants.{NonClass, Class}
+use Rattle.ms_base.specs.State.{Machine}
+use Rattle.ms_base.specs.Totals.{used_words}
+use Rattle.ms_loaders.specs.Loader.{LoaderView}
+use Rattle.ms_loaders.proofs.FitLemmas.{machine_is_good}
+use Rattle.ms_loaders.proofs.UsedLemmas.{used_in_both, used_is, used_fits}
 use Rattle.ms_loaders.proofs.system.System.used.Goals as goal
+
+pub loop-loader-init : goal.loop-loader-init
+loop-loader-init c = subst (λ (m : Machine). 0 + sum_by used_in_both c.into_iter-loader-iterator.result ≡ used_words NonClass m + used_words Class m) c.self.view_is
+    (none c.into_iter-loader-iterator.result ∙ ap (sum_by used_in_both) (c.into_iter-loader-iterator.ensures.into_iter_gives ∙ c.values-loader-items.ensures) ∙ used_is c.self.inside.loaders)
+  where
+    none : (l : List LoaderView) → 0 + sum_by used_in_both l ≡ sum_by used_in_both l
+    none l = omega arith
 
 pub used-words-requires : goal.used-words-requires
 used-words-requires c =
-    let all = rw (c.in-Some.ensures.steps, sum_by-cons (λ (loader : LoaderState). used_of loader.arena) c.in-Some.loader.now c.next.new.self, ← c.self.view_is) at c.loop-loader.invariant in
-    omega (arith, all, used_below (machine_of c.self.inside) c.self.invariant.good)
+    let all = rw (c.in-Some.ensures.steps, sum_by-cons used_in_both c.in-Some.loader.now c.next.new.self, ← c.self.view_is) at c.loop-loader.invariant in
+    omega (arith, all, used_fits _ (machine_is_good c.self.inside.pool c.self.inside.loaders c.self.invariant.together))
 
 pub overflow_add-words : goal.overflow_add-words
 overflow_add-words c =
-    let all = rw (c.in-Some.ensures.steps, sum_by-cons (λ (loader : LoaderState). used_of loader.arena) c.in-Some.loader.now c.next.new.self, ← c.self.view_is) at c.loop-loader.invariant in
-    omega (arith, all, c.used-words.ensures, used_below (machine_of c.self.inside) c.self.invariant.good)
+    let all = rw (c.in-Some.ensures.steps, sum_by-cons used_in_both c.in-Some.loader.now c.next.new.self, ← c.self.view_is) at c.loop-loader.invariant in
+    omega (arith, all, c.used-words.ensures, used_fits _ (machine_is_good c.self.inside.pool c.self.inside.loaders c.self.invariant.together))

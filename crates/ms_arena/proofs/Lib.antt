@@ -1,0 +1,6 @@
+mod RowLemmas
+mod ChunkLemmas
+mod AwaitLemmas
+mod BookLemmas
+mod AllocLemmas
+mod ArenaLemmas

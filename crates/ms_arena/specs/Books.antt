@@ -1,0 +1,131 @@
+-- The books of an arena as the code keeps them: its account, a top for each chunk, and its free
+-- blocks, beside the room for more.
+use Rattle.std.specs.Prelude.{◌≡◌, ℕ, ◌+◌, ◌-◌, ◌^◌, ◌≤◌, ◌<◌, Bool, sum, List, [], ◌++◌, length, slice_index, Option, Some, None, Result, Ok, Err, IsTrue, IsFalse}
+use Rattle.ms_base.specs.declared.policy.Policy.{Policy}
+use Rattle.ms_base.specs.declared.kind.Kind.{Kind}
+use Rattle.ms_base.specs.declared.kind.Space.{Space}
+use Rattle.ms_base.specs.declared.span.Chunk.{Chunk}
+use Rattle.ms_base.specs.declared.span.Span.{Span}
+use Rattle.ms_base.specs.declared.span.Block.{Block}
+use Rattle.ms_base.specs.declared.refusal.Refusal.{Refusal}
+use Rattle.ms_base.specs.Interval.{meets_any}
+use Rattle.ms_base.specs.Level.{size_of}
+use Rattle.ms_base.specs.State.{ArenaState}
+use Rattle.ms_base.specs.Good.{IsSound, is_in_use}
+use Rattle.ms_base.specs.Names.{named, without}
+use Rattle.ms_base.specs.Place.{best_fit, current, tops_with, with_rest, with_top, with_taken}
+use Rattle.ms_base.specs.Asks.{asks_growth, may_enlarge, total_asked}
+use Rattle.ms_blocks.specs.FreeBlocks.{MayBeKept}
+use Rattle.ms_pool.specs.Account.{AccountState, AreChunks}
+use Rattle.ms_pool.specs.Lending.{chunk_at, reaching}
+use Rattle.ms_arena.specs.Arena.{ArenaView, IsSoundArena, with_books, with_zeros, block_at}
+use Rattle.ms_arena.specs.Alloc.{TakeRelation, GrowRelation, with_current}
+
+-- An account's owner and space, the state that the model sees, and how many more free blocks and
+-- tops there is room for.
+pub record BooksView : Type 0 where
+  pub owner : ℕ
+  pub space : Space
+  pub state : ArenaState
+  pub room : ℕ
+  pub places : ℕ
+
+-- The account of the books.
+abbrev pub account_in : BooksView → AccountState
+account_in books = record { owner = books.owner; space = books.space; chunks = books.state.chunks }
+
+-- An arena over the books, of a kind and with live blocks.
+abbrev pub arena_over : BooksView → Kind → List (ℕ × List ℕ) → ArenaView
+arena_over books kind live = record { owner = books.owner; space = books.space; kind = kind; books = books.state; live = live }
+
+-- What is kept true of books: the chunks are an account's, each has its top, the words in use are
+-- the sum of the tops, and they are sound with no live block.
+pub record AreBooks (space : Space) (state : ArenaState) (counted : ℕ) : Type 0 where
+  pub chunks : AreChunks space state.chunks
+  pub each : length state.tops ≡ length state.chunks
+  pub used : counted ≡ sum state.tops
+  pub sound : IsSound state []
+
+-- A run of words awaits its block: it meets neither a live nor a free block, is in use, and has two
+-- words.
+pub record Awaits (state : ArenaState) (live : List (ℕ × ℕ)) (run : ℕ × ℕ) : Type 0 where
+  pub sound : IsSound state live
+  pub clear : IsFalse (meets_any run (live ++ state.kept))
+  pub used : IsTrue (is_in_use state run)
+  pub long : 2 ≤ run.1
+
+-- So it is whatever the live blocks are.
+abbrev pub AwaitsBlock : ArenaState → ArenaState → ℕ → ℕ → Type 0
+AwaitsBlock old new start n = (live : List (ℕ × ℕ)) → IsSound old live → Awaits new live (start, n)
+
+-- The current chunk grew to reach so many words, and its top is there now.
+pub record HasGrown {S : Type 0} (grew : GrowRelation S) (policy : Policy) (old : BooksView) (chunk : Chunk) (total : ℕ) (may : Bool) (before : S) (new : BooksView) (after : S) : Type 0 where
+  pub span : Span
+  pub asked : grew before (account_in old) chunk.start total may (Ok span) after
+  pub state : new ≡ record old { state = with_top (with_current old.state (reaching policy chunk total)) total }
+
+-- A chunk was taken, and the block lies at its start.
+pub record HasTaken {S : Type 0} (took : TakeRelation S) (policy : Policy) (old : BooksView) (wanted most n : ℕ) (before : S) (start : ℕ) (new : ArenaState) (after : S) : Type 0 where
+  pub span : Span
+  pub asked : took before (account_in old) wanted most n (Ok span) after
+  pub starts : start ≡ span.start
+  pub state : new ≡ with_taken old.state (chunk_at policy span n) n
+
+-- The answer to a request for n words, and the arena then, by where the block lies.
+abbrev pub answer_at : Result ℕ Refusal → ℕ → Result Block Refusal
+answer_at (Ok start) n = Ok (block_at start n)
+answer_at (Err refusal) n = Err refusal
+
+abbrev pub arena_then : ArenaView → ArenaState → Result ℕ Refusal → ℕ → ArenaView
+arena_then arena state (Ok start) n = with_zeros (with_books arena state) start n
+arena_then arena state (Err refusal) n = arena
+
+-- A chunk of an arena with its top: the top lies within the front, that within the chunk, and the
+-- chunk below 2 ^ 27.
+pub record IsCurrent (chunk : Chunk) (top : ℕ) : Type 0 where
+  pub within : top ≤ chunk.front
+  pub front : chunk.front ≤ size_of chunk.level
+  pub ends : chunk.start + size_of chunk.level < 2 ^ 27
+
+-- A block lies at the start of the free block that fits best, whose rest is kept.
+pub record PlacesFree (old : List (ℕ × ℕ)) (n start : ℕ) (new : List (ℕ × ℕ)) : Type 0 where
+  pub words : ℕ
+  pub fits : best_fit old n ≡ Some (start, words)
+  pub has : named old start ≡ Some words
+  pub enough : n ≤ words
+  pub after : new ≡ with_rest (without old start) (start + n) (words - n)
+
+-- The chunk that was current may retire: it has a top, its front is not far, and its committed rest,
+-- if it has two words, may be a free block.
+pub record MayRetireAt (tops : List ℕ) (kept : List (ℕ × ℕ)) (chunk : Chunk) (top : ℕ) : Type 0 where
+  pub last : 0 < length tops
+  pub top_is : slice_index tops (length tops - 1) ≡ top
+  pub bounds : IsCurrent chunk top
+  pub size : size_of chunk.level ≤ 2 ^ 19
+  pub rest : 2 ≤ chunk.front - top → MayBeKept kept (chunk.start + top, chunk.front - top)
+
+abbrev pub MayRetire : List ℕ → List (ℕ × ℕ) → Option (Chunk × ℕ) → Type 0
+MayRetire tops kept None = Unit {0}
+MayRetire tops kept (Some at) = MayRetireAt tops kept at.0 at.1
+
+-- The tops, and the free blocks, once it has.
+abbrev pub tops_retired : List ℕ → Option (Chunk × ℕ) → List ℕ
+tops_retired tops None = tops
+tops_retired tops (Some at) = tops_with tops (length tops - 1) at.0.front
+
+abbrev pub kept_retired : List (ℕ × ℕ) → Option (Chunk × ℕ) → List (ℕ × ℕ)
+kept_retired kept None = kept
+kept_retired kept (Some at) = with_rest kept (at.0.start + at.1) (at.0.front - at.1)
+
+-- The source is asked to grow the current chunk so far, and whether it may become its parent.
+pub record AsksFor (state : ArenaState) (kind : Kind) (space : Space) (n : ℕ) (chunk : Chunk) (total : ℕ) (may : Bool) : Type 0 where
+  pub found : current state ≡ Some chunk
+  pub total_is : total ≡ total_asked state n
+  pub may_is : may ≡ may_enlarge kind space state chunk
+  pub asks : IsTrue (asks_growth kind space state (Some chunk) n)
+  pub ends : chunk.start + total < 2 ^ 32
+
+-- What is kept true of an arena: it is sound, and there is room to free each live block.
+pub record IsArena (arena : ArenaView) (spare : ℕ) : Type 0 where
+  pub sound : IsSoundArena arena
+  pub room : length arena.live ≤ spare

@@ -1,0 +1,5 @@
+pub mod Arena
+pub mod Alloc
+pub mod ArenaSums
+pub mod Rows
+pub mod Books

@@ -1,0 +1,309 @@
+//! The books of one arena: its account, a top for each chunk, and its free blocks. `arena` has the
+//! picture.
+//!
+//! Apart because a placement is decided here, by chunks, tops and free blocks alone: books know no
+//! live block, and say of each placement that its words await a block, whatever blocks are live.
+//! Kept true: the chunks are the account's, each has its top, free blocks lie apart below tops, no
+//! top lies past its front, and the words in use are the sum of the tops.
+//! Only `make_room` takes memory, for free blocks and for the next chunk's top; `grow` and `take`
+//! wait as their source does. In HotSpot's metaspaceArena.cpp a chunk has its top itself.
+ghost use Rattle.std.specs.Prelude.{◌≡◌, ◌≢◌, ℕ, ◌+◌, ◌*◌, ◌^◌, ◌<◌, ◌≤◌, Some, None, Ok, Err, IfOk, OnOk, OnErr, IfErr, IfSome, IfNone, [], length, sum, slice_index, vec_len, vec_capacity};
+ghost use Rattle.std.specs.Option.{option_map};
+ghost use Rattle.ms_base.specs.Level.{size_of};
+ghost use Rattle.ms_base.specs.Asks.{next_level};
+ghost use Rattle.ms_base.specs.Names.{with_new};
+ghost use Rattle.ms_base.specs.State.{empty_arena};
+ghost use Rattle.ms_base.specs.Place.{placed, current, current_top, with_rest, tops_with, best_fit};
+ghost use Rattle.ms_base.specs.Totals.{used_of, kept_of};
+ghost use Rattle.ms_blocks.specs.FreeBlocks.{MayBeKept, run_of};
+ghost use Rattle.ms_pool.specs.Account.{AccountState, AreChunks};
+ghost use Rattle.ms_arena.specs.Books.{BooksView, Awaits, AwaitsBlock, HasGrown, HasTaken, IsCurrent, PlacesFree, MayRetire, tops_retired, kept_retired, account_in};
+
+use ms_base::{Block, Chunk, Kind, Level, Refusal, growth};
+use ms_blocks::FreeBlocks;
+use ms_pool::{Account, ChunkSource};
+use std::alloc::Global;
+use std::marker::Model;
+
+/// The account, tops and free blocks of one arena. Starts are word numbers.
+#[derive(Drop)]
+pub struct Books {
+    account: Account,
+    tops: Vec<u64>,
+    used: u64,
+    kept: FreeBlocks,
+}
+
+impl Model for Books {
+    ghost use Rattle.std.specs.Prelude.{◌-◌, vec_len, vec_capacity};
+    ghost use Rattle.ms_arena.specs.Books.{BooksView, AreBooks};
+
+    ghost Value = { BooksView };
+
+    ghost view = { λ b. record {
+      owner = b.account.owner;
+      space = b.account.space;
+      state = record { chunks = b.account.chunks; tops = b.tops.items; kept = b.kept.kept };
+      room = b.kept.room;
+      places = vec_capacity b.tops - vec_len b.tops;
+    } };
+
+    ghost invariant = { λ b.
+        AreBooks b.account.space (record { chunks = b.account.chunks; tops = b.tops.items; kept = b.kept.kept }) b.used };
+}
+
+impl Books {
+    /// Makes the books of an account that holds no chunk. Takes no memory yet.
+    pub fn new(alloc: Global, account: Account) -> Books
+        requires { account.chunks ≡ [] }
+        ensures owner { result.owner ≡ account.owner }
+        ensures space { result.space ≡ account.space }
+        ensures state { result.state ≡ empty_arena }
+        ensures chunks { AreChunks result.space result.state.chunks }
+    {
+        let _ = account.held();
+        Books {
+            account,
+            tops: Vec::new(alloc),
+            used: 0,
+            kept: FreeBlocks::new(alloc),
+        }
+    }
+
+    /// Gives the account back, and drops all else.
+    pub fn into_account(self) -> Account
+        ensures { result ≡ account_in self }
+    {
+        self.account
+    }
+
+    /// Lends the account.
+    pub fn account(&self) -> &Account
+        ensures account { result.now ≡ account_in self.now }
+        ensures chunks { AreChunks self.now.space self.now.state.chunks }
+    {
+        let _ = self.account.held();
+        &self.account
+    }
+
+    /// Tells the words in use: the sum of the tops.
+    pub fn used(&self) -> u64
+        ensures sum { result ≡ used_of self.now.state }
+        ensures small { result < 2 ^ 52 }
+    {
+        self.used
+    }
+
+    /// Tells the words of the free blocks.
+    pub fn kept_words(&self) -> u64
+        ensures { result ≡ kept_of self.now.state }
+    {
+        self.kept.total()
+    }
+
+    /// Makes room for so many free blocks more, and for one top more; all else stays.
+    pub fn make_room(&mut self, blocks: usize) -> Result<(), Refusal>
+        ensures room { OnOk result (blocks ≤ self.new.room) }
+        ensures places { OnOk result (1 ≤ self.new.places) }
+        ensures more { self.old.room ≤ self.new.room }
+        ensures others { self.new ≡ record self.old { room = self.new.room; places = self.new.places } }
+        ensures refused { IfErr result (λ refusal. refusal ≡ Refusal.OutOfMemory) }
+    {
+        self.kept.reserve(blocks)?;
+        match self.tops.reserve(1) {
+            Ok(()) => Ok(()),
+            Err(_) => Err(Refusal::OutOfMemory),
+        }
+    }
+
+    /// Tells the level by which the arena of a loader of that kind grows now.
+    pub fn next_level(&self, kind: Kind) -> Level
+        ensures { result ≡ next_level kind self.now.space self.now.state }
+    {
+        growth(kind, self.account.space(), self.account.held())
+    }
+
+    /// Tells the current chunk, and its top.
+    pub fn current(&self) -> Option<(Chunk, u64)>
+        ensures chunk { option_map (λ at. at.0) result ≡ current self.now.state }
+        ensures top { IfSome result (λ at. at.1 ≡ current_top self.now.state) }
+        ensures bounds { IfSome result (λ at. IsCurrent at.0 at.1) }
+    {
+        let last = self.account.held().checked_sub(1)?;
+        Some((self.account.chunk(last), self.tops[last as usize]))
+    }
+
+    /// Keeps the words of a freed block, of at least two words, in room that there is.
+    pub fn keep(&mut self, block: Block)
+        requires room { 0 < self.old.room }
+        requires awaits { Awaits self.old.state [] (run_of block) }
+        ensures kept { self.new.state
+            ≡ record self.old.state { kept = with_new self.old.state.kept block.start block.words } }
+        ensures room { self.new.room + 1 ≡ self.old.room }
+        ensures others { self.new ≡ record self.old { state = self.new.state; room = self.new.room } }
+    {
+        self.kept.add(block);
+    }
+
+    /// Places a block of n words where it needs no chunk: at the start of the free block that fits
+    /// best, whose rest of at least two words stays; else at the top of the current chunk.
+    pub fn place(&mut self, n: u64) -> Option<u64>
+        requires some { 2 ≤ n }
+        requires fits { n ≤ size_of 0 }
+        ensures placed { placed self.old.state n
+            ≡ option_map (λ start. (start, self.new.state)) result }
+        ensures awaits { IfSome result
+            (λ start. AwaitsBlock self.old.state self.new.state start n) }
+        ensures room { self.old.room ≤ self.new.room }
+        ensures others { self.new ≡ record self.old { state = self.new.state; room = self.new.room } }
+        ensures unchanged { IfNone result (self.new ≡ self.old) }
+    {
+        if let Some(start) = place_free(&mut self.kept, n) {
+            return Some(start);
+        }
+        let (chunk, top) = self.current()?;
+        if top + n > chunk.front {
+            return None;
+        }
+        let last = self.account.held() as usize - 1;
+        raise(&mut self.tops, &mut self.used, last, top + n);
+        Some(chunk.start + top)
+    }
+
+    /// Asks the source to grow the current chunk, and raises the top to where it reaches then.
+    pub fn grow<S: ChunkSource>(
+        &mut self,
+        source: &mut S,
+        chunk: Chunk,
+        total: u64,
+        may_enlarge: bool,
+    ) -> Result<(), Refusal>
+        requires served { S.serves source.old (account_in self.old) }
+        requires current { current self.old.state ≡ Some chunk }
+        requires total { current_top self.old.state + 2 ≤ total }
+        requires small { total ≤ 2 ^ 40 }
+        ensures served { S.serves source.new (account_in self.new) }
+        ensures others { (other : AccountState) → other.owner ≢ self.old.owner
+            → S.serves source.old other → S.serves source.new other }
+        ensures counted { S.opened source.new ≡ S.opened source.old }
+        ensures limits { S.limits source.new ≡ S.limits source.old }
+        ensures grown { OnOk result (HasGrown S.grew (S.limits source.old).policy self.old chunk
+            total may_enlarge source.old self.new source.new) }
+        ensures awaits { (start n : ℕ) → OnOk result
+            (start ≡ chunk.start + current_top self.old.state
+            → total ≡ current_top self.old.state + n
+            → AwaitsBlock self.old.state self.new.state start n) }
+        ensures refused { IfErr result (λ refusal. S.grew source.old (account_in self.old)
+            chunk.start total may_enlarge (Err refusal) source.new) }
+        ensures unchanged { OnErr result (self.new ≡ self.old) }
+    {
+        let last = self.account.held() as usize - 1;
+        source.grow(&mut self.account, chunk.start, total, may_enlarge)?;
+        let _ = self.account.held();
+        raise(&mut self.tops, &mut self.used, last, total);
+        Ok(())
+    }
+
+    /// Asks the source for a chunk, retires the current one, and places a block of n words at the
+    /// new one's start, in room that there is.
+    pub fn take<S: ChunkSource>(
+        &mut self,
+        source: &mut S,
+        wanted: Level,
+        most: Level,
+        n: u64,
+    ) -> Result<u64, Refusal>
+        requires served { S.serves source.old (account_in self.old) }
+        requires levels { wanted ≤ most }
+        requires some { 2 ≤ n }
+        requires fits { n ≤ size_of most }
+        requires room { 0 < self.old.room }
+        requires places { 0 < self.old.places }
+        ensures served { S.serves source.new (account_in self.new) }
+        ensures others { (other : AccountState) → other.owner ≢ self.old.owner
+            → S.serves source.old other → S.serves source.new other }
+        ensures counted { S.opened source.new ≡ S.opened source.old }
+        ensures limits { S.limits source.new ≡ S.limits source.old }
+        ensures taken { IfOk result (λ start. HasTaken S.took (S.limits source.old).policy self.old
+            wanted most n source.old start self.new.state source.new) }
+        ensures awaits { IfOk result
+            (λ start. AwaitsBlock self.old.state self.new.state start n) }
+        ensures room { self.old.room ≤ self.new.room + 1 }
+        ensures same { (self.new.owner ≡ self.old.owner) × (self.new.space ≡ self.old.space) }
+        ensures refused { IfErr result (λ refusal. S.took source.old (account_in self.old)
+            wanted most n (Err refusal) source.new) }
+        ensures unchanged { OnErr result (self.new ≡ self.old) }
+    {
+        let former = self.current();
+        let span = source.take(&mut self.account, wanted, most, n)?;
+        let _ = self.account.held();
+        retire(&mut self.tops, &mut self.used, &mut self.kept, former);
+        self.used += n;
+        self.tops.push_reserved(n);
+        Ok(span.start)
+    }
+}
+
+/// Places a block of n words at the start of the free block that fits best, and keeps its rest.
+fn place_free(kept: &mut FreeBlocks, n: u64) -> Option<u64>
+    requires { 2 ≤ n }
+    ensures placed { IfSome result (λ start. PlacesFree kept.old.kept n start kept.new.kept) }
+    ensures none { IfNone result (best_fit kept.old.kept n ≡ None) }
+    ensures room { kept.old.room ≤ kept.new.room }
+    ensures unchanged { IfNone result (kept.new ≡ kept.old) }
+{
+    let block = kept.remove(n)?;
+    keep_rest(kept, block.start + n, block.words - n);
+    Some(block.start)
+}
+
+/// Keeps a run of at least two words as a free block; a single word is waste.
+fn keep_rest(kept: &mut FreeBlocks, start: u64, words: u64)
+    requires room { 0 < kept.old.room }
+    requires may { 2 ≤ words → MayBeKept kept.old.kept (start, words) }
+    ensures kept { kept.new.kept ≡ with_rest kept.old.kept start words }
+    ensures room { kept.old.room ≤ kept.new.room + 1 }
+{
+    if words >= 2 {
+        kept.add(Block { start, words });
+    }
+}
+
+/// Retires the chunk that was current, if there was one: its top rises to its front, and what that
+/// adds becomes a free block.
+fn retire(tops: &mut Vec<u64>, used: &mut u64, kept: &mut FreeBlocks, former: Option<(Chunk, u64)>)
+    requires room { 0 < kept.old.room }
+    requires summed { used.old ≡ sum tops.old.items }
+    requires small { used.old < 2 ^ 52 }
+    requires may { MayRetire tops.old.items kept.old.kept former }
+    ensures tops { tops.new.items ≡ tops_retired tops.old.items former }
+    ensures used { used.new ≡ sum tops.new.items }
+    ensures few { used.new ≤ used.old + 2 ^ 19 }
+    ensures kept { kept.new.kept ≡ kept_retired kept.old.kept former }
+    ensures room { kept.old.room ≤ kept.new.room + 1 }
+    ensures len { vec_len tops.new ≡ vec_len tops.old }
+    ensures capacity { vec_capacity tops.new ≡ vec_capacity tops.old }
+{
+    let Some((chunk, top)) = former else {
+        return;
+    };
+    let last = tops.len() - 1;
+    raise(tops, used, last, chunk.front);
+    keep_rest(kept, chunk.start + top, chunk.front - top);
+}
+
+/// Raises the top at a place, and the sum of the tops with it.
+fn raise(tops: &mut Vec<u64>, used: &mut u64, place: usize, top: u64)
+    requires within { place < length tops.old.items }
+    requires higher { slice_index tops.old.items place ≤ top }
+    requires summed { used.old ≡ sum tops.old.items }
+    requires fits { used.old + top < 2 ^ 64 }
+    ensures tops { tops.new.items ≡ tops_with tops.old.items place top }
+    ensures used { used.new ≡ sum tops.new.items }
+    ensures few { used.new ≤ used.old + top }
+    ensures len { vec_len tops.new ≡ vec_len tops.old }
+    ensures capacity { vec_capacity tops.new ≡ vec_capacity tops.old }
+{
+    *used += top - tops[place];
+    tops[place] = top;
+}

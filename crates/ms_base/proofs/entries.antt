@@ -1,0 +1,4 @@
+-- What has a name: entries that come, change and go.
+pub mod NameLemmas
+pub mod EntryLemmas
+pub mod LookupLemmas

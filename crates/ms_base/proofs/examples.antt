@@ -1,0 +1,9 @@
+-- Worked examples, computed.
+pub mod SizeExamples
+pub mod PoolExamples
+pub mod PolicyExamples
+pub mod ClassExamples
+pub mod AloneExamples
+pub mod ArenaExamples
+pub mod StepExamples
+pub mod MachineExamples

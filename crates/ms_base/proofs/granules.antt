@@ -1,0 +1,14 @@
+-- Granules: which are committed, how many, and how many a request needs.
+pub mod PolicyLemmas
+pub mod GranuleLemmas
+pub mod FreeGranuleLemmas
+pub mod CommittedLemmas
+pub mod KeepingLemmas
+pub mod CommittedRoomLemmas
+pub mod FrontLemmas
+pub mod FrontSumLemmas
+pub mod CountLemmas
+pub mod NeedLemmas
+pub mod MissingLemmas
+pub mod GrowingLemmas
+pub mod CoverLemmas

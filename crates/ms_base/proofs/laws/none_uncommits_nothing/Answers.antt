@@ -1,0 +1,5 @@
+use Rattle.ms_base.proofs.granules.KeepingLemmas.{uncommits_nothing}
+use Rattle.ms_base.proofs.laws.none_uncommits_nothing.Goals as goal
+
+pub returns : goal.returns
+returns c = λ pool sound keeping. uncommits_nothing pool sound keeping

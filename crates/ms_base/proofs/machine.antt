@@ -1,0 +1,10 @@
+-- The machine: it stays good, and what holds of it then.
+pub mod HeldLemmas
+pub mod SlotLemmas
+pub mod GoodLemmas
+pub mod ChangeLemmas
+pub mod AddedLemmas
+pub mod BackedLemmas
+pub mod AllBlocksLemmas
+pub mod SumLemmas
+pub mod WordLemmas

@@ -1,0 +1,45 @@
+-- The words in use and those committed, of both spaces: their sums over loaders, and that they can be
+-- counted.
+use Rattle.std.proofs.Common.{◌≡◌, ◌≤◌, ◌+◌, ◌*◌, ℕ, List, [], ◌∷◌, length, refl, ap, arith}
+use Rattle.std.specs.List.{sum_by}
+use Rattle.std.specs.Map.{values_of}
+use Rattle.std.proofs.lemmas.List.Sums.{sum_by-cons}
+use Rattle.std.proofs.Math.Nat.{add-mul}
+use Rattle.ms_base.specs.declared.kind.Space.TheVariants.{NonClass, Class}
+use Rattle.ms_base.specs.Policy.{granule_of}
+use Rattle.ms_base.specs.State.{LoaderState, Machine, arena_of, pool_of}
+use Rattle.ms_base.specs.Totals.{used_of, used_words}
+use Rattle.ms_base.specs.Good.{IsGood}
+use Rattle.ms_base.proofs.machine.SumLemmas.{used_below, few_slots, committed_within_slots}
+use Rattle.ms_pool.specs.Ledger.{Ledger}
+use Rattle.ms_loaders.specs.Loader.{LoaderView}
+use Rattle.ms_loaders.specs.System.{states_of, machine_of}
+
+-- A loader's words in use, in both spaces.
+abbrev pub used_in_both : LoaderView → ℕ
+used_in_both loader = used_of loader.state.arena + used_of loader.state.class_arena
+
+pub used_is : (loaders : List (ℕ × LoaderView)) → sum_by used_in_both (values_of loaders)
+    ≡ sum_by (λ (loader : LoaderState). used_of loader.arena) (values_of (states_of loaders)) + sum_by (λ (loader : LoaderState). used_of loader.class_arena) (values_of (states_of loaders))
+used_is [] = refl
+used_is (e ∷ es) = omega (
+  arith,
+  sum_by-cons used_in_both e.1 (values_of es),
+  sum_by-cons (λ (loader : LoaderState). used_of loader.arena) e.1.state (values_of (states_of es)),
+  sum_by-cons (λ (loader : LoaderState). used_of loader.class_arena) e.1.state (values_of (states_of es)),
+  used_is es,
+)
+
+-- Both can be counted.
+pub used_fits : (m : Machine) → IsGood m → used_words NonClass m + used_words Class m ≤ 80 * 1048576
+used_fits m good = omega (arith, used_below NonClass m good, used_below Class m good)
+
+pub committed_fits : (m : Machine) → IsGood m → (length m.committed + length m.class_committed) * granule_of m.limits.policy ≤ 80 * 1048576
+committed_fits m good = omega (
+  arith,
+  add-mul (length m.committed) (length m.class_committed) (granule_of m.limits.policy),
+  committed_within_slots (pool_of NonClass m) (good.pools NonClass),
+  committed_within_slots (pool_of Class m) (good.pools Class),
+  few_slots NonClass m (good.pools NonClass),
+  few_slots Class m (good.pools Class),
+)

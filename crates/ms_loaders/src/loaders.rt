@@ -1,0 +1,109 @@
+//! Loaders in order of name.
+//!
+//! Apart from the system so that loaders can be handed to workers and gathered again. Only `insert`
+//! takes memory.
+ghost use Rattle.std.specs.Prelude.{◌≡◌, ◌<◌, ◌^◌, None, OnOk, IfErr, OnErr, [], length};
+ghost use Rattle.std.specs.Option.{option_copied, option_copied_mut, is_some};
+ghost use Rattle.std.specs.Map.{values_of};
+ghost use Rattle.std.specs.Borrow.{sem};
+ghost use Rattle.ms_base.specs.Names.{AreNamed, named, with_new, without};
+ghost use Rattle.ms_loaders.specs.Loaders.{LendsLoader, InsertRefused};
+
+use crate::loader::Loader;
+use ms_base::Refusal;
+use std::alloc::Global;
+use std::collections::BTreeMap;
+use std::collections::btree_map::Values;
+use std::marker::Model;
+
+/// Loaders by name. This project's choice; HotSpot's class loader data hang in a list.
+#[derive(Drop)]
+pub struct Loaders {
+    by_name: BTreeMap<u16, Loader>,
+}
+
+impl Model for Loaders {
+    ghost use Rattle.std.specs.Prelude.{ℕ, List};
+    ghost use Rattle.ms_loaders.specs.Loader.{LoaderView};
+
+    ghost Value = { List (ℕ × LoaderView) };
+
+    ghost view = { λ a. a.by_name.entries };
+}
+
+impl Loaders {
+    /// Makes a list of no loader. Takes no memory.
+    pub fn new(alloc: Global) -> Loaders
+        ensures { result ≡ [] }
+    {
+        Loaders {
+            by_name: BTreeMap::new(alloc),
+        }
+    }
+
+    /// Adds a loader under a new name. Refused with `LoaderExists` where the name is used, and with
+    /// `OutOfMemory`; then the loader is handed back and nothing changes. Takes memory.
+    pub fn insert(&mut self, name: u16, loader: Loader) -> Result<(), (Refusal, Loader)>
+        ensures fresh { OnOk result (named self.old name ≡ None) }
+        ensures inserted { OnOk result (self.new ≡ with_new self.old name loader) }
+        ensures refused { IfErr result (λ back. InsertRefused self.old name back.0) }
+        ensures back { IfErr result (λ back. back.1 ≡ loader) }
+        ensures unchanged { OnErr result (self.new ≡ self.old) }
+    {
+        if self.by_name.contains_key(&name) {
+            return Err((Refusal::LoaderExists, loader));
+        }
+        match self.by_name.insert(name, loader) {
+            Ok(_) => Ok(()),
+            Err(failed) => {
+                let (_, loader) = failed.value;
+                Err((Refusal::OutOfMemory, loader))
+            }
+        }
+    }
+
+    /// Takes the loader of a name out, where there is one; the others stay. Takes no memory.
+    pub fn remove(&mut self, name: u16) -> Option<Loader>
+        ensures found { result ≡ named self.old name }
+        ensures rest { self.new ≡ without self.old name }
+    {
+        self.by_name.remove(&name)
+    }
+
+    /// Lends the loader of a name, where there is one; the others stay as they are. Takes no memory.
+    pub fn get_mut(&mut self, name: u16) -> Option<&mut Loader>
+        ensures* writes_back { sem 𝓛 (LendsLoader self.entry name result) }
+        ensures found { option_copied_mut result ≡ named self.old name }
+    {
+        self.by_name.get_mut(&name)
+    }
+
+    /// Lends the loader of a name to read, where there is one. Takes no memory.
+    pub fn get(&self, name: u16) -> Option<&Loader>
+        ensures { option_copied result ≡ named self.now name }
+    {
+        self.by_name.get(&name)
+    }
+
+    /// Tells whether a loader has the name. Takes no memory.
+    pub fn contains(&self, name: u16) -> bool
+        ensures { result ≡ is_some (named self.now name) }
+    {
+        self.by_name.contains_key(&name)
+    }
+
+    /// Tells how many loaders there are. Takes no memory.
+    pub fn len(&self) -> usize
+        ensures count { result ≡ length self.now }
+        ensures small { result < 2 ^ 63 }
+    {
+        self.by_name.len()
+    }
+
+    /// Goes over the loaders in order of name. Takes no memory.
+    pub fn values(&self) -> Values<'_, u16, Loader>
+        ensures { result ≡ values_of self.now }
+    {
+        self.by_name.values()
+    }
+}

@@ -1,0 +1,24 @@
+-- The pool as its callers see it: what holds of it before and after each call. TookLemmas, GrewLemmas,
+-- ClosedLemmas and HeldLemmas have what callers need; the others are their parts.
+pub mod LoanLemmas
+pub mod SoundLemmas
+pub mod FoundLemmas
+pub mod TakenLemmas
+pub mod SlotLemmas
+pub mod OrderLemmas
+pub mod LentLemmas
+pub mod AccountLemmas
+pub mod TakeLemmas
+pub mod GreaterLemmas
+pub mod LoanAtLemmas
+pub mod GrowLemmas
+pub mod FewerLemmas
+pub mod CloseLemmas
+pub mod OpenLemmas
+pub mod PurgeLemmas
+pub mod EmptyLemmas
+pub mod HeldLemmas
+pub mod KeepsLemmas
+pub mod TookLemmas
+pub mod GrewLemmas
+pub mod ClosedLemmas

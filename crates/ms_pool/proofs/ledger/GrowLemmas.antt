@@ -1,0 +1,274 @@
+-- Growing a chunk: the ledger stays sound, the account is served with the greater chunk, and all
+-- others still.
+use Rattle.std.proofs.Common.{◌≡◌, ◌≢◌, ◌≤◌, ◌+◌, ◌*◌, ℕ, Bool, true, false, ◌||◌, Some, List, [], ◌∷◌, ◌++◌, length, map, refl, sym, ap, ◌∙◌, subst, arith, inl, inr, length-set}
+use Rattle.std.specs.Prelude.{Ok, slice_get, slice_set}
+use Rattle.std.specs.List.{Contains, list_any, list_all}
+use Rattle.std.specs.List.Sorted.{IsPermutation, IsStrictlyIncreasing}
+use Rattle.std.proofs.lemmas.Bool.{and_parts}
+use Rattle.std.proofs.lemmas.List.Elements.{All-contains, All-set, Contains-append_right}
+use Rattle.std.proofs.lemmas.List.Folds.{list_all-append}
+use Rattle.std.proofs.lemmas.List.Sorted.{Contains-permutation, IsPermutation-map, IsPermutation-sym}
+use Rattle.ms_base.specs.declared.kind.Space.{Space}
+use Rattle.ms_base.specs.declared.span.Chunk.{Chunk}
+use Rattle.ms_base.specs.Level.{size_of}
+use Rattle.ms_base.specs.Part.{IsPart, slot_of, is_reserved}
+use Rattle.ms_base.specs.Spaces.{IsSlotOf, is_in, other_space}
+use Rattle.ms_base.specs.Held.{AreHeld}
+use Rattle.ms_base.specs.Committed.{is_committed, committed_with}
+use Rattle.ms_base.specs.State.{PoolState}
+use Rattle.ms_base.specs.Pick.{granule_in}
+use Rattle.ms_base.specs.Causes.{granules_missing}
+use Rattle.ms_base.specs.PoolSteps.{grown}
+use Rattle.ms_base.proofs.arena.GrownLemmas.{GrowsClear}
+use Rattle.ms_base.proofs.granules.CountLemmas.{meets_front, count_with_front, committed_in_slots}
+use Rattle.ms_base.proofs.granules.FreeGranuleLemmas.{meets_bounds, bounds_meet}
+use Rattle.ms_base.proofs.machine.HeldLemmas.{held_rest, held_with}
+use Rattle.ms_base.proofs.runs.ApartLemmas.{list_any-with}
+use Rattle.ms_pool.specs.Account.{AccountState, AreChunks}
+use Rattle.ms_pool.specs.Lending.{Grows, reaching, span_of}
+use Rattle.ms_pool.specs.Ledger.{Loan, Ledger, IsSoundLedger, Serves, chunks_of, state_in, with_grown}
+use Rattle.ms_pool.proofs.ledger.LoanLemmas.{chunks_in, chunks_in-here, chunks_in-there, owned_by, owned_by-other}
+use Rattle.ms_pool.proofs.ledger.SoundLemmas.{sound_with_loans}
+use Rattle.ms_pool.proofs.ledger.SlotLemmas.{starts_in}
+use Rattle.ms_pool.proofs.ledger.OrderLemmas.{start_of}
+use Rattle.ms_pool.proofs.ledger.AccountLemmas.{own_clear}
+use Rattle.ms_pool.proofs.ledger.LentLemmas.{not_there}
+use Rattle.ms_pool.proofs.ledger.GreaterLemmas.{IsGreater, IsReached, grown_is_greater, grown_reaches, grown_is_apart, grown_meets_none}
+use Rattle.ms_pool.proofs.ledger.LoanAtLemmas.{IsLoan, Parted, parted_at, loan_of, contains_at, replaced, replaced_at, order_replaced, owners_replaced, swapped, swapped_at, owned_by-replaced}
+
+-- The chunk of a loan in a space, and what holds of it.
+middle : (b : List Chunk) (chunk : Chunk) (a : List Chunk) → Contains (b ++ chunk ∷ a) chunk
+middle b chunk a = Contains-append_right b (chunk ∷ a) chunk (0, omega arith, refl)
+
+-- A greater front from the same start meets what the smaller one met.
+meets_further : (granule : ℕ) (was is : Chunk) (k : ℕ) → is.start ≡ was.start → was.front ≤ is.front
+    → meets_front granule was k ≡ true → meets_front granule is k ≡ true
+meets_further granule was is k same higher meets =
+    let bounds = meets_bounds was.start was.front (k * granule) granule meets in
+    bounds_meet is.start is.front (k * granule) granule (omega (arith, bounds.0, same)) (omega (arith, bounds.1, same, higher))
+
+turned : (old new rest : Bool) → (old ≡ true → new ≡ true) → (new || rest) ≡ ((old || rest) || new)
+turned true new rest f = let e = f refl in rw e refl
+turned false true true f = refl
+turned false true false f = refl
+turned false false true f = refl
+turned false false false f = refl
+
+-- The loans of the ledger, with the chunk that is grown among them.
+record GrowsAt (old : Ledger) (space : Space) (owner : ℕ) (was : Chunk) : Type 0 where
+  loan : IsLoan owner was old.loans
+  here : is_in space was.start ≡ true
+  there : is_in (other_space space) was.start ≡ false
+
+grown_at : (old : Ledger) (account : AccountState) (was : Chunk) → Serves old account → AreChunks account.space account.chunks
+    → Contains account.chunks was
+    → GrowsAt old account.space account.owner was
+grown_at old account was served chunks has = record {
+  loan = loan_of account.owner was old.loans (Contains-permutation account.chunks (chunks_of old account.owner) was
+      (IsPermutation-sym (chunks_of old account.owner) account.chunks served.chunks) has);
+  here = here;
+  there = not_there account.space was.start here;
+}
+  where
+    here : is_in account.space was.start ≡ true
+    here = starts_in account.space was.start (All-contains (λ (one : Chunk). IsSlotOf account.space (slot_of one.start)) account.chunks was chunks.inside has)
+
+-- So the chunk is held in its space.
+pub own_is_held : (old : Ledger) (account : AccountState) (was : Chunk) → Serves old account → AreChunks account.space account.chunks
+    → Contains account.chunks was
+    → Contains (chunks_in account.space old.loans) was
+own_is_held old account was served chunks has = let at = grown_at old account was served chunks has in
+    subst (λ (l : List Chunk). Contains l was)
+    (sym (ap (chunks_in account.space) at.loan.is ∙ chunks_in-here account.space at.loan.before (record { owner = account.owner; chunk = was }) at.loan.after at.here))
+    (middle (chunks_in account.space at.loan.before) was (chunks_in account.space at.loan.after))
+
+-- The loans then, and those of the other space as before.
+new_at : (old : Ledger) (space : Space) (owner : ℕ) (was is : Chunk) (at : GrowsAt old space owner was) → IsSoundLedger old
+    → is.start ≡ was.start
+    → replaced is old.loans ≡ at.loan.before ++ record { owner = owner; chunk = is } ∷ at.loan.after
+new_at old space owner was is at sound same = ap (replaced is) at.loan.is ∙ replaced_at owner was is at.loan.before at.loan.after same
+    (subst (λ (l : List Loan). IsStrictlyIncreasing (map start_of l)) at.loan.is sound.order)
+
+pub grown_elsewhere : (old : Ledger) (account : AccountState) (was is : Chunk) → IsSoundLedger old → Serves old account
+    → AreChunks account.space account.chunks
+    → Contains account.chunks was → is.start ≡ was.start
+    → chunks_in (other_space account.space) (replaced is old.loans) ≡ chunks_in (other_space account.space) old.loans
+grown_elsewhere old account was is sound served chunks has same =
+    let there = other_space account.space in
+    let at = grown_at old account was served chunks has in
+    ap (chunks_in there) (new_at old account.space account.owner was is at sound same)
+    ∙ chunks_in-there there at.loan.before (record { owner = account.owner; chunk = is }) at.loan.after (ap (is_in there) same ∙ at.there)
+    ∙ sym (ap (chunks_in there) at.loan.is ∙ chunks_in-there there at.loan.before (record { owner = account.owner; chunk = was }) at.loan.after at.there)
+
+pub grown_is_sound : (old : Ledger) (account : AccountState) (was is : Chunk) → IsSoundLedger old → Serves old account
+    → AreChunks account.space account.chunks → Contains account.chunks was → IsGreater (state_in account.space old) was is
+    → IsSoundLedger (with_grown old is)
+grown_is_sound old account was is sound served chunks has greater =
+    sound_with_loans space old loans sound (grown_elsewhere old account was is sound served chunks has greater.start)
+    (record {
+      order = order_replaced is old.loans sound.order;
+      owners = owners_replaced (λ (owner : ℕ). (1 ≤ owner) × (owner ≤ old.given)) is old.loans sound.owners;
+      given = sound.given;
+      opened = sound.opened;
+    })
+    (rw new (held_with old.limits.policy pool.slots b is a greater.placed greater.front reserved (grown_meets_none b was is a low greater.start held.apart (rw old_is at greater.clear))
+    (held_rest old.limits.policy pool.slots b (was ∷ []) a held)))
+    (omega (arith, count, greater.within))
+  where
+    space : Space
+    space = account.space
+
+    pool : PoolState
+    pool = state_in space old
+
+    loans : List Loan
+    loans = replaced is old.loans
+
+    at : GrowsAt old space account.owner was
+    at = grown_at old account was served chunks has
+
+    before : List Loan
+    before = at.loan.before
+
+    after : List Loan
+    after = at.loan.after
+
+    b : List Chunk
+    b = chunks_in space before
+
+    a : List Chunk
+    a = chunks_in space after
+
+    old_is : chunks_in space old.loans ≡ b ++ was ∷ a
+    old_is = ap (chunks_in space) at.loan.is ∙ chunks_in-here space before (record { owner = account.owner; chunk = was }) after at.here
+
+    new : chunks_in space loans ≡ b ++ is ∷ a
+    new = ap (chunks_in space) (new_at old space account.owner was is at sound greater.start) ∙ chunks_in-here space before (record { owner = account.owner; chunk = is }) after (ap (is_in space) greater.start ∙ at.here)
+
+    held : AreHeld old.limits.policy pool.slots (b ++ was ∷ a)
+    held = rw old_is at (sound.spaces space).held
+
+    low : was.level ≤ 12
+    low = (All-contains (λ (one : Chunk). IsPart one.start one.level) (b ++ was ∷ a) was held.parts (middle b was a)).0
+
+    reserved : is_reserved pool.slots (slot_of is.start) ≡ true
+    reserved = let test : Chunk → Bool = λ chunk. is_reserved pool.slots (slot_of chunk.start) in
+        ap (λ (s : ℕ). is_reserved pool.slots (slot_of s)) greater.start
+        ∙ (and_parts (test was) (list_all test a) (and_parts (list_all test b) (list_all test (was ∷ a)) (sym (list_all-append test b (was ∷ a)) ∙ held.reserved)).1).0
+
+    adds : (k : ℕ)
+        → is_committed (granule_in pool) (chunks_in space loans) k ≡ (is_committed (granule_in pool) (chunks_in space old.loans) k || meets_front (granule_in pool) is k)
+    adds k = let test : Chunk → Bool = λ c. meets_front (granule_in pool) c k in
+        ap (list_any test) new ∙ list_any-with test b is a
+        ∙ turned (test was) (test is) (list_any test (b ++ a)) (meets_further (granule_in pool) was is k greater.start greater.higher)
+        ∙ ap (λ (t : Bool). t || test is) (sym (ap (list_any test) old_is ∙ list_any-with test b was a))
+
+    count : length (committed_with old.limits.policy pool.committed (chunks_in space loans) pool.slots) ≡ length pool.committed + granules_missing pool is
+    count = count_with_front pool (chunks_in space loans) pool.slots is (sound.spaces space) greater.placed greater.front.some greater.front.within
+        (sound.spaces space).slots reserved (committed_in_slots pool (sound.spaces space)) adds
+
+-- The account with a greater chunk at a place.
+abbrev pub with_greater : AccountState → ℕ → Chunk → AccountState
+with_greater account place chunk = record account { chunks = slice_set account.chunks place chunk }
+
+pub grown_serves : (old : Ledger) (account : AccountState) (place : ℕ) (was is : Chunk) → Serves old account
+    → AreChunks account.space account.chunks
+    → slice_get account.chunks place ≡ Some was → is.start ≡ was.start → Serves (with_grown old is) (with_greater account place is)
+grown_serves old account place was is served chunks found same = record {
+  some = served.some;
+  given = served.given;
+  chunks = subst (λ (l : List Chunk). IsPermutation (chunks_of (with_grown old is) account.owner) l) (swapped_at account.chunks place was is same chunks.apart found)
+      (subst (λ (l : List Chunk). IsPermutation l (map (swapped is) account.chunks)) (sym (owned_by-replaced account.owner is old.loans))
+      (IsPermutation-map (swapped is) (chunks_of old account.owner) account.chunks served.chunks));
+}
+
+-- What others have stays.
+pub grown_keeps_others : (old : Ledger) (account : AccountState) (was is : Chunk) (other : ℕ) → IsSoundLedger old → Serves old account
+    → AreChunks account.space account.chunks → Contains account.chunks was → is.start ≡ was.start → other ≢ account.owner
+    → chunks_of (with_grown old is) other ≡ chunks_of old other
+grown_keeps_others old account was is other sound served chunks has same differs =
+    ap (owned_by other) (new_at old account.space account.owner was is at sound same) ∙ owned_by-other other at.loan.before (record { owner = account.owner; chunk = is }) at.loan.after (λ e. differs (sym e))
+    ∙ sym (ap (owned_by other) at.loan.is ∙ owned_by-other other at.loan.before (record { owner = account.owner; chunk = was }) at.loan.after (λ e. differs (sym e)))
+  where
+    at : GrowsAt old account.space account.owner was
+    at = grown_at old account was served chunks has
+
+-- The account's chunks with the greater one.
+pub grown_are_chunks : (old : Ledger) (account : AccountState) (place : ℕ) (was is : Chunk) → Serves old account
+    → AreChunks account.space account.chunks → slice_get account.chunks place ≡ Some was → IsGreater (state_in account.space old) was is
+    → AreChunks account.space (slice_set account.chunks place is)
+grown_are_chunks old account place was is served chunks found greater = record {
+  parts = All-set (λ (one : Chunk). IsPart one.start one.level) account.chunks place is greater.placed chunks.parts;
+  inside = All-set (λ (one : Chunk). IsSlotOf account.space (slot_of one.start)) account.chunks place is
+      (subst (λ (s : ℕ). IsSlotOf account.space (slot_of s)) (sym greater.start) (All-contains (λ (one : Chunk). IsSlotOf account.space (slot_of one.start)) account.chunks was chunks.inside has)) chunks.inside;
+  fronts = All-set (λ (one : Chunk). (1 ≤ one.front) × (one.front ≤ size_of one.level)) account.chunks place is (greater.front.some, greater.front.within) chunks.fronts;
+  apart = rw parted.new (grown_is_apart parted.before was is parted.after low greater.start (rw parted.old at chunks.apart) (rw parted.old at own));
+  few = omega (arith, length-set account.chunks place is, chunks.few);
+}
+  where
+    has : Contains account.chunks was
+    has = contains_at account.chunks place was found
+
+    parted : Parted account.chunks place was is
+    parted = parted_at account.chunks place was is found
+
+    low : was.level ≤ 12
+    low = (All-contains (λ (one : Chunk). IsPart one.start one.level) account.chunks was chunks.parts has).0
+
+    own : GrowsClear account.chunks was is
+    own = elim greater.clear [
+      | inl level ↦ inl level
+      | inr parent ↦ inr (parent.0, own_clear old account (was.start + size_of was.level) was.level served chunks parent.1)
+    ]
+
+-- All that a grown chunk leaves.
+pub record GrownWell (old : Ledger) (account : AccountState) (place : ℕ) (was is : Chunk) (total : ℕ) (may_enlarge : Bool) : Type 0 where
+  pub sound : IsSoundLedger (with_grown old is)
+  pub served : Serves (with_grown old is) (with_greater account place is)
+  pub others : (other : AccountState) → other.owner ≢ account.owner → Serves old other → Serves (with_grown old is) other
+  pub chunks : AreChunks account.space (slice_set account.chunks place is)
+  pub start : is.start ≡ was.start
+  pub reaches : is ≡ reaching old.limits.policy was total
+  pub grows : Grows old.limits.policy was.start total may_enlarge account (span_of is) (with_greater account place is)
+
+pub grown_well : (old : Ledger) (account : AccountState) (place : ℕ) (was is : Chunk) (total : ℕ) (may_enlarge : Bool) → IsSoundLedger old
+    → Serves old account
+    → AreChunks account.space account.chunks → slice_get account.chunks place ≡ Some was
+    → grown (state_in account.space old) was total may_enlarge ≡ Ok is
+    → GrownWell old account place was is total may_enlarge
+grown_well old account place was is total may_enlarge sound served chunks found answered = record {
+  sound = grown_is_sound old account was is sound served chunks has greater;
+  served = grown_serves old account place was is served chunks found greater.start;
+  others = λ other differs its. record {
+    some = its.some;
+    given = its.given;
+    chunks = subst (λ (l : List Chunk). IsPermutation l other.chunks) (sym (grown_keeps_others old account was is other.owner sound served chunks has greater.start differs)) its.chunks;
+  };
+  chunks = grown_are_chunks old account place was is served chunks found greater;
+  start = greater.start;
+  reaches = reached.is_reaching;
+  grows = record {
+    place = place;
+    chunk = was;
+    found = found;
+    starts = refl;
+    enlarged = reached.enlarged;
+    answer = ap span_of reached.is_reaching;
+    after = ap (with_greater account place) reached.is_reaching;
+  };
+}
+  where
+    has : Contains account.chunks was
+    has = contains_at account.chunks place was found
+
+    pool : PoolState
+    pool = state_in account.space old
+
+    held : Contains pool.held was
+    held = own_is_held old account was served chunks has
+
+    greater : IsGreater pool was is
+    greater = grown_is_greater pool was is total may_enlarge (sound.spaces account.space) held answered
+
+    reached : IsReached pool was is total may_enlarge
+    reached = grown_reaches pool was is total may_enlarge (All-contains (λ (one : Chunk). (1 ≤ one.front) × (one.front ≤ size_of one.level)) account.chunks was chunks.fronts has).1 answered

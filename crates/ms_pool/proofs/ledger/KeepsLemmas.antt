@@ -1,0 +1,38 @@
+-- What a call leaves as it was: all but a tally, or but an owner's loans; so who is served still.
+use Rattle.std.proofs.Common.{◌≡◌, ◌≢◌, ◌≤◌, ℕ, List, refl, sym, subst}
+use Rattle.std.specs.List.Sorted.{IsPermutation}
+use Rattle.ms_base.specs.declared.span.Chunk.{Chunk}
+use Rattle.ms_pool.specs.Account.{AccountState}
+use Rattle.ms_pool.specs.Tallies.{Tallies}
+use Rattle.ms_pool.specs.Ledger.{Ledger, IsSoundLedger, Serves, chunks_of, opened_in}
+use Rattle.ms_pool.specs.Calls.{tallied}
+use Rattle.ms_pool.proofs.ledger.OpenLemmas.{tallied_is_sound, tallied_serves}
+
+-- Nothing changes but a tally.
+pub record RaisesTally (old new : Ledger) : Type 0 where
+  pub tallies : Tallies
+  pub is : new ≡ tallied old tallies
+
+-- Nothing changes but the loans of an owner, slots, granules and tallies.
+pub record Keeps (owner : ℕ) (old new : Ledger) : Type 0 where
+  pub others : (other : ℕ) → other ≢ owner → chunks_of new other ≡ chunks_of old other
+  pub given : new.given ≡ old.given
+  pub opened : opened_in new ≡ opened_in old
+  pub limits : new.limits ≡ old.limits
+
+pub keeps_where_tallied : (owner : ℕ) (old new : Ledger) → RaisesTally old new → Keeps owner old new
+keeps_where_tallied owner old new raises = subst (Keeps owner old) (sym raises.is) (record { others = λ other differs. refl; given = refl; opened = refl; limits = refl })
+
+pub sound_where_tallied : (old new : Ledger) → RaisesTally old new → IsSoundLedger old → IsSoundLedger new
+sound_where_tallied old new raises sound = subst IsSoundLedger (sym raises.is) (tallied_is_sound old raises.tallies sound)
+
+pub serves_where_tallied : (old new : Ledger) (account : AccountState) → RaisesTally old new → Serves old account → Serves new account
+serves_where_tallied old new account raises served = subst (λ (l : Ledger). Serves l account) (sym raises.is) (tallied_serves old raises.tallies account served)
+
+pub keeps_serves : (owner : ℕ) (old new : Ledger) (other : AccountState) → Keeps owner old new → other.owner ≢ owner → Serves old other
+    → Serves new other
+keeps_serves owner old new other keeps differs served = record {
+  some = served.some;
+  given = subst (λ (n : ℕ). other.owner ≤ n) (sym keeps.given) served.given;
+  chunks = subst (λ (l : List Chunk). IsPermutation l other.chunks) (sym (keeps.others other.owner differs)) served.chunks;
+}

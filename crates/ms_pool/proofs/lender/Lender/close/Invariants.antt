@@ -1,0 +1,11 @@
+use Rattle.std.proofs.Common.{◌≡◌, take}
+use Rattle.ms_pool.specs.Keeping.{IsKept, ledger_of}
+use Rattle.ms_pool.proofs.ClosedStepLemmas.{without_chunks}
+use Rattle.ms_pool.proofs.lender.Lender.close.Given as goal
+
+-- The first chunks are taken back.
+abbrev pub invariant-loop-place : goal.invariant-loop-place
+invariant-loop-place l = record {
+  kept : IsKept l.self;
+  closed : ledger_of l.self ≡ without_chunks (take l.place l.account.chunks) (ledger_of l.fn.self);
+}

@@ -1,0 +1,41 @@
+use Rattle.std.proofs.Common.{sym, ◌∙◌, arith}
+use Rattle.ms_base.proofs.free.HalvesLemmas.{size_falls}
+use Rattle.ms_pool.specs.Ledger.{state_in}
+use Rattle.ms_pool.specs.Keeping.{ledger_of}
+use Rattle.ms_pool.proofs.SearchLemmas.{first_found-is, found_here, found_later}
+use Rattle.ms_pool.proofs.lender.Lender.found.Goals as goal
+
+pub returns-in-Some : goal.returns-in-Some
+returns-in-Some c =
+    sym (first_found-is (state_in c.args.space (ledger_of c.args.self.now)) c.args.wanted c.args.most c.args.words
+    ∙ found_here _ _ c.in-Some.part (sym c.in-Some.ensures))
+
+pub returns-in-Some-larger : goal.returns-in-Some-larger
+returns-in-Some-larger c =
+    sym (first_found-is (state_in c.args.space (ledger_of c.args.self.now)) c.args.wanted c.args.most c.args.words
+    ∙ found_later _ _ (sym c.in_default.ensures) ∙ found_here _ _ c.in-Some-larger.part (sym c.in-Some-larger.ensures))
+
+pub returns-in-Some-smaller : goal.returns-in-Some-smaller
+returns-in-Some-smaller c =
+    sym (first_found-is (state_in c.args.space (ledger_of c.args.self.now)) c.args.wanted c.args.most c.args.words
+    ∙ found_later _ _ (sym c.in_default.ensures) ∙ found_later _ _ (sym c.in_default-larger.ensures)
+    ∙ found_here _ _ c.in-Some-smaller.part (sym c.in-Some-smaller.ensures))
+
+pub returns-in-Some-smaller-2 : goal.returns-in-Some-smaller-2
+returns-in-Some-smaller-2 c =
+    sym (first_found-is (state_in c.args.space (ledger_of c.args.self.now)) c.args.wanted c.args.most c.args.words
+    ∙ found_later _ _ (sym c.in_default.ensures) ∙ found_later _ _ (sym c.in_default-larger.ensures) ∙ found_later _ _ (sym c.in_default-smaller.ensures)
+    ∙ found_here _ _ c.in-Some-smaller-2.part (sym c.in-Some-smaller-2.ensures))
+
+pub returns : goal.returns
+returns c =
+    c.larger-2.ensures
+    ∙ sym (first_found-is (state_in c.args.space (ledger_of c.args.self.now)) c.args.wanted c.args.most c.args.words
+    ∙ found_later _ _ (sym c.in_default.ensures) ∙ found_later _ _ (sym c.in_default-larger.ensures) ∙ found_later _ _ (sym c.in_default-smaller.ensures)
+    ∙ found_later _ _ (sym c.in_default-smaller-2.ensures))
+
+pub larger-requires-clause-fits : goal.larger-requires-clause-fits
+larger-requires-clause-fits c = omega (arith, c.requires.fits, size_falls c.args.wanted c.args.most c.requires.levels (omega (arith, c.number.ensures.same, c.number.ensures.below)))
+
+pub larger-requires-2-clause-fits : goal.larger-requires-2-clause-fits
+larger-requires-2-clause-fits c = omega (arith, c.requires.fits, size_falls c.args.wanted c.args.most c.requires.levels (omega (arith, c.number.ensures.same, c.number.ensures.below)))

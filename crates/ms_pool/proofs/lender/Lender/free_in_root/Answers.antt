@@ -1,0 +1,40 @@
+use Rattle.std.proofs.Common.{◌≡◌, ℕ, ◌+◌, [], get_or, ap, refl, ◌∙◌, arith, List}
+use Rattle.std.proofs.lemmas.List.{get_or_read}
+use Rattle.ms_base.specs.declared.span.Span.{Span}
+use Rattle.ms_buddy.specs.Leaves.{free_of}
+use Rattle.ms_pool.specs.Counting.{parts_of}
+use Rattle.ms_pool.proofs.CountLemmas.{part_room, parts_of-cons, parts_of-none}
+use Rattle.ms_pool.proofs.lender.Lender.free_in_root.Goals as goal
+
+pub loop-leaf-init : goal.loop-leaf-init
+loop-leaf-init c =
+    let trees = c.args.self.now.trees.items in
+    let left : c.into_iter-leaf-iterator.result ≡ free_of (get_or trees c.args.root []) =
+    c.into_iter-leaf-iterator.ensures.into_iter_gives ∙ c.free_leaves-leaf-items.ensures ∙ ap free_of (get_or_read trees c.args.root c.index.result.now c.requires.there c.index.ensures []) in
+    record { can = tt; ends = tt; full = refl; counted = λ level h. ap (λ (parts : List Span). get_or c.args.before.free level 0 + parts_of level parts) left }
+
+pub loop-leaf-preserved : goal.loop-leaf-preserved
+loop-leaf-preserved c = record {
+  can = tt;
+  ends = tt;
+  full = c.with_part-counted.ensures.full ∙ c.loop-leaf.invariant.full;
+  counted = λ level h. omega (
+    arith,
+    c.loop-leaf.invariant.counted level h,
+    c.with_part-counted.ensures.counts level h,
+    ap (parts_of level) c.in-Some.ensures.steps ∙ parts_of-cons level c.in-Some.leaf c.next.new.self,
+  );
+}
+
+pub with_part-counted-requires : goal.with_part-counted-requires
+with_part-counted-requires c = record {
+  fits = λ h. part_room (get_or c.loop-leaf.counted.free c.in-Some.leaf.level 0) (get_or c.args.before.free c.in-Some.leaf.level 0) c.loop-leaf.leaf-iterator
+      (free_of (get_or c.args.self.now.trees.items c.args.root [])) c.next.new.self c.in-Some.leaf c.in-Some.ensures.steps
+      (c.loop-leaf.invariant.counted c.in-Some.leaf.level h) (c.requires.room c.in-Some.leaf.level h);
+}
+
+pub returns : goal.returns
+returns c = record {
+  full = c.loop-leaf.invariant.full;
+  counts = λ level h. omega (arith, c.loop-leaf.invariant.counted level h, ap (parts_of level) c.in-None.ensures.steps.0, parts_of-none level);
+}

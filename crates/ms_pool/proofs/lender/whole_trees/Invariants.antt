@@ -1,0 +1,6 @@
+use Rattle.std.proofs.Common.{◌≡◌, replicate, []}
+use Rattle.ms_pool.proofs.lender.whole_trees.Given as goal
+
+-- So many trees so far, each with no leaf.
+abbrev pub invariant-loop : goal.invariant-loop
+invariant-loop l = l.trees.items ≡ replicate l.counter []

@@ -1,0 +1,10 @@
+pub mod Account
+pub mod Lending
+pub mod Tallies
+pub mod Ledger
+pub mod Calls
+pub mod Keeping
+pub mod Counting
+pub mod Searching
+pub mod Growing
+pub mod Releasing

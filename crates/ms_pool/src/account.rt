@@ -1,0 +1,59 @@
+//! Accounts: the chunks that were lent to one owner in one space, in the order taken.
+//!
+//!     taken       first            second      third, the current one
+//!                 [0, 512) front 512  [1024, ..)  ..
+//!
+//! Kept true: the chunks are parts of the account's space, no two share a word, and each front has a
+//! word and fits. The pool keeps a record of its own of each owner, in order of address; that both
+//! have the same chunks is what "the pool serves the account" means. Nothing here takes memory.
+ghost use Rattle.std.specs.Prelude.{◌≡◌, ◌<◌, length, slice_get, Some};
+ghost use Rattle.ms_pool.specs.Account.{AreChunks};
+
+use ms_base::{Chunk, Space};
+use std::marker::Model;
+
+/// What was lent to one owner in one space. It can't be cloned; an account that is dropped without
+/// `close` stays open, and its chunks stay lent. This project's choice; HotSpot's arenas keep such a
+/// list themselves.
+#[derive(Drop)]
+pub struct Account {
+    pub(crate) owner: u32,
+    pub(crate) space: Space,
+    pub(crate) chunks: Vec<Chunk>,
+}
+
+impl Model for Account {
+    ghost use Rattle.ms_pool.specs.Account.{AccountState, AreChunks};
+
+    ghost Value = { AccountState };
+
+    ghost view = { λ a. record { owner = a.owner; space = a.space; chunks = a.chunks.items } };
+
+    ghost invariant = { λ a. AreChunks a.space a.chunks.items };
+}
+
+impl Account {
+    /// Tells how many chunks the account holds. A caller also learns here what is true of the chunks
+    /// of every account. Takes no memory.
+    pub fn held(&self) -> u32
+        ensures count { result ≡ length self.now.chunks }
+        ensures chunks { AreChunks self.now.space self.now.chunks }
+    {
+        self.chunks.len() as u32
+    }
+
+    /// Tells a chunk by its place in the order taken, from 0 on. Takes no memory.
+    pub fn chunk(&self, place: u32) -> Chunk
+        requires { place < length self.now.chunks }
+        ensures { slice_get self.now.chunks place ≡ Some result }
+    {
+        self.chunks[place as usize]
+    }
+
+    /// Tells the space that the chunks lie in. Takes no memory.
+    pub fn space(&self) -> Space
+        ensures { result ≡ self.now.space }
+    {
+        self.space
+    }
+}

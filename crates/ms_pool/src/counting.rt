@@ -1,0 +1,210 @@
+//! The sums over a space, counted in one walk over its roots.
+//!
+//! A root that isn't reserved has no lent leaf, so its walk is one step.
+ghost use Rattle.std.specs.Prelude.{◌≡◌, ◌+◌, ◌-◌, ◌*◌, ◌<◌, ◌≤◌, ◌^◌, ◌==◌, cond, [], get_or, length, map};
+ghost use Rattle.ms_base.specs.Part.{is_reserved};
+ghost use Rattle.ms_base.specs.FreeParts.{free_in_slot};
+ghost use Rattle.ms_base.specs.Spaces.{by_space};
+ghost use Rattle.ms_base.specs.Totals.{capacity_of, free_by_level, fronts_of, lent_by_level, pool_sums};
+ghost use Rattle.ms_commit.specs.Nodes.{all_slots, granules_in};
+ghost use Rattle.ms_buddy.specs.Leaves.{AreLeaves, chunk_of, free_of};
+ghost use Rattle.ms_pool.specs.Ledger.{held_in, opened_in, state_in};
+ghost use Rattle.ms_pool.specs.Keeping.{IsKept, ledger_of};
+ghost use Rattle.ms_pool.specs.Calls.{sums_in};
+ghost use Rattle.ms_pool.specs.Tallies.{AreTallies};
+ghost use Rattle.ms_pool.specs.Counting.{AreRaised, Counts, HasRoom, HasRoomFor, chunks_at, parts_of};
+
+use crate::lender::Lender;
+use crate::totals::PoolTotals;
+use ms_base::{Level, NODE_WORDS, ROOT_WORDS, SLOTS, Space, Span, granule};
+use ms_buddy::Leaf;
+
+/// What was counted of chunks that are lent: how many of each level, their words, and those of
+/// their fronts.
+#[derive(Clone, Copy)]
+pub(crate) struct Counted {
+    pub(crate) lent: [u32; 13],
+    pub(crate) capacity: u64,
+    pub(crate) fronts: u64,
+}
+
+/// What was counted of parts that are free: how many of each level.
+#[derive(Clone, Copy)]
+pub(crate) struct FreeCounted {
+    pub(crate) free: [u32; 13],
+}
+
+impl Lender {
+    /// Tells the sums over a space.
+    pub(crate) fn totals(&self, space: Space) -> PoolTotals
+        requires { IsKept self.now }
+        ensures { sums_in result
+            ≡ pool_sums (state_in space (ledger_of self.now)) (opened_in (ledger_of self.now) space) }
+    {
+        let (nodes, accounts) = match space {
+            Space::NonClass => (self.nodes.reserved(), self.opened),
+            Space::Class => (self.nodes.class_slots(), self.class_opened),
+        };
+        let granules = self.committed_in(space);
+        let counted = self.lent_in(space);
+        let lent = counted.lent;
+        let free_counted = self.free_in(space);
+        let free = free_counted.free;
+        PoolTotals {
+            nodes,
+            granules,
+            lent,
+            free,
+            capacity: counted.capacity,
+            fronts: counted.fronts,
+            accounts,
+        }
+    }
+
+    /// Reads the tallies, so that a caller learns that each is a number of 64 bits.
+    pub(crate) fn read_tallies(&self)
+        ensures { AreTallies (ledger_of self.now).tallies }
+    {
+        let _take_commit = self.counts.take_commit;
+        let _take_reserve = self.counts.take_reserve;
+        let _grow_commit = self.counts.grow_commit;
+        let _grow_room = self.counts.grow_room;
+        let _open_ids = self.counts.open_ids;
+    }
+
+    /// Tells how many granules of a space are committed.
+    fn committed_in(&self, space: Space) -> u64
+        requires { IsKept self.now }
+        ensures { result ≡ length (granules_in space self.now.nodes) }
+    {
+        let count = u64::from(SLOTS) * (NODE_WORDS / granule(self.policy));
+        let below = count - self.nodes.missing(0, count);
+        match space {
+            Space::NonClass => below,
+            Space::Class => self.nodes.committed() - below,
+        }
+    }
+
+    /// Counts the free parts of a space by level.
+    fn free_in(&self, space: Space) -> FreeCounted
+        requires { IsKept self.now }
+        ensures { result.free ≡ free_by_level (state_in space (ledger_of self.now)) }
+    {
+        let (first, end) = self.slots_of(space);
+        let mut counted = FreeCounted { free: [0; 13] };
+        for slot in first..end {
+            counted = self.free_in_slot(space, slot, counted);
+        }
+        counted
+    }
+
+    /// Counts the free parts of a slot of the space, where it is reserved, beside those before.
+    fn free_in_slot(&self, space: Space, slot: u32, before: FreeCounted) -> FreeCounted
+        requires kept { IsKept self.now }
+        requires low { by_space space 0 64 ≤ slot }
+        requires high { slot < by_space space 64 (64 + self.now.nodes.class_slots) }
+        requires room { HasRoom before.free
+            (λ level. parts_of level
+            (cond (is_reserved (all_slots self.now.nodes) slot)
+            (free_in_slot (held_in space (ledger_of self.now)) slot) [])) }
+        ensures { AreRaised before.free
+            (λ level. parts_of level
+            (cond (is_reserved (all_slots self.now.nodes) slot)
+            (free_in_slot (held_in space (ledger_of self.now)) slot) []))
+            result.free }
+    {
+        if !self.nodes.is_reserved(slot) {
+            return before;
+        }
+        let root = 2 * slot as usize;
+        let lower = self.free_in_root(root, before);
+        self.free_in_root(root + 1, lower)
+    }
+
+    /// Counts the free leaves of a root, beside those before.
+    fn free_in_root(&self, root: usize, before: FreeCounted) -> FreeCounted
+        requires there { root < length self.now.trees.items }
+        requires room { HasRoom before.free
+            (λ level. parts_of level (free_of (get_or self.now.trees.items root []))) }
+        ensures { AreRaised before.free
+            (λ level. parts_of level (free_of (get_or self.now.trees.items root []))) result.free }
+    {
+        let mut counted = before;
+        for leaf in self.trees[root].free_leaves() {
+            counted = with_part(counted, leaf.level);
+        }
+        counted
+    }
+
+    /// Counts the chunks that are lent in a space.
+    fn lent_in(&self, space: Space) -> Counted
+        requires { IsKept self.now }
+        ensures lent { result.lent ≡ lent_by_level (state_in space (ledger_of self.now)) }
+        ensures capacity { result.capacity ≡ capacity_of (held_in space (ledger_of self.now)) }
+        ensures fronts { result.fronts ≡ fronts_of (held_in space (ledger_of self.now)) }
+    {
+        let (first, end) = self.slots_of(space);
+        let mut counted = Counted {
+            lent: [0; 13],
+            capacity: 0,
+            fronts: 0,
+        };
+        for root in 2 * first as usize..2 * end as usize {
+            counted = self.lent_in_root(root, counted);
+        }
+        counted
+    }
+
+    /// Counts the lent leaves of a root, beside those before.
+    fn lent_in_root(&self, root: usize, before: Counted) -> Counted
+        requires there { root < length self.now.trees.items }
+        requires leaves { AreLeaves (get_or self.now.trees.items root []) }
+        requires room { HasRoomFor before (map chunk_of (get_or self.now.trees.items root [])) }
+        ensures { Counts before (map chunk_of (get_or self.now.trees.items root [])) result }
+    {
+        let mut counted = before;
+        let mut at = 0;
+        while at < ROOT_WORDS {
+            let (span, leaf) = self.trees[root].leaf_at(at);
+            at = span.start + span.level.words();
+            counted = with_leaf(counted, span, leaf);
+        }
+        counted
+    }
+}
+
+/// Counts one more of a level.
+fn one_more(counts: [u32; 13], level: Level) -> [u32; 13]
+    requires { get_or counts level 0 + 1 < 2 ^ 32 }
+    ensures { AreRaised counts (λ other. cond (level == other) 1 0) result }
+{
+    let mut raised = counts;
+    raised[level.number() as usize] += 1;
+    raised
+}
+
+/// Counts a free part of a level.
+fn with_part(counted: FreeCounted, level: Level) -> FreeCounted
+    requires fits { level < 13 → get_or counted.free level 0 + 1 < 2 ^ 32 }
+    ensures { AreRaised counted.free (λ other. cond (level == other) 1 0) result.free }
+{
+    let _ = level.number();
+    let free = one_more(counted.free, level);
+    FreeCounted { free }
+}
+
+/// Counts a leaf, where it is lent.
+fn with_leaf(counted: Counted, span: Span, leaf: Leaf) -> Counted
+    requires { HasRoomFor counted (chunks_at span leaf) }
+    ensures { Counts counted (chunks_at span leaf) result }
+{
+    let _ = span.level.number();
+    match leaf {
+        Leaf::Free => counted,
+        Leaf::Lent { front, .. } => Counted {
+            lent: one_more(counted.lent, span.level),
+            capacity: counted.capacity + span.level.words(),
+            fronts: counted.fronts + front,
+        },
+    }
+}

@@ -1,0 +1,178 @@
+//! What a pool keeps: the nodes, and a split tree for each root that may be reserved.
+//!
+//!     root      0       1       2       3              127     128  ..
+//!          +-------+-------+-------+-------+-- .. --+-------+-------+--
+//!     tree |  [0]  |  [1]  |  [2]  |  [3]  |        | [127] | [128] |      (of the class space)
+//!          +-------+-------+-------+-------+-- .. --+-------+-------+--
+//!     slot         0               1          ..   63         64
+//!
+//! Kept true: there are as many trees as roots may be reserved, the leaves of each are lent in
+//! reserved slots, and the committed granules are those that a front of a lent leaf meets. What
+//! callers see is a `Ledger`, `specs/Keeping.antt`. The trees' places are made once, so a node that
+//! is reserved takes no memory.
+ghost use Rattle.std.specs.Prelude.{◌≡◌, ◌+◌, ◌*◌, ◌<◌, ◌≤◌, ◌^◌, IfOk, [], length, not, replicate};
+ghost use Rattle.std.specs.List.{All};
+ghost use Rattle.ms_base.specs.declared.kind.Space.TheVariants.{NonClass};
+ghost use Rattle.ms_base.specs.Held.{has_chunk_in};
+ghost use Rattle.ms_base.specs.Spaces.{by_space};
+ghost use Rattle.ms_base.specs.State.{limits_of};
+ghost use Rattle.ms_buddy.specs.Leaves.{AreLeaves};
+ghost use Rattle.ms_pool.specs.Ledger.{empty_ledger, held_in, with_opened};
+ghost use Rattle.ms_pool.specs.Calls.{new_account, Opened, OpenedBoth, Purged};
+ghost use Rattle.ms_pool.specs.Keeping.{IsKept, ledger_of};
+
+use crate::account::Account;
+use ms_base::{Policy, Refusal, SLOTS, Settings, Space, granule};
+use ms_buddy::SplitTree;
+use ms_commit::Nodes;
+use std::alloc::{AllocError, Global};
+
+/// How often each refusal was given, modulo 2^64. No call tells them: contracts alone see them.
+#[derive(Drop)]
+pub(crate) struct Counts {
+    pub(crate) take_commit: u64,
+    pub(crate) take_reserve: u64,
+    pub(crate) grow_commit: u64,
+    pub(crate) grow_room: u64,
+    pub(crate) open_ids: u64,
+}
+
+/// What a pool keeps.
+#[derive(Drop)]
+pub(crate) struct Lender {
+    pub(crate) alloc: Global,
+    pub(crate) nodes: Nodes,
+    pub(crate) trees: Vec<SplitTree<Global>>,
+    pub(crate) policy: Policy,
+    pub(crate) given: u32,
+    pub(crate) opened: u32,
+    pub(crate) class_opened: u32,
+    pub(crate) counts: Counts,
+}
+
+impl Lender {
+    /// Makes what a pool keeps at its start.
+    pub(crate) fn new(alloc: Global, settings: Settings) -> Result<Lender, AllocError>
+        ensures empty { IfOk result (λ lender. ledger_of lender ≡ empty_ledger (limits_of settings)) }
+        ensures kept { IfOk result IsKept }
+    {
+        let trees = whole_trees(alloc, 2 * (SLOTS + settings.class_nodes) as usize)?;
+        Ok(Lender {
+            alloc,
+            nodes: Nodes::new(
+                settings.nodes,
+                settings.max_granules,
+                granule(settings.policy),
+                settings.class_nodes,
+            ),
+            trees,
+            policy: settings.policy,
+            given: 0,
+            opened: 0,
+            class_opened: 0,
+            counts: Counts {
+                take_commit: 0,
+                take_reserve: 0,
+                grow_commit: 0,
+                grow_room: 0,
+                open_ids: 0,
+            },
+        })
+    }
+
+    /// Opens an account in a space.
+    pub(crate) fn open(&mut self, space: Space) -> Result<Account, Refusal>
+        requires { IsKept self.old }
+        ensures opened { Opened (ledger_of self.old) space result (ledger_of self.new) }
+        ensures kept { IsKept self.new }
+    {
+        if self.given == u32::MAX {
+            self.counts.open_ids = self.counts.open_ids.wrapping_add(1);
+            return Err(Refusal::IdsUsedUp);
+        }
+        Ok(self.next_account(space))
+    }
+
+    /// Opens an account in each space; the first is not the class space's.
+    pub(crate) fn open_both(&mut self) -> Result<(Account, Account), Refusal>
+        requires { IsKept self.old }
+        ensures opened { OpenedBoth (ledger_of self.old) result (ledger_of self.new) }
+        ensures kept { IsKept self.new }
+    {
+        if self.given >= u32::MAX - 1 {
+            self.counts.open_ids = self.counts.open_ids.wrapping_add(1);
+            return Err(Refusal::IdsUsedUp);
+        }
+        let account = self.next_account(Space::NonClass);
+        let class_account = self.next_account(Space::Class);
+        Ok((account, class_account))
+    }
+
+    /// Opens an account in a space, where an owner number is left.
+    fn next_account(&mut self, space: Space) -> Account
+        requires kept { IsKept self.old }
+        requires left { self.old.given + 1 < 2 ^ 32 }
+        ensures account { result ≡ new_account (self.old.given + 1) space }
+        ensures opened { ledger_of self.new ≡ with_opened (ledger_of self.old) space }
+        ensures kept { IsKept self.new }
+    {
+        self.given += 1;
+        match space {
+            Space::NonClass => self.opened += 1,
+            Space::Class => self.class_opened += 1,
+        }
+        Account {
+            owner: self.given,
+            space,
+            chunks: Vec::new(self.alloc),
+        }
+    }
+
+    /// Tells how many granules are committed.
+    pub(crate) fn committed(&self) -> u64
+        requires { IsKept self.now }
+        ensures { result
+            ≡ length (ledger_of self.now).committed + length (ledger_of self.now).class_committed }
+    {
+        self.nodes.committed()
+    }
+
+    /// Unreserves each node below the class space's whose roots are whole, and counts them.
+    pub(crate) fn purge(&mut self) -> u32
+        requires { IsKept self.old }
+        ensures purged { Purged (ledger_of self.old) result (ledger_of self.new) }
+        ensures kept { IsKept self.new }
+    {
+        let before = self.nodes.reserved();
+        for slot in 0..SLOTS {
+            if self.nodes.is_reserved(slot) && self.is_whole(slot) {
+                self.nodes.unreserve(slot);
+            }
+        }
+        before - self.nodes.reserved()
+    }
+
+    /// Tells whether both roots of a slot below the class space's are whole.
+    fn is_whole(&self, slot: u32) -> bool
+        requires leaves { All AreLeaves self.now.trees.items }
+        requires trees { 128 ≤ length self.now.trees.items }
+        requires low { slot < 64 }
+        ensures { result ≡ not (has_chunk_in (held_in NonClass (ledger_of self.now)) slot) }
+    {
+        let first = 2 * slot as usize;
+        let lower = self.trees[first].is_whole();
+        let upper = self.trees[first + 1].is_whole();
+        lower && upper
+    }
+}
+
+/// Makes so many trees, each of one free leaf.
+fn whole_trees(alloc: Global, count: usize) -> Result<Vec<SplitTree<Global>>, AllocError>
+    ensures { IfOk result (λ trees. trees.items ≡ replicate count []) }
+{
+    let mut trees = Vec::with_capacity(alloc, count)?;
+    for _ in 0..count {
+        trees.push(SplitTree::new())?;
+    }
+    Ok(trees)
+}

@@ -1,0 +1,558 @@
+//! Lending, growing and taking back: the calls that change which chunks are lent.
+
+ghost use Rattle.std.specs.Prelude.{◌≡◌, ◌+◌, ◌<◌, ◌≤◌, ◌^◌, true, false, length, IsSome, IfSome, OnSome, IfNone, IfOk, OnErr, Some, [], get_or, ◌-◌, ◌*◌, ◌/◌, ◌%◌, IsTrue, IsFalse, slice_get, ◌⊎◌, ◌↔◌};
+ghost use Rattle.ms_base.specs.declared.kind.Space.TheVariants.{NonClass, Class};
+ghost use Rattle.std.specs.List.{All, find};
+ghost use Rattle.ms_base.specs.Part.{IsPart, is_reserved, slot_of};
+ghost use Rattle.ms_base.specs.Level.{root_words, size_of};
+ghost use Rattle.ms_buddy.specs.Leaves.{AreLeaves, covers, free_of, can_enlarge, is_lent, span_at};
+ghost use Rattle.ms_pool.specs.Growing.{has_room, reached, with_greater_loan, HasNoMore};
+ghost use Rattle.ms_pool.specs.Releasing.{is_lent_in, without_loan, with_released};
+ghost use Rattle.ms_base.specs.Spaces.{by_space};
+ghost use Rattle.ms_base.specs.Front.{front_for};
+ghost use Rattle.ms_base.specs.Pick.{lowest_unreserved};
+ghost use Rattle.ms_commit.specs.Nodes.{AreInReserved, AreSound, all_slots, granules_with, slots_of, with_granules};
+ghost use Rattle.ms_pool.specs.Account.{has_chunk_at};
+ghost use Rattle.ms_pool.specs.Lending.{Adds, Grows, span_of};
+ghost use Rattle.ms_pool.specs.Ledger.{IsSoundLedger, Serves, opened_in, state_in, with_lent, with_loan, with_grown};
+ghost use Rattle.ms_pool.specs.Calls.{Closed, ClosedBoth, Grew, Took};
+ghost use Rattle.ms_pool.specs.Keeping.{IsKept, IsOpen, IsRunOf, ledger_of, loans_from, with_reserved};
+ghost use Rattle.ms_pool.specs.Searching.{is_full, lacking, part_picked};
+
+use crate::account::Account;
+use crate::lender::Lender;
+use crate::search::granules_meeting;
+use ms_base::{Chunk, Level, NODE_WORDS, Policy, ROOT_WORDS, Refusal, SLOTS, Space, Span, granule};
+use ms_buddy::{Leaf, SplitTree};
+use ms_commit::Nodes;
+use std::alloc::Global;
+
+impl Lender {
+    /// Lends the account a chunk.
+    pub(crate) fn take(
+        &mut self,
+        account: &mut Account,
+        wanted: Level,
+        most: Level,
+        words: u64,
+    ) -> Result<Span, Refusal>
+        requires kept { IsKept self.old }
+        requires served { Serves (ledger_of self.old) account.old }
+        requires levels { wanted ≤ most }
+        requires some { 1 ≤ words }
+        requires fits { words ≤ size_of most }
+        ensures kept { IsKept self.new }
+        ensures added { IfOk result
+            (λ span. Adds self.old.policy wanted most words account.old span account.new) }
+        ensures unchanged { OnErr result (account.new ≡ account.old) }
+        ensures took { Took (ledger_of self.old) account.old wanted most words result (ledger_of self.new) }
+    {
+        let _ = most.number();
+        let space = account.space;
+        let owner = account.owner;
+        let Some(span) = self.pick(space, wanted, most, words) else {
+            self.counts.take_reserve = self.counts.take_reserve.wrapping_add(1);
+            return Err(self.reserve_limit(space));
+        };
+        let chunk = chunk_at(self.policy, span.start, span.level, words);
+        if let Some(refusal) = self.commit_limit(space, &chunk) {
+            self.counts.take_commit = self.counts.take_commit.wrapping_add(1);
+            return Err(refusal);
+        }
+        // All memory is taken before anything changes: room in the list here, the boxes in `lend`.
+        if account.chunks.reserve(1).is_err() {
+            return Err(Refusal::OutOfMemory);
+        }
+        if !self.lend(space, owner, &chunk) {
+            return Err(Refusal::OutOfMemory);
+        }
+        account.chunks.push_reserved(chunk);
+        Ok(span)
+    }
+
+    /// Picks the part for a chunk; `None` where the reserve limit is met.
+    fn pick(&self, space: Space, wanted: Level, most: Level, words: u64) -> Option<Span>
+        requires kept { IsKept self.now }
+        requires levels { wanted ≤ most }
+        requires some { 1 ≤ words }
+        requires fits { words ≤ size_of most }
+        ensures picked { IfSome result
+            (λ span. span ≡ part_picked (state_in space (ledger_of self.now)) wanted most words) }
+        ensures slot { IfSome result (λ span. IsOpen space self.now.nodes (slot_of span.start)) }
+        ensures room { OnSome result
+            (is_full (state_in space (ledger_of self.now)) most ≡ false) }
+        ensures full { IfNone result
+            (is_full (state_in space (ledger_of self.now)) most ≡ true) }
+    {
+        match self.found(space, wanted, most, words) {
+            Some(part) => Some(Span {
+                start: part.start,
+                level: Level::new(part.level.number().max(wanted.number())),
+            }),
+            None => match self.new_slot(space) {
+                Some(slot) => Some(Span {
+                    start: u64::from(slot) * NODE_WORDS,
+                    level: wanted,
+                }),
+                None => None,
+            },
+        }
+    }
+
+    /// The lowest slot that isn't reserved, where one more may be.
+    fn new_slot(&self, space: Space) -> Option<u32>
+        requires { IsKept self.now }
+        ensures lowest { IfSome result (λ slot. slot ≡ lowest_unreserved self.now.nodes.slots) }
+        ensures low { IfSome result (λ slot. slot < 64) }
+        ensures space { OnSome result (space ≡ NonClass) }
+        ensures granted { OnSome result
+            (length self.now.nodes.slots < self.now.nodes.limits.nodes) }
+        ensures full { IfNone result
+            (length (slots_of space self.now.nodes)
+            ≡ by_space space self.now.nodes.limits.nodes self.now.nodes.class_slots) }
+    {
+        match space {
+            Space::Class => None,
+            Space::NonClass => {
+                if self.nodes.reserved() == self.nodes.node_limit() {
+                    return None;
+                }
+                lowest_missing(&self.nodes)
+            }
+        }
+    }
+
+    /// The refusal where no part is free and no node may be reserved.
+    fn reserve_limit(&self, space: Space) -> Refusal
+        requires { IsKept self.now }
+        ensures { result
+            ≡ Refusal.ReserveLimit (length (slots_of space self.now.nodes))
+            (by_space space self.now.nodes.limits.nodes self.now.nodes.class_slots) }
+    {
+        match space {
+            Space::NonClass => Refusal::ReserveLimit {
+                nodes: self.nodes.reserved(),
+                limit: self.nodes.node_limit(),
+            },
+            Space::Class => Refusal::ReserveLimit {
+                nodes: self.nodes.class_slots(),
+                limit: self.nodes.class_slots(),
+            },
+        }
+    }
+
+    /// The refusal where the granules of a front that are missing would pass the limit.
+    fn commit_limit(&self, space: Space, chunk: &Chunk) -> Option<Refusal>
+        requires kept { IsKept self.now }
+        requires some { 1 ≤ chunk.now.front }
+        requires inside { IsRunOf space chunk.now.start chunk.now.front }
+        requires fits { chunk.now.start + chunk.now.front < 2 ^ 63 }
+        ensures refusal { IfSome result (λ refusal.
+            refusal
+            ≡ Refusal.CommitLimit (length self.now.nodes.granules) self.now.nodes.limits.granules
+            (lacking (state_in space (ledger_of self.now)) chunk.now)) }
+        ensures met { OnSome result
+            (self.now.nodes.limits.granules
+            < length self.now.nodes.granules + lacking (state_in space (ledger_of self.now)) chunk.now) }
+        ensures within { IfNone result
+            (length self.now.nodes.granules + lacking (state_in space (ledger_of self.now)) chunk.now
+            ≤ self.now.nodes.limits.granules) }
+    {
+        let (first, count) = granules_meeting(granule(self.policy), chunk.start, chunk.front);
+        let need = self.nodes.missing(first, count);
+        let committed = self.nodes.committed();
+        let limit = self.nodes.granule_limit();
+        if need > limit - committed {
+            return Some(Refusal::CommitLimit {
+                committed,
+                limit,
+                need,
+            });
+        }
+        None
+    }
+
+    /// Lends a part that is free, or that is of a node which isn't reserved yet, and commits its
+    /// front; `false` where memory is wanting.
+    fn lend(&mut self, space: Space, owner: u32, chunk: &Chunk) -> bool
+        requires kept { IsKept self.old }
+        requires placed { IsPart chunk.now.start chunk.now.level }
+        requires some { 1 ≤ chunk.now.front }
+        requires within { chunk.now.front ≤ size_of chunk.now.level }
+        requires inside { IsRunOf space chunk.now.start chunk.now.front }
+        requires slot { IsOpen space self.old.nodes (slot_of chunk.now.start) }
+        requires limit { length self.old.nodes.granules + lacking (state_in space (ledger_of self.old)) chunk.now
+            ≤ self.old.nodes.limits.granules }
+        requires sound { IsSoundLedger (with_lent (ledger_of self.old) space owner chunk.now) }
+        ensures lent { IsTrue result
+            → ledger_of self.new ≡ with_lent (ledger_of self.old) space owner chunk.now }
+        ensures unchanged { IsFalse result → ledger_of self.new ≡ ledger_of self.old }
+        ensures kept { IsKept self.new }
+    {
+        if !carve(&mut self.trees, self.alloc, owner, chunk) {
+            return false;
+        }
+        reserve(&mut self.nodes, (chunk.start / NODE_WORDS) as u32);
+        commit(&mut self.nodes, granule(self.policy), chunk);
+        true
+    }
+
+    /// Makes the front of the account's chunk that starts there reach so many words.
+    pub(crate) fn grow(
+        &mut self,
+        account: &mut Account,
+        start: u64,
+        total: u64,
+        may_enlarge: bool,
+    ) -> Result<Span, Refusal>
+        requires kept { IsKept self.old }
+        requires served { Serves (ledger_of self.old) account.old }
+        requires held { IsTrue (has_chunk_at account.old.chunks start) }
+        ensures kept { IsKept self.new }
+        ensures grown { IfOk result
+            (λ span. Grows self.old.policy start total may_enlarge account.old span account.new) }
+        ensures unchanged { OnErr result (account.new ≡ account.old) }
+        ensures grew { Grew (ledger_of self.old) account.old start total may_enlarge result (ledger_of self.new) }
+    {
+        let space = account.space;
+        let place = place_of(&account.chunks, start);
+        let chunk = account.chunks[place];
+        if total <= chunk.front {
+            return Ok(span_of(&chunk));
+        }
+        let Some(greater) = self.reaching(space, &chunk, total, may_enlarge) else {
+            self.counts.grow_room = self.counts.grow_room.wrapping_add(1);
+            return Err(Refusal::NoRoom { level: chunk.level });
+        };
+        if let Some(refusal) = self.commit_limit(space, &greater) {
+            self.counts.grow_commit = self.counts.grow_commit.wrapping_add(1);
+            return Err(refusal);
+        }
+        self.replace(space, &chunk, &greater);
+        let span = span_of(&greater);
+        account.chunks[place] = greater;
+        Ok(span)
+    }
+
+    /// The chunk once it reaches so many words: with a greater front, or as its parent.
+    fn reaching(&self, space: Space, chunk: &Chunk, total: u64, may_enlarge: bool) -> Option<Chunk>
+        requires kept { IsKept self.now }
+        requires lent { IsTrue (is_lent_in (ledger_of self.now).loans chunk.now) }
+        requires reserved { IsTrue (is_reserved (slots_of space self.now.nodes) (slot_of chunk.now.start)) }
+        ensures { result
+            ≡ reached (state_in space (ledger_of self.now)) chunk.now total may_enlarge }
+    {
+        let size = chunk.level.words();
+        if total <= size {
+            return Some(chunk_at(self.policy, chunk.start, chunk.level, total));
+        }
+        if total <= 2 * size && may_enlarge && self.may_become_parent(space, chunk) {
+            let level = Level::new(chunk.level.number() - 1);
+            return Some(chunk_at(self.policy, chunk.start, level, total));
+        }
+        None
+    }
+
+    /// Tells whether a chunk is no root, the leader, and its buddy one free part.
+    fn may_become_parent(&self, space: Space, chunk: &Chunk) -> bool
+        requires kept { IsKept self.now }
+        requires lent { IsTrue (is_lent_in (ledger_of self.now).loans chunk.now) }
+        requires reserved { IsTrue (is_reserved (slots_of space self.now.nodes) (slot_of chunk.now.start)) }
+        ensures room { result ≡ has_room (state_in space (ledger_of self.now)) chunk.now }
+        ensures no_root { IsTrue result → 0 < chunk.now.level }
+    {
+        let root = (chunk.start / ROOT_WORDS) as usize;
+        let start = chunk.start % ROOT_WORDS;
+        can_become_parent(&self.trees[root], start, chunk.level)
+    }
+
+    /// Puts the grown chunk in the place of the chunk, and commits its front.
+    fn replace(&mut self, space: Space, chunk: &Chunk, greater: &Chunk)
+        requires kept { IsKept self.old }
+        requires lent { IsTrue (is_lent_in (ledger_of self.old).loans chunk.now) }
+        requires reserved { IsTrue (is_reserved (slots_of space self.old.nodes) (slot_of chunk.now.start)) }
+        requires start { greater.now.start ≡ chunk.now.start }
+        requires placed { IsPart greater.now.start greater.now.level }
+        requires some { 1 ≤ greater.now.front }
+        requires within { greater.now.front ≤ size_of greater.now.level }
+        requires inside { IsRunOf space greater.now.start greater.now.front }
+        requires higher { All (HasNoMore greater.now) (ledger_of self.old).loans }
+        requires grows { (greater.now.level ≡ chunk.now.level)
+            ⊎ ((greater.now.level + 1 ≡ chunk.now.level)
+            × IsTrue (has_room (state_in space (ledger_of self.old)) chunk.now)) }
+        requires limit { length self.old.nodes.granules
+            + lacking (state_in space (ledger_of self.old)) greater.now ≤ self.old.nodes.limits.granules }
+        requires sound { IsSoundLedger (with_grown (ledger_of self.old) greater.now) }
+        ensures grown { ledger_of self.new ≡ with_grown (ledger_of self.old) greater.now }
+        ensures kept { IsKept self.new }
+    {
+        raise(&mut self.trees, chunk, greater);
+        commit(&mut self.nodes, granule(self.policy), greater);
+    }
+
+    /// Takes all chunks of the account back.
+    pub(crate) fn close(&mut self, account: &Account)
+        requires kept { IsKept self.old }
+        requires served { Serves (ledger_of self.old) account.now }
+        requires counted { 0 < opened_in (ledger_of self.old) account.now.space }
+        ensures closed { Closed (ledger_of self.old) account.now (ledger_of self.new) }
+        ensures kept { IsKept self.new }
+    {
+        for place in 0..account.held() {
+            self.release(account.chunk(place));
+        }
+        match account.space() {
+            Space::NonClass => self.opened -= 1,
+            Space::Class => self.class_opened -= 1,
+        }
+    }
+
+    /// Takes all chunks of the accounts of both spaces back; the first is not the class space's.
+    pub(crate) fn close_both(&mut self, account: &Account, class_account: &Account)
+        requires kept { IsKept self.old }
+        requires served { Serves (ledger_of self.old) account.now }
+        requires class_served { Serves (ledger_of self.old) class_account.now }
+        requires space { account.now.space ≡ NonClass }
+        requires class_space { class_account.now.space ≡ Class }
+        requires counted { 0 < (ledger_of self.old).opened }
+        requires class_counted { 0 < (ledger_of self.old).class_opened }
+        ensures closed { ClosedBoth (ledger_of self.old) account.now class_account.now (ledger_of self.new) }
+        ensures kept { IsKept self.new }
+    {
+        // What holds of the chunks of every account is learnt here.
+        let _ = account.held();
+        let _ = class_account.held();
+        self.close(account);
+        self.close(class_account);
+    }
+
+    /// Takes a chunk back, and uncommits what no front meets any more.
+    fn release(&mut self, chunk: Chunk)
+        requires kept { IsKept self.old }
+        requires lent { IsTrue (is_lent_in (ledger_of self.old).loans chunk) }
+        ensures released { ledger_of self.new ≡ with_released (ledger_of self.old) chunk }
+        ensures kept { IsKept self.new }
+    {
+        let root = chunk.start / ROOT_WORDS;
+        let part = put_back(&mut self.trees, &chunk);
+        let granule = granule(self.policy);
+        let size = part.level.words();
+        if self.policy != Policy::None && granule <= size {
+            self.nodes
+                .uncommit((part.start + root * ROOT_WORDS) / granule, size / granule);
+        }
+    }
+}
+
+/// Takes the chunk back in the tree of its root, and answers the free leaf that results.
+fn put_back(trees: &mut Vec<SplitTree<Global>>, chunk: &Chunk) -> Span
+    requires leaves { All AreLeaves trees.old.items }
+    requires lent { IsTrue (is_lent_in (loans_from 0 trees.old.items) chunk.now) }
+    ensures loans { loans_from 0 trees.new.items ≡ without_loan chunk.now (loans_from 0 trees.old.items) }
+    ensures leaves { All AreLeaves trees.new.items }
+    ensures count { length trees.new.items ≡ length trees.old.items }
+    ensures there { chunk.now.start / root_words < length trees.old.items }
+    ensures free { find (covers (chunk.now.start % root_words))
+        (free_of (get_or trees.new.items (chunk.now.start / root_words) []))
+        ≡ Some result }
+{
+    let tree = &mut trees[(chunk.start / ROOT_WORDS) as usize];
+    let part = tree.release(Span {
+        start: chunk.start % ROOT_WORDS,
+        level: chunk.level,
+    });
+    // What holds of the leaves of every tree is learnt here.
+    let _ = tree.is_whole();
+    part
+}
+
+/// The place of the chunk that starts there, looked for from the last one on: an arena grows that.
+fn place_of(chunks: &[Chunk], start: u64) -> usize
+    requires { IsTrue (has_chunk_at chunks.now start) }
+    ensures there { result < length chunks.now }
+    ensures starts { IfSome (slice_get chunks.now result) (λ chunk. chunk.start ≡ start) }
+{
+    for later in 0..chunks.len() {
+        let place = chunks.len() - 1 - later;
+        if chunks[place].start == start {
+            return place;
+        }
+    }
+    unreachable!()
+}
+
+/// Where a chunk lies.
+fn span_of(chunk: &Chunk) -> Span
+    ensures { result ≡ span_of chunk.now }
+{
+    Span {
+        start: chunk.start,
+        level: chunk.level,
+    }
+}
+
+/// The chunk of a place, with a front for so many words.
+fn chunk_at(policy: Policy, start: u64, level: Level, words: u64) -> Chunk
+    requires { words ≤ 524288 }
+    ensures { result
+        ≡ record { start = start; level = level; front = front_for policy (size_of level) words } }
+{
+    let size = level.words();
+    let granule = granule(policy);
+    let front = if policy == Policy::None || size < granule {
+        size
+    } else {
+        words.div_ceil(granule) * granule
+    };
+    Chunk {
+        start,
+        level,
+        front,
+    }
+}
+
+/// The lowest slot that isn't reserved, where one below the class space's isn't.
+fn lowest_missing(nodes: &Nodes) -> Option<u32>
+    requires sound { AreSound nodes.now }
+    requires few { nodes.now.limits.nodes ≤ 64 }
+    requires left { length nodes.now.slots < nodes.now.limits.nodes }
+    ensures lowest { IfSome result (λ slot. slot ≡ lowest_unreserved nodes.now.slots) }
+    ensures low { IfSome result (λ slot. slot < 64) }
+    ensures some { IsSome result }
+{
+    for slot in 0..SLOTS {
+        if !nodes.is_reserved(slot) {
+            return Some(slot);
+        }
+    }
+    None
+}
+
+/// Lends the chunk's part in the tree of its root; `false` where memory is wanting.
+fn carve(trees: &mut Vec<SplitTree<Global>>, alloc: Global, owner: u32, chunk: &Chunk) -> bool
+    requires leaves { All AreLeaves trees.old.items }
+    requires there { chunk.now.start < root_words * length trees.old.items }
+    requires placed { IsPart chunk.now.start chunk.now.level }
+    requires some { 1 ≤ chunk.now.front }
+    requires within { chunk.now.front ≤ size_of chunk.now.level }
+    ensures lent { IsTrue result
+        → loans_from 0 trees.new.items
+        ≡ with_loan (record { owner = owner; chunk = chunk.now }) (loans_from 0 trees.old.items) }
+    ensures leaves { All AreLeaves trees.new.items }
+    ensures count { length trees.new.items ≡ length trees.old.items }
+    ensures unchanged { IsFalse result → trees.new.items ≡ trees.old.items }
+{
+    let root = (chunk.start / ROOT_WORDS) as usize;
+    let at = chunk.start % ROOT_WORDS;
+    let tree = &mut trees[root];
+    let lent = tree
+        .carve(alloc, chunk.level, at, owner, chunk.front)
+        .is_ok();
+    // What holds of the leaves of every tree is learnt here.
+    let _ = tree.is_whole();
+    lent
+}
+
+/// Tells whether the leaf that is lent there is no root, the leader, and its buddy one free leaf.
+fn can_become_parent(tree: &SplitTree<Global>, start: u64, level: Level) -> bool
+    requires { IsTrue (is_lent tree.now (span_at start level)) }
+    ensures { result ≡ can_enlarge (span_at start level) (free_of tree.now) }
+{
+    // What holds of the leaves of every tree is learnt here.
+    let _ = tree.is_whole();
+    let size = level.words();
+    if level.number() == 0 || start % (2 * size) != 0 {
+        return false;
+    }
+    let (span, leaf) = tree.leaf_at(start + size);
+    is_free_leaf(leaf) && span.level == level
+}
+
+/// Tells whether a leaf is free.
+fn is_free_leaf(leaf: Leaf) -> bool
+    ensures { IsTrue result ↔ (leaf ≡ Leaf.Free) }
+{
+    match leaf {
+        Leaf::Free => true,
+        Leaf::Lent { .. } => false,
+    }
+}
+
+/// Makes the chunk's leaf that of the grown chunk, in the tree of its root.
+fn raise(trees: &mut Vec<SplitTree<Global>>, chunk: &Chunk, greater: &Chunk)
+    requires leaves { All AreLeaves trees.old.items }
+    requires there { chunk.now.start < root_words * length trees.old.items }
+    requires lent { IsTrue (is_lent (get_or trees.old.items (chunk.now.start / root_words) [])
+        (span_at (chunk.now.start % root_words) chunk.now.level)) }
+    requires start { greater.now.start ≡ chunk.now.start }
+    requires some { 1 ≤ greater.now.front }
+    requires within { greater.now.front ≤ size_of greater.now.level }
+    requires grows { (greater.now.level ≡ chunk.now.level)
+        ⊎ ((greater.now.level + 1 ≡ chunk.now.level)
+        × IsTrue (can_enlarge (span_at (chunk.now.start % root_words) chunk.now.level)
+        (free_of (get_or trees.old.items (chunk.now.start / root_words) [])))) }
+    ensures loans { loans_from 0 trees.new.items
+        ≡ with_greater_loan greater.now (loans_from 0 trees.old.items) }
+    ensures leaves { All AreLeaves trees.new.items }
+    ensures count { length trees.new.items ≡ length trees.old.items }
+{
+    let root = (chunk.start / ROOT_WORDS) as usize;
+    let level = chunk.level;
+    let _ = level.number();
+    let span = Span {
+        start: chunk.start % ROOT_WORDS,
+        level,
+    };
+    let tree = &mut trees[root];
+    if greater.level == level {
+        tree.set_front(span, greater.front);
+    } else {
+        match tree.enlarge(span, greater.front) {
+            Ok(_) => {}
+            Err(_) => unreachable!(),
+        }
+    }
+    // What holds of the leaves of every tree is learnt here.
+    let _ = tree.is_whole();
+}
+
+/// Reserves a slot where it isn't reserved; then it is the lowest, and one more may be.
+fn reserve(nodes: &mut Nodes, slot: u32)
+    requires lowest { is_reserved (all_slots nodes.old) slot ≡ false → slot ≡ lowest_unreserved nodes.old.slots }
+    requires left { is_reserved (all_slots nodes.old) slot ≡ false → length nodes.old.slots < nodes.old.limits.nodes }
+    ensures reserved { nodes.new ≡ with_reserved nodes.old slot }
+    ensures sound { AreSound nodes.new }
+{
+    if !nodes.is_reserved(slot) {
+        match nodes.reserve() {
+            Ok(_) => {}
+            Err(_) => unreachable!(),
+        }
+    }
+    // What holds of all nodes is learnt here.
+    let _ = nodes.reserved();
+}
+
+/// Commits the granules of a front, which lie in reserved slots and are within the limit.
+fn commit(nodes: &mut Nodes, granule: u64, chunk: &Chunk)
+    requires granule { 2048 ≤ granule }
+    requires some { 1 ≤ chunk.now.front }
+    requires fits { chunk.now.start + chunk.now.front < 2 ^ 63 }
+    requires reserved { AreInReserved nodes.old (chunk.now.start / granule)
+        ((chunk.now.start + chunk.now.front - 1) / granule + 1 - chunk.now.start / granule) }
+    requires limit { granules_with nodes.old (chunk.now.start / granule)
+        ((chunk.now.start + chunk.now.front - 1) / granule + 1 - chunk.now.start / granule)
+        ≤ nodes.old.limits.granules }
+    ensures committed { nodes.new
+        ≡ with_granules nodes.old (chunk.now.start / granule)
+        ((chunk.now.start + chunk.now.front - 1) / granule + 1 - chunk.now.start / granule) }
+    ensures sound { AreSound nodes.new }
+{
+    let (first, count) = granules_meeting(granule, chunk.start, chunk.front);
+    match nodes.commit(first, count) {
+        Ok(_) => {}
+        Err(_) => unreachable!(),
+    }
+    // What holds of all nodes is learnt here.
+    let _ = nodes.committed();
+}

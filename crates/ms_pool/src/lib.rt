@@ -1,0 +1,21 @@
+//! The pool: chunks lent to accounts from root chunks of both spaces, under both limits.
+//!
+//! Apart because arenas, the lock and the workers stand on what it answers and on nothing else: the
+//! trait `ChunkSource` is all that an arena knows. Contracts see a pool as a `Ledger`, and each call
+//! is one relation of `specs/Calls.antt`. Stands on `ms_commit` for nodes and granules and on
+//! `ms_buddy` for the parts of each root. Only `Pool::new` and `take` take memory; nothing waits.
+#![tactic(auto)]
+
+mod account;
+mod counting;
+mod lender;
+mod lending;
+mod pool;
+mod search;
+mod source;
+mod totals;
+
+pub use account::Account;
+pub use pool::Pool;
+pub use source::ChunkSource;
+pub use totals::PoolTotals;

@@ -1,0 +1,232 @@
+//! The pool and its calls.
+ghost use Rattle.std.specs.Prelude.{◌≡◌, ◌+◌, ◌<◌, ◌≤◌, IfOk, OnErr, IsTrue, length};
+ghost use Rattle.ms_base.specs.declared.kind.Space.TheVariants.{NonClass, Class};
+ghost use Rattle.ms_base.specs.Level.{size_of};
+ghost use Rattle.ms_base.specs.State.{limits_of};
+ghost use Rattle.ms_base.specs.Totals.{pool_sums};
+ghost use Rattle.ms_pool.specs.Account.{has_chunk_at};
+ghost use Rattle.ms_pool.specs.Lending.{Adds, Grows};
+ghost use Rattle.ms_pool.specs.Tallies.{AreTallies};
+ghost use Rattle.ms_pool.specs.Ledger.{Serves, IsSoundLedger, empty_ledger, opened_in, state_in};
+ghost use Rattle.ms_pool.specs.Calls.{Opened, OpenedBoth, Took, Grew, Closed, ClosedBoth, Purged, Totalled, sums_in};
+
+use crate::account::Account;
+use crate::lender::Lender;
+use crate::source::ChunkSource;
+use crate::totals::PoolTotals;
+use ms_base::{Level, Refusal, Settings, Space, Span};
+use std::alloc::{AllocError, Global};
+use std::marker::Model;
+
+/// The pool of both spaces: it lends buddy chunks to accounts from the root chunks of reserved
+/// nodes, commits their fronts by granules, and takes everything of an account back in one step.
+/// After HotSpot's chunkManager.cpp and virtualSpaceList.cpp.
+#[derive(Drop)]
+pub struct Pool {
+    lender: Lender,
+}
+
+impl Model for Pool {
+    ghost use Rattle.ms_pool.specs.Ledger.{Ledger};
+
+    ghost Value = { Ledger };
+
+    ghost use Rattle.ms_pool.specs.Keeping.{IsKept, ledger_of};
+
+    ghost view = { λ pool. ledger_of pool.lender };
+
+    ghost invariant = { λ pool. IsKept pool.lender };
+}
+
+impl Pool {
+    /// Makes a pool of which nothing was asked yet: the nodes of the class space are reserved, no
+    /// other, and no granule is committed. The places of all trees are made here, so reserving a
+    /// node takes no memory. Takes memory, and fails only where that is refused.
+    pub fn new(alloc: Global, settings: Settings) -> Result<Pool, AllocError>
+        ensures { IfOk result (λ pool. pool ≡ empty_ledger (limits_of settings)) }
+    {
+        Ok(Pool {
+            lender: Lender::new(alloc, settings)?,
+        })
+    }
+
+    /// Opens an account in a space, under the next owner number. Refused with `IdsUsedUp` exactly
+    /// where all numbers, 1 to 4294967295, were given out. Takes no memory.
+    pub fn open(&mut self, space: Space) -> Result<Account, Refusal>
+        ensures { Opened self.old space result self.new }
+    {
+        self.lender.open(space)
+    }
+
+    /// Opens an account in each space, by one event; the first is not the class space's. Refused
+    /// with `IdsUsedUp` exactly where fewer than two owner numbers are left. Takes no memory.
+    pub fn open_both(&mut self) -> Result<(Account, Account), Refusal>
+        ensures { OpenedBoth self.old result self.new }
+    {
+        self.lender.open_both()
+    }
+
+    /// Lends the account a chunk: the free part that the searches find first for so many words, of a
+    /// level from the wanted one up to the most that serves, split where it is larger than wanted.
+    /// Refused with `ReserveLimit`, with `CommitLimit`, and with `OutOfMemory`, in that order;
+    /// nothing changes then but a tally. Takes memory. After HotSpot, chunkManager.cpp.
+    pub fn take(
+        &mut self,
+        account: &mut Account,
+        wanted: Level,
+        most: Level,
+        words: u64,
+    ) -> Result<Span, Refusal>
+        requires served { Serves self.old account.old }
+        requires levels { wanted ≤ most }
+        requires some { 1 ≤ words }
+        requires fits { words ≤ size_of most }
+        ensures added { IfOk result
+            (λ span. Adds self.old.limits.policy wanted most words account.old span account.new) }
+        ensures unchanged { OnErr result (account.new ≡ account.old) }
+        ensures took { Took self.old account.old wanted most words result self.new }
+    {
+        self.lender.take(account, wanted, most, words)
+    }
+
+    /// Makes the front of the account's chunk that starts there reach so many words, in its place.
+    /// Refused with `NoRoom` and the chunk's level where it can't, and with `CommitLimit`; nothing
+    /// changes then but a tally. Takes no memory. After HotSpot, rootChunkArea.cpp.
+    pub fn grow(
+        &mut self,
+        account: &mut Account,
+        start: u64,
+        total: u64,
+        may_enlarge: bool,
+    ) -> Result<Span, Refusal>
+        requires served { Serves self.old account.old }
+        requires held { IsTrue (has_chunk_at account.old.chunks start) }
+        ensures grown { IfOk result
+            (λ span. Grows self.old.limits.policy start total may_enlarge account.old span account.new) }
+        ensures unchanged { OnErr result (account.new ≡ account.old) }
+        ensures grew { Grew self.old account.old start total may_enlarge result self.new }
+    {
+        self.lender.grow(account, start, total, may_enlarge)
+    }
+
+    /// Takes all chunks of the account back in one step. Takes no memory.
+    pub fn close(&mut self, account: Account)
+        requires served { Serves self.old account }
+        requires counted { 0 < opened_in self.old account.space }
+        ensures { Closed self.old account self.new }
+    {
+        self.lender.close(&account)
+    }
+
+    /// Takes all chunks of the accounts of both spaces back, by one event; the first is not the
+    /// class space's. Takes no memory.
+    pub fn close_both(&mut self, account: Account, class_account: Account)
+        requires served { Serves self.old account }
+        requires class_served { Serves self.old class_account }
+        requires space { account.space ≡ NonClass }
+        requires class_space { class_account.space ≡ Class }
+        requires counted { 0 < self.old.opened }
+        requires class_counted { 0 < self.old.class_opened }
+        ensures { ClosedBoth self.old account class_account self.new }
+    {
+        self.lender.close_both(&account, &class_account);
+    }
+
+    /// Drops the nodes that hold no chunk, their granules with them, and answers how many they
+    /// were; those of the class space stay. Takes no memory. After HotSpot, virtualSpaceList.cpp.
+    pub fn purge(&mut self) -> u32
+        ensures { Purged self.old result self.new }
+    {
+        self.lender.purge()
+    }
+
+    /// Tells the sums over the account's space. Takes no memory.
+    pub fn totals(&self, account: &Account) -> PoolTotals
+        ensures { sums_in result
+            ≡ pool_sums (state_in account.now.space self.now) (opened_in self.now account.now.space) }
+    {
+        self.lender.totals(account.space())
+    }
+
+    /// Tells the sums over a space. A caller also learns here what is true of every pool. Takes no
+    /// memory.
+    pub fn all_totals(&self, space: Space) -> PoolTotals
+        ensures sums { sums_in result
+            ≡ pool_sums (state_in space self.now) (opened_in self.now space) }
+        ensures sound { IsSoundLedger self.now }
+        ensures tallies { AreTallies self.now.tallies }
+    {
+        self.lender.read_tallies();
+        self.lender.totals(space)
+    }
+
+    /// Tells how many granules are committed, in both spaces. A caller also learns here what is true
+    /// of every pool. Takes no memory, and looks at no chunk.
+    pub fn committed(&self) -> u64
+        ensures count { result ≡ length self.now.committed + length self.now.class_committed }
+        ensures sound { IsSoundLedger self.now }
+    {
+        self.lender.committed()
+    }
+
+    /// Says what is true of every pool.
+    fn learn(&self)
+        ensures { IsSoundLedger self.now }
+    {
+        let _ = &self.lender;
+    }
+}
+
+impl ChunkSource for Pool {
+    ghost use Rattle.ms_pool.specs.Ledger.{Serves, opened_in};
+    ghost use Rattle.ms_pool.specs.Calls.{Took, Grew, Closed, Totalled};
+
+    ghost serves = { Serves };
+
+    ghost opened = { opened_in };
+
+    ghost limits = { λ ledger. ledger.limits };
+
+    ghost took = { Took };
+
+    ghost grew = { Grew };
+
+    ghost closed = { Closed };
+
+    ghost totalled = { Totalled };
+
+    fn take(
+        &mut self,
+        account: &mut Account,
+        wanted: Level,
+        most: Level,
+        words: u64,
+    ) -> Result<Span, Refusal> {
+        // What holds of every pool, account and level is learnt here.
+        self.learn();
+        let _ = account.held();
+        let _ = most.number();
+        Pool::take(self, account, wanted, most, words)
+    }
+
+    fn grow(
+        &mut self,
+        account: &mut Account,
+        start: u64,
+        total: u64,
+        may_enlarge: bool,
+    ) -> Result<Span, Refusal> {
+        // What holds of every pool and account is learnt here.
+        self.learn();
+        let _ = account.held();
+        Pool::grow(self, account, start, total, may_enlarge)
+    }
+
+    fn close(&mut self, account: Account) {
+        Pool::close(self, account);
+    }
+
+    fn totals(&mut self, account: &Account) -> PoolTotals {
+        Pool::totals(self, account)
+    }
+}

@@ -1,0 +1,13 @@
+-- The lines cut off so far read as the lines kept so far; what is left gets shorter.
+use Rattle.std.proofs.Common.{◌≤◌, length}
+use Rattle.ms_trace.proofs.ReadingLemmas.{IsRead}
+use Rattle.ms_trace.proofs.reading.read_lines.Given as goal
+
+abbrev pub invariant-loop-rest : goal.invariant-loop-rest
+invariant-loop-rest g l = record {
+  read : IsRead l.text l.rest l.number l.lines.items;
+  few : l.number ≤ 100000;
+}
+
+abbrev pub decreases-loop-rest : goal.decreases-loop-rest
+decreases-loop-rest g l = length l.rest
