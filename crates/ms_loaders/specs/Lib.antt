@@ -3,4 +3,5 @@ pub mod LoaderInside
 pub mod Naming
 pub mod Loaders
 pub mod System
+pub mod Settles
 pub mod SystemInside

@@ -4,9 +4,11 @@
 //! takes memory.
 ghost use Rattle.std.specs.Prelude.{◌≡◌, ◌<◌, ◌^◌, None, OnOk, IfErr, OnErr, [], length};
 ghost use Rattle.std.specs.Option.{option_copied, option_copied_mut, is_some};
+ghost use Rattle.std.specs.List.{All};
 ghost use Rattle.std.specs.Map.{values_of};
 ghost use Rattle.std.specs.Borrow.{sem};
 ghost use Rattle.ms_base.specs.Names.{AreNamed, named, with_new, without};
+ghost use Rattle.ms_loaders.specs.Loader.{IsSoundView};
 ghost use Rattle.ms_loaders.specs.Loaders.{LendsLoader, InsertRefused};
 
 use crate::loader::Loader;
@@ -98,6 +100,17 @@ impl Loaders {
         ensures small { result < 2 ^ 63 }
     {
         self.by_name.len()
+    }
+
+    /// Says what is true of all loaders: their names rise, and each is sound.
+    pub(crate) fn learn(&self)
+        ensures names { AreNamed self.now }
+        ensures sound { All IsSoundView (values_of self.now) }
+    {
+        let _ = &self.by_name;
+        for loader in self.by_name.values() {
+            let _ = loader.accounts();
+        }
     }
 
     /// Goes over the loaders in order of name. Takes no memory.

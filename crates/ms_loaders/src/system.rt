@@ -14,6 +14,8 @@ ghost use Rattle.ms_base.specs.Run.{Run};
 ghost use Rattle.ms_base.specs.SumLaws.{HoldsNothing};
 ghost use Rattle.ms_loaders.specs.System.{reply_of};
 
+mod settling;
+
 use crate::loader::Loader;
 use crate::loaders::Loaders;
 use ms_base::{Kind, Policy, Refusal, Reply, Settings, Step, granule};

@@ -14,7 +14,7 @@ use crate::account::Account;
 use crate::lender::Lender;
 use crate::source::ChunkSource;
 use crate::totals::PoolTotals;
-use ms_base::{Level, Refusal, Settings, Space, Span};
+use ms_base::{Level, Policy, Refusal, Settings, Space, Span};
 use std::alloc::{AllocError, Global};
 use std::marker::Model;
 
@@ -167,6 +167,21 @@ impl Pool {
         ensures sound { IsSoundLedger self.now }
     {
         self.lender.committed()
+    }
+
+    /// Tells by which policy granules are committed and given back. Takes no memory.
+    pub fn policy(&self) -> Policy
+        ensures { result ≡ self.now.limits.policy }
+    {
+        self.lender.policy
+    }
+
+    /// Tells how many accounts are open, in both spaces, below 2 ^ 33. Takes no memory, and looks at
+    /// no chunk.
+    pub fn accounts(&self) -> u64
+        ensures { result ≡ self.now.opened + self.now.class_opened }
+    {
+        u64::from(self.lender.opened) + u64::from(self.lender.class_opened)
     }
 
     /// Says what is true of every pool.

@@ -1,0 +1,20 @@
+use Rattle.std.proofs.Common.{◌≤◌, arith}
+use Rattle.ms_loaders.specs.Settles.{open_accounts, accounts_in}
+use Rattle.ms_loaders.proofs.FitLemmas.{machine_is_good}
+use Rattle.ms_loaders.proofs.system.System.settle.Goals as goal
+
+pub returns-clause-good : goal.returns-clause-good
+returns-clause-good c =
+    let no_more : open_accounts c.args.pool ≤ accounts_in c.args.loaders = omega (arith, c.accounts-opened.ensures, c.len.ensures.count, c.if-opened-gathered.false) in
+    machine_is_good c.args.pool c.args.loaders (record {
+      ledger_sound = c.committed.ensures.sound;
+      loaders_sound = c.learn.ensures.sound;
+      names = c.learn.ensures.names;
+      served = record {
+        served = c.requires.served;
+        distinct = c.requires.distinct;
+        no_other = c.requires.no_other no_more;
+        opened = omega (arith, no_more, c.requires.opened, c.requires.class_opened);
+        class_opened = omega (arith, no_more, c.requires.opened, c.requires.class_opened);
+      };
+    })
