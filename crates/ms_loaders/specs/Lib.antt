@@ -4,3 +4,4 @@ pub mod Naming
 pub mod Loaders
 pub mod System
 pub mod SystemInside
+pub mod Sums

@@ -15,9 +15,13 @@
 mod loader;
 mod loaders;
 mod naming;
+mod replies;
 mod system;
+mod totals;
 
 pub use loader::Loader;
 pub use loaders::Loaders;
 pub use ms_base::{Reply, Step};
+pub use replies::{Answer, Replies};
 pub use system::System;
+pub use totals::{LoaderRow, SpaceTotals, Totals};
