@@ -1,5 +1,5 @@
 //! Sums over one arena.
-ghost use Rattle.std.specs.Prelude.{◌≡◌};
+ghost use Rattle.std.specs.Prelude.{◌≡◌, ◌<◌, ◌^◌};
 ghost use Rattle.ms_base.specs.Totals.{capacity_of, fronts_of};
 
 use ms_pool::Account;
@@ -28,6 +28,7 @@ pub struct ArenaTotals {
 pub fn sums_of(account: &Account) -> (u64, u64)
     ensures capacity { result.0 ≡ capacity_of account.now.chunks }
     ensures fronts { result.1 ≡ fronts_of account.now.chunks }
+    ensures small { result.0 < 2 ^ 52 }
 {
     let mut capacity = 0;
     let mut fronts = 0;

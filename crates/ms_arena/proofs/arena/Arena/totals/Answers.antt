@@ -22,8 +22,8 @@ overflow_sub-result-2 c =
     let within = within_used c.self.inside.books.state c.self.inside.live.blocks c.self.invariant.sound.books in
     omega (arith, within.fit, c.used-used.ensures.sum, c.words-live.ensures, c.kept_words-free_blocks.ensures)
 
-pub returns : goal.returns
-returns c =
+pub returns-clause-sums : goal.returns-clause-sums
+returns-clause-sums c =
     let within = within_used c.self.inside.books.state c.self.inside.live.blocks c.self.invariant.sound.books in
     let used = c.used-used.result in
     let live = c.words-live.result in
