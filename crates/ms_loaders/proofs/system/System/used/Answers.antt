@@ -16,11 +16,6 @@ loop-loader-init c = subst (λ (m : Machine). 0 + sum_by used_in_both c.into_ite
     none : (l : List LoaderView) → 0 + sum_by used_in_both l ≡ sum_by used_in_both l
     none l = omega arith
 
-pub used-words-requires : goal.used-words-requires
-used-words-requires c =
-    let all = rw (c.in-Some.ensures.steps, sum_by-cons used_in_both c.in-Some.loader.now c.next.new.self, ← c.self.view_is) at c.loop-loader.invariant in
-    omega (arith, all, used_fits _ (machine_is_good c.self.inside.pool c.self.inside.loaders c.self.invariant.together))
-
 pub overflow_add-words : goal.overflow_add-words
 overflow_add-words c =
     let all = rw (c.in-Some.ensures.steps, sum_by-cons used_in_both c.in-Some.loader.now c.next.new.self, ← c.self.view_is) at c.loop-loader.invariant in
