@@ -18,3 +18,5 @@ mod UnloadLemmas
 mod UsedLemmas
 mod LoaderLemmas
 mod SumsLemmas
+mod CollectLemmas
+mod TotalsLemmas
