@@ -5,3 +5,5 @@ pub mod Loaders
 pub mod System
 pub mod Settles
 pub mod SystemInside
+pub mod Sums
+pub mod Collecting
