@@ -1,5 +1,5 @@
 //! The pool and its calls.
-ghost use Rattle.std.specs.Prelude.{◌≡◌, ◌+◌, ◌<◌, ◌≤◌, IfOk, OnErr, IsTrue, length};
+ghost use Rattle.std.specs.Prelude.{◌≡◌, ◌+◌, ◌<◌, ◌≤◌, ◌^◌, IfOk, OnErr, IsTrue, length};
 ghost use Rattle.ms_base.specs.declared.kind.Space.TheVariants.{NonClass, Class};
 ghost use Rattle.ms_base.specs.Level.{size_of};
 ghost use Rattle.ms_base.specs.State.{limits_of};
@@ -53,7 +53,9 @@ impl Pool {
     /// Opens an account in a space, under the next owner number. Refused with `IdsUsedUp` exactly
     /// where all numbers, 1 to 4294967295, were given out. Takes no memory.
     pub fn open(&mut self, space: Space) -> Result<Account, Refusal>
-        ensures { Opened self.old space result self.new }
+        ensures opened { Opened self.old space result self.new }
+        ensures served { IfOk result (λ account. Serves self.new account) }
+        ensures given { self.new.given < 2 ^ 32 }
     {
         self.lender.open(space)
     }
@@ -61,7 +63,10 @@ impl Pool {
     /// Opens an account in each space, by one event; the first is not the class space's. Refused
     /// with `IdsUsedUp` exactly where fewer than two owner numbers are left. Takes no memory.
     pub fn open_both(&mut self) -> Result<(Account, Account), Refusal>
-        ensures { OpenedBoth self.old result self.new }
+        ensures opened { OpenedBoth self.old result self.new }
+        ensures served { IfOk result (λ accounts. Serves self.new accounts.0) }
+        ensures class_served { IfOk result (λ accounts. Serves self.new accounts.1) }
+        ensures given { self.new.given < 2 ^ 32 }
     {
         self.lender.open_both()
     }

@@ -41,6 +41,11 @@ pub new_account_is_served : (old : Ledger) (space : Space) (account : AccountSta
 new_account_is_served old space account new sound opened =
     subst (Serves new) (sym opened.0) (subst (λ (l : Ledger). Serves l (new_account (old.given + 1) space)) (sym opened.1) (opened_has_nothing old space sound))
 
+pub opened_is_served : (old : Ledger) (space : Space) (result : Result AccountState Refusal) (new : Ledger) → IsSoundLedger old
+    → Opened old space result new → IfOk result (λ account. Serves new account)
+opened_is_served old space (Ok account) new sound opened = new_account_is_served old space account new sound opened
+opened_is_served old space (Err refusal) new sound refused = tt
+
 -- Open both.
 pub both_opened_keeps : (old : Ledger) (result : Result (AccountState × AccountState) Refusal) (new : Ledger) → OpenedBoth old result new
     → KeepsAll old new
@@ -63,6 +68,12 @@ pub new_accounts_are_served : (old : Ledger) (accounts : AccountState × Account
 new_accounts_are_served old accounts new sound opened =
     subst (λ (two : AccountState × AccountState). Serves new two.0 × Serves new two.1) (sym opened.0)
     (subst (λ (l : Ledger). Serves l (new_account (old.given + 1) NonClass) × Serves l (new_account (old.given + 2) Class)) (sym opened.1) (both_opened_have_nothing old sound))
+
+pub both_opened_are_served : (old : Ledger) (result : Result (AccountState × AccountState) Refusal) (new : Ledger) → IsSoundLedger old
+    → OpenedBoth old result new
+    → IfOk result (λ accounts. Serves new accounts.0) × IfOk result (λ accounts. Serves new accounts.1)
+both_opened_are_served old (Ok accounts) new sound opened = new_accounts_are_served old accounts new sound opened
+both_opened_are_served old (Err refusal) new sound refused = (tt, tt)
 
 -- Close: all that the call owes.
 pub record ClosesWell (old : Ledger) (account : AccountState) (new : Ledger) : Type 0 where

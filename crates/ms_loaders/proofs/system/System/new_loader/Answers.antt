@@ -18,48 +18,48 @@ returns-then-contains-clause-refused c =
     (rw (← c.self.view_is) (record { loader = there.0.state; has = has_loader c.self.inside.pool c.self.inside.loaders c.args.name there.0 there.1 }), refl)
 
 pub returns-in-Err-clause-refused : goal.returns-in-Err-clause-refused
-returns-in-Err-clause-refused c = rw (c.in-Err.ensures.0, c.in-Err.ensures.2, ← c.self.view_is)
-    ((missing-mapped (λ (loader : LoaderView). loader.state) c.self.inside.loaders c.args.name (missing (named c.self.inside.loaders c.args.name) (sym c.contains.ensures ∙ c.if-contains.false)), c.in-Err.ensures.1), refl)
+returns-in-Err-clause-refused c = rw (c.in-Err.ensures.opened.0, c.in-Err.ensures.opened.2, ← c.self.view_is)
+    ((missing-mapped (λ (loader : LoaderView). loader.state) c.self.inside.loaders c.args.name (missing (named c.self.inside.loaders c.args.name) (sym c.contains.ensures ∙ c.if-contains.false)), c.in-Err.ensures.opened.1), refl)
 
 pub invariant_of-self-in-Ok-insert : goal.invariant_of-self-in-Ok-insert
-invariant_of-self-in-Ok-insert c = rw (c.in-Ok-insert.ensures.inserted, (c.new-loader.ensures.made ∙ ap (λ (p : AccountState × AccountState). new_loader p.0 p.1 c.args.kind) c.in-Ok.ensures.0), c.in-Ok.ensures.1) (record {
-  together = together_made c.self.inside.pool c.self.inside.loaders c.args.name c.args.kind (missing (named c.self.inside.loaders c.args.name) (sym c.contains.ensures ∙ c.if-contains.false)) c.self.invariant.together (subst IsSoundLedger c.in-Ok.ensures.1 c.committed.ensures.sound) (subst IsSoundView (c.new-loader.ensures.made ∙ ap (λ (p : AccountState × AccountState). new_loader p.0 p.1 c.args.kind) c.in-Ok.ensures.0) c.new-loader.ensures.sound);
+invariant_of-self-in-Ok-insert c = rw (c.in-Ok-insert.ensures.inserted, (c.new-loader.ensures.made ∙ ap (λ (p : AccountState × AccountState). new_loader p.0 p.1 c.args.kind) c.in-Ok.ensures.opened.0), c.in-Ok.ensures.opened.1) (record {
+  together = together_made c.self.inside.pool c.self.inside.loaders c.args.name c.args.kind (missing (named c.self.inside.loaders c.args.name) (sym c.contains.ensures ∙ c.if-contains.false)) c.self.invariant.together (subst IsSoundLedger c.in-Ok.ensures.opened.1 c.committed.ensures.sound) (subst IsSoundView (c.new-loader.ensures.made ∙ ap (λ (p : AccountState × AccountState). new_loader p.0 p.1 c.args.kind) c.in-Ok.ensures.opened.0) c.new-loader.ensures.sound);
   policy_is = c.self.invariant.policy_is;
 })
 
 pub close_both-requires-clause-served : goal.close_both-requires-clause-served
-close_both-requires-clause-served c = subst (Serves c.open_both.new.self) (sym (c.into_accounts-account.ensures.account ∙ ap (account_in NonClass) (c.in-Err-insert.ensures.back ∙ (c.new-loader.ensures.made ∙ ap (λ (p : AccountState × AccountState). new_loader p.0 p.1 c.args.kind) c.in-Ok.ensures.0))))
-    (subst (λ (l : Ledger). Serves l (first_account c.self.inside.pool)) (sym c.in-Ok.ensures.1) (first_served c.self.inside.pool c.self.inside.loaders c.args.name c.args.kind (missing (named c.self.inside.loaders c.args.name) (sym c.contains.ensures ∙ c.if-contains.false)) c.self.invariant.together))
+close_both-requires-clause-served c = subst (Serves c.open_both.new.self) (sym (c.into_accounts-account.ensures.account ∙ ap (account_in NonClass) (c.in-Err-insert.ensures.back ∙ (c.new-loader.ensures.made ∙ ap (λ (p : AccountState × AccountState). new_loader p.0 p.1 c.args.kind) c.in-Ok.ensures.opened.0))))
+    (subst (λ (l : Ledger). Serves l (first_account c.self.inside.pool)) (sym c.in-Ok.ensures.opened.1) (first_served c.self.inside.pool c.self.inside.loaders c.args.name c.args.kind (missing (named c.self.inside.loaders c.args.name) (sym c.contains.ensures ∙ c.if-contains.false)) c.self.invariant.together))
 
 pub close_both-requires-clause-class_served : goal.close_both-requires-clause-class_served
-close_both-requires-clause-class_served c = subst (Serves c.open_both.new.self) (sym (c.into_accounts-account.ensures.class_account ∙ ap (account_in Class) (c.in-Err-insert.ensures.back ∙ (c.new-loader.ensures.made ∙ ap (λ (p : AccountState × AccountState). new_loader p.0 p.1 c.args.kind) c.in-Ok.ensures.0))))
-    (subst (λ (l : Ledger). Serves l (second_account c.self.inside.pool)) (sym c.in-Ok.ensures.1) (second_served c.self.inside.pool c.self.inside.loaders c.args.name c.args.kind (missing (named c.self.inside.loaders c.args.name) (sym c.contains.ensures ∙ c.if-contains.false)) c.self.invariant.together))
+close_both-requires-clause-class_served c = subst (Serves c.open_both.new.self) (sym (c.into_accounts-account.ensures.class_account ∙ ap (account_in Class) (c.in-Err-insert.ensures.back ∙ (c.new-loader.ensures.made ∙ ap (λ (p : AccountState × AccountState). new_loader p.0 p.1 c.args.kind) c.in-Ok.ensures.opened.0))))
+    (subst (λ (l : Ledger). Serves l (second_account c.self.inside.pool)) (sym c.in-Ok.ensures.opened.1) (second_served c.self.inside.pool c.self.inside.loaders c.args.name c.args.kind (missing (named c.self.inside.loaders c.args.name) (sym c.contains.ensures ∙ c.if-contains.false)) c.self.invariant.together))
 
 pub invariant_of-self-in-Err-insert : goal.invariant_of-self-in-Err-insert
 invariant_of-self-in-Err-insert c = rw c.in-Err-insert.ensures.unchanged (record {
-  together = together_again c.self.inside.pool c.close_both.new.self c.self.inside.loaders (c.close_both.ensures ∙ ap (λ (l : Ledger). with_both_closed l c.into_accounts-account.result.0 c.into_accounts-account.result.1) c.in-Ok.ensures.1
-      ∙ ap (λ (a : AccountState). with_both_closed (with_both c.self.inside.pool) a c.into_accounts-account.result.1) (c.into_accounts-account.ensures.account ∙ ap (account_in NonClass) (c.in-Err-insert.ensures.back ∙ (c.new-loader.ensures.made ∙ ap (λ (p : AccountState × AccountState). new_loader p.0 p.1 c.args.kind) c.in-Ok.ensures.0)))
-      ∙ ap (with_both_closed (with_both c.self.inside.pool) (first_account c.self.inside.pool)) (c.into_accounts-account.ensures.class_account ∙ ap (account_in Class) (c.in-Err-insert.ensures.back ∙ (c.new-loader.ensures.made ∙ ap (λ (p : AccountState × AccountState). new_loader p.0 p.1 c.args.kind) c.in-Ok.ensures.0)))) c.committed-in-Err-insert.ensures.sound c.self.invariant.together;
-  policy_is = c.self.invariant.policy_is ∙ ap (λ (l : Ledger). l.limits.policy) (sym (c.close_both.ensures ∙ ap (λ (l : Ledger). with_both_closed l c.into_accounts-account.result.0 c.into_accounts-account.result.1) c.in-Ok.ensures.1
-      ∙ ap (λ (a : AccountState). with_both_closed (with_both c.self.inside.pool) a c.into_accounts-account.result.1) (c.into_accounts-account.ensures.account ∙ ap (account_in NonClass) (c.in-Err-insert.ensures.back ∙ (c.new-loader.ensures.made ∙ ap (λ (p : AccountState × AccountState). new_loader p.0 p.1 c.args.kind) c.in-Ok.ensures.0)))
-      ∙ ap (with_both_closed (with_both c.self.inside.pool) (first_account c.self.inside.pool)) (c.into_accounts-account.ensures.class_account ∙ ap (account_in Class) (c.in-Err-insert.ensures.back ∙ (c.new-loader.ensures.made ∙ ap (λ (p : AccountState × AccountState). new_loader p.0 p.1 c.args.kind) c.in-Ok.ensures.0)))));
+  together = together_again c.self.inside.pool c.close_both.new.self c.self.inside.loaders (c.close_both.ensures ∙ ap (λ (l : Ledger). with_both_closed l c.into_accounts-account.result.0 c.into_accounts-account.result.1) c.in-Ok.ensures.opened.1
+      ∙ ap (λ (a : AccountState). with_both_closed (with_both c.self.inside.pool) a c.into_accounts-account.result.1) (c.into_accounts-account.ensures.account ∙ ap (account_in NonClass) (c.in-Err-insert.ensures.back ∙ (c.new-loader.ensures.made ∙ ap (λ (p : AccountState × AccountState). new_loader p.0 p.1 c.args.kind) c.in-Ok.ensures.opened.0)))
+      ∙ ap (with_both_closed (with_both c.self.inside.pool) (first_account c.self.inside.pool)) (c.into_accounts-account.ensures.class_account ∙ ap (account_in Class) (c.in-Err-insert.ensures.back ∙ (c.new-loader.ensures.made ∙ ap (λ (p : AccountState × AccountState). new_loader p.0 p.1 c.args.kind) c.in-Ok.ensures.opened.0)))) c.committed-in-Err-insert.ensures.sound c.self.invariant.together;
+  policy_is = c.self.invariant.policy_is ∙ ap (λ (l : Ledger). l.limits.policy) (sym (c.close_both.ensures ∙ ap (λ (l : Ledger). with_both_closed l c.into_accounts-account.result.0 c.into_accounts-account.result.1) c.in-Ok.ensures.opened.1
+      ∙ ap (λ (a : AccountState). with_both_closed (with_both c.self.inside.pool) a c.into_accounts-account.result.1) (c.into_accounts-account.ensures.account ∙ ap (account_in NonClass) (c.in-Err-insert.ensures.back ∙ (c.new-loader.ensures.made ∙ ap (λ (p : AccountState × AccountState). new_loader p.0 p.1 c.args.kind) c.in-Ok.ensures.opened.0)))
+      ∙ ap (with_both_closed (with_both c.self.inside.pool) (first_account c.self.inside.pool)) (c.into_accounts-account.ensures.class_account ∙ ap (account_in Class) (c.in-Err-insert.ensures.back ∙ (c.new-loader.ensures.made ∙ ap (λ (p : AccountState × AccountState). new_loader p.0 p.1 c.args.kind) c.in-Ok.ensures.opened.0)))));
 })
 
 pub returns-in-Ok-insert-clause-served : goal.returns-in-Ok-insert-clause-served
-returns-in-Ok-insert-clause-served c = rw (c.in-Ok-insert.ensures.inserted, (c.new-loader.ensures.made ∙ ap (λ (p : AccountState × AccountState). new_loader p.0 p.1 c.args.kind) c.in-Ok.ensures.0), c.in-Ok.ensures.1, ← c.self.view_is) (
+returns-in-Ok-insert-clause-served c = rw (c.in-Ok-insert.ensures.inserted, (c.new-loader.ensures.made ∙ ap (λ (p : AccountState × AccountState). new_loader p.0 p.1 c.args.kind) c.in-Ok.ensures.opened.0), c.in-Ok.ensures.opened.1, ← c.self.view_is) (
   record { unused = missing-mapped (λ (loader : LoaderView). loader.state) c.self.inside.loaders c.args.name (missing (named c.self.inside.loaders c.args.name) (sym c.contains.ensures ∙ c.if-contains.false)); after = machine_made c.self.inside.pool c.self.inside.loaders c.args.name c.args.kind (missing (named c.self.inside.loaders c.args.name) (sym c.contains.ensures ∙ c.if-contains.false)) c.self.invariant.together },
-  machine_is_good (with_both c.self.inside.pool) _ (together_made c.self.inside.pool c.self.inside.loaders c.args.name c.args.kind (missing (named c.self.inside.loaders c.args.name) (sym c.contains.ensures ∙ c.if-contains.false)) c.self.invariant.together (subst IsSoundLedger c.in-Ok.ensures.1 c.committed.ensures.sound) (subst IsSoundView (c.new-loader.ensures.made ∙ ap (λ (p : AccountState × AccountState). new_loader p.0 p.1 c.args.kind) c.in-Ok.ensures.0) c.new-loader.ensures.sound)),
+  machine_is_good (with_both c.self.inside.pool) _ (together_made c.self.inside.pool c.self.inside.loaders c.args.name c.args.kind (missing (named c.self.inside.loaders c.args.name) (sym c.contains.ensures ∙ c.if-contains.false)) c.self.invariant.together (subst IsSoundLedger c.in-Ok.ensures.opened.1 c.committed.ensures.sound) (subst IsSoundView (c.new-loader.ensures.made ∙ ap (λ (p : AccountState × AccountState). new_loader p.0 p.1 c.args.kind) c.in-Ok.ensures.opened.0) c.new-loader.ensures.sound)),
 )
 
 pub returns-in-Err-insert-clause-refused : goal.returns-in-Err-insert-clause-refused
 returns-in-Err-insert-clause-refused c = rw (insert_is_refused c.self.inside.loaders c.args.name c.in-Err-insert.refusal (missing (named c.self.inside.loaders c.args.name) (sym c.contains.ensures ∙ c.if-contains.false)) c.in-Err-insert.ensures.refused, c.in-Err-insert.ensures.unchanged, ← c.self.view_is) (
   (
     missing-mapped (λ (loader : LoaderView). loader.state) c.self.inside.loaders c.args.name (missing (named c.self.inside.loaders c.args.name) (sym c.contains.ensures ∙ c.if-contains.false)),
-    numbers_left c.self.inside.pool c.close_both.new.self c.self.inside.loaders (c.close_both.ensures ∙ ap (λ (l : Ledger). with_both_closed l c.into_accounts-account.result.0 c.into_accounts-account.result.1) c.in-Ok.ensures.1
-        ∙ ap (λ (a : AccountState). with_both_closed (with_both c.self.inside.pool) a c.into_accounts-account.result.1) (c.into_accounts-account.ensures.account ∙ ap (account_in NonClass) (c.in-Err-insert.ensures.back ∙ (c.new-loader.ensures.made ∙ ap (λ (p : AccountState × AccountState). new_loader p.0 p.1 c.args.kind) c.in-Ok.ensures.0)))
-        ∙ ap (with_both_closed (with_both c.self.inside.pool) (first_account c.self.inside.pool)) (c.into_accounts-account.ensures.class_account ∙ ap (account_in Class) (c.in-Err-insert.ensures.back ∙ (c.new-loader.ensures.made ∙ ap (λ (p : AccountState × AccountState). new_loader p.0 p.1 c.args.kind) c.in-Ok.ensures.0)))) c.committed-in-Err-insert.ensures.sound c.self.invariant.together,
+    numbers_left c.self.inside.pool c.close_both.new.self c.self.inside.loaders (c.close_both.ensures ∙ ap (λ (l : Ledger). with_both_closed l c.into_accounts-account.result.0 c.into_accounts-account.result.1) c.in-Ok.ensures.opened.1
+        ∙ ap (λ (a : AccountState). with_both_closed (with_both c.self.inside.pool) a c.into_accounts-account.result.1) (c.into_accounts-account.ensures.account ∙ ap (account_in NonClass) (c.in-Err-insert.ensures.back ∙ (c.new-loader.ensures.made ∙ ap (λ (p : AccountState × AccountState). new_loader p.0 p.1 c.args.kind) c.in-Ok.ensures.opened.0)))
+        ∙ ap (with_both_closed (with_both c.self.inside.pool) (first_account c.self.inside.pool)) (c.into_accounts-account.ensures.class_account ∙ ap (account_in Class) (c.in-Err-insert.ensures.back ∙ (c.new-loader.ensures.made ∙ ap (λ (p : AccountState × AccountState). new_loader p.0 p.1 c.args.kind) c.in-Ok.ensures.opened.0)))) c.committed-in-Err-insert.ensures.sound c.self.invariant.together,
   ),
-  inr (numbers_used c.self.inside.pool c.close_both.new.self c.self.inside.loaders (c.close_both.ensures ∙ ap (λ (l : Ledger). with_both_closed l c.into_accounts-account.result.0 c.into_accounts-account.result.1) c.in-Ok.ensures.1
-      ∙ ap (λ (a : AccountState). with_both_closed (with_both c.self.inside.pool) a c.into_accounts-account.result.1) (c.into_accounts-account.ensures.account ∙ ap (account_in NonClass) (c.in-Err-insert.ensures.back ∙ (c.new-loader.ensures.made ∙ ap (λ (p : AccountState × AccountState). new_loader p.0 p.1 c.args.kind) c.in-Ok.ensures.0)))
-      ∙ ap (with_both_closed (with_both c.self.inside.pool) (first_account c.self.inside.pool)) (c.into_accounts-account.ensures.class_account ∙ ap (account_in Class) (c.in-Err-insert.ensures.back ∙ (c.new-loader.ensures.made ∙ ap (λ (p : AccountState × AccountState). new_loader p.0 p.1 c.args.kind) c.in-Ok.ensures.0)))) c.committed-in-Err-insert.ensures.sound c.self.invariant.together),
+  inr (numbers_used c.self.inside.pool c.close_both.new.self c.self.inside.loaders (c.close_both.ensures ∙ ap (λ (l : Ledger). with_both_closed l c.into_accounts-account.result.0 c.into_accounts-account.result.1) c.in-Ok.ensures.opened.1
+      ∙ ap (λ (a : AccountState). with_both_closed (with_both c.self.inside.pool) a c.into_accounts-account.result.1) (c.into_accounts-account.ensures.account ∙ ap (account_in NonClass) (c.in-Err-insert.ensures.back ∙ (c.new-loader.ensures.made ∙ ap (λ (p : AccountState × AccountState). new_loader p.0 p.1 c.args.kind) c.in-Ok.ensures.opened.0)))
+      ∙ ap (with_both_closed (with_both c.self.inside.pool) (first_account c.self.inside.pool)) (c.into_accounts-account.ensures.class_account ∙ ap (account_in Class) (c.in-Err-insert.ensures.back ∙ (c.new-loader.ensures.made ∙ ap (λ (p : AccountState × AccountState). new_loader p.0 p.1 c.args.kind) c.in-Ok.ensures.opened.0)))) c.committed-in-Err-insert.ensures.sound c.self.invariant.together),
 )
