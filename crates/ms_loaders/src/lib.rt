@@ -16,6 +16,8 @@ mod loader;
 mod loaders;
 mod naming;
 mod system;
+#[cfg(test)]
+mod tests;
 
 pub use loader::Loader;
 pub use loaders::Loaders;
