@@ -27,3 +27,6 @@ pub use ms_base::{Reply, Step};
 pub use replies::{Answer, Replies};
 pub use system::System;
 pub use totals::{LoaderRow, SpaceTotals, Totals};
+
+#[cfg(test)]
+mod tests;
