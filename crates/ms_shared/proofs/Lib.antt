@@ -1,0 +1,2 @@
+pub mod TotalLemmas
+pub mod MeterLemmas
