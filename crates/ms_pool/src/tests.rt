@@ -2,11 +2,11 @@
 //! meant, on chunks, limits and sums worked out by hand. Each test is a table of calls on one pool
 //! and of what they are answered; the calls are those that arenas make. The desk asks again where a
 //! growth is refused, so the tests hold whichever growth is.
+mod accounts;
 mod class_space;
 mod closing;
 mod desk;
 mod growing;
 mod limits;
-mod owners;
 mod policies;
 mod searching;

@@ -44,7 +44,7 @@ pub(super) enum Answer {
 }
 
 /// The accounts, none where one was closed.
-type Places = Vec<Option<Account>>;
+pub(super) type Places = Vec<Option<Account>>;
 
 /// The settings of a pool: its limits, its policy, the nodes of the class space.
 pub(super) fn settings(nodes: u32, max_granules: u64, policy: Policy, class_nodes: u32) -> Settings
@@ -238,7 +238,7 @@ fn take(
 }
 
 /// Takes a chunk, again where a growth is refused.
-fn lend_at_last(
+pub(super) fn lend_at_last(
     pool: &mut Pool,
     account: &mut Account,
     accounts: &Places,
@@ -360,7 +360,7 @@ fn close(rt: &impl Abort, pool: &mut Pool, accounts: &mut Places, place: usize) 
 {
     let account = take_out(rt, pool, accounts, place);
     sees_open(rt, pool, account.space());
-    pool.close(account);
+    ChunkSource::close(pool, account);
     Answer::Done
 }
 
@@ -393,9 +393,12 @@ fn purge(pool: &mut Pool, accounts: &mut Places) -> Answer
     Answer::Count(u64::from(pool.purge()))
 }
 
-fn totals(rt: &impl Abort, pool: &Pool, accounts: &Places, place: usize) -> Answer {
-    match accounts.get(place) {
-        Some(Some(account)) => Answer::Sums(pool.totals(account)),
-        _ => rt.abort(),
-    }
+fn totals(rt: &impl Abort, pool: &mut Pool, accounts: &mut Places, place: usize) -> Answer
+    requires { AreServed pool.old accounts.old.items }
+    ensures { AreServed pool.new accounts.new.items }
+{
+    let account = take_out(rt, pool, accounts, place);
+    let sums = ChunkSource::totals(pool, &account);
+    put_back(pool, accounts, place, account);
+    Answer::Sums(sums)
 }
