@@ -36,3 +36,4 @@ pub mod ParentLemmas
 pub mod ReachLemmas
 pub mod RaisedLemmas
 pub mod GrowingLemmas
+pub mod ServingLemmas

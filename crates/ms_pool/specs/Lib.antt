@@ -8,3 +8,4 @@ pub mod Counting
 pub mod Searching
 pub mod Growing
 pub mod Releasing
+pub mod Serving

@@ -13,6 +13,8 @@ mod lending;
 mod pool;
 mod search;
 mod source;
+#[cfg(test)]
+mod tests;
 mod totals;
 
 pub use account::Account;
