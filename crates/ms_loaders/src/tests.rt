@@ -7,6 +7,7 @@
 ghost use Rattle.std.specs.Prelude.{◌≤◌};
 
 mod calls;
+mod loaders;
 mod rows;
 mod spaces;
 
