@@ -1,5 +1,5 @@
-//! What no clause says: that totals are told where memory is ample, and that they are those of states
-//! worked by hand.
+//! What no clause says: that totals are told where memory is ample, and that they are those of
+//! states worked by hand.
 ghost use Rattle.std.specs.Prelude.{◌≤◌};
 
 use super::{LoaderRow, SpaceTotals};
