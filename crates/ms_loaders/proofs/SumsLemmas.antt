@@ -20,8 +20,10 @@ words_of_run run = run.1
 -- The live words of a loader's space are those of its arena.
 live_is : (a : Inside) → IsLoader a → (space : Space) → live_of (arena_in space a) ≡ live_in space (view_of a).state
 live_is a its space =
-    sum_by-IsPermutation words_of_run (named_runs space a.names.entries) (live_runs (arena_in space a)) (its.matched space)
-    ∙ sym (ap (sum_by words_of_run) (runs_are (contents_in a.arena a.class_arena) a.names.entries space (matches_of a its space)))
+    sum_by-IsPermutation words_of_run (named_runs space a.names.entries) (live_runs (arena_in space a))
+    (its.matched space)
+    ∙ sym (ap (sum_by words_of_run) (runs_are (contents_in a.arena a.class_arena) a.names.entries space
+    (matches_of a its space)))
 
 pub sums_of_arena : (a : Inside) → IsLoader a → (space : Space) (totals : ArenaTotals) → AreSums totals (arena_in space a)
     → AreSumsIn space totals (view_of a).state

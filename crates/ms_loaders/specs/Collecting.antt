@@ -52,7 +52,8 @@ row_made name kind arena class_arena = record {
   live = arena.live + class_arena.live;
 }
 
--- The sums over a space, of those of the pool, whose granules have so many words, and of the loaders.
+-- The sums over a space, of those of the pool, whose granules have so many words, and of the
+-- loaders.
 abbrev pub space_made : PoolSums → ℕ → InUse → SpaceSums
 space_made pool granule_words in_use = record {
   nodes = pool.nodes;

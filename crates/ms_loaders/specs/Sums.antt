@@ -46,8 +46,8 @@ sums_in totals = record {
   rows = map row_in totals.rows.items;
 }
 
--- The totals are the sums over a loader's arena in a space; waste is what is in use and neither live
--- nor a free block.
+-- The totals are the sums over a loader's arena in a space; waste is what is in use and neither
+-- live nor a free block.
 pub record AreSumsIn (space : Space) (totals : ArenaTotals) (loader : LoaderState) : Type 0 where
   pub chunks : totals.chunks ≡ length (arena_of space loader).chunks
   pub capacity : totals.capacity ≡ capacity_of (arena_of space loader).chunks

@@ -1,4 +1,5 @@
-//! What a run of a trace answers: a reply to each command line, and totals where a report was asked.
+//! What a run of a trace answers: a reply to each command line, and totals where a report was
+//! asked.
 use crate::totals::Totals;
 use ms_base::Reply;
 

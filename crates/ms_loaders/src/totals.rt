@@ -71,3 +71,6 @@ pub struct Totals {
     /// A row for each loader, in rising order of name.
     pub rows: Vec<LoaderRow>,
 }
+
+#[cfg(test)]
+mod tests;
