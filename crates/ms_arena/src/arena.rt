@@ -13,7 +13,7 @@
 //! changes nothing, and `free` takes no memory. Stands on `books` for chunks, tops and free blocks
 //! and on `rows` for live blocks. Only `place` and `alloc` take memory; `alloc` waits as its source
 //! does. After HotSpot's metaspaceArena.cpp; best fit and live blocks are this project's choice.
-ghost use Rattle.std.specs.Prelude.{◌≡◌, ◌≢◌, ◌↔◌, ℕ, ◌+◌, ◌<◌, ◌≤◌, None, Err, IfOk, OnOk, IfErr, OnErr, IfSome, IfNone, [], List, length, replicate, true, false};
+ghost use Rattle.std.specs.Prelude.{◌≡◌, ◌≢◌, ◌↔◌, ℕ, ◌+◌, ◌<◌, ◌≤◌, ◌^◌, None, Err, IfOk, OnOk, IfErr, OnErr, IfSome, IfNone, [], List, length, replicate, true, false};
 ghost use Rattle.ms_base.specs.Level.{size_of};
 ghost use Rattle.ms_base.specs.Live.{block_words};
 ghost use Rattle.ms_base.specs.Names.{named};
@@ -163,14 +163,24 @@ impl Arena {
 
     /// Tells how many words are in use: the sum of the tops. Takes no memory, and looks at no chunk.
     pub fn used(&self) -> u64
-        ensures { result ≡ used_of self.now.books }
+        ensures sum { result ≡ used_of self.now.books }
+        ensures small { result < 2 ^ 52 }
     {
         self.books.used()
     }
 
-    /// Tells the sums over the arena. Takes no memory.
+    /// Tells for what kind of loader the arena is. Takes no memory.
+    pub fn kind(&self) -> Kind
+        ensures { result ≡ self.now.kind }
+    {
+        self.kind
+    }
+
+    /// Tells the sums over the arena. Takes no memory, and looks at each chunk and each live and free
+    /// block once.
     pub fn totals(&self) -> ArenaTotals
-        ensures { AreSums result self.now }
+        ensures sums { AreSums result self.now }
+        ensures small { result.capacity < 2 ^ 52 }
     {
         let (capacity, fronts) = sums_of(self.books.account());
         let used = self.books.used();

@@ -1,5 +1,5 @@
 //! Sums over one arena.
-ghost use Rattle.std.specs.Prelude.{◌≡◌};
+ghost use Rattle.std.specs.Prelude.{◌≡◌, ◌+◌, ◌<◌, ◌^◌};
 ghost use Rattle.ms_base.specs.Totals.{capacity_of, fronts_of};
 
 use ms_pool::Account;
@@ -22,12 +22,14 @@ pub struct ArenaTotals {
     pub free_blocks: u64,
     /// Words in use that are in no live and in no free block.
     pub waste: u64,
+    pub ghost balance: { used ≡ live + free_blocks + waste },
 }
 
 /// Tells the words of an account's chunks, and those of their fronts.
 pub fn sums_of(account: &Account) -> (u64, u64)
     ensures capacity { result.0 ≡ capacity_of account.now.chunks }
     ensures fronts { result.1 ≡ fronts_of account.now.chunks }
+    ensures small { result.0 < 2 ^ 52 }
 {
     let mut capacity = 0;
     let mut fronts = 0;

@@ -17,3 +17,6 @@ mod CloseLemmas
 mod UnloadLemmas
 mod UsedLemmas
 mod LoaderLemmas
+mod SumsLemmas
+mod CollectLemmas
+mod TotalsLemmas

@@ -50,7 +50,7 @@ sound-permuted arena live other moved sound = record {
     more = IsPermutation-append_left arena.kept live other moved
 
 -- A loader's blocks lie where its names say.
-runs_are : (contents : Contents) (names : List (ℕ × Block)) (space : Space) → Matches contents names space
+pub runs_are : (contents : Contents) (names : List (ℕ × Block)) (space : Space) → Matches contents names space
     → runs_in space (blocks_of contents names) ≡ named_runs space names
 runs_are contents names space m =
     ap (λ (l : List LiveBlock). filter in_it (map run_of l)) (values-mapped (live_at contents) names) ∙ each (values_of names) (blocks_are_at contents names space m)

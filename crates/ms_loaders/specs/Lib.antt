@@ -5,3 +5,4 @@ pub mod Loaders
 pub mod System
 pub mod SystemInside
 pub mod Sums
+pub mod Collecting

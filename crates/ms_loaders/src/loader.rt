@@ -14,6 +14,7 @@ ghost use Rattle.ms_base.specs.Spaces.{is_in};
 ghost use Rattle.ms_base.specs.Totals.{used_of};
 ghost use Rattle.ms_pool.specs.Account.{AccountState};
 ghost use Rattle.ms_loaders.specs.Loader.{account_in, new_loader, with_state, IsSoundView, AllocatesBlock, HasWord, WritesWord, FreesBlock, LacksWord, LacksName};
+ghost use Rattle.ms_loaders.specs.Sums.{AreSumsIn};
 
 use crate::naming::{Names, enter, settle};
 use ms_arena::{Arena, ArenaTotals};
@@ -208,9 +209,26 @@ impl Loader {
         (self.arena.account(), self.class_arena.account())
     }
 
-    /// Tells how many words are in use, in both spaces: the sum of the tops. Takes no memory.
+    /// Tells what kind of loader it is. Takes no memory.
+    pub fn kind(&self) -> Kind
+        ensures { result ≡ self.now.state.kind }
+    {
+        self.arena.kind()
+    }
+
+    /// Tells the sums over each arena, the class space's last. Takes no memory, and looks at each
+    /// chunk and each live and free block once.
+    pub fn totals(&self) -> (ArenaTotals, ArenaTotals)
+        ensures sums { AreSumsIn NonClass result.0 self.now.state }
+        ensures class_sums { AreSumsIn Class result.1 self.now.state }
+        ensures small { result.0.capacity + result.1.capacity < 2 ^ 53 }
+    {
+        (self.arena.totals(), self.class_arena.totals())
+    }
+
+    /// Tells how many words are in use, in both spaces: the sum of the tops. Takes no memory, and
+    /// looks at no chunk.
     pub fn used(&self) -> u64
-        requires { used_of self.now.state.arena + used_of self.now.state.class_arena < 2 ^ 64 }
         ensures { result ≡ used_of self.now.state.arena + used_of self.now.state.class_arena }
     {
         self.arena.used() + self.class_arena.used()

@@ -13,7 +13,7 @@ use crate::loader::Loader;
 use ms_base::Refusal;
 use std::alloc::Global;
 use std::collections::BTreeMap;
-use std::collections::btree_map::Values;
+use std::collections::btree_map::{Iter, Values};
 use std::marker::Model;
 
 /// Loaders by name. This project's choice; HotSpot's class loader data hang in a list.
@@ -105,5 +105,11 @@ impl Loaders {
         ensures { result ≡ values_of self.now }
     {
         self.by_name.values()
+    }
+    /// Goes over the loaders with their names, in order of name. Takes no memory.
+    pub fn iter(&self) -> Iter<'_, u16, Loader>
+        ensures { result ≡ self.now }
+    {
+        self.by_name.iter()
     }
 }

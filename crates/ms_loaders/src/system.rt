@@ -7,16 +7,19 @@
 //! of every pool. Takes memory for loaders, chunks, blocks and replies; nothing waits.
 ghost use Rattle.std.specs.Prelude.{◌≡◌, ◌≢◌, ◌+◌, ◌↔◌, IfOk, OnOk, OnErr, IfErr, [], Err, length};
 ghost use Rattle.ms_base.specs.State.{empty_machine, limits_of};
-ghost use Rattle.ms_base.specs.Totals.{committed_words, used_words, over_spaces};
+ghost use Rattle.ms_base.specs.Totals.{committed_words, used_words, over_spaces, sums_of};
 ghost use Rattle.ms_base.specs.Good.{IsGood};
 ghost use Rattle.ms_base.specs.Transition.{Transition, LacksLoader};
 ghost use Rattle.ms_base.specs.Run.{Run};
 ghost use Rattle.ms_base.specs.SumLaws.{HoldsNothing};
 ghost use Rattle.ms_loaders.specs.System.{reply_of};
+ghost use Rattle.ms_loaders.specs.Sums.{sums_in};
 
+use crate::collecting::{gather, space_totals};
 use crate::loader::Loader;
 use crate::loaders::Loaders;
-use ms_base::{Kind, Policy, Refusal, Reply, Settings, Step, granule};
+use crate::totals::Totals;
+use ms_base::{Kind, Policy, Refusal, Reply, Settings, Space, Step, granule};
 use ms_pool::Pool;
 use std::alloc::{AllocError, Global};
 use std::marker::Model;
@@ -221,6 +224,24 @@ impl System {
         ensures { result ≡ over_spaces (λ space. committed_words space self.now) }
     {
         self.pool.committed() * granule(self.policy)
+    }
+
+    /// Tells all sums over the system, and a row for each loader in order of name. Takes memory for
+    /// the rows, and fails only where that is refused; looks at each chunk and each live and free
+    /// block once.
+    pub fn totals(&self) -> Result<Totals, AllocError>
+        ensures { IfOk result (λ totals. sums_in totals ≡ sums_of self.now) }
+    {
+        let gathered = gather(self.alloc, &self.loaders)?;
+        let words = granule(self.policy);
+        let pool = self.pool.all_totals(Space::NonClass);
+        let class_pool = self.pool.all_totals(Space::Class);
+        Ok(Totals {
+            loaders: self.loaders.len() as u32,
+            space: space_totals(pool, words, gathered.space),
+            class_space: space_totals(class_pool, words, gathered.class_space),
+            rows: gathered.rows,
+        })
     }
 
     /// Takes one step of the machine: answers what it is done with, or why it is refused, which

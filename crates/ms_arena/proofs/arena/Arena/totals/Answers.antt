@@ -1,9 +1,6 @@
-use Rattle.std.proofs.Common.{◌≡◌, ◌+◌, ◌-◌, ◌∙◌, length, ap, sym, subst, arith}
+use Rattle.std.proofs.Common.{◌∙◌, length, ap, sym, arith}
 use Rattle.ms_base.specs.Totals.{capacity_of, fronts_of}
 use Rattle.ms_pool.specs.Account.{AccountState}
-use Rattle.ms_arena.specs.Arena.{ArenaView}
-use Rattle.ms_arena.specs.declared.totals.ArenaTotals.{ArenaTotals}
-use Rattle.ms_arena.specs.ArenaSums.{AreSums}
 use Rattle.ms_arena.proofs.ArenaLemmas.{within_used}
 use Rattle.ms_arena.proofs.arena.Arena.totals.Goals as goal
 
@@ -22,28 +19,20 @@ overflow_sub-result-2 c =
     let within = within_used c.self.inside.books.state c.self.inside.live.blocks c.self.invariant.sound.books in
     omega (arith, within.fit, c.used-used.ensures.sum, c.words-live.ensures, c.kept_words-free_blocks.ensures)
 
-pub returns : goal.returns
-returns c =
+pub invariant_of-result : goal.invariant_of-result
+invariant_of-result c =
     let within = within_used c.self.inside.books.state c.self.inside.live.blocks c.self.invariant.sound.books in
-    let used = c.used-used.result in
-    let live = c.words-live.result in
-    let kept = c.kept_words-free_blocks.result in
-    let waste : used ≡ live + kept + (used - live - kept) = omega (arith, within.fit, c.used-used.ensures.sum, c.words-live.ensures, c.kept_words-free_blocks.ensures) in
-    let totals : ArenaTotals = record {
-      chunks = c.held.result;
-      capacity = c.sums_of-capacity.result.0;
-      fronts = c.sums_of-capacity.result.1;
-      used = used;
-      live = live;
-      free_blocks = kept;
-      waste = used - live - kept;
-    } in
-    subst (λ (arena : ArenaView). AreSums totals arena) c.self.view_is (record {
+    omega (arith, within.fit, c.used-used.ensures.sum, c.words-live.ensures, c.kept_words-free_blocks.ensures)
+
+pub returns-clause-sums : goal.returns-clause-sums
+returns-clause-sums c =
+    let within = within_used c.self.inside.books.state c.self.inside.live.blocks c.self.invariant.sound.books in
+    rw (← c.self.view_is) (record {
       chunks = c.held.ensures.count ∙ ap (λ (account : AccountState). length account.chunks) c.account-2.ensures.account;
       capacity = c.sums_of-capacity.ensures.capacity ∙ ap (λ (account : AccountState). capacity_of account.chunks) c.account.ensures.account;
       fronts = c.sums_of-capacity.ensures.fronts ∙ ap (λ (account : AccountState). fronts_of account.chunks) c.account.ensures.account;
       used = c.used-used.ensures.sum;
       live = c.words-live.ensures ∙ sym within.same;
       free_blocks = c.kept_words-free_blocks.ensures;
-      waste = waste;
+      waste = omega (arith, within.fit, c.used-used.ensures.sum, c.words-live.ensures, c.kept_words-free_blocks.ensures);
     })

@@ -1,4 +1,4 @@
-use Rattle.std.proofs.Common.{◌≡◌, ◌≤◌, ◌+◌, ◌*◌, ℕ, List, sym, ap, subst, ◌∙◌, arith}
+use Rattle.std.proofs.Common.{◌≡◌, ◌+◌, List, ap, subst, ◌∙◌, arith}
 use Rattle.std.specs.List.{sum_by}
 use Rattle.std.proofs.lemmas.List.Sums.{sum_by-cons}
 use Rattle.ms_base.specs.declared.kind.Space.TheVariants.{NonClass, Class}
@@ -15,11 +15,6 @@ loop-loader-init c = subst (λ (m : Machine). 0 + sum_by used_in_both c.into_ite
   where
     none : (l : List LoaderView) → 0 + sum_by used_in_both l ≡ sum_by used_in_both l
     none l = omega arith
-
-pub used-words-requires : goal.used-words-requires
-used-words-requires c =
-    let all = rw (c.in-Some.ensures.steps, sum_by-cons used_in_both c.in-Some.loader.now c.next.new.self, ← c.self.view_is) at c.loop-loader.invariant in
-    omega (arith, all, used_fits _ (machine_is_good c.self.inside.pool c.self.inside.loaders c.self.invariant.together))
 
 pub overflow_add-words : goal.overflow_add-words
 overflow_add-words c =
