@@ -9,11 +9,13 @@
 //! `ms_loaders`. All three calls take memory; nothing waits.
 #![tactic(auto)]
 
+mod collecting;
 pub mod laws;
 mod layout;
 mod reply_lines;
 mod sections;
 
+pub use collecting::totals;
 pub use reply_lines::lines;
 pub use sections::text;
 

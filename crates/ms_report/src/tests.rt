@@ -2,9 +2,9 @@
 //! byte, and the largest that the limits allow.
 ghost use Rattle.std.specs.Prelude.{◌≡◌, ◌+◌};
 
-use crate::{lines, text};
-use ms_base::{Kind, Refusal, Reply};
-use ms_loaders::{Answer, LoaderRow, Replies, SpaceTotals, Totals};
+use crate::{lines, text, totals};
+use ms_base::{Kind, Refusal, Reply, Settings, Step};
+use ms_loaders::{Answer, LoaderRow, Replies, SpaceTotals, System, Totals};
 use std::alloc::{AllocError, Global};
 use std::process::Abort;
 use std::test::Fail;
@@ -148,6 +148,25 @@ Loaders
 fn one_block_is_reported_byte_for_byte(rt: HostRuntime) -> Result<(), Fail> {
     let totals = of_one_block(rt.alloc())?;
     let report = text(rt.alloc(), &totals)?;
+    assert_eq!(rt; report.as_str(), ONE_BLOCK);
+    Ok(())
+}
+
+#[test]
+fn a_system_is_reported_as_it_is(rt: HostRuntime) -> Result<(), Fail> {
+    let mut system = System::new(rt.alloc(), Settings::DEFAULT)?;
+    let kind = Kind::Standard;
+    let steps = [
+        Step::New { loader: 1, kind },
+        Step::Alloc {
+            loader: 1,
+            block: 1,
+            words: 10,
+        },
+    ];
+    let _ = system.run(&steps)?;
+    let sums = totals(&system)?;
+    let report = text(rt.alloc(), &sums)?;
     assert_eq!(rt; report.as_str(), ONE_BLOCK);
     Ok(())
 }
@@ -459,6 +478,18 @@ fn refusals_are_told_by_their_names(rt: HostRuntime) -> Result<(), Fail> {
     let rows = [
         (Refusal::ZeroWords, "100000 refused ZeroWords\n"),
         (Refusal::TooLarge, "100000 refused TooLarge\n"),
+        (
+            Refusal::CommitLimit {
+                committed: 1,
+                limit: 1,
+                need: 1,
+            },
+            "100000 refused CommitLimit\n",
+        ),
+        (
+            Refusal::ReserveLimit { nodes: 1, limit: 1 },
+            "100000 refused ReserveLimit\n",
+        ),
         (Refusal::NotLive, "100000 refused NotLive\n"),
         (
             Refusal::OutOfRange { words: 4 },
