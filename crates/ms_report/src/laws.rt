@@ -1,0 +1,25 @@
+//! Laws about the layout: what its definitions amount to, each the contract of a function that does
+//! nothing.
+ghost use Rattle.ms_report.specs.LayoutLaws.{NumbersLineUp, LevelsLineUp, LoadersLineUp, ColumnsStandApart};
+
+/// Each line of a label and a number below 10 to the 12th has 26 bytes and a newline.
+pub fn numbers_line_up()
+    ensures { NumbersLineUp }
+{}
+
+/// With at most 655360 chunks held and parts free, each line of a level is as long as the headings: 31
+/// bytes and a newline.
+pub fn levels_line_up()
+    ensures { LevelsLineUp }
+{}
+
+/// With at most 655360 chunks and 83886080 words, each line of a loader is as long as the headings: 57
+/// bytes and a newline.
+pub fn loaders_line_up()
+    ensures { LoadersLineUp }
+{}
+
+/// A number with fewer digits than its column has places never runs together with what stands before.
+pub fn columns_stand_apart()
+    ensures { ColumnsStandApart }
+{}

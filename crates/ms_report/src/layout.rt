@@ -1,0 +1,146 @@
+//! Lines of a report: texts in columns that are filled with spaces.
+//!
+//!     |  committed           8192      a line of a label and a number: 12 places left, 12 right
+//!     |  level   words    held    free      a table's headings ..
+//!     |      0  524288       0       1      .. and a line of it, each cell right in its column
+//!
+//! Kept true: a line is the bytes that `specs/Layout.antt` gives for its texts and numbers. All calls
+//! append to a text, and take memory for it alone.
+ghost use Rattle.std.specs.Prelude.{◌≡◌, ◌≤◌, ◌++◌, OnOk, string_bytes, decimal, replicate, length};
+ghost use Rattle.ms_report.specs.Layout.{number_line, number_lines, right_in, cells, table_line, header, headings};
+ghost use Rattle.ms_report.specs.Cells.{pairs_in, text_of, texts_of};
+
+use itoa::Buffer;
+use std::alloc::AllocError;
+
+/// The places of a label, and of the number beside it.
+const COLUMN: usize = 12;
+
+/// A column of a table: its heading, and its places.
+pub type Column = (&'static str, usize);
+
+/// What stands in a line under a column's heading.
+#[derive(Clone, Copy, Debug)]
+pub enum Cell {
+    Word(&'static str),
+    Number(u64),
+}
+
+/// Appends a number in decimal.
+pub fn push_number(text: &mut String, number: u64) -> Result<(), AllocError>
+    ensures { OnOk result (string_bytes text.new ≡ string_bytes text.old ++ decimal number) }
+{
+    let mut buffer = Buffer::new();
+    text.push_str(buffer.format(number))?;
+    Ok(())
+}
+
+/// Appends so many spaces.
+fn push_spaces(text: &mut String, count: usize) -> Result<(), AllocError>
+    ensures { OnOk result (string_bytes text.new ≡ string_bytes text.old ++ replicate count 32) }
+{
+    for _written in 0..count {
+        text.push(' ')?;
+    }
+    Ok(())
+}
+
+/// Appends a line with a label and a number, each in a column of its own.
+pub fn push_number_line(text: &mut String, label: &str, number: u64) -> Result<(), AllocError>
+    ensures { OnOk result (string_bytes text.new
+        ≡ string_bytes text.old ++ number_line label.now number) }
+{
+    let mut buffer = Buffer::new();
+    let digits = buffer.format(number);
+    text.push_str("  ")?;
+    text.push_str(label)?;
+    push_spaces(text, COLUMN.saturating_sub(label.len()))?;
+    push_spaces(text, COLUMN.saturating_sub(digits.len()))?;
+    text.push_str(digits)?;
+    text.push_str("\n")?;
+    Ok(())
+}
+
+/// Appends a line for each label with its number.
+pub fn push_number_lines(text: &mut String, rows: &[(&'static str, u64)]) -> Result<(), AllocError>
+    ensures { OnOk result (string_bytes text.new
+        ≡ string_bytes text.old ++ number_lines (pairs_in rows.now)) }
+{
+    for (label, number) in rows {
+        push_number_line(text, label, *number)?;
+    }
+    Ok(())
+}
+
+/// Appends a text with spaces before it to so many places.
+fn push_right(text: &mut String, places: usize, word: &str) -> Result<(), AllocError>
+    ensures { OnOk result (string_bytes text.new ≡ string_bytes text.old ++ right_in places word.now) }
+{
+    push_spaces(text, places.saturating_sub(word.len()))?;
+    text.push_str(word)?;
+    Ok(())
+}
+
+/// Appends what stands in a column.
+fn push_cell(text: &mut String, places: usize, cell: Cell) -> Result<(), AllocError>
+    ensures { OnOk result (string_bytes text.new
+        ≡ string_bytes text.old ++ right_in places (text_of cell)) }
+{
+    match cell {
+        Cell::Word(word) => push_right(text, places, word),
+        Cell::Number(number) => {
+            let mut buffer = Buffer::new();
+            push_right(text, places, buffer.format(number))
+        }
+    }
+}
+
+/// Appends a line of a table: a cell in each of its columns.
+pub fn push_table_line(
+    text: &mut String,
+    table: &[Column],
+    contents: &[Cell],
+) -> Result<(), AllocError>
+    requires { length contents.now ≤ length table.now }
+    ensures { OnOk result (string_bytes text.new
+        ≡ string_bytes text.old ++ table_line (pairs_in table.now) (texts_of contents.now)) }
+{
+    text.push_str("  ")?;
+    push_cells(text, table, contents)?;
+    text.push_str("\n")?;
+    Ok(())
+}
+
+/// Appends the cells of a line.
+fn push_cells(text: &mut String, table: &[Column], contents: &[Cell]) -> Result<(), AllocError>
+    requires { length contents.now ≤ length table.now }
+    ensures { OnOk result (string_bytes text.new
+        ≡ string_bytes text.old ++ cells (pairs_in table.now) (texts_of contents.now)) }
+{
+    for (index, cell) in contents.iter().enumerate() {
+        push_cell(text, table[index].1, *cell)?;
+    }
+    Ok(())
+}
+
+/// Appends the line of a table's headings.
+pub fn push_header(text: &mut String, table: &[Column]) -> Result<(), AllocError>
+    ensures { OnOk result (string_bytes text.new
+        ≡ string_bytes text.old ++ header (pairs_in table.now)) }
+{
+    text.push_str("  ")?;
+    push_headings(text, table)?;
+    text.push_str("\n")?;
+    Ok(())
+}
+
+/// Appends the headings of a table, each in its column.
+fn push_headings(text: &mut String, table: &[Column]) -> Result<(), AllocError>
+    ensures { OnOk result (string_bytes text.new
+        ≡ string_bytes text.old ++ headings (pairs_in table.now)) }
+{
+    for (heading, places) in table {
+        push_right(text, *places, heading)?;
+    }
+    Ok(())
+}

@@ -1,0 +1,191 @@
+//! The sections of a report, in their order.
+//!
+//! Metaspace, its numbers, and its chunks by level; the same of the class space, where that has
+//! nodes; a line for each loader. Kept true: the text is the bytes that `specs/Sections.antt` gives
+//! for the totals. `text` takes memory for the text alone.
+ghost use Rattle.std.specs.Prelude.{◌≡◌, ◌++◌, IfOk, OnOk, string_bytes, map};
+ghost use Rattle.ms_loaders.specs.Sums.{sums_in, space_in, row_in};
+ghost use Rattle.ms_report.specs.Layout.{number_lines, space_rows, kind_text, level_table, level_texts, loader_table, loader_lines, loader_texts, table_line};
+ghost use Rattle.ms_report.specs.Sections.{levels_part, main_part, class_part, class_lines, loaders_part, report_text};
+
+use crate::layout::{
+    Cell, Column, push_header, push_number_line, push_number_lines, push_table_line,
+};
+use ms_base::{Kind, Level};
+use ms_loaders::{LoaderRow, SpaceTotals, Totals};
+use std::alloc::{AllocError, Global};
+
+/// The columns of the table of levels.
+const LEVEL_TABLE: [Column; 4] = [("level", 5), ("words", 8), ("held", 8), ("free", 8)];
+
+/// The columns of the table of loaders.
+const LOADER_TABLE: [Column; 6] = [
+    ("name", 5),
+    ("kind", 12),
+    ("chunks", 8),
+    ("capacity", 10),
+    ("used", 10),
+    ("live", 10),
+];
+
+/// Writes the report that shows these totals: the numbers of the whole system and of the space that is
+/// not the class space, its chunks by level, the same of the class space where it has nodes, and a line
+/// for each row. Takes memory for the text; an error means that a growth was refused. This project's
+/// choice.
+pub fn text(alloc: Global, totals: &Totals) -> Result<String, AllocError>
+    ensures { IfOk result (λ text. string_bytes text ≡ report_text (sums_in totals.now)) }
+{
+    let mut text = String::new(alloc);
+    push_report(&mut text, totals)?;
+    Ok(text)
+}
+
+/// Appends the report that shows these totals.
+pub fn push_report(text: &mut String, totals: &Totals) -> Result<(), AllocError>
+    ensures { OnOk result (string_bytes text.new
+        ≡ string_bytes text.old ++ report_text (sums_in totals.now)) }
+{
+    push_main(text, totals)?;
+    push_class(text, &totals.class_space)?;
+    push_loaders(text, totals.rows.as_slice())?;
+    Ok(())
+}
+
+/// Appends the numbers of the whole system, and those of the space that is not the class space.
+fn push_main(text: &mut String, totals: &Totals) -> Result<(), AllocError>
+    ensures { OnOk result (string_bytes text.new
+        ≡ string_bytes text.old ++ main_part (sums_in totals.now)) }
+{
+    text.push_str("Metaspace\n")?;
+    push_number_line(text, "loaders", u64::from(totals.loaders))?;
+    push_space(text, &totals.space)?;
+    text.push_str("Chunks by level\n")?;
+    push_levels(text, &totals.space)?;
+    Ok(())
+}
+
+/// Appends the class space, where it has nodes.
+fn push_class(text: &mut String, space: &SpaceTotals) -> Result<(), AllocError>
+    ensures { OnOk result (string_bytes text.new
+        ≡ string_bytes text.old ++ class_part (space_in space.now)) }
+{
+    if space.nodes == 0 {
+        return Ok(());
+    }
+    push_class_lines(text, space)
+}
+
+/// Appends the numbers of the class space, and its chunks by level.
+fn push_class_lines(text: &mut String, space: &SpaceTotals) -> Result<(), AllocError>
+    ensures { OnOk result (string_bytes text.new
+        ≡ string_bytes text.old ++ class_lines (space_in space.now)) }
+{
+    text.push_str("Class space\n")?;
+    push_space(text, space)?;
+    text.push_str("Class chunks by level\n")?;
+    push_levels(text, space)?;
+    Ok(())
+}
+
+/// Appends the eleven numbers of a space.
+fn push_space(text: &mut String, space: &SpaceTotals) -> Result<(), AllocError>
+    ensures { OnOk result (string_bytes text.new
+        ≡ string_bytes text.old ++ number_lines (space_rows (space_in space.now))) }
+{
+    let rows = [
+        ("nodes", u64::from(space.nodes)),
+        ("reserved", space.reserved),
+        ("granules", space.granules),
+        ("committed", space.committed),
+        ("chunks", u64::from(space.chunks)),
+        ("capacity", space.capacity),
+        ("fronts", space.fronts),
+        ("used", space.used),
+        ("live", space.live),
+        ("free blocks", space.free_blocks),
+        ("waste", space.waste),
+    ];
+    push_number_lines(text, &rows)
+}
+
+/// Appends the table of a space's levels.
+fn push_levels(text: &mut String, space: &SpaceTotals) -> Result<(), AllocError>
+    ensures { OnOk result (string_bytes text.new
+        ≡ string_bytes text.old ++ levels_part (space_in space.now)) }
+{
+    push_header(text, &LEVEL_TABLE)?;
+    for number in 0..13 {
+        let place = usize::from(number);
+        push_level(
+            text,
+            Level::new(number),
+            space.held[place],
+            space.free[place],
+        )?;
+    }
+    Ok(())
+}
+
+/// Appends the line of a level.
+fn push_level(text: &mut String, level: Level, held: u32, free: u32) -> Result<(), AllocError>
+    ensures { OnOk result (string_bytes text.new
+        ≡ string_bytes text.old ++ table_line level_table (level_texts level held free)) }
+{
+    let contents = [
+        Cell::Number(u64::from(level.number())),
+        Cell::Number(level.words()),
+        Cell::Number(u64::from(held)),
+        Cell::Number(u64::from(free)),
+    ];
+    push_table_line(text, &LEVEL_TABLE, &contents)
+}
+
+/// Appends the table of loaders.
+fn push_loaders(text: &mut String, rows: &[LoaderRow]) -> Result<(), AllocError>
+    ensures { OnOk result (string_bytes text.new
+        ≡ string_bytes text.old ++ loaders_part (map row_in rows.now)) }
+{
+    text.push_str("Loaders\n")?;
+    push_header(text, &LOADER_TABLE)?;
+    push_rows(text, rows)?;
+    Ok(())
+}
+
+/// Appends a line for each loader.
+fn push_rows(text: &mut String, rows: &[LoaderRow]) -> Result<(), AllocError>
+    ensures { OnOk result (string_bytes text.new
+        ≡ string_bytes text.old ++ loader_lines (map row_in rows.now)) }
+{
+    for row in rows {
+        push_row(text, row)?;
+    }
+    Ok(())
+}
+
+/// Appends the line of a loader.
+fn push_row(text: &mut String, row: &LoaderRow) -> Result<(), AllocError>
+    ensures { OnOk result (string_bytes text.new
+        ≡ string_bytes text.old ++ table_line loader_table (loader_texts (row_in row.now))) }
+{
+    let contents = [
+        Cell::Number(u64::from(row.name)),
+        Cell::Word(kind_word(row.kind)),
+        Cell::Number(u64::from(row.chunks)),
+        Cell::Number(row.capacity),
+        Cell::Number(row.used),
+        Cell::Number(row.live),
+    ];
+    push_table_line(text, &LOADER_TABLE, &contents)
+}
+
+/// Tells the word of a kind.
+fn kind_word(kind: Kind) -> &'static str
+    ensures { result.now ≡ kind_text kind }
+{
+    match kind {
+        Kind::Standard => "standard",
+        Kind::Boot => "boot",
+        Kind::Reflection => "reflection",
+        Kind::Hidden => "hidden",
+    }
+}
