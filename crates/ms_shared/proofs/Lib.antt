@@ -1,2 +1,7 @@
 pub mod TotalLemmas
 pub mod MeterLemmas
+pub mod EntryLemmas
+pub mod LockLemmas
+pub mod CutLemmas
+pub mod GatherLemmas
+pub mod DealLemmas

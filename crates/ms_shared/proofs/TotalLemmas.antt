@@ -53,6 +53,31 @@ module _ {V : Type 0} where
       let split = sum_by-cons g x xs in let own = total_at g xs seat view at in let here = idle 0 x refl (omega arith) in
       let rest = alone f g xs seat view (λ other. idle (suc other)) at (omega arith) in omega (arith, sum_by-cons f x xs)
 
+  -- What is counted at two places is counted.
+  pub total_two : (f : V → ℕ) (views : List V) (seat other : ℕ) (view w : V) → (seat ≡ other → ⊥) → get_elem? views seat ≡ some view
+      → get_elem? views other ≡ some w
+      → f view + f w ≤ sum_by f views
+  total_two f [] seat other view w differ at at' = absurd (some-ne-none view (sym at))
+  total_two f (x ∷ xs) zero zero view w differ at at' = absurd (differ refl)
+  total_two f (x ∷ xs) zero (suc other) view w differ at at' =
+      let same : f x ≡ f view = ap f (some-injective x view at) in let rest = total_at f xs other w at' in omega (arith, sum_by-cons f x xs)
+  total_two f (x ∷ xs) (suc seat) zero view w differ at at' =
+      let same : f x ≡ f w = ap f (some-injective x w at') in let rest = total_at f xs seat view at in omega (arith, sum_by-cons f x xs)
+  total_two f (x ∷ xs) (suc seat) (suc other) view w differ at at' =
+      let rest = total_two f xs seat other view w (λ q. differ (ap suc q)) at at' in omega (arith, sum_by-cons f x xs)
+
+  -- A view is cut in two, or two become one.
+  pub total_cut : (f : V → ℕ) (views : List V) (seat : ℕ) (view left right : V) → f left + f right ≡ f view → get_elem? views seat ≡ some view
+      → sum_by f (set views seat left ++ right ∷ []) ≡ sum_by f views
+  total_cut f views seat view left right parts at =
+      let one = total-set f views seat view left at in omega (arith, sum_by_push f (set views seat left) right)
+
+  pub total_joined : (f : V → ℕ) (views : List V) (seat other : ℕ) (view w both spent : V) → f both + f spent ≡ f view + f w
+      → get_elem? views seat ≡ some view
+      → get_elem? (set views seat both) other ≡ some w → sum_by f (set (set views seat both) other spent) ≡ sum_by f views
+  total_joined f views seat other view w both spent parts at at' =
+      let one = total-set f views seat view both at in let two = total-set f (set views seat both) other w spent at' in omega arith
+
   -- A sum without the last element.
   pub total_popped : (f : V → ℕ) (old new : List V) (last : V) → old ≡ new ++ last ∷ [] → f last + sum_by f new ≡ sum_by f old
   total_popped f old new last is =

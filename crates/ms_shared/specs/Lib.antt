@@ -1,1 +1,4 @@
 pub mod MeterRule
+pub mod Entries
+pub mod SeatView
+pub mod LockRule

@@ -1,14 +1,22 @@
-//! What threads share: a meter of used words.
+//! What threads share: the pool behind a lock, and a meter of used words.
 //!
 //! Apart because nothing below it waits for a thread, and nothing here knows an arena. Each thread
-//! has a seat, without which it calls nothing, and all seats together are what is shared. Stands on
-//! `atomic_table`, whose single steps keep a rule between them. Nothing here waits.
+//! has a seat of the lock or of the meter, without which it calls nothing; what a seat serves,
+//! counts and adds is its own, and all seats together are what is shared. Stands on `atomic_table`,
+//! whose single steps keep a rule between them, and on `ms_pool`. What takes the lock waits for it,
+//! and nothing else does.
 #![tactic(auto)]
 
+mod lock_rule;
 mod meter_rule;
+mod seat;
+mod shared_pool;
 #[cfg(test)]
 mod tests;
 mod used_meter;
 
+pub use lock_rule::{LimitsView, LockView, SeatView, TalliesView};
 pub use meter_rule::MeterView;
+pub use seat::PoolSeat;
+pub use shared_pool::SharedPool;
 pub use used_meter::{MeterSeat, UsedMeter};

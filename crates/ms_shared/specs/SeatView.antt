@@ -1,0 +1,145 @@
+-- What a seat of the lock knows of the pool, and how callers see seats and lock (this project's
+-- choice).
+use Rattle.std.specs.Prelude.{◌≡◌, ℕ, ◌+◌, ◌-◌, ◌%◌, ◌^◌, ◌≤◌, ◌==◌, cond, List, [], ◌∷◌, ◌++◌, replicate}
+use Rattle.std.specs.List.{All, sum_by}
+use Rattle.std.specs.List.Sorted.{IsPermutation}
+use Rattle.atomic_table.specs.Seated.{TableId}
+use Rattle.ms_base.specs.declared.kind.Space.{Space}
+use Rattle.ms_base.specs.declared.span.Chunk.{Chunk}
+use Rattle.ms_base.specs.Spaces.{by_space}
+use Rattle.ms_base.specs.State.{Limits}
+use Rattle.ms_pool.specs.Account.{AccountState}
+use Rattle.ms_pool.specs.Tallies.{Tallies, no_tallies, one_more}
+use Rattle.ms_pool.specs.Ledger.{Ledger, IsSoundLedger, opened_in}
+use Rattle.ms_shared.specs.Entries.{Has, AreRecords, times, once_given, refreshed, fresh}
+use Rattle.ms_shared.specs.declared.lock_rule.SeatView.{SeatView}
+
+-- The five tallies, each by its name.
+pub data TallyKind : Type 0 where
+  commit_of_take : TallyKind
+  reserve_of_take : TallyKind
+  commit_of_grow : TallyKind
+  room_of_grow : TallyKind
+  ids_of_open : TallyKind
+
+abbrev pub tally_of : TallyKind → Tallies → ℕ
+tally_of commit_of_take tallies = tallies.take_commit
+tally_of reserve_of_take tallies = tallies.take_reserve
+tally_of commit_of_grow tallies = tallies.grow_commit
+tally_of room_of_grow tallies = tallies.grow_room
+tally_of ids_of_open tallies = tallies.open_ids
+
+-- How many open accounts of a space a seat counts.
+abbrev pub opened_by : SeatView → Space → ℕ
+opened_by view space = by_space space view.opened view.class_opened
+
+-- A seat serves an account: the pool's record of its owner, which it knows, has the account's
+-- chunks, in whatever order.
+pub record ServesBy (view : SeatView) (account : AccountState) : Type 0 where
+  pub chunks : List Chunk
+  pub entry : Has view.served account.owner chunks
+  pub same : IsPermutation chunks account.chunks
+
+-- What is true of the pool whenever the seat finds it: what the seat knows of it, and it counts as
+-- many open accounts as the seat does, or more.
+pub record IsKnown (pool : Ledger) (view : SeatView) : Type 0 where
+  pub served : AreRecords pool view.served
+  pub limits : pool.limits ≡ view.limits
+  pub opened : (space : Space) → opened_by view space ≤ opened_in pool space
+
+-- A seat's tally is raised where the pool's has changed.
+abbrev pub raised_with : ℕ → ℕ → ℕ → ℕ
+raised_with before after tally = cond (after == before) tally (one_more tally)
+
+abbrev pub tallies_after : Tallies → Tallies → Tallies → Tallies
+tallies_after before after tallies =
+    record {
+      take_commit = raised_with before.take_commit after.take_commit tallies.take_commit;
+      take_reserve = raised_with before.take_reserve after.take_reserve tallies.take_reserve;
+      grow_commit = raised_with before.grow_commit after.grow_commit tallies.grow_commit;
+      grow_room = raised_with before.grow_room after.grow_room tallies.grow_room;
+      open_ids = raised_with before.open_ids after.open_ids tallies.open_ids;
+    }
+
+-- What a seat knows once it has called the pool: the records of its owners as they are now, of the
+-- owners whose numbers were given out too, and its counts and tallies moved as the pool's have.
+abbrev pub view_after : Ledger → Ledger → SeatView → SeatView
+view_after before after view =
+    record {
+      served = refreshed after view.served ++ fresh after before.given (after.given - before.given);
+      opened = (view.opened + after.opened) - before.opened;
+      class_opened = (view.class_opened + after.class_opened) - before.class_opened;
+      tallies = tallies_after before.tallies after.tallies view.tallies;
+      limits = view.limits;
+    }
+
+-- A seat that knows the limits and no more, and one that knows all of a pool.
+abbrev pub knows_limits : Limits → SeatView
+knows_limits limits = record { served = []; opened = 0; class_opened = 0; tallies = no_tallies; limits = limits }
+
+abbrev pub knows_all : Ledger → SeatView
+knows_all pool =
+    record {
+      served = fresh pool 0 pool.given;
+      opened = pool.opened;
+      class_opened = pool.class_opened;
+      tallies = pool.tallies;
+      limits = pool.limits;
+    }
+
+-- Two seats in one. Tallies aren't reduced, since no machine has them.
+abbrev pub tallies_of_both : Tallies → Tallies → Tallies
+tallies_of_both tallies others =
+    record {
+      take_commit = tallies.take_commit + others.take_commit;
+      take_reserve = tallies.take_reserve + others.take_reserve;
+      grow_commit = tallies.grow_commit + others.grow_commit;
+      grow_room = tallies.grow_room + others.grow_room;
+      open_ids = tallies.open_ids + others.open_ids;
+    }
+
+abbrev pub knows_both : SeatView → SeatView → SeatView
+knows_both view other =
+    record {
+      served = view.served ++ other.served;
+      opened = view.opened + other.opened;
+      class_opened = view.class_opened + other.class_opened;
+      tallies = tallies_of_both view.tallies other.tallies;
+      limits = view.limits;
+    }
+
+-- A lock as its callers see it: which one it is, how many seats it was made with, and the limits of
+-- its pool.
+pub record LockState : Type 0 where
+  pub id : TableId
+  pub seats : ℕ
+  pub limits : Limits
+
+-- A seat: of which lock, and what it knows.
+pub record SeatState : Type 0 where
+  pub id : TableId
+  pub knows : SeatView
+
+-- The seats of a new lock: the first knows all of the pool, the others know its limits alone.
+abbrev pub new_seats : TableId → ℕ → Ledger → List SeatState
+new_seats id made pool =
+    record { id = id; knows = knows_all pool } ∷ replicate (made - 1) (record { id = id; knows = knows_limits pool.limits })
+
+-- All seats of a lock and the pool that it gives out: the records that seats know are the pool's,
+-- each owner number given out is served by one seat, once, and counts and tallies are the sums of the
+-- seats'.
+pub record Gathers (seats : List SeatState) (pool : Ledger) : Type 0 where
+  pub served : All (λ seat. AreRecords pool seat.knows.served) seats
+  pub once : (owner : ℕ) → sum_by (λ seat. times owner seat.knows.served) seats ≡ once_given owner pool.given
+  pub opened : (space : Space) → opened_in pool space ≡ sum_by (λ seat. opened_by seat.knows space) seats
+  pub tallies : (kind : TallyKind) → tally_of kind pool.tallies ≡ sum_by (λ seat. tally_of kind seat.knows.tallies) seats % 2 ^ 64
+
+-- A call over the lock is one event on the pool that the seat finds: by its relation the pool becomes
+-- another, and the seat knows then what its records, counts and tallies have become.
+pub record OverLock (event : Ledger → Ledger → Type 0) (old new : SeatState) : Type 0 where
+  pub before : Ledger
+  pub after : Ledger
+  pub sound : IsSoundLedger before
+  pub known : IsKnown before old.knows
+  pub called : event before after
+  pub left : new ≡ record old { knows = view_after before after old.knows }

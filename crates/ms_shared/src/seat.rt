@@ -1,0 +1,45 @@
+//! A thread's right to call a pool behind a lock.
+//!
+//! A seat serves accounts, counts open ones and has tallies of refusals, all of which contracts alone
+//! see. Kept true: it has both of its parts, and neither slot nor pool. Nothing here takes memory or
+//! waits.
+ghost use Rattle.std.specs.Prelude.{◌≡◌, [], None};
+
+use crate::lock_rule::LockView;
+use atomic_table::Seat;
+use ms_pool::Pool;
+use std::marker::Model;
+
+/// A thread's right to call a pool behind a lock. A seat that is dropped takes what it serves with
+/// it, and its lock can't give the pool out again. This project's choice.
+#[derive(Drop)]
+pub struct PoolSeat {
+    pub(crate) seat: Seat<Option<Pool>, LockView>,
+}
+
+impl Model for PoolSeat {
+    ghost use Rattle.ms_shared.specs.SeatView.{SeatState};
+
+    ghost Value = { SeatState };
+
+    ghost use Rattle.std.specs.Prelude.{◌≡◌, [], None};
+
+    ghost view = { λ seat. record { id = seat.seat.table_id; knows = seat.seat.me.0.knows } };
+
+    ghost invariant = { λ seat. (seat.seat.me.1 ≡ []) × (seat.seat.me.0.parts ≡ 2)
+        × (seat.seat.me.0.taken ≡ None) };
+}
+
+impl PoolSeat {
+    /// Gives the seat of the table out.
+    pub(crate) fn into_table_seat(self) -> Seat<Option<Pool>, LockView>
+        ensures own { result.table_id ≡ self.id }
+        ensures knows { result.me.0.knows ≡ self.knows }
+        ensures parts { result.me.0.parts ≡ 2 }
+        ensures free { result.me.0.taken ≡ None }
+        ensures slots { result.me.1 ≡ [] }
+    {
+        let PoolSeat { seat } = self;
+        seat
+    }
+}
