@@ -57,13 +57,14 @@ pub record IsAskable (p m words : ℕ) : Type 0 where
   pub some : 1 ≤ words
   pub fits : words ≤ size_of m
 
--- A chunk is taken, as the searches pick it: it is the loader's last in that space, its top 0, and
+-- A chunk of a space is taken, as the searches pick it: it is the loader's last there, its top 0, and
 -- the committed granules follow.
 pub record Takes (old : Machine) (space : Space) (name p m words : ℕ) (chunk : Chunk) (new : Machine) : Type 0 where
   pub loader : LoaderState
   pub has : HasLoader old name loader
   pub askable : IsAskable p m words
   pub answer : taken (pool_of space old) p m words ≡ Ok chunk
+  pub inside : IsTrue (is_in space chunk.start)
   pub after : new
       ≡ recommitted (with_slots space (with_loader old name (with_arena space loader (with_chunk (arena_of space loader) chunk)))
       (slots_with (slots_in space old) chunk.start))

@@ -194,6 +194,7 @@ chunk_is_taken = record {
   has = refl;
   askable = record { order = omega arith; least = omega arith; some = omega arith; fits = omega arith };
   answer = refl;
+  inside = refl;
   after = refl;
 }
 

@@ -1,0 +1,5 @@
+-- Steps that are spread over events: their serial order is a run.
+pub mod EntryLemmas
+pub mod KeptLemmas
+pub mod GrownLemmas
+pub mod HappenLemmas
