@@ -3,3 +3,7 @@ pub mod EntryLemmas
 pub mod KeptLemmas
 pub mod GrownLemmas
 pub mod HappenLemmas
+pub mod CauseLemmas
+pub mod StageLemmas
+pub mod BackLemmas
+pub mod AllocLemmas

@@ -49,8 +49,9 @@ IsOwnReply (Refused (ReserveLimit nodes limit)) = ⊥
 IsOwnReply _ = ⊤
 
 -- A request that doesn't need the pool is its local event alone.
-abbrev pub IsAlone : Step → Reply → List (Event × Answer) → Type 0
-IsAlone step reply events = events ≡ (acting step, replied reply) ∷ []
+pub record IsAlone (step : Step) (reply : Reply) (events : List (Event × Answer)) : Type 0 where
+  pub own : IsOwnReply reply
+  pub events_are : events ≡ (acting step, replied reply) ∷ []
 
 -- A New is one opening, with a closing after it where memory is wanting then.
 abbrev pub SpreadsNew : ℕ → Kind → Reply → List (Event × Answer) → Type 0
@@ -89,19 +90,15 @@ pub record PassesOn (space : Space) (name : ℕ) (step : Step) (reply : Reply) (
   pub passed : reply ≡ Refused refusal
   pub events_are : events ≡ (taking space name p m words, refused refusal) ∷ (acting step, replied (Refused refusal)) ∷ []
 
--- It asks for no chunk, and its local event serves or refuses it.
-pub record AsksNone (step : Step) (reply : Reply) (events : List (Event × Answer)) : Type 0 where
-  pub own : IsOwnReply reply
-  pub alone : IsAlone step reply events
-
 -- No growth was asked for, or one that was refused.
 pub data HasNoSpan (space : Space) (name : ℕ) : List (Event × Answer) → Type 0 where
   not_asked : HasNoSpan space name []
   not_had : (start total : ℕ) (enlarges : Bool) (refusal : Refusal) → HasNoSpan space name ((growing space name start total enlarges, refused refusal) ∷ [])
 
--- What comes of an allocation where no growth was had: at most one chunk is asked for.
+-- What comes of an allocation where no growth was had: a chunk is asked for, or none is, and its
+-- local event serves or refuses it.
 abbrev pub GoesOn : Space → ℕ → Step → Reply → List (Event × Answer) → Type 0
-GoesOn space name step reply events = TakesFirst space name step reply events ⊎ PassesOn space name step reply events ⊎ AsksNone step reply events
+GoesOn space name step reply events = TakesFirst space name step reply events ⊎ PassesOn space name step reply events ⊎ IsAlone step reply events
 
 -- Where no growth was had, what comes after.
 pub record GoesOnAfter (space : Space) (name : ℕ) (step : Step) (reply : Reply) (events : List (Event × Answer)) : Type 0 where

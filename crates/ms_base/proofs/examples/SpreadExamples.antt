@@ -141,7 +141,7 @@ growth_is_enough (inr on) = by_asked on.no_span on.events_are
     by_rest : {rest : List (Event × Answer)} → GoesOn NonClass 1 (Alloc 1 1 10) (At 512) rest → both ≡ rest → ⊥
     by_rest (inl takes) e = let kinds = ap (map is_taking) (e ∙ takes.events_are) in absurd (cc)
     by_rest (inr (inl passes)) e = let kinds = ap (map is_taking) (e ∙ passes.events_are) in absurd (cc)
-    by_rest (inr (inr none)) e = let kinds = ap (map is_acting) (e ∙ none.alone) in absurd (cc)
+    by_rest (inr (inr none)) e = let kinds = ap (map is_acting) (e ∙ none.events_are) in absurd (cc)
 
     by_asked : {asked : List (Event × Answer)} → HasNoSpan NonClass 1 asked → both ≡ asked ++ on.rest → ⊥
     by_asked not_asked e = by_rest on.goes_on e
