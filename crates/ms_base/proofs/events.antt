@@ -7,3 +7,4 @@ pub mod CauseLemmas
 pub mod StageLemmas
 pub mod BackLemmas
 pub mod AllocLemmas
+pub mod AskLemmas

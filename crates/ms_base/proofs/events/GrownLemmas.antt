@@ -50,7 +50,7 @@ set_before [] last place was chunk found = absurd (cc)
 set_before (c ∷ xs) last zero was chunk found = refl
 set_before (c ∷ xs) last (suc place) was chunk found = ap (λ (l : List Chunk). c ∷ l) (set_before xs last place was chunk found)
 
-set_same : (xs : List Chunk) (place : ℕ) (chunk : Chunk) → slice_get xs place ≡ Some chunk → slice_set xs place chunk ≡ xs
+pub set_same : (xs : List Chunk) (place : ℕ) (chunk : Chunk) → slice_get xs place ≡ Some chunk → slice_set xs place chunk ≡ xs
 set_same [] place chunk found = absurd (cc)
 set_same (c ∷ xs) zero chunk found = let its : chunk ≡ c = cc in ap (λ (d : Chunk). d ∷ xs) its
 set_same (c ∷ xs) (suc place) chunk found = ap (λ (l : List Chunk). c ∷ l) (set_same xs place chunk found)
@@ -60,9 +60,38 @@ is_there [] place chunk found = absurd (cc)
 is_there (c ∷ xs) zero chunk found = (0, omega arith, cc)
 is_there (c ∷ xs) (suc place) chunk found = let rest = is_there xs place chunk found in (suc rest.0, omega (arith, rest.1), rest.2)
 
-same_arena : (space : Space) (loader : LoaderState) → with_arena space loader (arena_of space loader) ≡ loader
+pub same_arena : (space : Space) (loader : LoaderState) → with_arena space loader (arena_of space loader) ≡ loader
 same_arena NonClass loader = refl
 same_arena Class loader = refl
+
+-- It is one that the pool holds.
+module _ (space : Space) (old : Machine) (name start total : ℕ) (may_enlarge : Bool) (chunk : Chunk) (new : Machine) (good : IsGood old) (grows : Grows old space name start total may_enlarge chunk new) where
+  abbrev split : Split old.loaders name grows.loader
+  split = split_at old.loaders name grows.loader grows.asked.has
+
+  abbrev first : List Chunk
+  first = chunks_held space split.before
+
+  abbrev last : List Chunk
+  last = chunks_held space split.after
+
+  abbrev own : List Chunk
+  own = (arena_of space grows.loader).chunks
+
+  abbrev place : ℕ
+  place = length first + grows.place
+
+  held_was : chunks_held space old.loaders ≡ first ++ (own ++ last)
+  held_was = ap (chunks_held space) split.is ∙ chunks_split space split.before split.after name grows.loader
+
+  at_place : slice_get (chunks_held space old.loaders) place ≡ Some grows.was
+  at_place = ap (λ (l : List Chunk). slice_get l place) held_was ∙ found_later first (own ++ last) grows.place ∙ found_before own last grows.place grows.was grows.asked.found
+
+  is_held : Contains (chunks_held space old.loaders) grows.was
+  is_held = is_there (chunks_held space old.loaders) place grows.was at_place
+
+  pub grows_well : GrowsWell (pool_of space old) grows.was chunk total
+  grows_well = growing_keeps_the_limit (pool_of space old) grows.was chunk total may_enlarge (good.pools space) is_held grows.answer
 
 -- A chunk that grows leaves a good state: it stays, or it is a greater one of this loader's.
 pub good_with_greater : (space : Space) (old : Machine) (name start total : ℕ) (may_enlarge : Bool) (chunk : Chunk) (new : Machine) → IsGood old
@@ -74,7 +103,7 @@ good_with_greater space old name start total may_enlarge chunk new good grows = 
       (ap (λ (one : ArenaState). one.chunks) (arena_there space loader greater))
       (ap (λ (one : ArenaState). one.chunks) (arena_elsewhere space loader greater))
       (sound_with_arena space loader greater (grown_is_sound arena (runs_in space loader.blocks) grows.place grows.was chunk grows.asked.found more.start (omega (arith, more.front)) (sound.arenas space)) sound)
-      well.placed well.front_rule more.start (growing_is_clear pool grows.was chunk total may_enlarge (good.pools space) held grows.answer)
+      well.placed well.front_rule more.start (growing_is_clear pool grows.was chunk total may_enlarge (good.pools space) (is_held space old name start total may_enlarge chunk new good grows) grows.answer)
       (few more) good)
 ])
   where
@@ -93,38 +122,29 @@ good_with_greater space old name start total may_enlarge chunk new good grows = 
     pool : PoolState
     pool = pool_of space old
 
+    around : Split old.loaders name loader
+    around = split space old name start total may_enlarge chunk new good grows
+
+    before : List Chunk
+    before = chunks_held space around.before
+
+    after : List Chunk
+    after = chunks_held space around.after
+
+    there : ℕ
+    there = length before + grows.place
+
     sound : IsSoundLoader loader
     sound = loader_is_sound old name loader grows.asked.has good
 
-    split : Split old.loaders name loader
-    split = split_at old.loaders name loader grows.asked.has
-
-    first : List Chunk
-    first = chunks_held space split.before
-
-    last : List Chunk
-    last = chunks_held space split.after
-
-    was : chunks_held space old.loaders ≡ first ++ (arena.chunks ++ last)
-    was = ap (chunks_held space) split.is ∙ chunks_split space split.before split.after name loader
-
-    place : ℕ
-    place = length first + grows.place
-
-    at : slice_get (chunks_held space old.loaders) place ≡ Some grows.was
-    at = ap (λ (l : List Chunk). slice_get l place) was ∙ found_later first (arena.chunks ++ last) grows.place ∙ found_before arena.chunks last grows.place grows.was grows.asked.found
-
-    now : chunks_held space (with_changed old.loaders name other) ≡ slice_set (chunks_held space old.loaders) place chunk
-    now = ap (chunks_held space) (split.changed other) ∙ chunks_split space split.before split.after name other
-        ∙ ap (λ (one : ArenaState). first ++ (one.chunks ++ last)) (arena_there space loader greater)
-        ∙ sym (ap (λ (l : List Chunk). slice_set l place chunk) was ∙ set_later first (arena.chunks ++ last) grows.place chunk
-        ∙ ap (λ (l : List Chunk). first ++ l) (set_before arena.chunks last grows.place grows.was chunk grows.asked.found))
-
-    held : Contains (chunks_held space old.loaders) grows.was
-    held = is_there (chunks_held space old.loaders) place grows.was at
+    now : chunks_held space (with_changed old.loaders name other) ≡ slice_set (chunks_held space old.loaders) there chunk
+    now = ap (chunks_held space) (around.changed other) ∙ chunks_split space around.before around.after name other
+        ∙ ap (λ (one : ArenaState). before ++ (one.chunks ++ after)) (arena_there space loader greater)
+        ∙ sym (ap (λ (l : List Chunk). slice_set l there chunk) (held_was space old name start total may_enlarge chunk new good grows) ∙ set_later before (arena.chunks ++ after) grows.place chunk
+        ∙ ap (λ (l : List Chunk). before ++ l) (set_before arena.chunks after grows.place grows.was chunk grows.asked.found))
 
     well : GrowsWell pool grows.was chunk total
-    well = growing_keeps_the_limit pool grows.was chunk total may_enlarge (good.pools space) held grows.answer
+    well = grows_well space old name start total may_enlarge chunk new good grows
 
     unchanged : chunk ≡ grows.was → recommitted (with_loader old name other) ≡ old
     unchanged same =
@@ -134,8 +154,8 @@ good_with_greater space old name start total may_enlarge chunk new good grows = 
         ∙ ap (λ (l : List (ℕ × LoaderState)). recommitted (record old { loaders = l })) (set_value_same (is_at (nat_cmp name)) old.loaders loader grows.asked.has)
         ∙ recommitted_same old good
 
-    count : IsGrown grows.was chunk → length (committed_now (with_grown pool place chunk)) ≡ length (committed_in space old) + granules_missing pool chunk
-    count more = growing_commits_the_missing pool place grows.was chunk (good.pools space) at more well.placed well.front_rule.within
+    count : IsGrown grows.was chunk → length (committed_now (with_grown pool there chunk)) ≡ length (committed_in space old) + granules_missing pool chunk
+    count more = growing_commits_the_missing pool there grows.was chunk (good.pools space) (at_place space old name start total may_enlarge chunk new good grows) more well.placed well.front_rule.within
 
     few : IsGrown grows.was chunk → length (committed_now (pool_of space (changed space old name other (slots_in space old)))) + length (committed_in (other_space space) old) ≤ old.limits.granules
     few more = omega (
