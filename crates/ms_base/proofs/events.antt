@@ -8,3 +8,5 @@ pub mod StageLemmas
 pub mod BackLemmas
 pub mod AllocLemmas
 pub mod AskLemmas
+pub mod LocalLemmas
+pub mod OwedLemmas

@@ -42,7 +42,7 @@ twice : (space : Space) (loader : LoaderState) (first second : ArenaState) (bloc
 twice NonClass loader first second block made = refl
 twice Class loader first second block made = refl
 
-served_in : (space : Space) (old : Machine) (name block words start : ℕ) (new : Machine) → Allocates old space name block words start new → IsGood new
+pub served_in : (space : Space) (old : Machine) (name block words start : ℕ) (new : Machine) → Allocates old space name block words start new → IsGood new
     → Transition old (alloc_in space name block words) (At start) new
 served_in NonClass old name block words start new allocates good = (allocates, good)
 served_in Class old name block words start new allocates good = (allocates, good)
