@@ -10,3 +10,4 @@ pub mod AllocLemmas
 pub mod AskLemmas
 pub mod LocalLemmas
 pub mod OwedLemmas
+pub mod OpenLemmas
