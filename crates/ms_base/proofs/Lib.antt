@@ -5,3 +5,4 @@ pub mod free
 pub mod granules
 pub mod machine
 pub mod arena
+pub mod events

@@ -7,3 +7,4 @@ pub mod AloneExamples
 pub mod ArenaExamples
 pub mod StepExamples
 pub mod MachineExamples
+pub mod SpreadExamples

@@ -39,3 +39,7 @@ pub mod LevelLaws
 pub mod SumLaws
 pub mod BlockLaws
 pub mod WordLaws
+-- steps spread over events, and their serial order
+pub mod Event
+pub mod Spread
+pub mod Serial
