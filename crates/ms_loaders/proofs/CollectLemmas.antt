@@ -1,6 +1,6 @@
 -- A walk over loaders that adds up what each holds, and makes its row: what is added so far and what
 -- is left come to the whole. `gather` uses these.
-use Rattle.std.proofs.Common.{◌≡◌, ◌<◌, ◌+◌, ◌^◌, ℕ, List, [], ◌∷◌, ◌++◌, map, refl, ap, ◌∙◌, arith, inl, inr}
+use Rattle.std.proofs.Common.{◌≡◌, ◌+◌, ℕ, List, [], ◌∷◌, ◌++◌, map, refl, ap, ◌∙◌, arith, inl, inr}
 use Rattle.std.specs.List.{filter, sum_by}
 use Rattle.std.specs.Map.{values_of}
 use Rattle.std.proofs.lemmas.List.{map-append, append_assoc}
@@ -14,7 +14,7 @@ use Rattle.ms_base.specs.Totals.{LoaderRow, live_in, row_of}
 use Rattle.ms_base.proofs.arena.BlockLemmas.{not_in_other}
 use Rattle.ms_arena.specs.declared.totals.ArenaTotals.{ArenaTotals}
 use Rattle.ms_loaders.specs.Sums.{AreSumsIn, row_in}
-use Rattle.ms_loaders.specs.Collecting.{AreFew, AreInUse, chunks_in, used_in, kept_in, row_made}
+use Rattle.ms_loaders.specs.Collecting.{chunks_in, used_in, kept_in, row_made}
 use Rattle.ms_loaders.specs.declared.in_use.InUse.{InUse}
 use Rattle.ms_loaders.specs.declared.totals.LoaderRow.{LoaderRow as Row}
 use Rattle.ms_loaders.proofs.MatchLemmas.{where_is}
@@ -72,38 +72,7 @@ pub record Leads (space : Space) (sums : InUse) (left all : List (ℕ × LoaderS
   pub live : sums.live + sum_by (live_in space) (values_of left) ≡ sum_by (live_in space) (values_of all)
   pub free_blocks : sums.free_blocks + sum_by (kept_in space) (values_of left) ≡ sum_by (kept_in space) (values_of all)
 
--- At the start nothing is added, and at the end nothing is left.
-pub leads_first : (space : Space) (sums : InUse) (all : List (ℕ × LoaderState)) → sums.chunks ≡ 0 → sums.used ≡ 0
-    → sums.live ≡ 0 → sums.free_blocks ≡ 0 → Leads space sums all all
-leads_first space sums all chunks used live free_blocks = record {
-  chunks = omega (arith, chunks);
-  used = omega (arith, used);
-  live = omega (arith, live);
-  free_blocks = omega (arith, free_blocks);
-}
-
-pub leads_last : (space : Space) (sums : InUse) (all : List (ℕ × LoaderState)) → Leads space sums [] all
-    → AreInUse space sums all
-leads_last space sums all so_far = record {
-  chunks = omega (arith, so_far.chunks);
-  used = omega (arith, so_far.used);
-  live = omega (arith, so_far.live);
-  free_blocks = omega (arith, so_far.free_blocks);
-}
-
--- The next loader's arena can be added.
-pub record Fits (sums : InUse) (arena : ArenaTotals) : Type 0 where
-  pub chunks : sums.chunks + arena.chunks < 2 ^ 31
-  pub used : sums.used + arena.used < 2 ^ 63
-
-pub next_fits : (space : Space) (sums : InUse) (arena : ArenaTotals) (name : ℕ) (loader : LoaderState)
-    (left all : List (ℕ × LoaderState)) → Leads space sums ((name, loader) ∷ left) all → AreFew all → AreSumsIn space arena loader → Fits sums arena
-next_fits space sums arena name loader left all so_far few its = record {
-  chunks = omega (arith, so_far.chunks, sum_by-cons (chunks_in space) loader (values_of left), its.chunks, few.chunks space);
-  used = omega (arith, so_far.used, sum_by-cons (used_in space) loader (values_of left), its.used, few.words space);
-}
-
--- Once it is added, the others are left.
+-- Once the next loader's arena is added, the others are left.
 pub leads_on : (space : Space) (sums new : InUse) (arena : ArenaTotals) (name : ℕ) (loader : LoaderState)
     (left all : List (ℕ × LoaderState)) → Leads space sums ((name, loader) ∷ left) all → AreSumsIn space arena loader
     → new.chunks ≡ sums.chunks + arena.chunks → new.used ≡ sums.used + arena.used → new.live ≡ sums.live + arena.live

@@ -36,6 +36,7 @@ held_are space (e ∷ es) = omega (
   held_are space es,
 )
 
+-- There are as many states as loaders.
 pub as_many : (loaders : List (ℕ × LoaderView)) → length loaders ≡ length (states_of loaders)
 as_many [] = refl
 as_many (e ∷ es) = ap suc (as_many es)
