@@ -3,6 +3,8 @@ pub mod SearchLemmas
 pub mod RootLemmas
 pub mod FreeRootLemmas
 pub mod EnoughLemmas
+pub mod NextFreeLemmas
+pub mod BySizeLemmas
 pub mod EmptyLemmas
 pub mod SlotLoopLemmas
 pub mod CountLemmas

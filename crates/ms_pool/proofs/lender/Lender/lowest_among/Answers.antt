@@ -7,7 +7,7 @@ use Rattle.ms_pool.specs.Keeping.{ledger_of}
 use Rattle.ms_pool.specs.Searching.{first_at, first_in_slot, grants}
 use Rattle.ms_pool.proofs.SearchLemmas.{find_end, find_step, found_here, found_later}
 use Rattle.ms_pool.proofs.SlotLoopLemmas.{end_slot, first_slot, given_by, parts_by_slots}
-use Rattle.ms_pool.proofs.lender.Lender.lowest_free.Goals as goal
+use Rattle.ms_pool.proofs.lender.Lender.lowest_among.Goals as goal
 
 pub loop-slot-init : goal.loop-slot-init
 loop-slot-init c =

@@ -6,7 +6,7 @@ use Rattle.ms_pool.specs.Ledger.{held_in, state_in}
 use Rattle.ms_pool.specs.Keeping.{ledger_of}
 use Rattle.ms_pool.specs.Searching.{grants}
 use Rattle.ms_pool.proofs.SlotLoopLemmas.{first_slot, end_slot, given_by}
-use Rattle.ms_pool.proofs.lender.Lender.lowest_free.Given as goal
+use Rattle.ms_pool.proofs.lender.Lender.lowest_among.Given as goal
 
 -- What is found first lies in the slots that are left.
 abbrev pub invariant-loop-slot : goal.invariant-loop-slot
