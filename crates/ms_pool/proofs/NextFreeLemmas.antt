@@ -1,16 +1,15 @@
 -- The free leaves of a level in a root, one after the other: the first that passes a test is found by
 -- asking for the next one, from the start on and then past each that fails it.
-use Rattle.std.proofs.Common.{◌≡◌, ◌<◌, ◌≤◌, ℕ, ◌+◌, ◌*◌, Bool, true, false, cond, not, ◌&&◌, ◌||◌, ◌==◌, List, [], ◌∷◌, ◌++◌, length, get_or, map, refl, sym, ap, subst, ◌∙◌, arith, Option, Some, None}
+use Rattle.std.proofs.Common.{◌≡◌, ◌<◌, ◌≤◌, ℕ, ◌+◌, ◌*◌, Bool, true, false, cond, not, ◌&&◌, ◌||◌, ◌==◌, List, [], ◌∷◌, ◌++◌, get_or, map, refl, sym, ap, subst, ◌∙◌, arith, Option, Some, None}
 use Rattle.std.specs.Prelude.{nat_le}
 use Rattle.std.specs.List.{AllByRecursion, find}
 use Rattle.std.specs.List.Sorted.{IsStrictlyIncreasing, IsStrictlySortedBy}
 use Rattle.std.specs.Ordering.{nat_cmp}
 use Rattle.std.specs.declared.cmp.Ordering.TheVariants.{Less}
 use Rattle.std.proofs.lemmas.Bool.Decides.{nat_tests}
-use Rattle.std.proofs.lemmas.List.{get_or_read}
 use Rattle.std.proofs.lemmas.Map.Keys.{sorted_from_strictly_increasing}
 use Rattle.ms_base.specs.declared.span.Span.{Span}
-use Rattle.ms_base.specs.Level.{size_of, root_words}
+use Rattle.ms_base.specs.Level.{root_words}
 use Rattle.ms_base.specs.FreeLaws.{start_of}
 use Rattle.ms_base.specs.FreeParts.{free_parts, free_within}
 use Rattle.ms_base.proofs.free.RisingLemmas.{free_parts_rise}
@@ -180,9 +179,9 @@ pub record IsTurn (trees : List (List LentLeaf)) (root level from : ℕ) (leaf :
   pub found : find (is_of_from level from) (free_of (get_or trees root [])) ≡ Some leaf
   pub next : IsNext level from leaf
 
-pub at_turn : (trees : List (List LentLeaf)) (root level from : ℕ) (tree : List LentLeaf) (next : Option Span) (leaf : Span) → root < length trees → tree ≡ get_or trees root tree
+pub at_turn : (trees : List (List LentLeaf)) (root level from : ℕ) (tree : List LentLeaf) (next : Option Span) (leaf : Span) → tree ≡ get_or trees root []
     → next ≡ find (is_of_from level from) (free_of tree) → next ≡ Some leaf → IsTurn trees root level from leaf
-at_turn trees root level from tree next leaf there read is some =
+at_turn trees root level from tree next leaf read is some =
     let found : find (is_of_from level from) (free_of (get_or trees root [])) ≡ Some leaf =
-    sym (is ∙ ap (λ (t : List LentLeaf). find (is_of_from level from) (free_of t)) (get_or_read trees root tree there read [])) ∙ some in
+    sym (is ∙ ap (λ (t : List LentLeaf). find (is_of_from level from) (free_of t)) read) ∙ some in
     record { found = found; next = is_next level from (free_of (get_or trees root [])) leaf (free_lie_in (get_or trees root [])) found }

@@ -14,6 +14,7 @@ mod pool;
 mod search;
 mod source;
 mod totals;
+mod trees;
 
 pub use account::Account;
 pub use pool::Pool;

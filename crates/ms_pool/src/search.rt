@@ -8,8 +8,10 @@
 //!
 //! The first that finds a part decides; within a level the lowest address comes first. Where none
 //! does, the lower root of a new node is taken. `lowest_free` alone decides whether the mask of
-//! granules has to be asked, and `lowest_in_root` alone looks for leaves, down one path of a tree.
-//! Nothing here takes memory. After HotSpot's chunkManager.cpp; the order is this project's choice.
+//! granules has to be asked; the index of `trees` tells the roots, and `lowest_in_root` alone looks
+//! for leaves, down one path of a tree. So what a search costs doesn't grow with the chunks that are
+//! lent or free, but under policy none with the larger free parts of a level. Nothing here takes
+//! memory. After HotSpot's chunkManager.cpp; the order is this project's choice.
 ghost use Rattle.std.specs.Prelude.{◌≡◌, ◌+◌, ◌-◌, ◌*◌, ◌/◌, ◌<◌, ◌≤◌, ◌^◌, ◌||◌, not, [], length, get_or, min};
 ghost use Rattle.ms_base.specs.Level.{root_words, size_of};
 ghost use Rattle.ms_base.specs.Policy.{granule_of};
@@ -146,7 +148,8 @@ impl Lender {
         self.lowest_among(wish, level)
     }
 
-    /// Finds the lowest free part of a level that grants the wish, from root to root.
+    /// Finds the lowest free part of a level that grants the wish, in the roots that have one of the
+    /// level. A root that isn't reserved is whole, so at level 0 a slot may be passed over.
     fn lowest_among(&self, wish: Wish, level: Level) -> Option<Span>
         requires kept { IsKept self.now }
         requires fits { wish.words ≤ size_of level }
@@ -154,10 +157,16 @@ impl Lender {
             ≡ first_at (state_in wish.space (ledger_of self.now)) wish.words wish.committed level }
     {
         let (first, end) = self.slots_of(wish.space);
-        for slot in first..end {
-            if let Some(part) = self.lowest_in_slot(slot, wish, level) {
+        let mut slot = first;
+        while let Some(root) = self
+            .trees
+            .next_root(level, 2 * slot as usize, 2 * end as usize)
+        {
+            let here = (root / 2) as u32;
+            if let Some(part) = self.lowest_in_slot(here, wish, level) {
                 return Some(part);
             }
+            slot = here + 1;
         }
         None
     }
@@ -207,7 +216,7 @@ impl Lender {
     {
         let base = root as u64 * ROOT_WORDS;
         let mut from = 0;
-        while let Some(leaf) = self.trees[root].next_free(level, from) {
+        while let Some(leaf) = self.trees.tree(root).next_free(level, from) {
             let start = leaf.start + base;
             if self.is_enough(start, wish) {
                 return Some(Span { start, level });
