@@ -1,7 +1,7 @@
 -- A part lies in one free leaf of two halves exactly where it does of the half where it lies, and
 -- its leaf takes its place there. For carving.
 use Rattle.std.proofs.Common.{◌≡◌, ◌<◌, ◌≤◌, ℕ, ◌+◌, Bool, true, false, cond, ◌&&◌, ◌||◌, List, [], ◌∷◌, ◌++◌, refl, sym, ap, subst, ◌∙◌, inl, inr, arith}
-use Rattle.std.specs.Prelude.{nat_le, nat_lt, IsTrue, IsFalse, Result, Ok, Err, IfErr}
+use Rattle.std.specs.Prelude.{nat_le, nat_lt, IsTrue, IsFalse}
 use Rattle.std.specs.List.{AllByRecursion, list_any}
 use Rattle.std.proofs.lemmas.List.Folds.{list_any-append}
 use Rattle.std.proofs.lemmas.Bool.Decides.{nat_tests}
@@ -130,11 +130,6 @@ pub same_refusal : (part : Span) (free other : List Span) → fits_in part other
 same_refusal part free other e f (NoRoom level) h = (h.0, e ∙ h.1)
 same_refusal part free other e f OutOfMemory h = (e ∙ h.0, f ∙ h.1)
 same_refusal part free other e f _ h = absurd h
-
-pub refused_alike : (part : Span) (free other : List Span) (result : Result (Unit {0}) Refusal) → fits_in part other ≡ fits_in part free → list_any (is_same part) other ≡ list_any (is_same part) free
-    → IfErr result (λ refusal. IsCarveRefusal part free refusal) → IfErr result (λ refusal. IsCarveRefusal part other refusal)
-refused_alike part free other (Ok unit) e f h = tt
-refused_alike part free other (Err refusal) e f h = same_refusal part free other e f refusal h
 
 -- A leaf takes its place before all that start past it, and after all that start before it.
 leaf_before : (added : LentLeaf) (middle high : ℕ) (ys : List LentLeaf) → added.start < middle → AllByRecursion (LeafIn middle high) ys → with_leaf added ys ≡ added ∷ ys

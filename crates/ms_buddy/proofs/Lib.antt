@@ -6,3 +6,4 @@ pub mod CarveLemmas
 pub mod EnlargeLemmas
 pub mod StackLemmas
 pub mod KeptLemmas
+pub mod LevelLemmas

@@ -1,7 +1,7 @@
 -- A split and its halves: what is asked of a node is asked of the half where the part is, and what
 -- happens to the half happens to the node. For each walk down the tree.
 use Rattle.std.proofs.Common.{◌≡◌, ◌<◌, ◌≤◌, ℕ, ◌+◌, ◌-◌, Bool, true, false, not, cond, ◌&&◌, ◌||◌, List, [], ◌∷◌, ◌++◌, Option, Some, None, refl, sym, ap, subst, ◌∙◌, arith}
-use Rattle.std.specs.Prelude.{◌==◌, nat_le, nat_lt, IsTrue, IsFalse, IfSome, Result, Ok, Err, OnOk}
+use Rattle.std.specs.Prelude.{◌==◌, nat_le, nat_lt, IsTrue, IsFalse, IfSome}
 use Rattle.std.specs.List.{AllByRecursion, find}
 use Rattle.std.proofs.lemmas.List.{map-append}
 use Rattle.std.proofs.lemmas.List.Folds.{list_any-append, find-append}
@@ -32,12 +32,12 @@ pub record AtSplit {A : Type 0} (level start half : ℕ) (node lower upper : Nod
   pub lent : lent_in level start node ≡ lent_in_halves level start lower upper
   pub free : free_in level start node ≡ free_in_halves level start lower upper
 
-pub at_split : {A : Type 0} (level start half : ℕ) (node : Node A) (p : _) (lower : Node A) (q : _) (upper : Node A)
-    → node ≡ Split' p lower q upper → IsTree level node → half ≡ size_of (level + 1) → AtSplit level start half node lower upper
-at_split level start half node p lower q upper e tree size =
+pub at_split : {A : Type 0} (level start half : ℕ) (node : Node A) (levels : ℕ) (p : _) (lower : Node A) (q : _) (upper : Node A)
+    → node ≡ Split' levels p lower q upper → IsTree level node → half ≡ size_of (level + 1) → AtSplit level start half node lower upper
+at_split level start half node levels p lower q upper e tree size =
     subst (λ (other : Node _). AtSplit level start half other lower upper) (sym e) (here (subst (λ (other : Node _). IsTree level other) e tree))
   where
-    here : IsTree level (Split' p lower q upper) → AtSplit level start half (Split' p lower q upper) lower upper
+    here : IsTree level (Split' levels p lower q upper) → AtSplit level start half (Split' levels p lower q upper) lower upper
     here tree = record {
       low = tree.0;
       one = tree.1;
@@ -187,7 +187,3 @@ whole_found part level start node result tree lent e f =
 pub passed_on : (result : Option Span) (span : Span) (P : Span → Type 0) → IfSome result (λ other. other ≡ span) → P span → IfSome result P
 passed_on (Some other) span P e h = subst P (sym e) h
 passed_on None span P e h = tt
-
-pub on_ok : {T E : Type 0} (P Q : Type 0) (result : Result T E) → (P → Q) → OnOk result P → OnOk result Q
-on_ok P Q (Ok value) step h = step h
-on_ok P Q (Err e) step h = tt

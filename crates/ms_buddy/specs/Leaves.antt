@@ -1,6 +1,7 @@
 -- The lent leaves of a root chunk, in order of address, and what each call does to them. Free
 -- leaves are not kept: they are the free parts of the root that the lent leaves leave over.
 use Rattle.std.specs.Prelude.{◌≡◌, ℕ, ◌+◌, ◌-◌, ◌<◌, ◌≤◌, Bool, not, cond, ◌&&◌, ◌==◌, nat_le, nat_lt, List, [], ◌∷◌, map, Some, IsTrue, IsFalse}
+use Rattle.std.specs.Int.{bit_at}
 use Rattle.std.specs.List.{AllByRecursion, list_any, filter, find}
 use Rattle.ms_base.specs.declared.span.Chunk.{Chunk}
 use Rattle.ms_base.specs.declared.span.Span.{Span}
@@ -47,6 +48,17 @@ words_of part = (part.start, size_of part.level)
 -- The parts are one.
 abbrev pub is_same : Span → Span → Bool
 is_same part other = (other.start == part.start) && (other.level == part.level)
+
+-- The part has that level, and it starts at the offset or past it as well.
+abbrev pub is_of : ℕ → Span → Bool
+is_of level part = part.level == level
+
+abbrev pub is_of_from : ℕ → ℕ → Span → Bool
+is_of_from level from part = is_of level part && nat_le from part.start
+
+-- The bit of a level is set.
+abbrev pub has_level : ℕ → ℕ → Bool
+has_level levels level = bit_at levels level == 1
 
 -- The part is a lent leaf.
 abbrev pub is_lent : List LentLeaf → Span → Bool

@@ -1,5 +1,5 @@
 -- What a node of the split tree stands for, given its level and where it starts.
-use Rattle.std.specs.Prelude.{◌≡◌, ℕ, ◌+◌, ◌<◌, ◌≤◌, ◌%◌, Bool, true, false, ◌&&◌, List, [], ◌∷◌, ◌++◌, Option, Some, None, IsFalse}
+use Rattle.std.specs.Prelude.{◌≡◌, ℕ, ◌+◌, ◌^◌, ◌<◌, ◌≤◌, ◌%◌, bit_or, Bool, true, false, ◌&&◌, List, [], ◌∷◌, ◌++◌, Option, Some, None, IsFalse}
 use Rattle.ms_base.specs.declared.span.Span.{Span}
 use Rattle.ms_base.specs.Level.{root_words, size_of}
 use Rattle.ms_buddy.specs.Leaves.{LentLeaf}
@@ -16,27 +16,35 @@ pub record IsPlace (level start : ℕ) : Type 0 where
 abbrev pub is_free : {A : Type 0} → Node A → Bool
 is_free Free = true
 is_free (Lent owner front) = false
-is_free (Split' p lower q upper) = false
+is_free (Split' levels p lower q upper) = false
 
--- No split has two free halves or is of level 12, and each front has a word and fits.
+-- The levels of the free leaves of a node, as bits: those that a split keeps.
+abbrev pub levels_of : {A : Type 0} → ℕ → Node A → ℕ
+levels_of level Free = 2 ^ level
+levels_of level (Lent owner front) = 0
+levels_of level (Split' levels p lower q upper) = levels
+
+-- No split has two free halves or is of level 12, each front has a word and fits, and each split
+-- keeps the levels of its halves. So the bits are those of the free leaves below.
 abbrev pub IsTree : {A : Type 0} → ℕ → Node A → Type 0
 IsTree level Free = Unit {0}
 IsTree level (Lent owner front) = (0 < front) × (front ≤ size_of level)
-IsTree level (Split' p lower q upper) =
+IsTree level (Split' levels p lower q upper) =
     (level < 12) × IsFalse (is_free lower && is_free upper) × IsTree (level + 1) lower × IsTree (level + 1) upper
+    × (levels ≡ bit_or (levels_of (level + 1) lower) (levels_of (level + 1) upper))
 
 -- The lent leaves of the node, in order of address.
 abbrev pub lent_in : {A : Type 0} → ℕ → ℕ → Node A → List LentLeaf
 lent_in level start Free = []
 lent_in level start (Lent owner front) = record { start = start; level = level; owner = owner; front = front } ∷ []
-lent_in level start (Split' p lower q upper) =
+lent_in level start (Split' levels p lower q upper) =
     lent_in (level + 1) start lower ++ lent_in (level + 1) (start + size_of (level + 1)) upper
 
 -- The free leaves of the node, in order of address.
 abbrev pub free_in : {A : Type 0} → ℕ → ℕ → Node A → List Span
 free_in level start Free = record { start = start; level = level } ∷ []
 free_in level start (Lent owner front) = []
-free_in level start (Split' p lower q upper) =
+free_in level start (Split' levels p lower q upper) =
     free_in (level + 1) start lower ++ free_in (level + 1) (start + size_of (level + 1)) upper
 
 -- The lent leaves of two halves of a part of that level, and their free leaves.

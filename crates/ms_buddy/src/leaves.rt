@@ -85,7 +85,7 @@ fn next_free<'a, A: Allocator>(stack: &mut ArrayVec<Option<Visit<'a, A>>, 13>) -
         match visit.node {
             Node::Free => return Some(part(visit.start, visit.level)),
             Node::Lent { .. } => {}
-            Node::Split(lower, upper) => {
+            Node::Split(_, lower, upper) => {
                 let level = visit.level + 1;
                 stack.push(Some(Visit {
                     node: upper,

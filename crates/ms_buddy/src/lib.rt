@@ -3,12 +3,14 @@
 //!
 //! Apart because it needs nothing of the pool that keeps one tree for each root: no limit, no
 //! granule, and any allocator. Contracts see a tree as the list of its lent leaves in order of
-//! address, `specs/Leaves.antt`; the free leaves are a function of that list. Stands on `ms_base`,
-//! and on `arrayvec` for the stack of a walk. Only `carve` takes memory.
+//! address, `specs/Leaves.antt`; the free leaves are a function of that list. The lowest free leaf
+//! of a level is found down one path. Stands on `ms_base`, and on `arrayvec` for the stack of a
+//! walk. Only `carve` takes memory.
 #![tactic(auto)]
 
 pub mod laws;
 mod leaves;
+mod levels;
 mod node;
 #[cfg(test)]
 mod tests;

@@ -2,16 +2,18 @@
 //!
 //! A node does not know where it is, so each function is told its level and where it starts, in
 //! words of the root. Each goes down one path: to the half where the leaf, the part or the offset
-//! lies. What is kept true of a node is `IsTree` in `specs/Tree.antt`. Boxes are made by
+//! lies. What is kept true of a node is `IsTree` in `specs/Tree.antt`: `levels_of_halves` tells the
+//! bits that a split keeps, and each change of a half asks it on the way up. Boxes are made by
 //! `with_lent` alone, and given back as halves merge.
-ghost use Rattle.std.specs.Prelude.{◌≡◌, ℕ, ◌+◌, ◌*◌, ◌<◌, ◌≤◌, ◌&&◌, ◌↔◌, false, [], ◌∷◌, Some, IsTrue, IsFalse, IfSome, OnSome, IfNone, IsOk, IfOk, OnOk, IfErr, OnErr};
+ghost use Rattle.std.specs.Prelude.{◌≡◌, ℕ, ◌+◌, ◌*◌, ◌<◌, ◌≤◌, ◌&&◌, ◌↔◌, bit_or, false, [], ◌∷◌, Some, IsTrue, IsFalse, IfSome, OnSome, IfNone, IsOk, IfOk, OnOk, IfErr, OnErr};
 ghost use Rattle.std.specs.List.{find};
 ghost use Rattle.ms_base.specs.declared.sizes.TheConstants.{ROOT_WORDS};
 ghost use Rattle.ms_base.specs.Level.{size_of};
 ghost use Rattle.ms_base.specs.Part.{IsPart};
-ghost use Rattle.ms_buddy.specs.Leaves.{IsCarveRefusal, IsLeafAt, can_enlarge, covers, fits_in, is_lent, leaf_of, with_front, with_leaf, with_parent, without_leaf};
-ghost use Rattle.ms_buddy.specs.Tree.{IsEnlarged, IsInside, IsPlace, is_free, IsTree, lent_in, free_in, lent_in_halves, free_in_halves};
+ghost use Rattle.ms_buddy.specs.Leaves.{IsCarveRefusal, IsLeafAt, can_enlarge, covers, fits_in, has_level, is_lent, is_of_from, leaf_of, with_front, with_leaf, with_parent, without_leaf};
+ghost use Rattle.ms_buddy.specs.Tree.{IsEnlarged, IsInside, IsPlace, is_free, IsTree, lent_in, free_in, levels_of, lent_in_halves, free_in_halves};
 
+use crate::levels::{bit_of, has_level};
 use ms_base::{Level, Refusal, Span};
 use std::alloc::{AllocError, Allocator};
 
@@ -28,7 +30,8 @@ pub enum Leaf {
 pub(crate) enum Node<A: Allocator> {
     Free,
     Lent { owner: u32, front: u64 },
-    Split(Box<Node<A>, A>, Box<Node<A>, A>),
+    /// The levels of the free leaves below, and the halves.
+    Split(u16, Box<Node<A>, A>, Box<Node<A>, A>),
 }
 
 /// Tells the words of a half of a part of that level.
@@ -49,7 +52,52 @@ impl<A: Allocator> Node<A> {
         match self {
             Node::Free => true,
             Node::Lent { .. } => false,
-            Node::Split(_, _) => false,
+            Node::Split(..) => false,
+        }
+    }
+
+    /// The levels of the free leaves, as bits.
+    pub(crate) fn levels(&self, level: u8) -> u16
+        requires { level ≤ 12 }
+        ensures { result ≡ levels_of level self.now }
+    {
+        match self {
+            Node::Free => bit_of(level),
+            Node::Lent { .. } => 0,
+            Node::Split(levels, _, _) => *levels,
+        }
+    }
+
+    /// Finds the lowest free leaf of a level that starts at the offset or past it. Where the bits
+    /// say that a half has none of that level, its leaves are not looked at.
+    pub(crate) fn next_free(&self, level: u8, start: u64, wanted: u8, from: u64) -> Option<Span>
+        requires tree { IsTree level self.now }
+        requires place { IsPlace level start }
+        requires wanted { wanted ≤ 12 }
+        ensures { result ≡ find (is_of_from wanted from) (free_in level start self.now) }
+    {
+        match self {
+            Node::Free => {
+                if level == wanted && from <= start {
+                    Some(part(start, level))
+                } else {
+                    None
+                }
+            }
+            Node::Lent { .. } => None,
+            Node::Split(levels, lower, upper) => {
+                if !has_level(*levels, wanted) {
+                    return None;
+                }
+                let middle = start + half_of(level);
+                if from >= middle {
+                    return upper.next_free(level + 1, middle, wanted, from);
+                }
+                match lower.next_free(level + 1, start, wanted, from) {
+                    Some(part) => Some(part),
+                    None => upper.next_free(level + 1, middle, wanted, from),
+                }
+            }
         }
     }
 
@@ -72,7 +120,7 @@ impl<A: Allocator> Node<A> {
                     front: *front,
                 },
             ),
-            Node::Split(lower, upper) => {
+            Node::Split(_, lower, upper) => {
                 let middle = start + half_of(level);
                 if offset < middle {
                     lower.leaf_at(level + 1, start, offset)
@@ -92,13 +140,14 @@ impl<A: Allocator> Node<A> {
         requires within { front ≤ size_of span.level }
         ensures tree { IsTree level self.new }
         ensures free { is_free self.new ≡ is_free self.old }
+        ensures levels { levels_of level self.new ≡ levels_of level self.old }
         ensures lent { lent_in level start self.new
             ≡ with_front span front (lent_in level start self.old) }
     {
         match self {
             Node::Free => {}
             Node::Lent { front: kept, .. } => *kept = front,
-            Node::Split(lower, upper) => {
+            Node::Split(_, lower, upper) => {
                 let middle = start + half_of(level);
                 if span.start < middle {
                     lower.set_front(level + 1, start, span, front);
@@ -121,7 +170,9 @@ impl<A: Allocator> Node<A> {
         ensures free { find (covers span.start) (free_in level start self.new) ≡ Some result }
     {
         match self {
-            Node::Split(lower, upper) => match release_in_half(lower, upper, level, start, span) {
+            Node::Split(levels, lower, upper) => match release_in_half(
+                levels, lower, upper, level, start, span,
+            ) {
                 Some(freed) => freed,
                 None => {
                     *self = Node::Free;
@@ -158,8 +209,8 @@ impl<A: Allocator> Node<A> {
         ensures unchanged { OnErr result (self.new ≡ self.old) }
     {
         match self {
-            Node::Split(lower, upper) => match enlarge_in_half(
-                lower, upper, level, start, span, front,
+            Node::Split(levels, lower, upper) => match enlarge_in_half(
+                levels, lower, upper, level, start, span, front,
             ) {
                 Ok(None) => Ok(()),
                 Ok(Some(owner)) => {
@@ -200,12 +251,14 @@ impl<A: Allocator + Clone> Node<A> {
         let middle = start + half_of(level);
         if span.start < middle {
             let lower = Node::with_lent(alloc.clone()?, level + 1, start, span, owner, front)?;
+            let levels = lower.levels(level + 1) | bit_of(level + 1);
             let lower = Box::new(alloc.clone()?, lower)?;
-            Ok(Node::Split(lower, Box::new(alloc, Node::Free)?))
+            Ok(Node::Split(levels, lower, Box::new(alloc, Node::Free)?))
         } else {
             let upper = Node::with_lent(alloc.clone()?, level + 1, middle, span, owner, front)?;
+            let levels = bit_of(level + 1) | upper.levels(level + 1);
             let upper = Box::new(alloc.clone()?, upper)?;
-            Ok(Node::Split(Box::new(alloc, Node::Free)?, upper))
+            Ok(Node::Split(levels, Box::new(alloc, Node::Free)?, upper))
         }
     }
 
@@ -244,21 +297,32 @@ impl<A: Allocator + Clone> Node<A> {
                 Err(_) => Err(Refusal::OutOfMemory),
             },
             Node::Lent { .. } => Err(Refusal::NoRoom { level: span.level }),
-            Node::Split(lower, upper) => {
+            Node::Split(levels, lower, upper) => {
                 if span.level.number() == level {
                     Err(Refusal::NoRoom { level: span.level })
                 } else {
-                    carve_in_half(lower, upper, alloc, level, start, span, owner, front)
+                    carve_in_half(
+                        levels, lower, upper, alloc, level, start, span, owner, front,
+                    )
                 }
             }
         }
     }
 }
 
+/// The levels of the free leaves of two halves of that level.
+fn levels_of_halves<A: Allocator>(lower: &Node<A>, upper: &Node<A>, level: u8) -> u16
+    requires { level ≤ 12 }
+    ensures { result ≡ bit_or (levels_of level lower.now) (levels_of level upper.now) }
+{
+    lower.levels(level) | upper.levels(level)
+}
+
 /// Enlarges the leaf of that span in the half where it is. Where the halves become one leaf, they
 /// stay, and the answer is who holds it.
 #[cycle(enlarging)]
 fn enlarge_in_half<A: Allocator>(
+    levels: &mut u16,
     lower: &mut Node<A>,
     upper: &mut Node<A>,
     level: u8,
@@ -269,10 +333,14 @@ fn enlarge_in_half<A: Allocator>(
     requires low { level < 12 }
     requires place { IsPlace level start }
     requires trees { IsTree (level + 1) lower.old × IsTree (level + 1) upper.old }
+    requires levels { levels.old
+        ≡ bit_or (levels_of (level + 1) lower.old) (levels_of (level + 1) upper.old) }
     requires lent { IsTrue (is_lent (lent_in_halves level start lower.old upper.old) span) }
     requires some { 0 < front }
     requires within { front ≤ 2 * size_of span.level }
     ensures trees { IsTree (level + 1) lower.new × IsTree (level + 1) upper.new }
+    ensures levels { levels.new
+        ≡ bit_or (levels_of (level + 1) lower.new) (levels_of (level + 1) upper.new) }
     ensures split { (is_free lower.new
         ≡ is_free lower.old) × (is_free upper.new ≡ is_free upper.old) }
     ensures lent { IfOk result
@@ -282,19 +350,26 @@ fn enlarge_in_half<A: Allocator>(
     ensures room { IsOk result
         ↔ IsTrue (can_enlarge span (free_in_halves level start lower.old upper.old)) }
     ensures refusal { IfErr result (λ refusal. refusal ≡ Refusal.NoRoom span.level) }
-    ensures unchanged { OnErr result ((lower.new ≡ lower.old) × (upper.new ≡ upper.old)) }
+    ensures unchanged { OnErr result
+        ((levels.new ≡ levels.old) × (lower.new ≡ lower.old) × (upper.new ≡ upper.old)) }
 {
     let middle = start + half_of(level);
     if span.level.number() == level + 1 {
         merged_leader(lower, upper, level, start, span)
     } else if span.start < middle {
         match lower.enlarge(level + 1, start, span, front) {
-            Ok(()) => Ok(None),
+            Ok(()) => {
+                *levels = levels_of_halves(lower, upper, level + 1);
+                Ok(None)
+            }
             Err(refusal) => Err(refusal),
         }
     } else {
         match upper.enlarge(level + 1, middle, span, front) {
-            Ok(()) => Ok(None),
+            Ok(()) => {
+                *levels = levels_of_halves(lower, upper, level + 1);
+                Ok(None)
+            }
             Err(refusal) => Err(refusal),
         }
     }
@@ -329,16 +404,17 @@ fn merged_leader<A: Allocator>(
             Node::Lent { owner, .. } => Ok(Some(*owner)),
             // A leaf of this level that starts here is the whole of the lower half.
             Node::Free => no_room,
-            Node::Split(_, _) => no_room,
+            Node::Split(..) => no_room,
         },
         Node::Lent { .. } => no_room,
-        Node::Split(_, _) => no_room,
+        Node::Split(..) => no_room,
     }
 }
 
 /// Lends the part of that span within the half where it lies.
 #[cycle(carving)]
 fn carve_in_half<A: Allocator + Clone>(
+    levels: &mut u16,
     lower: &mut Node<A>,
     upper: &mut Node<A>,
     alloc: A,
@@ -351,11 +427,15 @@ fn carve_in_half<A: Allocator + Clone>(
     requires low { level < span.level }
     requires place { IsPlace level start }
     requires trees { IsTree (level + 1) lower.old × IsTree (level + 1) upper.old }
+    requires levels { levels.old
+        ≡ bit_or (levels_of (level + 1) lower.old) (levels_of (level + 1) upper.old) }
     requires part { IsPart span.start span.level }
     requires inside { IsInside level start span }
     requires some { 0 < front }
     requires within { front ≤ size_of span.level }
     ensures trees { IsTree (level + 1) lower.new × IsTree (level + 1) upper.new }
+    ensures levels { levels.new
+        ≡ bit_or (levels_of (level + 1) lower.new) (levels_of (level + 1) upper.new) }
     ensures split { OnOk result (IsFalse (is_free lower.new && is_free upper.new)) }
     ensures lent { OnOk result (lent_in_halves level start lower.new upper.new
         ≡ with_leaf (leaf_of span owner front) (lent_in_halves level start lower.old upper.old)) }
@@ -363,13 +443,26 @@ fn carve_in_half<A: Allocator + Clone>(
         (IsTrue (fits_in span (free_in_halves level start lower.old upper.old))) }
     ensures refusal { IfErr result
         (λ refusal. IsCarveRefusal span (free_in_halves level start lower.old upper.old) refusal) }
-    ensures unchanged { OnErr result ((lower.new ≡ lower.old) × (upper.new ≡ upper.old)) }
+    ensures unchanged { OnErr result
+        ((levels.new ≡ levels.old) × (lower.new ≡ lower.old) × (upper.new ≡ upper.old)) }
 {
     let middle = start + half_of(level);
     if span.start < middle {
-        lower.carve(alloc, level + 1, start, span, owner, front)
+        match lower.carve(alloc, level + 1, start, span, owner, front) {
+            Ok(()) => {
+                *levels = levels_of_halves(lower, upper, level + 1);
+                Ok(())
+            }
+            Err(refusal) => Err(refusal),
+        }
     } else {
-        upper.carve(alloc, level + 1, middle, span, owner, front)
+        match upper.carve(alloc, level + 1, middle, span, owner, front) {
+            Ok(()) => {
+                *levels = levels_of_halves(lower, upper, level + 1);
+                Ok(())
+            }
+            Err(refusal) => Err(refusal),
+        }
     }
 }
 
@@ -402,6 +495,7 @@ fn unless_free<A: Allocator>(lower: &Node<A>, upper: &Node<A>, span: Span) -> Op
 /// there, unless both halves are then free.
 #[cycle(releasing)]
 fn release_in_half<A: Allocator>(
+    levels: &mut u16,
     lower: &mut Node<A>,
     upper: &mut Node<A>,
     level: u8,
@@ -411,8 +505,12 @@ fn release_in_half<A: Allocator>(
     requires low { level < 12 }
     requires place { IsPlace level start }
     requires trees { IsTree (level + 1) lower.old × IsTree (level + 1) upper.old }
+    requires levels { levels.old
+        ≡ bit_or (levels_of (level + 1) lower.old) (levels_of (level + 1) upper.old) }
     requires lent { IsTrue (is_lent (lent_in_halves level start lower.old upper.old) span) }
     ensures trees { IsTree (level + 1) lower.new × IsTree (level + 1) upper.new }
+    ensures levels { levels.new
+        ≡ bit_or (levels_of (level + 1) lower.new) (levels_of (level + 1) upper.new) }
     ensures lent { lent_in_halves level start lower.new upper.new
         ≡ without_leaf span (lent_in_halves level start lower.old upper.old) }
     ensures free { IfSome result
@@ -424,9 +522,11 @@ fn release_in_half<A: Allocator>(
     let middle = start + half_of(level);
     if span.start < middle {
         let freed = lower.release(level + 1, start, span);
+        *levels = levels_of_halves(lower, upper, level + 1);
         unless_free(lower, upper, freed)
     } else {
         let freed = upper.release(level + 1, middle, span);
+        *levels = levels_of_halves(lower, upper, level + 1);
         unless_free(lower, upper, freed)
     }
 }

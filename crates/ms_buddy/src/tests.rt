@@ -149,6 +149,33 @@ fn tells_and_changes_leaves(rt: HostRuntime) -> Result<(), Fail> {
 }
 
 #[test]
+fn finds_the_lowest_of_a_level(rt: HostRuntime) -> Result<(), Fail> {
+    let mut tree = SplitTree::new();
+    assert_eq!(rt; tree.free_levels(), 1);
+    assert_eq!(rt; tree.lowest_free(Level::new(0)), Some(span(0, 0)));
+    assert_eq!(rt; tree.next_free(Level::new(0), 1), None);
+    assert!(rt; tree.carve(rt.alloc(), Level::new(12), 0, 1, 128).is_ok());
+    assert!(rt; tree.carve(rt.alloc(), Level::new(12), 1024, 1, 128).is_ok());
+    // Free are 128, 256, 512, 1152, 1280, 1536, 2048 and so on: each level but 0 and 9.
+    assert_eq!(rt; tree.free_levels(), 0b1_1101_1111_1110);
+    assert_eq!(rt; tree.lowest_free(Level::new(9)), None);
+    assert_eq!(rt; tree.lowest_free(Level::new(8)), Some(span(2048, 8)));
+    assert_eq!(rt; tree.lowest_free(Level::new(12)), Some(span(128, 12)));
+    assert_eq!(rt; tree.next_free(Level::new(12), 128), Some(span(128, 12)));
+    assert_eq!(rt; tree.next_free(Level::new(12), 129), Some(span(1152, 12)));
+    assert_eq!(rt; tree.next_free(Level::new(12), 1153), None);
+    assert_eq!(rt; tree.next_free(Level::new(1), 524288), None);
+    assert_eq!(rt; release_at(&mut tree, 0), Some(span(0, 9)));
+    assert_eq!(rt; tree.free_levels(), 0b1_1111_1111_1110);
+    assert_eq!(rt; tree.lowest_free(Level::new(9)), Some(span(0, 9)));
+    assert_eq!(rt; tree.lowest_free(Level::new(12)), Some(span(1152, 12)));
+    assert_eq!(rt; enlarge_at(&mut tree, 1024, 256), Some(Ok(span(1024, 11))));
+    assert_eq!(rt; tree.free_levels(), 0b1111_1111_1110);
+    assert_eq!(rt; tree.lowest_free(Level::new(12)), None);
+    Ok(())
+}
+
+#[test]
 fn a_small_heap_refuses_and_the_tree_stays(rt: HostRuntime) -> Result<(), Fail> {
     let heap = LocalHeap::new(rt.alloc(), 128)?;
     let mut tree = SplitTree::new();

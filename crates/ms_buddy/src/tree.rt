@@ -15,14 +15,16 @@
 //!          |                  free, 8                  |        free, 8        | ...
 //!          |                             free, 0                                   |
 //!
-//! Each call but `free_leaves` touches the 13 nodes at most on one path. Only `carve` takes memory,
-//! two boxes for each level that it splits; `release` and `enlarge` give boxes back.
+//! Each split keeps, as bits, the levels of the free leaves below it, so the lowest free leaf of a
+//! level is found down one path. Each call but `free_leaves` goes down one path of 13 nodes at
+//! most, `next_free` down two. Only `carve` takes memory, two boxes for each level that it splits;
+//! `release` and `enlarge` give boxes back.
 //! After RootChunkArea in HotSpot's rootChunkArea.hpp, which has a list in place of the tree.
-ghost use Rattle.std.specs.Prelude.{◌≡◌, ◌+◌, ◌*◌, ◌%◌, ◌<◌, ◌≤◌, ◌≢◌, ◌↔◌, [], ◌∷◌, Some, Err, IsTrue, IsFalse, IsOk, IfOk, OnOk, IfErr, OnErr};
-ghost use Rattle.std.specs.List.{find};
+ghost use Rattle.std.specs.Prelude.{◌≡◌, ℕ, ◌+◌, ◌*◌, ◌%◌, ◌<◌, ◌≤◌, ◌≢◌, ◌↔◌, [], ◌∷◌, Some, Err, IsTrue, IsFalse, IsOk, IfOk, OnOk, IfErr, OnErr};
+ghost use Rattle.std.specs.List.{find, list_any};
 ghost use Rattle.ms_base.specs.declared.sizes.TheConstants.{ROOT_WORDS};
 ghost use Rattle.ms_base.specs.Level.{size_of};
-ghost use Rattle.ms_buddy.specs.Leaves.{AreLeaves, IsCarveRefusal, IsLeafAt, can_enlarge, covers, fits_in, free_of, is_lent, leaf_of, parent_of, root, span_at, with_front, with_leaf, with_parent, without_leaf};
+ghost use Rattle.ms_buddy.specs.Leaves.{AreLeaves, IsCarveRefusal, IsLeafAt, can_enlarge, covers, fits_in, free_of, has_level, is_lent, is_of, is_of_from, leaf_of, parent_of, root, span_at, with_front, with_leaf, with_parent, without_leaf};
 
 use crate::leaves::FreeLeaves;
 use crate::node::{Leaf, Node, part};
@@ -84,6 +86,30 @@ impl<A: Allocator> SplitTree<A> {
         ensures { result ≡ free_of self.now }
     {
         FreeLeaves::new(&self.node)
+    }
+
+    /// Tells the levels of the free leaves as bits, that of level 0 the lowest. Takes no memory.
+    /// This project's choice.
+    pub fn free_levels(&self) -> u16
+        ensures { (level : ℕ) → has_level result level ≡ list_any (is_of level) (free_of self.now) }
+    {
+        self.node.levels(0)
+    }
+
+    /// Finds the lowest free leaf of a level. Goes down one path, since each split keeps the levels
+    /// of the free leaves below it. Takes no memory. This project's choice.
+    pub fn lowest_free(&self, level: Level) -> Option<Span>
+        ensures { result ≡ find (is_of level) (free_of self.now) }
+    {
+        self.next_free(level, 0)
+    }
+
+    /// Finds the lowest free leaf of a level that starts at an offset in words or past it. Goes
+    /// down one path to the offset, and one from it. Takes no memory. This project's choice.
+    pub fn next_free(&self, level: Level, from: u64) -> Option<Span>
+        ensures { result ≡ find (is_of_from level from) (free_of self.now) }
+    {
+        self.node.next_free(0, 0, level.number(), from)
     }
 
     /// Changes the front of a lent leaf, in words from 1 to its size; the other leaves stay. Takes

@@ -1,5 +1,6 @@
 pub mod RangeLemmas
 pub mod MaskLemmas
+pub mod LowestLemmas
 pub mod CountLemmas
 pub mod OrderLemmas
 pub mod SetLemmas

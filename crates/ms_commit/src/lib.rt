@@ -11,4 +11,5 @@ mod nodes;
 #[cfg(test)]
 mod tests;
 
+pub use mask::Mask;
 pub use nodes::Nodes;

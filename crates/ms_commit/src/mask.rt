@@ -72,6 +72,20 @@ impl<const WORDS: usize> Mask<WORDS> {
         lowest_clear(&self.words)
     }
 
+    /// Tells the lowest member in a range.
+    pub fn lowest_within(&self, first: usize, count: usize) -> Option<usize>
+        requires { first + count < 2 ^ 64 }
+        ensures member { IfSome result (λ number. is_among self.now number ≡ true) }
+        ensures from { IfSome result (λ number. first ≤ number) }
+        ensures below { IfSome result (λ number. number < first + count) }
+        ensures lowest { IfSome result
+            (λ number. (k : ℕ) → first ≤ k → k < number → is_among self.now k ≡ false) }
+        ensures none { IfNone result
+            ((k : ℕ) → first ≤ k → k < first + count → is_among self.now k ≡ false) }
+    {
+        lowest_set(&self.words, first, first + count)
+    }
+
     /// Adds a number.
     pub fn insert(&mut self, number: usize)
         requires within { number < 64 * WORDS }
@@ -173,6 +187,24 @@ fn lowest_clear(words: &[u64]) -> Option<usize>
     for (index, word) in words.iter().enumerate() {
         if *word != u64::MAX {
             return Some(64 * index + word.trailing_ones() as usize);
+        }
+    }
+    None
+}
+
+/// Finds the lowest of the numbers from `first` up to `end` whose bit is set.
+fn lowest_set(words: &[u64], first: usize, end: usize) -> Option<usize>
+    ensures set { IfSome result (λ number. is_set words.now number ≡ true) }
+    ensures from { IfSome result (λ number. first ≤ number) }
+    ensures below { IfSome result (λ number. number < end) }
+    ensures lowest { IfSome result
+        (λ number. (k : ℕ) → first ≤ k → k < number → is_set words.now k ≡ false) }
+    ensures none { IfNone result ((k : ℕ) → first ≤ k → k < end → is_set words.now k ≡ false) }
+{
+    for index in first / 64..end.div_ceil(64).min(words.len()) {
+        let bits = words[index] & bits_between(first, end, 64 * index);
+        if bits != 0 {
+            return Some(64 * index + bits.trailing_zeros() as usize);
         }
     }
     None

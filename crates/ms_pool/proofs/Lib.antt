@@ -2,9 +2,13 @@ pub mod ledger
 pub mod SearchLemmas
 pub mod RootLemmas
 pub mod FreeRootLemmas
+pub mod IndexLemmas
 pub mod EnoughLemmas
+pub mod NextFreeLemmas
+pub mod BySizeLemmas
 pub mod EmptyLemmas
 pub mod SlotLoopLemmas
+pub mod SkipLemmas
 pub mod CountLemmas
 pub mod FreeCountLemmas
 pub mod LentCountLemmas

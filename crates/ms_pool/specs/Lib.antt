@@ -1,4 +1,5 @@
 pub mod Account
+pub mod Trees
 pub mod Lending
 pub mod Tallies
 pub mod Ledger

@@ -130,7 +130,7 @@ impl Lender {
             (λ level. parts_of level (free_of (get_or self.now.trees.items root []))) result.free }
     {
         let mut counted = before;
-        for leaf in self.trees[root].free_leaves() {
+        for leaf in self.trees.tree(root).free_leaves() {
             counted = with_part(counted, leaf.level);
         }
         counted
@@ -165,7 +165,7 @@ impl Lender {
         let mut counted = before;
         let mut at = 0;
         while at < ROOT_WORDS {
-            let (span, leaf) = self.trees[root].leaf_at(at);
+            let (span, leaf) = self.trees.tree(root).leaf_at(at);
             at = span.start + span.level.words();
             counted = with_leaf(counted, span, leaf);
         }

@@ -1,4 +1,4 @@
-//! What a pool keeps: the nodes, and a split tree for each root that may be reserved.
+//! What a pool keeps: the nodes, and a split tree for each root that may be reserved (`trees`).
 //!
 //!     root      0       1       2       3              127     128  ..
 //!          +-------+-------+-------+-------+-- .. --+-------+-------+--
@@ -22,8 +22,8 @@ ghost use Rattle.ms_pool.specs.Calls.{new_account, Opened, OpenedBoth, Purged};
 ghost use Rattle.ms_pool.specs.Keeping.{IsKept, ledger_of};
 
 use crate::account::Account;
+use crate::trees::Trees;
 use ms_base::{Policy, Refusal, SLOTS, Settings, Space, granule};
-use ms_buddy::SplitTree;
 use ms_commit::Nodes;
 use std::alloc::{AllocError, Global};
 
@@ -42,7 +42,7 @@ pub(crate) struct Counts {
 pub(crate) struct Lender {
     pub(crate) alloc: Global,
     pub(crate) nodes: Nodes,
-    pub(crate) trees: Vec<SplitTree<Global>>,
+    pub(crate) trees: Trees,
     pub(crate) policy: Policy,
     pub(crate) given: u32,
     pub(crate) opened: u32,
@@ -56,7 +56,7 @@ impl Lender {
         ensures empty { IfOk result (λ lender. ledger_of lender ≡ empty_ledger (limits_of settings)) }
         ensures kept { IfOk result IsKept }
     {
-        let trees = whole_trees(alloc, 2 * (SLOTS + settings.class_nodes) as usize)?;
+        let trees = Trees::whole(alloc, 2 * (SLOTS + settings.class_nodes) as usize)?;
         Ok(Lender {
             alloc,
             nodes: Nodes::new(
@@ -160,19 +160,8 @@ impl Lender {
         ensures { result ≡ not (has_chunk_in (held_in NonClass (ledger_of self.now)) slot) }
     {
         let first = 2 * slot as usize;
-        let lower = self.trees[first].is_whole();
-        let upper = self.trees[first + 1].is_whole();
+        let lower = self.trees.tree(first).is_whole();
+        let upper = self.trees.tree(first + 1).is_whole();
         lower && upper
     }
-}
-
-/// Makes so many trees, each of one free leaf.
-fn whole_trees(alloc: Global, count: usize) -> Result<Vec<SplitTree<Global>>, AllocError>
-    ensures { IfOk result (λ trees. trees.items ≡ replicate count []) }
-{
-    let mut trees = Vec::with_capacity(alloc, count)?;
-    for _ in 0..count {
-        trees.push(SplitTree::new())?;
-    }
-    Ok(trees)
 }

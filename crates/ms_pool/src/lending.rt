@@ -22,6 +22,7 @@ ghost use Rattle.ms_pool.specs.Searching.{is_full, lacking, part_picked};
 use crate::account::Account;
 use crate::lender::Lender;
 use crate::search::granules_meeting;
+use crate::trees::{carve, put_back, raise};
 use ms_base::{Chunk, Level, NODE_WORDS, Policy, ROOT_WORDS, Refusal, SLOTS, Space, Span, granule};
 use ms_buddy::{Leaf, SplitTree};
 use ms_commit::Nodes;
@@ -263,7 +264,7 @@ impl Lender {
     {
         let root = (chunk.start / ROOT_WORDS) as usize;
         let start = chunk.start % ROOT_WORDS;
-        can_become_parent(&self.trees[root], start, chunk.level)
+        can_become_parent(self.trees.tree(root), start, chunk.level)
     }
 
     /// Puts the grown chunk in the place of the chunk, and commits its front.
@@ -344,28 +345,6 @@ impl Lender {
     }
 }
 
-/// Takes the chunk back in the tree of its root, and answers the free leaf that results.
-fn put_back(trees: &mut Vec<SplitTree<Global>>, chunk: &Chunk) -> Span
-    requires leaves { All AreLeaves trees.old.items }
-    requires lent { IsTrue (is_lent_in (loans_from 0 trees.old.items) chunk.now) }
-    ensures loans { loans_from 0 trees.new.items ≡ without_loan chunk.now (loans_from 0 trees.old.items) }
-    ensures leaves { All AreLeaves trees.new.items }
-    ensures count { length trees.new.items ≡ length trees.old.items }
-    ensures there { chunk.now.start / root_words < length trees.old.items }
-    ensures free { find (covers (chunk.now.start % root_words))
-        (free_of (get_or trees.new.items (chunk.now.start / root_words) []))
-        ≡ Some result }
-{
-    let tree = &mut trees[(chunk.start / ROOT_WORDS) as usize];
-    let part = tree.release(Span {
-        start: chunk.start % ROOT_WORDS,
-        level: chunk.level,
-    });
-    // What holds of the leaves of every tree is learnt here.
-    let _ = tree.is_whole();
-    part
-}
-
 /// The place of the chunk that starts there, looked for from the last one on: an arena grows that.
 fn place_of(chunks: &[Chunk], start: u64) -> usize
     requires { IsTrue (has_chunk_at chunks.now start) }
@@ -428,31 +407,6 @@ fn lowest_missing(nodes: &Nodes) -> Option<u32>
     None
 }
 
-/// Lends the chunk's part in the tree of its root; `false` where memory is wanting.
-fn carve(trees: &mut Vec<SplitTree<Global>>, alloc: Global, owner: u32, chunk: &Chunk) -> bool
-    requires leaves { All AreLeaves trees.old.items }
-    requires there { chunk.now.start < root_words * length trees.old.items }
-    requires placed { IsPart chunk.now.start chunk.now.level }
-    requires some { 1 ≤ chunk.now.front }
-    requires within { chunk.now.front ≤ size_of chunk.now.level }
-    ensures lent { IsTrue result
-        → loans_from 0 trees.new.items
-        ≡ with_loan (record { owner = owner; chunk = chunk.now }) (loans_from 0 trees.old.items) }
-    ensures leaves { All AreLeaves trees.new.items }
-    ensures count { length trees.new.items ≡ length trees.old.items }
-    ensures unchanged { IsFalse result → trees.new.items ≡ trees.old.items }
-{
-    let root = (chunk.start / ROOT_WORDS) as usize;
-    let at = chunk.start % ROOT_WORDS;
-    let tree = &mut trees[root];
-    let lent = tree
-        .carve(alloc, chunk.level, at, owner, chunk.front)
-        .is_ok();
-    // What holds of the leaves of every tree is learnt here.
-    let _ = tree.is_whole();
-    lent
-}
-
 /// Tells whether the leaf that is lent there is no root, the leader, and its buddy one free leaf.
 fn can_become_parent(tree: &SplitTree<Global>, start: u64, level: Level) -> bool
     requires { IsTrue (is_lent tree.now (span_at start level)) }
@@ -476,44 +430,6 @@ fn is_free_leaf(leaf: Leaf) -> bool
         Leaf::Free => true,
         Leaf::Lent { .. } => false,
     }
-}
-
-/// Makes the chunk's leaf that of the grown chunk, in the tree of its root.
-fn raise(trees: &mut Vec<SplitTree<Global>>, chunk: &Chunk, greater: &Chunk)
-    requires leaves { All AreLeaves trees.old.items }
-    requires there { chunk.now.start < root_words * length trees.old.items }
-    requires lent { IsTrue (is_lent (get_or trees.old.items (chunk.now.start / root_words) [])
-        (span_at (chunk.now.start % root_words) chunk.now.level)) }
-    requires start { greater.now.start ≡ chunk.now.start }
-    requires some { 1 ≤ greater.now.front }
-    requires within { greater.now.front ≤ size_of greater.now.level }
-    requires grows { (greater.now.level ≡ chunk.now.level)
-        ⊎ ((greater.now.level + 1 ≡ chunk.now.level)
-        × IsTrue (can_enlarge (span_at (chunk.now.start % root_words) chunk.now.level)
-        (free_of (get_or trees.old.items (chunk.now.start / root_words) [])))) }
-    ensures loans { loans_from 0 trees.new.items
-        ≡ with_greater_loan greater.now (loans_from 0 trees.old.items) }
-    ensures leaves { All AreLeaves trees.new.items }
-    ensures count { length trees.new.items ≡ length trees.old.items }
-{
-    let root = (chunk.start / ROOT_WORDS) as usize;
-    let level = chunk.level;
-    let _ = level.number();
-    let span = Span {
-        start: chunk.start % ROOT_WORDS,
-        level,
-    };
-    let tree = &mut trees[root];
-    if greater.level == level {
-        tree.set_front(span, greater.front);
-    } else {
-        match tree.enlarge(span, greater.front) {
-            Ok(_) => {}
-            Err(_) => unreachable!(),
-        }
-    }
-    // What holds of the leaves of every tree is learnt here.
-    let _ = tree.is_whole();
 }
 
 /// Reserves a slot where it isn't reserved; then it is the lowest, and one more may be.

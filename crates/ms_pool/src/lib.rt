@@ -16,6 +16,7 @@ mod source;
 #[cfg(test)]
 mod tests;
 mod totals;
+mod trees;
 
 pub use account::Account;
 pub use pool::Pool;

@@ -7,8 +7,11 @@
 //!     5 split      any, from the wanted level down to 0
 //!
 //! The first that finds a part decides; within a level the lowest address comes first. Where none
-//! does, the lower root of a new node is taken. `lowest_free` alone looks through free leaves.
-//! Nothing here takes memory. After HotSpot's chunkManager.cpp; the order is this project's choice.
+//! does, the lower root of a new node is taken. `lowest_free` alone decides whether the mask of
+//! granules has to be asked; the index of `trees` tells the roots, and `lowest_in_root` alone looks
+//! for leaves, down one path of a tree. So what a search costs doesn't grow with the chunks that are
+//! lent or free, but under policy none with the larger free parts of a level. Nothing here takes
+//! memory. After HotSpot's chunkManager.cpp; the order is this project's choice.
 ghost use Rattle.std.specs.Prelude.{◌≡◌, ◌+◌, ◌-◌, ◌*◌, ◌/◌, ◌<◌, ◌≤◌, ◌^◌, ◌||◌, not, [], length, get_or, min};
 ghost use Rattle.ms_base.specs.Level.{root_words, size_of};
 ghost use Rattle.ms_base.specs.Policy.{granule_of};
@@ -20,7 +23,7 @@ ghost use Rattle.ms_pool.specs.Keeping.{IsKept, ledger_of};
 ghost use Rattle.ms_pool.specs.Searching.{are_among, first_at, first_down, first_found, first_in, first_in_slot, first_up};
 
 use crate::lender::Lender;
-use ms_base::{Level, ROOT_WORDS, SLOTS, Space, Span, granule};
+use ms_base::{Level, Policy, ROOT_WORDS, SLOTS, Space, Span, granule};
 
 /// What is looked for: where, how many words, and whether they have to be committed.
 #[derive(Clone, Copy)]
@@ -118,18 +121,52 @@ impl Lender {
         None
     }
 
-    /// Finds the lowest free part of a level that grants the wish.
+    /// Finds the lowest free part of a level that grants the wish. A free part smaller than a
+    /// granule is committed: its buddy is not free, and a front there meets the granule of both. Any
+    /// other is wholly uncommitted, but under policy none, where what was given back stays
+    /// committed and the mask has to be asked for each.
     fn lowest_free(&self, wish: Wish, level: Level) -> Option<Span>
         requires kept { IsKept self.now }
         requires fits { wish.words ≤ size_of level }
         ensures { result
             ≡ first_at (state_in wish.space (ledger_of self.now)) wish.words wish.committed level }
     {
+        if !wish.committed {
+            return self.lowest_among(wish, level);
+        }
+        if level.words() < granule(self.policy) {
+            let any = Wish {
+                space: wish.space,
+                words: wish.words,
+                committed: false,
+            };
+            return self.lowest_among(any, level);
+        }
+        if self.policy != Policy::None {
+            return None;
+        }
+        self.lowest_among(wish, level)
+    }
+
+    /// Finds the lowest free part of a level that grants the wish, in the roots that have one of the
+    /// level. A root that isn't reserved is whole, so at level 0 a slot may be passed over.
+    fn lowest_among(&self, wish: Wish, level: Level) -> Option<Span>
+        requires kept { IsKept self.now }
+        requires fits { wish.words ≤ size_of level }
+        ensures { result
+            ≡ first_at (state_in wish.space (ledger_of self.now)) wish.words wish.committed level }
+    {
         let (first, end) = self.slots_of(wish.space);
-        for slot in first..end {
-            if let Some(part) = self.lowest_in_slot(slot, wish, level) {
+        let mut slot = first;
+        while let Some(root) = self
+            .trees
+            .next_root(level, 2 * slot as usize, 2 * end as usize)
+        {
+            let here = (root / 2) as u32;
+            if let Some(part) = self.lowest_in_slot(here, wish, level) {
                 return Some(part);
             }
+            slot = here + 1;
         }
         None
     }
@@ -178,11 +215,13 @@ impl Lender {
             level root (get_or self.now.trees.items root []) }
     {
         let base = root as u64 * ROOT_WORDS;
-        for leaf in self.trees[root].free_leaves() {
+        let mut from = 0;
+        while let Some(leaf) = self.trees.tree(root).next_free(level, from) {
             let start = leaf.start + base;
-            if leaf.level == level && self.is_enough(start, wish) {
+            if self.is_enough(start, wish) {
                 return Some(Span { start, level });
             }
+            from = leaf.start + 1;
         }
         None
     }

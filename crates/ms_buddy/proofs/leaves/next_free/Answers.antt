@@ -27,7 +27,7 @@ overflow_add-level g c =
 pub half_of-requires : goal.half_of-requires
 half_of-requires g c =
     let turn = at_turn _ _ _ _ c.in-Some.ensures.items c.in-Some-top.is c.loop-top.invariant.0 in
-    let s = at_split _ c.in-Some-top.visit.start _ _ _ _ _ _ c.in-Split.is turn.top.tree refl in
+    let s = at_split _ c.in-Some-top.visit.start _ _ _ _ _ _ _ c.in-Split.is turn.top.tree refl in
     s.low
 
 pub overflow_add-visit : goal.overflow_add-visit
@@ -38,14 +38,14 @@ overflow_add-visit g c =
 pub push-requires : goal.push-requires
 push-requires g c =
     let turn = at_turn _ _ _ _ c.in-Some.ensures.items c.in-Some-top.is c.loop-top.invariant.0 in
-    let s = at_split _ c.in-Some-top.visit.start _ _ _ _ _ _ c.in-Split.is turn.top.tree refl in
+    let s = at_split _ c.in-Some-top.visit.start _ _ _ _ _ _ _ c.in-Split.is turn.top.tree refl in
     let room : length c.pop.new.self.items < 13 = omega (arith, turn.top.low, s.low) in
     (omega arith, room)
 
 pub push-requires-in-Split : goal.push-requires-in-Split
 push-requires-in-Split g c =
     let turn = at_turn _ _ _ _ c.in-Some.ensures.items c.in-Some-top.is c.loop-top.invariant.0 in
-    let s = at_split _ c.in-Some-top.visit.start _ _ _ _ _ _ c.in-Split.is turn.top.tree refl in
+    let s = at_split _ c.in-Some-top.visit.start _ _ _ _ _ _ _ c.in-Split.is turn.top.tree refl in
     let room : length c.push.new.self.items < 13 = omega (arith, turn.top.low, s.low, c.push.ensures.len) in
     (omega arith, room)
 
@@ -63,14 +63,14 @@ loop-top-preserved-in-Lent g c =
 pub loop-top-smaller : goal.loop-top-smaller
 loop-top-smaller g c =
     let turn = at_turn _ _ _ _ c.in-Some.ensures.items c.in-Some-top.is c.loop-top.invariant.0 in
-    let s = at_split _ c.in-Some-top.visit.start _ _ _ _ _ _ c.in-Split.is turn.top.tree c.half_of.ensures.size in
+    let s = at_split _ c.in-Some-top.visit.start _ _ _ _ _ _ _ c.in-Split.is turn.top.tree c.half_of.ensures.size in
     let on = past_split c.loop-top.stack.items c.pop.new.self.items c.push.new.self.items c.push-in-Split.new.self.items c.in-Some-top.visit _ _ c.half_of.result turn (rw (c.deref.ensures, c.deref-in-Split.ensures) s) (rw (c.in-Split.is, c.deref.ensures, c.deref-in-Split.ensures) refl) refl refl refl refl c.push.ensures.items c.push-in-Split.ensures.items in
     on.fewer
 
 pub loop-top-preserved : goal.loop-top-preserved
 loop-top-preserved g c =
     let turn = at_turn _ _ _ _ c.in-Some.ensures.items c.in-Some-top.is c.loop-top.invariant.0 in
-    let s = at_split _ c.in-Some-top.visit.start _ _ _ _ _ _ c.in-Split.is turn.top.tree c.half_of.ensures.size in
+    let s = at_split _ c.in-Some-top.visit.start _ _ _ _ _ _ _ c.in-Split.is turn.top.tree c.half_of.ensures.size in
     let on = past_split c.loop-top.stack.items c.pop.new.self.items c.push.new.self.items c.push-in-Split.new.self.items c.in-Some-top.visit _ _ c.half_of.result turn (rw (c.deref.ensures, c.deref-in-Split.ensures) s) (rw (c.in-Split.is, c.deref.ensures, c.deref-in-Split.ensures) refl) refl refl refl refl c.push.ensures.items c.push-in-Split.ensures.items in
     (on.stack, on.left ∙ c.loop-top.invariant.1)
 

@@ -2,13 +2,13 @@
 use Rattle.std.proofs.Common.{rules, arith, refl, ap, ◌∙◌}
 use Rattle.ms_buddy.specs.Leaves.{fits_in, leaf_of}
 use Rattle.ms_buddy.proofs.HalvesLemmas.{lower_place, upper_place}
-use Rattle.ms_buddy.proofs.SplitLemmas.{AtHalves, at_split, on_ok}
-use Rattle.ms_buddy.proofs.CarveLemmas.{lower_inside, upper_inside, whole_fits_not, lower_fits, upper_fits, lower_is_free, upper_is_free, refused_alike, lower_added, upper_added}
+use Rattle.ms_buddy.proofs.SplitLemmas.{AtHalves, at_split}
+use Rattle.ms_buddy.proofs.CarveLemmas.{lower_inside, upper_inside, whole_fits_not, lower_fits, upper_fits, lower_is_free, upper_is_free, same_refusal, lower_added, upper_added}
 use Rattle.ms_buddy.proofs.node.+carving.Goals as goal
 
 pub Node::carve-returns-then-number-level-clause-refusal : goal.Node::carve-returns-then-number-level-clause-refusal
 Node::carve-returns-then-number-level-clause-refusal g t c =
-    let s = at_split _ c.args.start _ _ _ _ _ _ c.in-Split.is c.requires.tree refl in
+    let s = at_split _ c.args.start _ _ _ _ _ _ _ c.in-Split.is c.requires.tree refl in
     (refl, ap (fits_in c.args.span) s.free ∙ whole_fits_not c.args.span _ _ _ _ _ s.halves s.low c.requires.inside (omega arith))
 
 pub carve_in_half-carve-requires : goal.carve_in_half-carve-requires
@@ -41,22 +41,22 @@ carve_in_half-carve-requires-else-span-middle g t c κs within = (
   ),
 )
 
-pub carve_in_half-returns-then-span-middle-clause-lent : goal.carve_in_half-returns-then-span-middle-clause-lent
-carve_in_half-returns-then-span-middle-clause-lent g t c =
+pub carve_in_half-returns-in-Ok-clause-lent : goal.carve_in_half-returns-in-Ok-clause-lent
+carve_in_half-returns-in-Ok-clause-lent g t c =
     let halves : AtHalves c.args.level c.args.start c.half_of.result c.args.lower.now c.args.upper.now = record { low_tree = c.requires.trees.0; high_tree = c.requires.trees.1; size = c.half_of.ensures.size } in
-    on_ok _ _ c.carve.result (λ h. lower_added (leaf_of c.args.span c.args.owner c.args.front) _ _ _ _ _ c.carve.new.self halves c.if-span-middle.true h) c.carve.ensures.lent
+    lower_added (leaf_of c.args.span c.args.owner c.args.front) _ _ _ _ _ c.carve.new.self halves c.if-span-middle.true c.in-Ok.ensures.lent
 
-pub carve_in_half-returns-else-span-middle-clause-lent : goal.carve_in_half-returns-else-span-middle-clause-lent
-carve_in_half-returns-else-span-middle-clause-lent g t c =
+pub carve_in_half-returns-in-Ok-carve-clause-lent : goal.carve_in_half-returns-in-Ok-carve-clause-lent
+carve_in_half-returns-in-Ok-carve-clause-lent g t c =
     let halves : AtHalves c.args.level c.args.start c.half_of.result c.args.lower.now c.args.upper.now = record { low_tree = c.requires.trees.0; high_tree = c.requires.trees.1; size = c.half_of.ensures.size } in
-    on_ok _ _ c.carve-else-span-middle.result (λ h. upper_added (leaf_of c.args.span c.args.owner c.args.front) _ _ _ _ _ c.carve-else-span-middle.new.self halves (omega arith) h) c.carve-else-span-middle.ensures.lent
+    upper_added (leaf_of c.args.span c.args.owner c.args.front) _ _ _ _ _ c.carve-else-span-middle.new.self halves (omega arith) c.in-Ok-carve.ensures.lent
 
-pub carve_in_half-returns-then-span-middle-clause-refusal : goal.carve_in_half-returns-then-span-middle-clause-refusal
-carve_in_half-returns-then-span-middle-clause-refusal g t c =
+pub carve_in_half-returns-in-Err-clause-refusal : goal.carve_in_half-returns-in-Err-clause-refusal
+carve_in_half-returns-in-Err-clause-refusal g t c =
     let halves : AtHalves c.args.level c.args.start c.half_of.result c.args.lower.now c.args.upper.now = record { low_tree = c.requires.trees.0; high_tree = c.requires.trees.1; size = c.half_of.ensures.size } in
-    refused_alike c.args.span _ _ c.carve.result (lower_fits c.args.span _ _ _ _ _ halves c.if-span-middle.true) (lower_is_free c.args.span _ _ _ _ _ halves c.if-span-middle.true) c.carve.ensures.refusal
+    same_refusal c.args.span _ _ (lower_fits c.args.span _ _ _ _ _ halves c.if-span-middle.true) (lower_is_free c.args.span _ _ _ _ _ halves c.if-span-middle.true) _ c.in-Err.ensures.refusal
 
-pub carve_in_half-returns-else-span-middle-clause-refusal : goal.carve_in_half-returns-else-span-middle-clause-refusal
-carve_in_half-returns-else-span-middle-clause-refusal g t c =
+pub carve_in_half-returns-in-Err-carve-clause-refusal : goal.carve_in_half-returns-in-Err-carve-clause-refusal
+carve_in_half-returns-in-Err-carve-clause-refusal g t c =
     let halves : AtHalves c.args.level c.args.start c.half_of.result c.args.lower.now c.args.upper.now = record { low_tree = c.requires.trees.0; high_tree = c.requires.trees.1; size = c.half_of.ensures.size } in
-    refused_alike c.args.span _ _ c.carve-else-span-middle.result (upper_fits c.args.span _ _ _ _ _ halves (omega arith)) (upper_is_free c.args.span _ _ _ _ _ halves (omega arith)) c.carve-else-span-middle.ensures.refusal
+    same_refusal c.args.span _ _ (upper_fits c.args.span _ _ _ _ _ halves (omega arith)) (upper_is_free c.args.span _ _ _ _ _ halves (omega arith)) _ c.in-Err-carve.ensures.refusal

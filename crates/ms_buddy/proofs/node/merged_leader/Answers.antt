@@ -14,7 +14,7 @@ returns-then-span-start-clause-room g c =
 pub returns-in-Split-lower-clause-room : goal.returns-in-Split-lower-clause-room
 returns-in-Split-lower-clause-room g c =
     let halves : AtHalves c.args.level c.args.start (size_of (c.args.level + 1)) c.args.lower.now c.args.upper.now = record { low_tree = c.requires.trees.0; high_tree = c.requires.trees.1; size = refl } in
-    absurd (split_not_leader c.args.span _ _ _ _ _ _ _ _ _ halves c.requires.lent c.if-span-start.false c.requires.child c.in-Split-lower.is)
+    absurd (split_not_leader c.args.span _ _ _ _ _ _ _ _ _ _ halves c.requires.lent c.if-span-start.false c.requires.child c.in-Split-lower.is)
 
 pub returns-in-Lent-clause-room : goal.returns-in-Lent-clause-room
 returns-in-Lent-clause-room g c =

@@ -1,8 +1,8 @@
-use Rattle.std.proofs.Common.{◌*◌, Option, Some, None, length, sym, ap, ◌∙◌}
-use Rattle.std.specs.Option.{IfNone}
+use Rattle.std.proofs.Common.{◌*◌, length, sym, ap, ◌∙◌}
 use Rattle.std.proofs.lemmas.Option.{IfSome_then}
 use Rattle.ms_base.specs.Pick.{lowest_unreserved}
 use Rattle.ms_base.specs.Committed.{is_among}
+use Rattle.ms_commit.proofs.LowestLemmas.{IfNone_then}
 use Rattle.ms_commit.proofs.MaskLemmas.{is_among-members}
 use Rattle.ms_commit.proofs.MemberLemmas.{lowest_is_unreserved, length-members_full}
 use Rattle.ms_commit.proofs.mask.Mask.lowest_missing.Goals as goal
@@ -17,10 +17,6 @@ returns-clause-missing g c =
     IfSome_then c.lowest_clear.result c.lowest_clear.ensures.lowest
     (λ number lowest. ap (λ members. is_among members number) (sym c.self.view_is)
     ∙ is_among-members c.self.inside.words number ∙ lowest.clear)
-
-IfNone_then : {X : Type 0} {P Q : Type 0} (r : Option X) → IfNone r P → (P → Q) → IfNone r Q
-IfNone_then (Some x) none h = tt
-IfNone_then None none h = h none
 
 pub returns-clause-full : goal.returns-clause-full
 returns-clause-full g c =

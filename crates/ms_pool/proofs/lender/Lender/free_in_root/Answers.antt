@@ -1,5 +1,4 @@
-use Rattle.std.proofs.Common.{◌≡◌, ℕ, ◌+◌, [], get_or, ap, refl, ◌∙◌, arith, List}
-use Rattle.std.proofs.lemmas.List.{get_or_read}
+use Rattle.std.proofs.Common.{◌≡◌, ◌+◌, [], get_or, ap, refl, ◌∙◌, arith, List}
 use Rattle.ms_base.specs.declared.span.Span.{Span}
 use Rattle.ms_buddy.specs.Leaves.{free_of}
 use Rattle.ms_pool.specs.Counting.{parts_of}
@@ -10,7 +9,7 @@ pub loop-leaf-init : goal.loop-leaf-init
 loop-leaf-init c =
     let trees = c.args.self.now.trees.items in
     let left : c.into_iter-leaf-iterator.result ≡ free_of (get_or trees c.args.root []) =
-    c.into_iter-leaf-iterator.ensures.into_iter_gives ∙ c.free_leaves-leaf-items.ensures ∙ ap free_of (get_or_read trees c.args.root c.index.result.now c.requires.there c.index.ensures []) in
+    c.into_iter-leaf-iterator.ensures.into_iter_gives ∙ c.free_leaves-leaf-items.ensures ∙ ap free_of c.tree.ensures in
     record { can = tt; ends = tt; full = refl; counted = λ level h. ap (λ (parts : List Span). get_or c.args.before.free level 0 + parts_of level parts) left }
 
 pub loop-leaf-preserved : goal.loop-leaf-preserved

@@ -1,8 +1,6 @@
-use Rattle.std.proofs.Common.{◌≡◌, ◌+◌, ◌*◌, Bool, true, ◌&&◌, [], List, get_or, sym, ap, ◌∙◌, arith}
-use Rattle.std.specs.Prelude.{◌↔◌}
-use Rattle.std.proofs.lemmas.List.{get_or_read}
+use Rattle.std.proofs.Common.{Bool, ◌&&◌, sym, ap, ◌∙◌}
 use Rattle.std.proofs.lemmas.List.Elements.{recursion_from_All}
-use Rattle.ms_buddy.specs.Leaves.{LentLeaf, AreLeaves}
+use Rattle.ms_buddy.specs.Leaves.{AreLeaves}
 use Rattle.ms_pool.proofs.WholeLemmas.{by_read, whole_slot}
 use Rattle.ms_pool.proofs.lender.Lender.is_whole.Goals as goal
 
@@ -11,8 +9,8 @@ returns-then-lower c =
     let trees = c.args.self.now.trees.items in
     sym (ap (λ (b : Bool). b && c.is_whole-upper.result) c.if-lower.true)
     ∙ whole_slot trees c.args.slot c.is_whole-lower.result c.is_whole-upper.result (recursion_from_All AreLeaves trees c.requires.leaves) c.requires.low
-    (by_read c.is_whole-lower.result c.index.result.now _ (get_or_read trees (2 * c.args.slot) c.index.result.now (omega (arith, c.requires.low, c.requires.trees)) c.index.ensures []) c.is_whole-lower.ensures.none_lent)
-    (by_read c.is_whole-upper.result c.index-2.result.now _ (get_or_read trees (2 * c.args.slot + 1) c.index-2.result.now (omega (arith, c.requires.low, c.requires.trees)) c.index-2.ensures []) c.is_whole-upper.ensures.none_lent)
+    (by_read c.is_whole-lower.result c.tree.result.now _ c.tree.ensures c.is_whole-lower.ensures.none_lent)
+    (by_read c.is_whole-upper.result c.tree-2.result.now _ c.tree-2.ensures c.is_whole-upper.ensures.none_lent)
 
 pub returns-else-lower : goal.returns-else-lower
 returns-else-lower c =
@@ -20,5 +18,5 @@ returns-else-lower c =
     c.if-lower.false
     ∙ sym (ap (λ (b : Bool). b && c.is_whole-upper.result) c.if-lower.false)
     ∙ whole_slot trees c.args.slot c.is_whole-lower.result c.is_whole-upper.result (recursion_from_All AreLeaves trees c.requires.leaves) c.requires.low
-    (by_read c.is_whole-lower.result c.index.result.now _ (get_or_read trees (2 * c.args.slot) c.index.result.now (omega (arith, c.requires.low, c.requires.trees)) c.index.ensures []) c.is_whole-lower.ensures.none_lent)
-    (by_read c.is_whole-upper.result c.index-2.result.now _ (get_or_read trees (2 * c.args.slot + 1) c.index-2.result.now (omega (arith, c.requires.low, c.requires.trees)) c.index-2.ensures []) c.is_whole-upper.ensures.none_lent)
+    (by_read c.is_whole-lower.result c.tree.result.now _ c.tree.ensures c.is_whole-lower.ensures.none_lent)
+    (by_read c.is_whole-upper.result c.tree-2.result.now _ c.tree-2.ensures c.is_whole-upper.ensures.none_lent)

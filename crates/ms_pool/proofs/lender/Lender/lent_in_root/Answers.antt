@@ -1,5 +1,4 @@
-use Rattle.std.proofs.Common.{◌≡◌, ◌<◌, ℕ, ◌+◌, ◌-◌, [], get_or, ap, subst, arith, List}
-use Rattle.std.proofs.lemmas.List.{get_or_read}
+use Rattle.std.proofs.Common.{ℕ, ◌+◌, [], get_or, ap, subst, arith, List}
 use Rattle.ms_buddy.specs.Leaves.{LentLeaf, IsLeafAt, free_of}
 use Rattle.ms_pool.proofs.CountLemmas.{covers_both, walk_begins, walk_is_over, walk_room, walk_step}
 use Rattle.ms_pool.proofs.lender.Lender.lent_in_root.Goals as goal
@@ -12,7 +11,7 @@ with_leaf-counted-requires c =
     let tree = get_or c.args.self.now.trees.items c.args.root [] in
     walk_room c.args.before c.loop-at.counted tree c.loop-at.at c.loop-at.invariant.0 c.leaf_at-leaf.result.0 c.leaf_at-leaf.result.1 c.requires.room c.loop-at.invariant.1
     (subst (λ (t : List LentLeaf). IsLeafAt c.loop-at.at c.leaf_at-leaf.result.0 c.leaf_at-leaf.result.1 t (free_of t))
-    (get_or_read c.args.self.now.trees.items c.args.root c.index.result.now c.requires.there c.index.ensures []) c.leaf_at-leaf.ensures.leaf)
+    c.tree.ensures c.leaf_at-leaf.ensures.leaf)
     c.leaf_at-leaf.ensures.covers
 
 pub loop-at-preserved : goal.loop-at-preserved
@@ -21,7 +20,7 @@ loop-at-preserved c =
     walk_step c.args.before c.loop-at.counted c.with_leaf-counted.result tree c.loop-at.at (c.leaf_at-leaf.result.0.start + c.words.result) c.loop-at.invariant.0
     c.leaf_at-leaf.result.0 c.leaf_at-leaf.result.1 c.loop-at.invariant.1
     (subst (λ (t : List LentLeaf). IsLeafAt c.loop-at.at c.leaf_at-leaf.result.0 c.leaf_at-leaf.result.1 t (free_of t))
-    (get_or_read c.args.self.now.trees.items c.args.root c.index.result.now c.requires.there c.index.ensures []) c.leaf_at-leaf.ensures.leaf)
+    c.tree.ensures c.leaf_at-leaf.ensures.leaf)
     c.leaf_at-leaf.ensures.covers (ap (λ (n : ℕ). c.leaf_at-leaf.result.0.start + n) c.words.ensures.size) c.with_leaf-counted.ensures
 
 pub loop-at-smaller : goal.loop-at-smaller

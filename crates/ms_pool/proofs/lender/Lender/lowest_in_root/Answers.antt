@@ -1,21 +1,48 @@
-use Rattle.std.proofs.Common.{◌≡◌, [], get_or, refl, ap, rules, ◌∙◌}
-use Rattle.std.proofs.lemmas.List.{get_or_read}
-use Rattle.ms_buddy.specs.Leaves.{free_of}
-use Rattle.ms_pool.specs.Searching.{first_in}
-use Rattle.ms_pool.proofs.EnoughLemmas.{free_lie_in}
+use Rattle.std.proofs.Common.{◌+◌, ◌*◌, Some, arith, sym, ap, ◌∙◌}
+use Rattle.std.specs.List.{find}
+use Rattle.ms_base.specs.declared.span.Span.{Span}
+use Rattle.ms_base.specs.Level.{root_words}
+use Rattle.ms_base.specs.Policy.{granule_of}
+use Rattle.ms_buddy.specs.Leaves.{free_of, is_of_from}
+use Rattle.ms_pool.proofs.NextFreeLemmas.{at_turn, first_in-from, free_rise, is_enough_in, raised, turn_ends, turn_goes_on, turn_passes}
 use Rattle.ms_pool.proofs.lender.Lender.lowest_in_root.Goals as goal
 
-pub loop-leaf-init : goal.loop-leaf-init
-loop-leaf-init c =
-    let trees = c.args.self.now.trees.items in
-    let left : c.into_iter-leaf-iterator.result ≡ free_of (get_or trees c.args.root []) =
-    c.into_iter-leaf-iterator.ensures.into_iter_gives ∙ c.free_leaves-leaf-items.ensures ∙ ap free_of (get_or_read trees c.args.root c.index.result.now c.requires.there c.index.ensures []) in
-    record { can = tt; ends = tt; inside = rw left (free_lie_in (get_or trees c.args.root [])); first = rw left refl }
+pub overflow_add-start : goal.overflow_add-start
+overflow_add-start c =
+    let turn = at_turn c.args.self.now.trees.items c.args.root _ _ _ _ _ c.tree.ensures c.next_free.ensures c.in-Some.is in
+    omega (arith, turn.next.inside, c.requires.there, c.requires.kept.trees, c.requires.kept.nodes.class_slots)
+
+pub is_enough-requires : goal.is_enough-requires
+is_enough-requires c =
+    let turn = at_turn c.args.self.now.trees.items c.args.root _ _ _ _ _ c.tree.ensures c.next_free.ensures c.in-Some.is in
+    omega (arith, turn.next.inside, c.requires.there, c.requires.fits, c.requires.kept.trees, c.requires.kept.nodes.class_slots)
+
+pub overflow_add-from : goal.overflow_add-from
+overflow_add-from c =
+    let turn = at_turn c.args.self.now.trees.items c.args.root _ _ _ _ _ c.tree.ensures c.next_free.ensures c.in-Some.is in
+    omega (arith, turn.next.inside)
+
+pub loop-leaf-smaller : goal.loop-leaf-smaller
+loop-leaf-smaller c =
+    let turn = at_turn c.args.self.now.trees.items c.args.root _ _ _ _ _ c.tree.ensures c.next_free.ensures c.in-Some.is in
+    omega (arith, turn.next.inside, turn.next.past)
+
+pub loop-leaf-preserved : goal.loop-leaf-preserved
+loop-leaf-preserved c =
+    let turn = at_turn c.args.self.now.trees.items c.args.root _ _ _ _ _ c.tree.ensures c.next_free.ensures c.in-Some.is in
+    record {
+      within = omega (arith, turn.next.inside);
+      first = c.loop-leaf.invariant.first ∙ turn_goes_on _ _ _ _ _ (free_rise _) turn.next.past turn.found (sym c.is_enough.ensures ∙ c.if-is_enough.false);
+    }
 
 pub returns-then-is_enough : goal.returns-then-is_enough
-unfolding first_in
-returns-then-is_enough c = search rules
+returns-then-is_enough c =
+    let turn = at_turn c.args.self.now.trees.items c.args.root _ _ _ _ _ c.tree.ensures c.next_free.ensures c.in-Some.is in
+    sym (first_in-from _ _ _ _ _ _ _
+    ∙ ap (raised c.args.root) (c.loop-leaf.invariant.first ∙ turn_passes (is_enough_in c.args.self.now.nodes.granules (granule_of c.args.self.now.policy) c.args.wish.words c.args.wish.committed c.args.root) c.args.level c.loop-leaf.from _ _ turn.found (sym c.is_enough.ensures ∙ c.if-is_enough.true))
+    ∙ ap (λ level. let part : Span = record { start = c.in-Some.leaf.start + c.args.root * root_words; level = level } in Some part) turn.next.same)
 
 pub returns : goal.returns
-unfolding first_in
-returns c = search rules
+returns c =
+    let none = sym (c.next_free.ensures ∙ ap (λ t. find (is_of_from c.args.level c.loop-leaf.from) (free_of t)) c.tree.ensures) ∙ c.in_default.is in
+    sym (first_in-from _ _ _ _ _ _ _ ∙ ap (raised c.args.root) (c.loop-leaf.invariant.first ∙ turn_ends (is_enough_in c.args.self.now.nodes.granules (granule_of c.args.self.now.policy) c.args.wish.words c.args.wish.committed c.args.root) c.args.level c.loop-leaf.from _ none))

@@ -1,5 +1,5 @@
 use Rattle.std.proofs.Common.{◌≡◌, replicate, []}
-use Rattle.ms_pool.proofs.lender.whole_trees.Given as goal
+use Rattle.ms_pool.proofs.trees.whole_trees.Given as goal
 
 -- So many trees so far, each with no leaf.
 abbrev pub invariant-loop : goal.invariant-loop

@@ -1,4 +1,4 @@
-use Rattle.std.proofs.Common.{◌≡◌, ◌<◌, ℕ, ◌/◌, ◌%◌, [], List, length, get_or, set, Some, sym, ap, ◌∙◌, arith, refl}
+use Rattle.std.proofs.Common.{◌/◌, ◌%◌, [], List, set, ap, ◌∙◌, arith, refl}
 use Rattle.std.specs.List.{find}
 use Rattle.std.proofs.lemmas.List.{get_or_read, get_or-set_same}
 use Rattle.std.proofs.lemmas.List.Elements.{recursion_from_All}
@@ -6,7 +6,7 @@ use Rattle.ms_base.specs.Level.{root_words}
 use Rattle.ms_buddy.specs.Leaves.{LentLeaf, AreLeaves, covers, free_of, is_lent, without_leaf}
 use Rattle.ms_pool.specs.Keeping.{loans_from}
 use Rattle.ms_pool.proofs.ReleasedTreeLemmas.{leaf_there, place_in, released_loans}
-use Rattle.ms_pool.proofs.lending.put_back.Goals as goal
+use Rattle.ms_pool.proofs.trees.put_back_leaf.Goals as goal
 
 pub index_mut-tree-requires : goal.index_mut-tree-requires
 index_mut-tree-requires c = omega (arith, c.args.trees.now.ok.0, (leaf_there c.args.trees.now.items c.args.chunk.now (recursion_from_All AreLeaves c.args.trees.now.items c.requires.leaves) c.requires.lent).0)

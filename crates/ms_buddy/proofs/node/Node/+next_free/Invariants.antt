@@ -1,0 +1,6 @@
+-- Each step goes down a level.
+use Rattle.std.proofs.Common.{◌-◌}
+use Rattle.ms_buddy.proofs.node.Node.+next_free.Given as goal
+
+abbrev pub decreases-next_free : goal.decreases-next_free
+decreases-next_free g l = 13 - l.level

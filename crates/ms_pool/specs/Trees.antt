@@ -1,0 +1,22 @@
+-- The trees of the roots that may be reserved, and which of them have a free leaf of a level.
+use Rattle.std.specs.Prelude.{◌≡◌, ℕ, ◌+◌, ◌*◌, ◌<◌, ◌≤◌, Bool, List, [], length, get_or}
+use Rattle.std.specs.List.{list_any}
+use Rattle.ms_base.specs.Committed.{is_among}
+use Rattle.ms_buddy.specs.Leaves.{LentLeaf, free_of, is_of}
+
+-- What callers see: the lent leaves of each root.
+pub record TreesState : Type 0 where
+  pub items : List (List LentLeaf)
+
+-- The tree of the root has a free leaf of the level.
+abbrev pub has_free : List (List LentLeaf) → ℕ → ℕ → Bool
+has_free trees level root = list_any (is_of level) (free_of (get_or trees root []))
+
+-- The number in the index that stands for a level and a root: each level has a row of 192.
+abbrev pub place_in : ℕ → ℕ → ℕ
+place_in level root = 192 * level + root
+
+-- The index has exactly the levels and roots where the tree has a free leaf.
+pub record IsIndex (numbers : List ℕ) (trees : List (List LentLeaf)) : Type 0 where
+  pub few : length trees ≤ 192
+  pub exact : (level root : ℕ) → level ≤ 12 → root < length trees → is_among numbers (place_in level root) ≡ has_free trees level root

@@ -1,0 +1,272 @@
+//! The split trees of all roots that may be reserved, and an index of them: for each level, which
+//! roots have a free leaf of it.
+//!
+//!     index  0          192        384         2304       2496
+//!            +----------+----------+--  ..  ---+----------+
+//!            | level 0  | level 1  |           | level 12 |      (a bit for each root)
+//!            +----------+----------+--  ..  ---+----------+
+//!
+//! Kept true: the bit of a level and a root is set exactly where the root's tree has a free leaf of
+//! that level. A root that isn't reserved is whole, so at level 0 it has its bit, and whoever asks
+//! looks whether its slot is reserved. Each change of a tree tells the 13 bits of its root anew. The
+//! places of trees and index are made once.
+ghost use Rattle.std.specs.Prelude.{◌≡◌, ◌≢◌, ℕ, ◌+◌, ◌-◌, ◌*◌, ◌/◌, ◌%◌, ◌<◌, ◌≤◌, ◌⊎◌, false, [], get_or, length, replicate, IfOk, IfSome, IfNone, IsTrue, IsFalse, Some};
+ghost use Rattle.std.specs.List.{All, find};
+ghost use Rattle.ms_base.specs.Committed.{is_among};
+ghost use Rattle.ms_base.specs.Level.{root_words, size_of};
+ghost use Rattle.ms_base.specs.Part.{IsPart};
+ghost use Rattle.ms_buddy.specs.Leaves.{AreLeaves, can_enlarge, covers, free_of, has_level, is_lent, span_at};
+ghost use Rattle.ms_pool.specs.Growing.{with_greater_loan};
+ghost use Rattle.ms_pool.specs.Keeping.{loans_from};
+ghost use Rattle.ms_pool.specs.Ledger.{with_loan};
+ghost use Rattle.ms_pool.specs.Releasing.{is_lent_in, without_loan};
+ghost use Rattle.ms_pool.specs.Trees.{has_free, place_in};
+
+use ms_base::{Chunk, Level, ROOT_WORDS, Span};
+use ms_buddy::SplitTree;
+use ms_commit::Mask;
+use std::alloc::{AllocError, Global};
+use std::marker::Model;
+
+/// A tree for each root that may be reserved, and the index. Contracts see the lent leaves of each.
+#[derive(Drop)]
+pub(crate) struct Trees {
+    trees: Vec<SplitTree<Global>>,
+    roots: Mask<39>,
+}
+
+impl Model for Trees {
+    ghost use Rattle.ms_pool.specs.Trees.{IsIndex, TreesState};
+
+    ghost Value = { TreesState };
+
+    ghost view = { λ all. record { items = all.trees.items } };
+
+    ghost invariant = { λ all. IsIndex all.roots all.trees.items };
+}
+
+impl Trees {
+    /// Makes so many trees, each of one free leaf.
+    pub(crate) fn whole(alloc: Global, count: usize) -> Result<Trees, AllocError>
+        requires { count ≤ 192 }
+        ensures { IfOk result (λ trees. trees.items ≡ replicate count []) }
+    {
+        let trees = whole_trees(alloc, count)?;
+        let mut roots = Mask::empty();
+        roots.insert_range(0, count);
+        Ok(Trees { trees, roots })
+    }
+
+    /// The tree of a root.
+    pub(crate) fn tree(&self, root: usize) -> &SplitTree<Global>
+        requires { root < length self.now.items }
+        ensures { result.now ≡ get_or self.now.items root [] }
+    {
+        &self.trees[root]
+    }
+
+    /// Tells the lowest root of a range whose tree has a free leaf of a level, without a look at the
+    /// trees.
+    pub(crate) fn next_root(&self, level: Level, from: usize, end: usize) -> Option<usize>
+        requires there { end ≤ length self.now.items }
+        ensures from { IfSome result (λ root. from ≤ root) }
+        ensures below { IfSome result (λ root. root < end) }
+        ensures lowest { IfSome result
+            (λ root. (k : ℕ) → from ≤ k → k < root → has_free self.now.items level k ≡ false) }
+        ensures none { IfNone result
+            ((k : ℕ) → from ≤ k → k < end → has_free self.now.items level k ≡ false) }
+    {
+        if end <= from {
+            return None;
+        }
+        let row = 192 * level.number() as usize;
+        match self.roots.lowest_within(row + from, end - from) {
+            Some(place) => Some(place - row),
+            None => None,
+        }
+    }
+}
+
+/// Lends the chunk's part in the tree of its root; `false` where memory is wanting.
+pub(crate) fn carve(trees: &mut Trees, alloc: Global, owner: u32, chunk: &Chunk) -> bool
+    requires leaves { All AreLeaves trees.old.items }
+    requires there { chunk.now.start < root_words * length trees.old.items }
+    requires placed { IsPart chunk.now.start chunk.now.level }
+    requires some { 1 ≤ chunk.now.front }
+    requires within { chunk.now.front ≤ size_of chunk.now.level }
+    ensures lent { IsTrue result
+        → loans_from 0 trees.new.items
+        ≡ with_loan (record { owner = owner; chunk = chunk.now }) (loans_from 0 trees.old.items) }
+    ensures leaves { All AreLeaves trees.new.items }
+    ensures count { length trees.new.items ≡ length trees.old.items }
+    ensures unchanged { IsFalse result → trees.new.items ≡ trees.old.items }
+{
+    let lent = carve_leaf(&mut trees.trees, alloc, owner, chunk);
+    let root = (chunk.start / ROOT_WORDS) as usize;
+    let levels = trees.trees[root].free_levels();
+    note(&mut trees.roots, root, levels);
+    lent
+}
+
+/// Takes the chunk back in the tree of its root, and answers the free leaf that results.
+pub(crate) fn put_back(trees: &mut Trees, chunk: &Chunk) -> Span
+    requires leaves { All AreLeaves trees.old.items }
+    requires lent { IsTrue (is_lent_in (loans_from 0 trees.old.items) chunk.now) }
+    ensures loans { loans_from 0 trees.new.items ≡ without_loan chunk.now (loans_from 0 trees.old.items) }
+    ensures leaves { All AreLeaves trees.new.items }
+    ensures count { length trees.new.items ≡ length trees.old.items }
+    ensures there { chunk.now.start / root_words < length trees.old.items }
+    ensures free { find (covers (chunk.now.start % root_words))
+        (free_of (get_or trees.new.items (chunk.now.start / root_words) []))
+        ≡ Some result }
+{
+    let part = put_back_leaf(&mut trees.trees, chunk);
+    let root = (chunk.start / ROOT_WORDS) as usize;
+    let levels = trees.trees[root].free_levels();
+    note(&mut trees.roots, root, levels);
+    part
+}
+
+/// Makes the chunk's leaf that of the grown chunk, in the tree of its root.
+pub(crate) fn raise(trees: &mut Trees, chunk: &Chunk, greater: &Chunk)
+    requires leaves { All AreLeaves trees.old.items }
+    requires there { chunk.now.start < root_words * length trees.old.items }
+    requires lent { IsTrue (is_lent (get_or trees.old.items (chunk.now.start / root_words) [])
+        (span_at (chunk.now.start % root_words) chunk.now.level)) }
+    requires start { greater.now.start ≡ chunk.now.start }
+    requires some { 1 ≤ greater.now.front }
+    requires within { greater.now.front ≤ size_of greater.now.level }
+    requires grows { (greater.now.level ≡ chunk.now.level)
+        ⊎ ((greater.now.level + 1 ≡ chunk.now.level)
+        × IsTrue (can_enlarge (span_at (chunk.now.start % root_words) chunk.now.level)
+        (free_of (get_or trees.old.items (chunk.now.start / root_words) [])))) }
+    ensures loans { loans_from 0 trees.new.items
+        ≡ with_greater_loan greater.now (loans_from 0 trees.old.items) }
+    ensures leaves { All AreLeaves trees.new.items }
+    ensures count { length trees.new.items ≡ length trees.old.items }
+{
+    raise_leaf(&mut trees.trees, chunk, greater);
+    let root = (chunk.start / ROOT_WORDS) as usize;
+    let levels = trees.trees[root].free_levels();
+    note(&mut trees.roots, root, levels);
+}
+
+/// Tells the index anew of which levels a root has free leaves.
+fn note(roots: &mut Mask<39>, root: usize, levels: u16)
+    requires { root < 192 }
+    ensures here { (level : ℕ) → level ≤ 12
+        → is_among roots.new (place_in level root) ≡ has_level levels level }
+    ensures others { (number : ℕ) → (number % 192 ≡ root → ⊥)
+        → is_among roots.new number ≡ is_among roots.old number }
+{
+    for level in 0..13 {
+        let place = 192 * level + root;
+        if levels >> level & 1 == 1 {
+            roots.insert_range(place, 1);
+        } else {
+            roots.remove_range(place, 1);
+        }
+    }
+}
+
+/// Lends the chunk's part in the tree of its root; `false` where memory is wanting.
+fn carve_leaf(trees: &mut Vec<SplitTree<Global>>, alloc: Global, owner: u32, chunk: &Chunk) -> bool
+    requires leaves { All AreLeaves trees.old.items }
+    requires there { chunk.now.start < root_words * length trees.old.items }
+    requires placed { IsPart chunk.now.start chunk.now.level }
+    requires some { 1 ≤ chunk.now.front }
+    requires within { chunk.now.front ≤ size_of chunk.now.level }
+    ensures lent { IsTrue result
+        → loans_from 0 trees.new.items
+        ≡ with_loan (record { owner = owner; chunk = chunk.now }) (loans_from 0 trees.old.items) }
+    ensures leaves { All AreLeaves trees.new.items }
+    ensures count { length trees.new.items ≡ length trees.old.items }
+    ensures unchanged { IsFalse result → trees.new.items ≡ trees.old.items }
+    ensures others { (root : ℕ) → (root ≡ chunk.now.start / root_words → ⊥)
+        → get_or trees.new.items root [] ≡ get_or trees.old.items root [] }
+{
+    let root = (chunk.start / ROOT_WORDS) as usize;
+    let at = chunk.start % ROOT_WORDS;
+    let tree = &mut trees[root];
+    let lent = tree
+        .carve(alloc, chunk.level, at, owner, chunk.front)
+        .is_ok();
+    // What holds of the leaves of every tree is learnt here.
+    let _ = tree.is_whole();
+    lent
+}
+
+/// Takes the chunk back in the tree of its root, and answers the free leaf that results.
+fn put_back_leaf(trees: &mut Vec<SplitTree<Global>>, chunk: &Chunk) -> Span
+    requires leaves { All AreLeaves trees.old.items }
+    requires lent { IsTrue (is_lent_in (loans_from 0 trees.old.items) chunk.now) }
+    ensures loans { loans_from 0 trees.new.items ≡ without_loan chunk.now (loans_from 0 trees.old.items) }
+    ensures leaves { All AreLeaves trees.new.items }
+    ensures count { length trees.new.items ≡ length trees.old.items }
+    ensures there { chunk.now.start / root_words < length trees.old.items }
+    ensures free { find (covers (chunk.now.start % root_words))
+        (free_of (get_or trees.new.items (chunk.now.start / root_words) []))
+        ≡ Some result }
+    ensures others { (root : ℕ) → (root ≡ chunk.now.start / root_words → ⊥)
+        → get_or trees.new.items root [] ≡ get_or trees.old.items root [] }
+{
+    let tree = &mut trees[(chunk.start / ROOT_WORDS) as usize];
+    let part = tree.release(Span {
+        start: chunk.start % ROOT_WORDS,
+        level: chunk.level,
+    });
+    // What holds of the leaves of every tree is learnt here.
+    let _ = tree.is_whole();
+    part
+}
+
+/// Makes the chunk's leaf that of the grown chunk, in the tree of its root.
+fn raise_leaf(trees: &mut Vec<SplitTree<Global>>, chunk: &Chunk, greater: &Chunk)
+    requires leaves { All AreLeaves trees.old.items }
+    requires there { chunk.now.start < root_words * length trees.old.items }
+    requires lent { IsTrue (is_lent (get_or trees.old.items (chunk.now.start / root_words) [])
+        (span_at (chunk.now.start % root_words) chunk.now.level)) }
+    requires start { greater.now.start ≡ chunk.now.start }
+    requires some { 1 ≤ greater.now.front }
+    requires within { greater.now.front ≤ size_of greater.now.level }
+    requires grows { (greater.now.level ≡ chunk.now.level)
+        ⊎ ((greater.now.level + 1 ≡ chunk.now.level)
+        × IsTrue (can_enlarge (span_at (chunk.now.start % root_words) chunk.now.level)
+        (free_of (get_or trees.old.items (chunk.now.start / root_words) [])))) }
+    ensures loans { loans_from 0 trees.new.items
+        ≡ with_greater_loan greater.now (loans_from 0 trees.old.items) }
+    ensures leaves { All AreLeaves trees.new.items }
+    ensures count { length trees.new.items ≡ length trees.old.items }
+    ensures others { (root : ℕ) → (root ≡ chunk.now.start / root_words → ⊥)
+        → get_or trees.new.items root [] ≡ get_or trees.old.items root [] }
+{
+    let root = (chunk.start / ROOT_WORDS) as usize;
+    let level = chunk.level;
+    let _ = level.number();
+    let span = Span {
+        start: chunk.start % ROOT_WORDS,
+        level,
+    };
+    let tree = &mut trees[root];
+    if greater.level == level {
+        tree.set_front(span, greater.front);
+    } else {
+        match tree.enlarge(span, greater.front) {
+            Ok(_) => {}
+            Err(_) => unreachable!(),
+        }
+    }
+    // What holds of the leaves of every tree is learnt here.
+    let _ = tree.is_whole();
+}
+
+/// Makes so many trees, each of one free leaf.
+fn whole_trees(alloc: Global, count: usize) -> Result<Vec<SplitTree<Global>>, AllocError>
+    ensures { IfOk result (λ trees. trees.items ≡ replicate count []) }
+{
+    let mut trees = Vec::with_capacity(alloc, count)?;
+    for _ in 0..count {
+        trees.push(SplitTree::new())?;
+    }
+    Ok(trees)
+}
