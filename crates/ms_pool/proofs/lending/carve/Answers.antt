@@ -1,10 +1,10 @@
-use Rattle.std.proofs.Common.{◌≡◌, ◌<◌, ℕ, ◌/◌, ◌%◌, [], List, length, get_or, set, sym, ap, ◌∙◌, arith}
+use Rattle.std.proofs.Common.{◌≡◌, ◌<◌, ◌/◌, ◌%◌, [], List, length, set, sym, ap, ◌∙◌, arith}
 use Rattle.std.proofs.lemmas.List.{get_or_read}
 use Rattle.std.proofs.lemmas.List.Elements.{recursion_from_All}
 use Rattle.ms_base.specs.Level.{root_words}
 use Rattle.ms_buddy.specs.Leaves.{LentLeaf, AreLeaves, leaf_of, span_at, with_leaf}
 use Rattle.ms_pool.specs.Ledger.{Loan, with_loan}
-use Rattle.ms_pool.specs.Keeping.{loan_at, loans_from}
+use Rattle.ms_pool.specs.Keeping.{loans_from}
 use Rattle.ms_pool.proofs.CarveLemmas.{leaf_is_loan, loans_with_leaf, offset_is_whole, where_ok}
 use Rattle.ms_pool.proofs.lending.carve.Goals as goal
 

@@ -1,4 +1,4 @@
-use Rattle.std.proofs.Common.{◌≡◌, ◌<◌, ℕ, ◌/◌, ◌%◌, [], List, length, get_or, set, Some, sym, ap, ◌∙◌, arith, refl}
+use Rattle.std.proofs.Common.{◌/◌, ◌%◌, [], List, set, ap, ◌∙◌, arith, refl}
 use Rattle.std.specs.List.{find}
 use Rattle.std.proofs.lemmas.List.{get_or_read, get_or-set_same}
 use Rattle.std.proofs.lemmas.List.Elements.{recursion_from_All}

@@ -1,8 +1,8 @@
-use Rattle.std.proofs.Common.{◌≡◌, ◌<◌, ◌≤◌, ℕ, ◌+◌, ◌-◌, ◌*◌, ◌/◌, ◌%◌, [], List, length, get_or, set, sym, ap, subst, ◌∙◌, arith, eq-eqb, eqb-true}
+use Rattle.std.proofs.Common.{◌≡◌, ◌<◌, ◌+◌, ◌*◌, ◌/◌, ◌%◌, [], List, length, set, sym, ap, subst, ◌∙◌, arith, eq-eqb, eqb-true}
 use Rattle.std.specs.Prelude.{OnOk}
 use Rattle.std.proofs.lemmas.List.{get_or_read}
 use Rattle.std.proofs.lemmas.List.Elements.{recursion_from_All}
-use Rattle.ms_base.specs.Level.{root_words, size_of}
+use Rattle.ms_base.specs.Level.{root_words}
 use Rattle.ms_buddy.specs.Leaves.{LentLeaf, AreLeaves, span_at, with_front, with_parent}
 use Rattle.ms_pool.specs.Keeping.{loans_from}
 use Rattle.ms_pool.proofs.RaisedTreeLemmas.{grown_size, loans_with_front, loans_with_parent, parent_level}

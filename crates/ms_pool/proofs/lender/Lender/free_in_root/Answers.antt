@@ -1,4 +1,4 @@
-use Rattle.std.proofs.Common.{◌≡◌, ℕ, ◌+◌, [], get_or, ap, refl, ◌∙◌, arith, List}
+use Rattle.std.proofs.Common.{◌≡◌, ◌+◌, [], get_or, ap, refl, ◌∙◌, arith, List}
 use Rattle.std.proofs.lemmas.List.{get_or_read}
 use Rattle.ms_base.specs.declared.span.Span.{Span}
 use Rattle.ms_buddy.specs.Leaves.{free_of}

@@ -1,8 +1,7 @@
-use Rattle.std.proofs.Common.{◌≡◌, ◌+◌, ◌*◌, Bool, true, ◌&&◌, [], List, get_or, sym, ap, ◌∙◌, arith}
-use Rattle.std.specs.Prelude.{◌↔◌}
+use Rattle.std.proofs.Common.{◌+◌, ◌*◌, Bool, ◌&&◌, [], sym, ap, ◌∙◌, arith}
 use Rattle.std.proofs.lemmas.List.{get_or_read}
 use Rattle.std.proofs.lemmas.List.Elements.{recursion_from_All}
-use Rattle.ms_buddy.specs.Leaves.{LentLeaf, AreLeaves}
+use Rattle.ms_buddy.specs.Leaves.{AreLeaves}
 use Rattle.ms_pool.proofs.WholeLemmas.{by_read, whole_slot}
 use Rattle.ms_pool.proofs.lender.Lender.is_whole.Goals as goal
 

@@ -1,4 +1,4 @@
-use Rattle.std.proofs.Common.{◌≡◌, ◌<◌, ℕ, ◌+◌, ◌-◌, [], get_or, ap, subst, arith, List}
+use Rattle.std.proofs.Common.{ℕ, ◌+◌, [], get_or, ap, subst, arith, List}
 use Rattle.std.proofs.lemmas.List.{get_or_read}
 use Rattle.ms_buddy.specs.Leaves.{LentLeaf, IsLeafAt, free_of}
 use Rattle.ms_pool.proofs.CountLemmas.{covers_both, walk_begins, walk_is_over, walk_room, walk_step}

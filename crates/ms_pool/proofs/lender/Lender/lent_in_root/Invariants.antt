@@ -1,4 +1,4 @@
-use Rattle.std.proofs.Common.{◌≡◌, ◌≤◌, ℕ, ◌-◌, [], get_or, map}
+use Rattle.std.proofs.Common.{◌-◌, [], get_or, map}
 use Rattle.ms_base.specs.Level.{root_words}
 use Rattle.ms_buddy.specs.Leaves.{chunk_of}
 use Rattle.ms_pool.proofs.CountLemmas.{Walked, HasCounted}

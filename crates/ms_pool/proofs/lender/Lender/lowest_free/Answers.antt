@@ -1,12 +1,10 @@
-use Rattle.std.proofs.Common.{◌≡◌, ◌<◌, ℕ, ◌+◌, ◌-◌, sym, ap, ◌∙◌, arith, refl}
+use Rattle.std.proofs.Common.{ℕ, ◌-◌, sym, ap, ◌∙◌, arith}
 use Rattle.std.specs.List.{find, flat_map, range_with_len}
-use Rattle.ms_base.specs.FreeParts.{free_parts}
-use Rattle.ms_commit.specs.Nodes.{NodesState, slots_of}
 use Rattle.ms_pool.specs.Ledger.{held_in, state_in}
 use Rattle.ms_pool.specs.Keeping.{ledger_of}
 use Rattle.ms_pool.specs.Searching.{first_at, first_in_slot, grants}
 use Rattle.ms_pool.proofs.SearchLemmas.{find_end, find_step, found_here, found_later}
-use Rattle.ms_pool.proofs.SlotLoopLemmas.{end_slot, first_slot, given_by, parts_by_slots}
+use Rattle.ms_pool.proofs.SlotLoopLemmas.{end_slot, given_by, parts_by_slots}
 use Rattle.ms_pool.proofs.lender.Lender.lowest_free.Goals as goal
 
 pub loop-slot-init : goal.loop-slot-init

@@ -1,4 +1,4 @@
-use Rattle.std.proofs.Common.{◌≡◌, ◌≤◌, ◌+◌, ◌-◌}
+use Rattle.std.proofs.Common.{◌≡◌, ◌≤◌, ◌-◌}
 use Rattle.std.specs.List.{find, flat_map, range_with_len}
 use Rattle.ms_base.specs.FreeParts.{free_parts}
 use Rattle.ms_commit.specs.Nodes.{slots_of}

@@ -1,10 +1,9 @@
-use Rattle.std.proofs.Common.{◌≡◌, ℕ, Bool, cond, [], ◌+◌, ◌*◌, get_or, sym, ap, ◌∙◌}
+use Rattle.std.proofs.Common.{cond, [], sym, ap, ◌∙◌}
 use Rattle.std.specs.List.{find}
 use Rattle.ms_base.specs.FreeParts.{free_in_slot}
-use Rattle.ms_base.specs.Policy.{granule_of}
 use Rattle.ms_pool.specs.Ledger.{held_in, state_in}
 use Rattle.ms_pool.specs.Keeping.{ledger_of}
-use Rattle.ms_pool.specs.Searching.{first_in, first_in_slot, grants}
+use Rattle.ms_pool.specs.Searching.{first_in_slot, grants}
 use Rattle.ms_pool.proofs.SearchLemmas.{found_here, found_later}
 use Rattle.ms_pool.proofs.SlotLoopLemmas.{slot_found}
 use Rattle.ms_pool.proofs.lender.Lender.lowest_in_slot.Goals as goal

@@ -1,10 +1,7 @@
-use Rattle.std.proofs.Common.{◌≡◌, ◌<◌, ◌/◌, ◌%◌, true, [], List, length, get_or, sym, ap, ◌∙◌, arith, ltb-true}
-use Rattle.std.specs.Prelude.{nat_lt}
-use Rattle.std.proofs.lemmas.Bool.{and_parts}
+use Rattle.std.proofs.Common.{◌/◌, ◌%◌, [], List, sym, ap, ◌∙◌, arith}
 use Rattle.std.proofs.lemmas.List.{get_or_read}
 use Rattle.std.proofs.lemmas.List.Elements.{recursion_from_All}
 use Rattle.ms_base.specs.Level.{root_words}
-use Rattle.ms_base.specs.Part.{is_leader}
 use Rattle.ms_buddy.specs.Leaves.{LentLeaf, AreLeaves, can_enlarge, free_of, is_lent, span_at}
 use Rattle.ms_pool.specs.Growing.{has_room}
 use Rattle.ms_pool.proofs.BuddyLemmas.{no_root_can}
