@@ -20,7 +20,7 @@ use Rattle.ms_buddy.specs.declared.node.Leaf.{Leaf}
 use Rattle.ms_buddy.specs.declared.node.Leaf.TheVariants.{Free, Lent}
 use Rattle.ms_buddy.specs.Leaves.{span_of as leaf_span}
 use Rattle.ms_buddy.proofs.HalvesLemmas.{size_of-halves, size_of-some}
-use Rattle.ms_pool.proofs.CountLemmas.{covers_both, free_is_clear}
+use Rattle.ms_pool.proofs.WalkedLemmas.{covers_both, free_is_clear}
 
 -- Parts rise from low to high: each starts where the one before ends, or later.
 abbrev AreRising : ℕ → ℕ → List Span → Type 0

@@ -5,6 +5,7 @@ pub mod FreeRootLemmas
 pub mod EnoughLemmas
 pub mod EmptyLemmas
 pub mod SlotLoopLemmas
+pub mod WalkedLemmas
 pub mod CountLemmas
 pub mod FreeCountLemmas
 pub mod LentCountLemmas
