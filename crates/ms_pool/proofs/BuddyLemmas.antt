@@ -1,7 +1,7 @@
 -- Whether the buddy of a lent leaf is one free leaf, by the leaf that covers its first word.
-use Rattle.std.proofs.Common.{◌≡◌, ◌<◌, ◌≤◌, ℕ, zero, suc, ◌+◌, ◌-◌, ◌*◌, ◌%◌, Bool, true, false, cond, ◌&&◌, ◌||◌, List, [], ◌∷◌, ◌++◌, map, Some, None, refl, sym, ap, subst, ◌∙◌, arith, eq-eqb, eqb-true, ne_eqb, lt-ltb, ltb-true, inl, inr}
+use Rattle.std.proofs.Common.{◌≡◌, ◌<◌, ◌≤◌, ℕ, suc, ◌+◌, ◌-◌, ◌*◌, ◌%◌, Bool, true, false, cond, ◌&&◌, ◌||◌, List, [], ◌∷◌, ◌++◌, map, Some, refl, sym, ap, subst, ◌∙◌, arith, eq-eqb, eqb-true, ne_eqb, lt-ltb, ltb-true, inl, inr}
 use Rattle.std.specs.Prelude.{◌==◌, nat_le, nat_lt}
-use Rattle.std.specs.List.{All, AllByRecursion, find, list_any}
+use Rattle.std.specs.List.{AllByRecursion, find, list_any}
 use Rattle.std.proofs.Math.Nat.{add-mod_right}
 use Rattle.std.proofs.lemmas.Bool.{and_parts, cases_eq, false_from_ne_true}
 use Rattle.std.proofs.lemmas.Bool.Decides.{nat_tests}
@@ -9,8 +9,8 @@ use Rattle.std.proofs.lemmas.List.Elements.{recursion_from_All}
 use Rattle.ms_base.specs.declared.span.Chunk.{Chunk}
 use Rattle.ms_base.specs.declared.span.Span.{Span}
 use Rattle.ms_base.specs.Interval.{meet}
-use Rattle.ms_base.specs.Level.{size_of, root_words}
-use Rattle.ms_base.specs.Part.{IsPart, buddy_start, is_leader, parent_start}
+use Rattle.ms_base.specs.Level.{size_of}
+use Rattle.ms_base.specs.Part.{IsPart, buddy_start, is_leader}
 use Rattle.ms_base.specs.Held.{meets_chunk}
 use Rattle.ms_base.specs.FreeParts.{free_within}
 use Rattle.ms_base.proofs.free.FreeLemmas.{IsFreeWithin, by_halves, listed_are_free}
@@ -20,7 +20,7 @@ use Rattle.ms_buddy.specs.declared.node.Leaf.{Leaf}
 use Rattle.ms_buddy.specs.declared.node.Leaf.TheVariants.{Free, Lent}
 use Rattle.ms_buddy.specs.Leaves.{span_of as leaf_span}
 use Rattle.ms_buddy.proofs.HalvesLemmas.{size_of-halves, size_of-some}
-use Rattle.ms_pool.proofs.CountLemmas.{covers_both, free_is_clear}
+use Rattle.ms_pool.proofs.WalkedLemmas.{covers_both, free_is_clear}
 
 -- Parts rise from low to high: each starts where the one before ends, or later.
 abbrev AreRising : ℕ → ℕ → List Span → Type 0

@@ -1,5 +1,5 @@
 -- Both accounts of a loader closed, one after the other. The proof of `close_both` uses them.
-use Rattle.std.proofs.Common.{◌≡◌, ◌≢◌, ◌-◌, ℕ, not, List, [], ◌∷◌, refl, sym, ap, subst, ◌∙◌, inl, inr}
+use Rattle.std.proofs.Common.{◌≡◌, ◌-◌, ℕ, not, List, [], ◌∷◌, refl, sym, ap, subst, ◌∙◌, inl, inr}
 use Rattle.std.specs.List.{AllByRecursion}
 use Rattle.std.specs.List.Sorted.{IsPermutation}
 use Rattle.std.proofs.lemmas.Bool.{both_ways, cases_eq}
@@ -8,7 +8,7 @@ use Rattle.ms_base.specs.declared.kind.Space.TheVariants.{NonClass, Class}
 use Rattle.ms_base.specs.declared.span.Chunk.{Chunk}
 use Rattle.ms_base.specs.Spaces.{is_in}
 use Rattle.ms_pool.specs.Account.{AccountState, AreChunks}
-use Rattle.ms_pool.specs.Ledger.{Loan, Ledger, IsSoundLedger, Serves, chunks_of, is_owned_by, others_than, recommitted, with_closed, with_less_open}
+use Rattle.ms_pool.specs.Ledger.{Loan, Ledger, IsSoundLedger, Serves, is_owned_by, others_than, recommitted, with_less_open}
 use Rattle.ms_pool.specs.Calls.{Closed, ClosedBoth}
 use Rattle.ms_pool.proofs.ledger.AccountLemmas.{LiesIn, own_lie_in}
 use Rattle.ms_pool.proofs.ledger.FewerLemmas.{none_left, others_stay}

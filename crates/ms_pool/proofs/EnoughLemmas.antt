@@ -1,19 +1,16 @@
 -- The granules that a part of a space meets are committed in the space exactly where they are
 -- committed at all; and the first free leaf of a root that suits is the first free part that does.
-use Rattle.std.proofs.Common.{◌≡◌, ◌<◌, ◌≤◌, ℕ, zero, suc, ◌+◌, ◌-◌, ◌*◌, ◌/◌, Bool, true, false, cond, not, ◌&&◌, ◌||◌, ◌==◌, List, [], ◌∷◌, ◌++◌, length, get_or, map, refl, sym, ap, subst, ◌∙◌, arith, Option, Some, None, eqb-true, lt-ltb, le-leb}
-use Rattle.std.specs.List.{All, AllByRecursion, filter, find, list_all, range_with_len}
+use Rattle.std.proofs.Common.{◌≡◌, ◌<◌, ◌≤◌, ℕ, zero, suc, ◌+◌, ◌-◌, ◌*◌, ◌/◌, Bool, true, false, cond, not, ◌&&◌, ◌||◌, ◌==◌, List, [], ◌∷◌, map, refl, sym, ap, subst, ◌∙◌, arith, Some, eqb-true, lt-ltb, le-leb}
+use Rattle.std.specs.List.{AllByRecursion, find, list_all, range_with_len}
 use Rattle.std.proofs.lemmas.List.Elements.{recursion_from_All, All-weaker}
 use Rattle.ms_base.specs.declared.kind.Space.{Space}
 use Rattle.ms_base.specs.declared.kind.Space.TheVariants.{NonClass, Class}
 use Rattle.ms_base.specs.declared.policy.Policy.{Policy}
 use Rattle.ms_base.specs.declared.policy.Policy.TheVariants.{Balanced, Aggressive, None as Never}
-use Rattle.ms_base.specs.declared.span.Chunk.{Chunk}
 use Rattle.ms_base.specs.declared.span.Span.{Span}
 use Rattle.ms_base.specs.Level.{size_of, root_words}
-use Rattle.ms_base.specs.Part.{node_words}
 use Rattle.ms_base.specs.Policy.{granule_of, slot_granules}
-use Rattle.ms_base.specs.Spaces.{first_class_slot}
-use Rattle.ms_base.specs.Committed.{is_among, granules_meeting}
+use Rattle.ms_base.specs.Committed.{is_among}
 use Rattle.ms_base.specs.FreeParts.{free_within}
 use Rattle.ms_base.specs.State.{PoolState}
 use Rattle.ms_base.proofs.free.FreeLemmas.{IsFreeWithin, listed_are_free}

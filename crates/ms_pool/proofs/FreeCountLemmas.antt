@@ -1,6 +1,6 @@
 -- The free parts of a space by level: slot by slot of those that it may have, and how many there are
 -- at most.
-use Rattle.std.proofs.Common.{◌≡◌, ◌<◌, ◌≤◌, ℕ, zero, suc, ◌+◌, ◌-◌, ◌*◌, ◌^◌, Bool, true, false, cond, List, [], ◌∷◌, ◌++◌, length, get_or, map, refl, sym, ap, ◌∙◌, arith}
+use Rattle.std.proofs.Common.{◌≡◌, ◌<◌, ◌≤◌, ℕ, zero, suc, ◌+◌, ◌-◌, ◌*◌, ◌^◌, Bool, true, false, cond, List, [], ◌∷◌, ◌++◌, length, get_or, map, refl, ap, ◌∙◌, arith}
 use Rattle.std.specs.Prelude.{◌==◌}
 use Rattle.std.specs.List.{count_by, flat_map, range_with_len}
 use Rattle.std.proofs.lemmas.List.{length-append}
@@ -17,7 +17,6 @@ use Rattle.ms_base.specs.Held.{meets_chunk}
 use Rattle.ms_base.specs.FreeParts.{free_in_slot, free_parts, free_within}
 use Rattle.ms_base.specs.Totals.{all_levels}
 use Rattle.ms_base.proofs.free.HalvesLemmas.{size_of_halves, words_over}
-use Rattle.ms_base.proofs.free.MovedLemmas.{raised_part}
 use Rattle.ms_commit.specs.Nodes.{slots_of}
 use Rattle.ms_buddy.specs.Leaves.{AreLeaves, free_of}
 use Rattle.ms_pool.specs.declared.lender.Lender.{Lender}

@@ -1,13 +1,11 @@
 -- The free parts of a root, from the leaves of its own tree: no loan of another root meets it.
-use Rattle.std.proofs.Common.{◌≡◌, ◌<◌, ◌≤◌, ℕ, zero, suc, ◌+◌, ◌*◌, Bool, true, false, cond, ◌||◌, List, [], ◌∷◌, ◌++◌, length, get_or, map, refl, sym, ap, ◌∙◌, arith}
-use Rattle.std.specs.Prelude.{nat_lt, nat_le}
-use Rattle.std.specs.List.{AllByRecursion, filter, list_any}
+use Rattle.std.proofs.Common.{◌≡◌, ◌<◌, ◌≤◌, ℕ, zero, suc, ◌+◌, ◌*◌, true, false, cond, ◌||◌, List, [], ◌∷◌, ◌++◌, length, get_or, map, refl, ap, ◌∙◌, arith}
+use Rattle.std.specs.List.{AllByRecursion, filter}
 use Rattle.std.proofs.lemmas.Bool.Decides.{nat_tests}
 use Rattle.std.proofs.lemmas.List.{map-append}
-use Rattle.std.proofs.lemmas.List.Elements.{filter-append, All-map}
+use Rattle.std.proofs.lemmas.List.Elements.{filter-append}
 use Rattle.ms_base.specs.declared.kind.Space.{Space}
 use Rattle.ms_base.specs.declared.span.Chunk.{Chunk}
-use Rattle.ms_base.specs.declared.span.Span.{Span}
 use Rattle.ms_base.specs.Interval.{meet}
 use Rattle.ms_base.specs.Level.{size_of, root_words}
 use Rattle.ms_base.specs.Held.{meets_chunk}
@@ -18,7 +16,7 @@ use Rattle.ms_buddy.specs.Leaves.{LentLeaf, AreLeaves, chunk_of, free_of}
 use Rattle.ms_buddy.proofs.HalvesLemmas.{size_of-some}
 use Rattle.ms_pool.specs.Ledger.{Loan}
 use Rattle.ms_pool.specs.Keeping.{loan_at, loans_from}
-use Rattle.ms_pool.proofs.RootLemmas.{EndsBy, StartsFrom, AtRoot, at_root}
+use Rattle.ms_pool.proofs.RootLemmas.{EndsBy, StartsFrom, at_root}
 
 abbrev pub chunks_there : Space → List Loan → List Chunk
 chunks_there space loans = filter (λ chunk. is_in space chunk.start) (map (λ (loan : Loan). loan.chunk) loans)

@@ -1,7 +1,7 @@
 -- What `grow` does, from what the code has found out: the chunk is one of the account's, and the one
 -- that it becomes has its place.
-use Rattle.std.proofs.Common.{◌≡◌, ◌<◌, ◌≤◌, ◌^◌, ℕ, zero, suc, ◌+◌, ◌-◌, ◌*◌, Bool, true, false, cond, ◌&&◌, ◌||◌, ◌==◌, Some, None, List, [], ◌∷◌, ◌++◌, length, get_or, map, refl, sym, ap, ap₂, subst, ◌∙◌, arith, eq-eqb, eqb-true, ltb-true, leb-true, inl, inr}
-use Rattle.std.specs.Prelude.{Option, Result, Ok, Err, ◌⊎◌, nat_le, nat_lt, slice_get, slice_set, IfSome}
+use Rattle.std.proofs.Common.{◌≡◌, ◌<◌, ◌≤◌, ◌^◌, ℕ, zero, suc, ◌+◌, ◌-◌, ◌*◌, Bool, true, false, ◌&&◌, ◌||◌, ◌==◌, Some, List, [], ◌∷◌, ◌++◌, length, get_or, map, refl, sym, ap, ap₂, subst, ◌∙◌, arith, eq-eqb, eqb-true, ltb-true, leb-true, inl, inr}
+use Rattle.std.specs.Prelude.{Option, Result, Err, ◌⊎◌, nat_le, nat_lt, slice_get, slice_set}
 use Rattle.std.specs.List.{All, AllByRecursion, Contains, list_all, list_any}
 use Rattle.std.proofs.lemmas.Bool.{and_parts}
 use Rattle.std.proofs.lemmas.List.Elements.{All-contains, All-from_recursion}
@@ -16,12 +16,11 @@ use Rattle.ms_base.specs.declared.refusal.Refusal.{Refusal}
 use Rattle.ms_base.specs.declared.refusal.Refusal.TheVariants.{CommitLimit}
 use Rattle.ms_base.specs.declared.span.Chunk.{Chunk}
 use Rattle.ms_base.specs.Level.{size_of}
-use Rattle.ms_base.specs.Front.{HasFront}
 use Rattle.ms_base.specs.Part.{IsPart, buddy_start, is_leader, is_reserved, slot_of}
 use Rattle.ms_base.specs.Spaces.{IsSlotOf, is_in}
 use Rattle.ms_base.specs.State.{PoolState}
 use Rattle.ms_base.specs.Causes.{committed_count, granules_missing}
-use Rattle.ms_base.specs.PoolSteps.{grown, is_free, may_become_parent, parent_with_front, with_front}
+use Rattle.ms_base.specs.PoolSteps.{grown, is_free, parent_with_front, with_front}
 use Rattle.ms_base.proofs.granules.FrontLemmas.{has_front_for}
 use Rattle.ms_base.proofs.granules.GranuleLemmas.{ends_in_node}
 use Rattle.ms_commit.specs.Nodes.{slots_of}

@@ -1,12 +1,11 @@
 -- The granules that a front lacks, counted in the space's own granules or in all.
-use Rattle.std.proofs.Common.{◌≡◌, ◌<◌, ◌≤◌, ℕ, ◌+◌, ◌-◌, ◌/◌, Bool, not, ◌&&◌, List, length, refl, sym, ap, ◌∙◌, arith}
-use Rattle.std.specs.List.{filter, range_with_len}
+use Rattle.std.proofs.Common.{◌≡◌, ◌≤◌, ℕ, ◌+◌, ◌-◌, ◌/◌, not, ◌&&◌, length, sym, ap, ◌∙◌, arith}
 use Rattle.ms_base.specs.declared.kind.Space.{Space}
 use Rattle.ms_base.specs.declared.span.Chunk.{Chunk}
 use Rattle.ms_base.specs.Policy.{granule_of, slot_granules}
-use Rattle.ms_base.specs.Committed.{is_among, granules_meeting}
+use Rattle.ms_base.specs.Committed.{is_among}
 use Rattle.ms_commit.specs.NumberSet.{count_missing}
-use Rattle.ms_commit.specs.Nodes.{is_granule_of, granules_in, node_granules}
+use Rattle.ms_commit.specs.Nodes.{is_granule_of, node_granules}
 use Rattle.ms_commit.proofs.RangeLemmas.{filter_agree_in, is_among-filter}
 use Rattle.ms_pool.specs.declared.lender.Lender.{Lender}
 use Rattle.ms_pool.specs.Ledger.{committed_of, state_in}

@@ -1,9 +1,8 @@
 -- The granules of a space once a chunk is lent: those that were committed, and those of its front.
 use Rattle.std.proofs.Common.{◌≡◌, ◌<◌, ◌≤◌, ℕ, ◌+◌, ◌-◌, ◌*◌, ◌/◌, Bool, true, false, cond, ◌&&◌, ◌||◌, ◌==◌, List, [], ◌∷◌, refl, sym, ap, subst, ◌∙◌, arith, inl, inr, lt-ltb, le-ltb, le-leb, eq-eqb}
 use Rattle.std.specs.Prelude.{nat_lt, nat_le}
-use Rattle.std.specs.List.{AllByRecursion, list_all, list_any, range_with_len}
-use Rattle.std.specs.Ordering.{nat_cmp}
-use Rattle.std.proofs.lemmas.Bool.{and_parts, cases_lt, false_from_ne_true, lt-leb, or_cases}
+use Rattle.std.specs.List.{AllByRecursion, list_all, list_any}
+use Rattle.std.proofs.lemmas.Bool.{and_parts, cases_lt, lt-leb, or_cases}
 use Rattle.std.proofs.lemmas.List.Sorted.{list_any-IsPermutation}
 use Rattle.std.proofs.lemmas.List.Elements.{recursion_from_All}
 use Rattle.ms_base.specs.declared.kind.Space.{Space}
@@ -18,7 +17,7 @@ use Rattle.ms_base.specs.Policy.{granule_of, keeps, slot_granules}
 use Rattle.ms_base.specs.Spaces.{is_in}
 use Rattle.ms_base.specs.Front.{HasFront}
 use Rattle.ms_base.specs.Held.{AreHeld}
-use Rattle.ms_base.specs.Committed.{committed_with, granules_meeting, is_among, is_committed, is_committed_now}
+use Rattle.ms_base.specs.Committed.{committed_with, is_among, is_committed, is_committed_now}
 use Rattle.ms_base.proofs.granules.GranuleLemmas.{ends_in_node}
 use Rattle.ms_commit.specs.NumberSet.{is_in_range, with_range}
 use Rattle.ms_commit.specs.Nodes.{NodesState, AreSound, granules_in, is_granule_of, node_granules, slots_of}

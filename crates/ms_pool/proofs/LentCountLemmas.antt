@@ -1,6 +1,6 @@
 -- The chunks that are lent in a space, root by root, and how many they are at most.
-use Rattle.std.proofs.Common.{◌≡◌, ◌<◌, ◌≤◌, ℕ, zero, suc, ◌+◌, ◌-◌, ◌*◌, ◌/◌, ◌%◌, ◌^◌, Bool, true, false, cond, List, [], ◌∷◌, ◌++◌, length, get_or, drop, map, replicate, refl, sym, ap, subst, ◌∙◌, arith}
-use Rattle.std.specs.Prelude.{◌==◌, nat_lt, nat_le}
+use Rattle.std.proofs.Common.{◌≡◌, ◌<◌, ◌≤◌, ℕ, zero, suc, ◌+◌, ◌*◌, ◌/◌, ◌%◌, Bool, true, false, cond, List, [], ◌∷◌, ◌++◌, length, get_or, drop, map, replicate, refl, sym, ap, subst, ◌∙◌, arith}
+use Rattle.std.specs.Prelude.{◌==◌}
 use Rattle.std.specs.List.{AllByRecursion, count_by}
 use Rattle.std.proofs.Math.Seq.{drop-cons}
 use Rattle.std.proofs.lemmas.Bool.Decides.{nat_tests}
@@ -20,7 +20,7 @@ use Rattle.ms_buddy.specs.Leaves.{LentLeaf, AreLeaves, chunk_of}
 use Rattle.ms_buddy.proofs.HalvesLemmas.{size_of-some}
 use Rattle.ms_pool.specs.declared.lender.Lender.{Lender}
 use Rattle.ms_pool.specs.declared.counting.Counted.{Counted}
-use Rattle.ms_pool.specs.Ledger.{Loan, held_in, state_in}
+use Rattle.ms_pool.specs.Ledger.{held_in}
 use Rattle.ms_pool.specs.Keeping.{IsKept, ledger_of, loan_at, loans_from}
 use Rattle.ms_pool.specs.Counting.{Counts, HasRoomFor, front_in, one_of, total, words_in}
 use Rattle.ms_pool.proofs.CountLemmas.{HasCounted, all_counted, counts_on, room_left, total-cons, total-none, total-raised}

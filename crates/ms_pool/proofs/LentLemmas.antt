@@ -1,20 +1,18 @@
 -- What a pool keeps once a chunk is lent: what its callers see is the ledger with the chunk lent.
-use Rattle.std.proofs.Common.{◌≡◌, ◌<◌, ◌≤◌, ℕ, ◌+◌, ◌*◌, ◌-◌, ◌/◌, List, length, refl, sym, ap, subst, ◌∙◌, arith, true, le-leb, lt-ltb}
+use Rattle.std.proofs.Common.{◌≡◌, ◌<◌, ◌≤◌, ℕ, ◌+◌, ◌*◌, ◌-◌, ◌/◌, List, length, sym, ap, subst, ◌∙◌, arith, true, le-leb, lt-ltb}
 use Rattle.std.specs.Prelude.{nat_le, nat_lt}
-use Rattle.std.specs.Ordering.{nat_cmp}
 use Rattle.std.proofs.lemmas.Bool.{and_from}
-use Rattle.std.specs.BTreeSet.{insert_key}
 use Rattle.ms_base.specs.declared.kind.Space.{Space}
 use Rattle.ms_base.specs.declared.kind.Space.TheVariants.{NonClass, Class}
 use Rattle.ms_base.specs.declared.policy.Policy.{Policy}
 use Rattle.ms_base.specs.declared.policy.Policy.TheVariants.{Balanced, Aggressive, None as Never}
 use Rattle.ms_base.specs.declared.span.Chunk.{Chunk}
 use Rattle.ms_base.specs.Interval.{meet}
-use Rattle.ms_base.specs.Level.{size_of, root_words}
+use Rattle.ms_base.specs.Level.{size_of}
 use Rattle.ms_base.specs.Part.{IsPart, is_reserved, slot_of}
 use Rattle.ms_base.specs.Policy.{granule_of, slot_granules}
 use Rattle.ms_base.specs.Held.{AreHeld}
-use Rattle.ms_base.specs.Spaces.{by_space, class_slots, is_in}
+use Rattle.ms_base.specs.Spaces.{by_space, class_slots}
 use Rattle.ms_base.specs.Committed.{committed_with}
 use Rattle.ms_base.specs.PoolSteps.{slots_with}
 use Rattle.ms_commit.specs.NumberSet.{count_missing, with_range}
@@ -23,10 +21,9 @@ use Rattle.ms_commit.proofs.ModelLemmas.{is_among-meeting}
 use Rattle.ms_commit.proofs.RangeLemmas.{is_among-range}
 use Rattle.ms_pool.specs.declared.lender.Lender.{Lender}
 use Rattle.ms_pool.specs.Ledger.{Ledger, Loan, state_in, with_lent, with_loan}
-use Rattle.ms_pool.specs.Keeping.{IsKept, IsOpen, IsRunOf, ledger_of, loans_from, with_reserved}
+use Rattle.ms_pool.specs.Keeping.{IsKept, IsOpen, IsRunOf, ledger_of, with_reserved}
 use Rattle.ms_pool.specs.Searching.{lacking}
 use Rattle.ms_pool.proofs.LackLemmas.{lacks}
-use Rattle.ms_pool.proofs.SlotLoopLemmas.{committed_is}
 use Rattle.ms_pool.proofs.ledger.LoanLemmas.{chunks_in}
 use Rattle.ms_pool.proofs.LendLemmas.{LendsIn, committed_once_lent, front_in_slot}
 use Rattle.ms_pool.proofs.OpenLemmas.{ReservesOne, own_in_space, reserves_one, slots_once_open}

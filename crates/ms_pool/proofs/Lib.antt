@@ -9,6 +9,7 @@ pub mod BySizeLemmas
 pub mod EmptyLemmas
 pub mod SlotLoopLemmas
 pub mod SkipLemmas
+pub mod WalkedLemmas
 pub mod CountLemmas
 pub mod FreeCountLemmas
 pub mod LentCountLemmas

@@ -1,6 +1,5 @@
 -- A slot in which a chunk may be lent, and the nodes once it is reserved.
-use Rattle.std.proofs.Common.{◌≡◌, ◌<◌, ◌≤◌, ℕ, ◌+◌, ◌*◌, ◌/◌, Bool, true, false, cond, ◌&&◌, ◌||◌, ◌==◌, List, [], ◌++◌, length, refl, sym, ap, subst, ◌∙◌, arith, inl, inr, eq-eqb}
-use Rattle.std.specs.List.{list_any}
+use Rattle.std.proofs.Common.{◌≡◌, ◌<◌, ◌≤◌, ℕ, ◌+◌, Bool, true, false, cond, ◌||◌, ◌==◌, length, refl, sym, ap, ◌∙◌, arith, inl, inr, eq-eqb}
 use Rattle.std.specs.Ordering.{nat_cmp}
 use Rattle.std.specs.BTreeSet.{insert_key}
 use Rattle.std.proofs.lemmas.Bool.{both_ways, false_from_ne_true, ltb-true, leb-true}
@@ -14,7 +13,7 @@ use Rattle.ms_base.specs.Pick.{lowest_unreserved}
 use Rattle.ms_base.specs.Spaces.{by_space, class_slots, is_in}
 use Rattle.ms_base.proofs.granules.MissingLemmas.{lowest_is_not_reserved}
 use Rattle.ms_commit.specs.NumberSet.{is_in_range}
-use Rattle.ms_commit.specs.Nodes.{NodeLimits, NodesState, AreSound, all_slots, slots_of, with_slot}
+use Rattle.ms_commit.specs.Nodes.{NodesState, AreSound, all_slots, slots_of, with_slot}
 use Rattle.ms_commit.proofs.NodesLemmas.{member_below, reserved_either, reserved_low}
 use Rattle.ms_commit.proofs.RangeLemmas.{is_among-range}
 use Rattle.ms_commit.proofs.SameLemmas.{is_among-insert_key}

@@ -1,6 +1,6 @@
 -- Whether a chunk may become its parent, by the tree of its root: no other root has a part that
 -- starts where its buddy does.
-use Rattle.std.proofs.Common.{◌≡◌, ◌<◌, ◌≤◌, ℕ, zero, suc, ◌+◌, ◌-◌, ◌*◌, ◌/◌, ◌%◌, ◌^◌, mul_assoc, Bool, true, false, cond, ◌&&◌, ◌||◌, List, [], ◌∷◌, ◌++◌, length, get_or, map, refl, sym, ap, ap₂, subst, ◌∙◌, arith, eq-eqb, eqb-true, ltb-true, inl, inr}
+use Rattle.std.proofs.Common.{◌≡◌, ◌<◌, ◌≤◌, ℕ, ◌+◌, ◌-◌, ◌*◌, ◌/◌, ◌%◌, ◌^◌, mul_assoc, Bool, true, false, ◌&&◌, ◌||◌, List, [], ◌∷◌, get_or, map, refl, sym, ap, ap₂, ◌∙◌, arith, eq-eqb, eqb-true, ltb-true, inl, inr}
 use Rattle.std.specs.Prelude.{◌==◌, ◌⊎◌, nat_lt}
 use Rattle.std.specs.List.{AllByRecursion, flat_map, list_any}
 use Rattle.std.proofs.Math.Nat.{add-mul-mod_self_right, mod-add-div'}

@@ -1,8 +1,8 @@
 -- The slots that hold no chunk go one after the other, and their granules with them. The proof of
 -- `purge` uses them.
-use Rattle.std.proofs.Common.{◌≡◌, ◌<◌, ◌≤◌, ℕ, zero, suc, ◌+◌, ◌*◌, ◌/◌, Bool, true, false, cond, not, ◌&&◌, ◌||◌, ◌==◌, List, [], ◌∷◌, length, refl, sym, ap, ap₂, subst, ◌∙◌, arith}
+use Rattle.std.proofs.Common.{◌≡◌, ◌<◌, ◌≤◌, ℕ, ◌+◌, ◌*◌, ◌/◌, Bool, true, false, cond, not, ◌&&◌, ◌||◌, ◌==◌, List, [], ◌∷◌, length, refl, sym, ap, ap₂, subst, ◌∙◌, arith}
 use Rattle.std.specs.Prelude.{nat_le}
-use Rattle.std.specs.List.{All, AllByRecursion, filter}
+use Rattle.std.specs.List.{AllByRecursion, filter}
 use Rattle.std.specs.List.Sorted.{IsStrictlyIncreasing}
 use Rattle.std.proofs.lemmas.Bool.{or_parts}
 use Rattle.std.proofs.lemmas.Bool.Decides.{nat_tests}
@@ -17,7 +17,6 @@ use Rattle.ms_base.specs.Part.{is_reserved}
 use Rattle.ms_base.specs.Policy.{granule_of, slot_granules}
 use Rattle.ms_base.specs.Held.{has_chunk_in}
 use Rattle.ms_base.specs.Committed.{committed_with, is_among, is_committed_now}
-use Rattle.ms_base.specs.Spaces.{IsSlotOf}
 use Rattle.ms_commit.specs.NumberSet.{is_in_range, without_number, without_range}
 use Rattle.ms_commit.specs.Nodes.{NodesState, granules_in, node_granules, without_slot}
 use Rattle.ms_commit.proofs.ModelLemmas.{committed_rise, granules_are_committed, is_among-committed}

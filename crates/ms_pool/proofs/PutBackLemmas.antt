@@ -1,7 +1,7 @@
 -- The pool where its trees have taken a chunk back, and the nodes uncommit what no front meets any
 -- more: it is the model's. The proof of `release` uses them.
-use Rattle.std.proofs.Common.{◌≡◌, ◌<◌, ◌≤◌, ℕ, ◌+◌, ◌*◌, ◌/◌, ◌%◌, Bool, true, false, not, ◌⊎◌, List, [], get_or, length, refl, sym, ap, subst, ◌∙◌, arith, inl, inr, Some}
-use Rattle.std.specs.List.{All, AllByRecursion, find}
+use Rattle.std.proofs.Common.{◌≡◌, ◌<◌, ◌≤◌, ℕ, ◌*◌, ◌/◌, ◌%◌, true, false, not, ◌⊎◌, List, [], get_or, length, refl, sym, ap, ◌∙◌, arith, Some}
+use Rattle.std.specs.List.{All, find}
 use Rattle.std.proofs.lemmas.List.Elements.{recursion_from_All}
 use denote.Enum.Bare.{sameb}
 use Rattle.ms_base.specs.declared.kind.Space.{Space}
@@ -17,7 +17,7 @@ use Rattle.ms_base.proofs.free.MovedLemmas.{raised_part}
 use Rattle.ms_commit.specs.Nodes.{NodesState, AreInReserved, granules_in, without_granules}
 use Rattle.ms_buddy.specs.Leaves.{LentLeaf, AreLeaves, covers, free_of}
 use Rattle.ms_pool.specs.declared.lender.Lender.{Lender}
-use Rattle.ms_pool.specs.Ledger.{Loan, Ledger, committed_of}
+use Rattle.ms_pool.specs.Ledger.{Loan, Ledger}
 use Rattle.ms_pool.specs.Releasing.{is_lent_in, with_released, without_loan}
 use Rattle.ms_pool.specs.Keeping.{IsKept, ledger_of, loans_from}
 use Rattle.ms_pool.proofs.SlotLoopLemmas.{committed_is}

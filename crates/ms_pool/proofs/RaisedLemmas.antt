@@ -1,6 +1,6 @@
 -- What a pool keeps once a chunk has grown: what its callers see is the ledger with the chunk grown.
-use Rattle.std.proofs.Common.{◌≡◌, ◌<◌, ◌≤◌, ℕ, ◌+◌, ◌-◌, ◌*◌, ◌/◌, Bool, true, false, cond, ◌&&◌, ◌||◌, ◌==◌, List, [], ◌∷◌, length, map, refl, sym, ap, subst, ◌∙◌, arith, eqb-true}
-use Rattle.std.specs.List.{AllByRecursion, filter, flat_map, list_any}
+use Rattle.std.proofs.Common.{◌≡◌, ◌≤◌, ℕ, ◌*◌, Bool, true, false, cond, ◌&&◌, ◌||◌, ◌==◌, List, [], ◌∷◌, refl, sym, ap, ◌∙◌, arith, eqb-true}
+use Rattle.std.specs.List.{AllByRecursion, flat_map, list_any}
 use Rattle.std.proofs.lemmas.Bool.{and_parts}
 use Rattle.std.proofs.lemmas.List.Elements.{filter_agree}
 use Rattle.ms_base.specs.declared.kind.Space.{Space}
@@ -13,14 +13,14 @@ use Rattle.ms_base.specs.Part.{IsPart, is_reserved, slot_of}
 use Rattle.ms_base.specs.Policy.{granule_of, keeps}
 use Rattle.ms_base.specs.Spaces.{class_slots, is_in}
 use Rattle.ms_base.specs.Held.{AreHeld}
-use Rattle.ms_base.specs.Committed.{committed_with, granules_of, is_among, is_committed, is_committed_now}
+use Rattle.ms_base.specs.Committed.{committed_with, granules_of, is_among, is_committed_now}
 use Rattle.ms_base.proofs.granules.FreeGranuleLemmas.{meets_bounds, bounds_meet}
-use Rattle.ms_commit.specs.Nodes.{NodesState, AreSound, all_slots, granules_in, slots_of, with_slot}
+use Rattle.ms_commit.specs.Nodes.{NodesState, AreSound, granules_in, slots_of, with_slot}
 use Rattle.ms_pool.specs.declared.lender.Lender.{Lender}
-use Rattle.ms_pool.specs.Ledger.{Ledger, Loan, with_grown, with_loan}
+use Rattle.ms_pool.specs.Ledger.{Loan, with_grown, with_loan}
 use Rattle.ms_pool.specs.Keeping.{IsKept, ledger_of, with_reserved}
 use Rattle.ms_pool.specs.Growing.{HasNoMore, with_greater_loan}
-use Rattle.ms_pool.specs.Releasing.{is_lent_in, is_at}
+use Rattle.ms_pool.specs.Releasing.{is_lent_in}
 use Rattle.ms_pool.proofs.ledger.LoanLemmas.{chunks_in}
 use Rattle.ms_pool.proofs.LendLemmas.{LendsIn, any_with, committed_once_lent}
 use Rattle.ms_pool.proofs.LentLemmas.{built, built_of, with_front_of}

@@ -1,5 +1,5 @@
 -- The chunk that reaches so many words, from what the code has found out.
-use Rattle.std.proofs.Common.{◌≡◌, ◌<◌, ◌≤◌, ℕ, ◌+◌, ◌-◌, ◌*◌, Bool, true, false, cond, ◌&&◌, Some, None, refl, sym, ap, ◌∙◌, arith, le-leb}
+use Rattle.std.proofs.Common.{◌≡◌, ◌<◌, ◌≤◌, ℕ, ◌+◌, ◌-◌, ◌*◌, Bool, true, false, ◌&&◌, Some, None, refl, sym, ap, ◌∙◌, le-leb}
 use Rattle.std.proofs.lemmas.Bool.{lt-leb}
 use Rattle.std.specs.Prelude.{Option, Result, Ok, Err, nat_le, if◌then◌else◌}
 use Rattle.ms_base.specs.declared.policy.Policy.{Policy}

@@ -1,35 +1,27 @@
 -- What the pool is once a chunk is taken back, from its trees and nodes. The proof of `release` uses
 -- them.
-use Rattle.std.proofs.Common.{◌≡◌, ◌<◌, ◌≤◌, ℕ, ◌+◌, ◌-◌, ◌*◌, ◌/◌, ◌%◌, Bool, true, false, cond, not, ◌&&◌, ◌||◌, ◌==◌, eqb-true, ◌⊎◌, List, [], ◌∷◌, get_or, length, map, refl, sym, ap, ap₂, subst, ◌∙◌, arith, inl, inr, Some, lt-ltb, le-ltb, le-leb, ltb-true, leb-true}
-use Rattle.std.specs.Prelude.{nat_le, nat_lt}
-use Rattle.std.specs.List.{All, AllByRecursion, filter, find, list_any, list_all}
-use Rattle.std.specs.List.Sorted.{IsStrictlyIncreasing}
+use Rattle.std.proofs.Common.{◌≡◌, ◌<◌, ◌≤◌, ℕ, ◌+◌, ◌*◌, ◌/◌, ◌%◌, Bool, true, false, cond, not, ◌||◌, ◌==◌, eqb-true, ◌⊎◌, List, [], ◌∷◌, get_or, length, refl, sym, ap, subst, ◌∙◌, arith, inl, inr, Some, lt-ltb, le-ltb, le-leb}
+use Rattle.std.specs.Prelude.{nat_le}
+use Rattle.std.specs.List.{AllByRecursion, filter, find, list_any, list_all}
 use Rattle.std.proofs.lemmas.Bool.{cases_lt, or_cases, or_left, or_right, and_parts}
 use Rattle.std.proofs.lemmas.Bool.Decides.{nat_tests}
 use Rattle.std.proofs.lemmas.List.Elements.{recursion_from_All}
-use Rattle.std.proofs.lemmas.List.Kept.{IsStrictlyIncreasing-filter}
 use Rattle.ms_base.specs.declared.kind.Space.{Space}
 use Rattle.ms_base.specs.declared.kind.Space.TheVariants.{NonClass, Class}
-use Rattle.ms_base.specs.declared.policy.Policy.{Policy}
 use Rattle.ms_base.specs.declared.span.Chunk.{Chunk}
 use Rattle.ms_base.specs.declared.span.Span.{Span}
-use Rattle.ms_base.specs.Interval.{are_apart}
 use Rattle.ms_base.specs.Level.{size_of, root_words}
 use Rattle.ms_base.specs.Part.{IsPart, slot_of, is_reserved}
-use Rattle.ms_base.specs.Policy.{granule_of, keeps, slot_granules}
-use Rattle.ms_base.specs.Held.{AreHeld, meets_chunk, words_of}
-use Rattle.ms_base.specs.Spaces.{by_space, class_slots, is_in, other_space}
+use Rattle.ms_base.specs.Policy.{granule_of, keeps}
+use Rattle.ms_base.specs.Held.{AreHeld}
+use Rattle.ms_base.specs.Spaces.{is_in, other_space}
 use Rattle.ms_base.specs.Committed.{committed_with}
 use Rattle.ms_base.specs.State.{committed_now}
-use Rattle.ms_base.specs.Good.{IsSoundPool}
 use Rattle.ms_base.proofs.machine.GoodLemmas.{each_space}
 use Rattle.ms_base.proofs.free.MovedLemmas.{raised_part}
 use Rattle.ms_base.proofs.granules.KeepingLemmas.{uncommits_nothing}
-use Rattle.ms_commit.specs.NumberSet.{without_range}
-use Rattle.ms_commit.specs.Nodes.{NodesState, granules_in, slots_of, without_granules}
-use Rattle.ms_commit.proofs.SpaceLemmas.{change_their_space}
 use Rattle.ms_buddy.specs.Leaves.{LentLeaf, AreLeaves, covers, free_of}
-use Rattle.ms_pool.specs.Ledger.{Loan, Ledger, IsSoundLedger, committed_of, held_in, recommitted, state_in}
+use Rattle.ms_pool.specs.Ledger.{Ledger, IsSoundLedger, committed_of, held_in, state_in}
 use Rattle.ms_pool.specs.Releasing.{is_at, is_lent_in, with_released, without_loan}
 use Rattle.ms_pool.specs.Keeping.{loans_from}
 use Rattle.ms_pool.proofs.ledger.CloseLemmas.{sound_with_fewer}
@@ -37,7 +29,7 @@ use Rattle.ms_pool.proofs.ledger.FewerLemmas.{AreFewer, all_are_fewer, filtered_
 use Rattle.ms_pool.proofs.FreeRootLemmas.{chunks_there}
 use Rattle.ms_pool.proofs.ReleasedChunkLemmas.{is_there, without_chunk, held_without, held_there, held_elsewhere, clear_once_out}
 use Rattle.ms_pool.proofs.ReleasedPartLemmas.{IsFreedAt, freed_part, lies_in_freed}
-use Rattle.ms_pool.proofs.ReleasedGranuleLemmas.{IsTakenBack, first_of, count_of, uncommitted_once_back, unchanged_once_back}
+use Rattle.ms_pool.proofs.ReleasedGranuleLemmas.{IsTakenBack, unchanged_once_back}
 
 -- The ledger with a chunk less is sound.
 fewer_without : (old : Ledger) (chunk : Chunk) → IsSoundLedger old → AreFewer old (without_loan chunk old.loans)

@@ -1,8 +1,8 @@
 -- The free part that results where a chunk is taken back: it is one of the free parts of the chunk's
 -- space, and holds the chunk's words. The proof of `release` uses them.
-use Rattle.std.proofs.Common.{◌≡◌, ◌<◌, ◌≤◌, ℕ, ◌+◌, ◌-◌, ◌*◌, ◌/◌, ◌%◌, Bool, true, false, cond, ◌&&◌, ◌==◌, List, [], ◌∷◌, get_or, length, map, refl, sym, ap, subst, ◌∙◌, arith, inl, inr, Some, None, lt-ltb, le-leb, ltb-true, leb-true}
-use Rattle.std.specs.Prelude.{Option, nat_lt, nat_le}
-use Rattle.std.specs.List.{AllByRecursion, filter, find, list_any}
+use Rattle.std.proofs.Common.{◌≡◌, ◌<◌, ◌≤◌, ℕ, ◌+◌, ◌*◌, ◌/◌, ◌%◌, Bool, true, false, cond, List, [], ◌∷◌, get_or, length, map, refl, sym, ap, subst, ◌∙◌, arith, inl, inr, Some, lt-ltb, le-leb, ltb-true, leb-true}
+use Rattle.std.specs.Prelude.{nat_lt, nat_le}
+use Rattle.std.specs.List.{AllByRecursion, find}
 use Rattle.std.proofs.lemmas.Bool.{and_parts, cases_lt}
 use Rattle.std.proofs.lemmas.Bool.Decides.{nat_tests}
 use Rattle.std.proofs.lemmas.List.Elements.{recursion_from_All, All-contains}
@@ -10,13 +10,13 @@ use Rattle.ms_base.specs.declared.kind.Space.{Space}
 use Rattle.ms_base.specs.declared.kind.Space.TheVariants.{NonClass, Class}
 use Rattle.ms_base.specs.declared.span.Chunk.{Chunk}
 use Rattle.ms_base.specs.declared.span.Span.{Span}
-use Rattle.ms_base.specs.Interval.{meet, lies_in}
+use Rattle.ms_base.specs.Interval.{lies_in}
 use Rattle.ms_base.specs.Level.{size_of, root_words}
 use Rattle.ms_base.specs.Part.{IsPart, slot_of, is_reserved}
 use Rattle.ms_base.specs.Held.{meets_chunk}
 use Rattle.ms_base.specs.Spaces.{is_in}
 use Rattle.ms_base.specs.FreeParts.{IsFreePart, free_parts, free_within}
-use Rattle.ms_base.specs.FreeLaws.{LiesIn, LiesInFree, IsClear}
+use Rattle.ms_base.specs.FreeLaws.{LiesIn, LiesInFree}
 use Rattle.ms_base.proofs.free.FreeLemmas.{IsFreeWithin, listed_are_free}
 use Rattle.ms_base.proofs.free.HalvesLemmas.{size_some}
 use Rattle.ms_base.proofs.free.MovedLemmas.{raised_part}

@@ -1,10 +1,9 @@
 -- The loans of the trees, split at one root: those of the roots before it, its own, and those of the
 -- roots after it. What changes one tree changes its own loans alone.
-use Rattle.std.proofs.Common.{◌≡◌, ◌<◌, ◌≤◌, ℕ, zero, suc, ◌+◌, ◌-◌, ◌*◌, List, [], ◌∷◌, ◌++◌, length, get_or, set, map, refl, sym, ap, subst, ◌∙◌, arith, append_assoc, add-mul}
+use Rattle.std.proofs.Common.{◌≡◌, ◌<◌, ◌≤◌, ℕ, zero, suc, ◌+◌, ◌*◌, List, [], ◌∷◌, ◌++◌, length, get_or, set, map, refl, sym, ap, subst, ◌∙◌, arith, append_assoc}
 use Rattle.std.specs.List.{AllByRecursion}
 use Rattle.ms_base.specs.Level.{size_of, root_words}
 use Rattle.ms_buddy.specs.Leaves.{LentLeaf, AreLeaves}
-use Rattle.ms_buddy.proofs.HalvesLemmas.{size_of-some}
 use Rattle.ms_pool.specs.Ledger.{Loan}
 use Rattle.ms_pool.specs.Keeping.{loan_at, loans_from}
 

@@ -1,10 +1,9 @@
 -- The free parts of a space, slot by slot of those that it may have, and root by root.
-use Rattle.std.proofs.Common.{◌≡◌, ◌<◌, ◌≤◌, ℕ, zero, suc, ◌+◌, ◌-◌, ◌*◌, Bool, true, false, cond, ◌&&◌, ◌||◌, List, [], ◌∷◌, ◌++◌, length, get_or, map, refl, sym, ap, ◌∙◌, arith, inl, inr, lt-ltb, le-leb}
+use Rattle.std.proofs.Common.{◌≡◌, ◌<◌, ◌≤◌, ℕ, ◌+◌, ◌-◌, ◌*◌, Bool, true, false, cond, ◌&&◌, ◌||◌, List, [], length, get_or, refl, sym, ap, ◌∙◌, arith, inl, inr, lt-ltb, le-leb}
 use Rattle.std.specs.Option.{option_or}
 use Rattle.std.specs.Prelude.{Option}
-use Rattle.std.specs.List.{AllByRecursion, filter, find, flat_map, range_with_len}
-use Rattle.std.specs.List.Sorted.{IsStrictlyIncreasing}
-use Rattle.std.proofs.lemmas.Bool.{cases_lt, both_ways, false_from_ne_true}
+use Rattle.std.specs.List.{filter, find, flat_map, range_with_len}
+use Rattle.std.proofs.lemmas.Bool.{cases_lt, false_from_ne_true}
 use Rattle.std.proofs.lemmas.Bool.Decides.{nat_tests}
 use Rattle.std.proofs.lemmas.List.Folds.{find-append}
 use Rattle.std.proofs.lemmas.List.Elements.{recursion_from_All}
@@ -17,9 +16,8 @@ use Rattle.ms_base.specs.declared.span.Span.{Span}
 use Rattle.ms_base.specs.Level.{size_of, root_words}
 use Rattle.ms_base.specs.Part.{node_words, is_reserved}
 use Rattle.ms_base.specs.Policy.{granule_of}
-use Rattle.ms_base.specs.Spaces.{by_space, class_slots}
+use Rattle.ms_base.specs.Spaces.{by_space}
 use Rattle.ms_base.specs.FreeParts.{free_in_slot, free_parts, free_within}
-use Rattle.ms_base.proofs.free.MovedLemmas.{raised_part}
 use Rattle.ms_commit.specs.NumberSet.{is_in_range}
 use Rattle.ms_commit.specs.Nodes.{NodesState, AreSound, all_slots, granules_in, slots_of}
 use Rattle.ms_commit.proofs.ModelLemmas.{slots_rise}
@@ -27,10 +25,10 @@ use Rattle.ms_commit.proofs.NodesLemmas.{member_below, reserved_either}
 use Rattle.ms_commit.proofs.RangeLemmas.{is_among-filter, is_among-range}
 use Rattle.ms_commit.proofs.SameLemmas.{same_sets}
 use Rattle.ms_commit.proofs.SetLemmas.{IsStrictlyIncreasing-range}
-use Rattle.ms_buddy.specs.Leaves.{AreLeaves, free_of}
+use Rattle.ms_buddy.specs.Leaves.{AreLeaves}
 use Rattle.ms_pool.specs.declared.lender.Lender.{Lender}
 use Rattle.ms_pool.specs.Ledger.{committed_of, held_in, state_in}
-use Rattle.ms_pool.specs.Keeping.{IsKept, IsRunOf, ledger_of, loans_from}
+use Rattle.ms_pool.specs.Keeping.{IsKept, IsRunOf, ledger_of}
 use Rattle.ms_pool.specs.Searching.{first_in, grants}
 use Rattle.ms_pool.proofs.SearchLemmas.{flat_map-filter}
 use Rattle.ms_pool.proofs.EnoughLemmas.{first_in-is}

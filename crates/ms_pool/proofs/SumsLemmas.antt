@@ -1,7 +1,7 @@
 -- The sums over a space are those of its parts.
 use Rattle.std.proofs.Common.{◌≡◌, ℕ, List, length, refl, sym, ap, ◌∙◌}
 use Rattle.ms_base.specs.declared.kind.Space.{Space}
-use Rattle.ms_base.specs.Totals.{PoolSums, capacity_of, free_by_level, fronts_of, lent_by_level, pool_sums}
+use Rattle.ms_base.specs.Totals.{capacity_of, free_by_level, fronts_of, lent_by_level, pool_sums}
 use Rattle.ms_commit.specs.Nodes.{granules_in}
 use Rattle.ms_pool.specs.declared.lender.Lender.{Lender}
 use Rattle.ms_pool.specs.Ledger.{held_in, opened_in, state_in}

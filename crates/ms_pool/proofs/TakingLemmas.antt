@@ -1,6 +1,6 @@
 -- What a request for a chunk is answered, from what the code has found out.
-use Rattle.std.proofs.Common.{◌≡◌, ◌<◌, ◌≤◌, ℕ, ◌+◌, Bool, true, false, length, refl, sym, ap, subst, ◌∙◌, arith, inl, inr, le-ltb, lt-ltb}
-use Rattle.std.specs.Prelude.{◌^◌, ◌*◌, Ok, Err, Result, nat_lt, if◌then◌else◌}
+use Rattle.std.proofs.Common.{◌≡◌, ◌<◌, ◌≤◌, ℕ, ◌+◌, Bool, true, false, length, sym, ap, subst, ◌∙◌, arith, le-ltb, lt-ltb}
+use Rattle.std.specs.Prelude.{◌^◌, ◌*◌, Ok, Err, Result, if◌then◌else◌}
 use Rattle.ms_base.specs.declared.kind.Space.{Space}
 use Rattle.ms_base.specs.declared.kind.Space.TheVariants.{NonClass, Class}
 use Rattle.ms_base.specs.declared.refusal.Refusal.{Refusal}
@@ -20,10 +20,7 @@ use Rattle.ms_base.proofs.granules.FrontLemmas.{has_front_for}
 use Rattle.ms_base.proofs.granules.GranuleLemmas.{ends_in_node}
 use Rattle.ms_base.proofs.granules.MissingLemmas.{limit_by_missing, need_by_missing}
 use Rattle.ms_base.proofs.granules.NeedLemmas.{picked_is_part}
-use Rattle.ms_commit.proofs.NodesLemmas.{member_below}
 use Rattle.ms_commit.proofs.SpaceLemmas.{are_of_two_spaces}
-use Rattle.ms_commit.specs.Nodes.{NodesState, slots_of}
-use Rattle.ms_commit.proofs.RangeLemmas.{is_among-range}
 use Rattle.ms_pool.specs.declared.lender.Lender.{Lender}
 use Rattle.ms_pool.specs.Ledger.{state_in}
 use Rattle.ms_pool.specs.Keeping.{IsKept, IsOpen, IsRunOf, ledger_of}

@@ -1,7 +1,6 @@
 -- The nodes once the granules of a free part are uncommitted, where a chunk was taken back. The proof
 -- of `release` uses them.
-use Rattle.std.proofs.Common.{◌≡◌, ◌<◌, ◌≤◌, ℕ, ◌+◌, ◌*◌, ◌/◌, ◌%◌, Bool, true, false, not, List, length, refl, sym, ap, subst, ◌∙◌, arith, inl, inr, lt-ltb, le-leb, ltb-true, leb-true}
-use Rattle.std.specs.Prelude.{nat_le, nat_lt}
+use Rattle.std.proofs.Common.{◌≡◌, ◌<◌, ◌≤◌, ℕ, ◌+◌, ◌*◌, ◌/◌, ◌%◌, true, false, not, List, refl, sym, ap, ◌∙◌, arith, inl, inr, lt-ltb, le-leb, ltb-true, leb-true}
 use Rattle.std.proofs.lemmas.Bool.{cases_lt}
 use Rattle.std.proofs.lemmas.List.Kept.{IsStrictlyIncreasing-filter}
 use Rattle.ms_base.specs.declared.kind.Space.{Space}
@@ -20,12 +19,12 @@ use Rattle.ms_base.proofs.granules.PolicyLemmas.{IsGranule, granule_is_level}
 use Rattle.ms_base.proofs.machine.GoodLemmas.{each_space}
 use Rattle.std.proofs.Math.Nat.{mod_self}
 use Rattle.ms_commit.specs.NumberSet.{is_in_range, without_range}
-use Rattle.ms_commit.specs.Nodes.{NodesState, AreInReserved, AreOfSpace, AreSound, granules_in, is_granule_of, node_granules, slots_of, without_granules}
+use Rattle.ms_commit.specs.Nodes.{NodesState, AreInReserved, AreOfSpace, AreSound, granules_in, is_granule_of, slots_of, without_granules}
 use Rattle.ms_commit.specs.Laws.{ChangeTheirSpace}
 use Rattle.ms_commit.proofs.NodesLemmas.{sound_without}
 use Rattle.ms_commit.proofs.SpaceLemmas.{change_their_space, reserved_in}
 use Rattle.ms_pool.specs.declared.lender.Lender.{Lender}
-use Rattle.ms_pool.specs.Ledger.{committed_of, held_in, state_in}
+use Rattle.ms_pool.specs.Ledger.{committed_of, held_in}
 use Rattle.ms_pool.specs.Keeping.{IsKept, ledger_of}
 use Rattle.ms_pool.proofs.SlotLoopLemmas.{committed_is}
 use Rattle.ms_pool.proofs.ReleasedGranuleLemmas.{first_of, count_of, uncommitted_once_back}

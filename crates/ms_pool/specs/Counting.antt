@@ -4,7 +4,6 @@ use Rattle.std.specs.List.{sum_by, count_by}
 use Rattle.ms_base.specs.declared.span.Chunk.{Chunk}
 use Rattle.ms_base.specs.declared.span.Span.{Span}
 use Rattle.ms_base.specs.Level.{size_of}
-use Rattle.ms_buddy.specs.Leaves.{LentLeaf, chunk_of, leaf_of}
 use Rattle.ms_buddy.specs.declared.node.Leaf.{Leaf}
 use Rattle.ms_buddy.specs.declared.node.Leaf.TheVariants.{Free, Lent}
 use Rattle.ms_pool.specs.declared.counting.Counted.{Counted}

@@ -1,9 +1,8 @@
 -- What the code of the pool keeps, and how callers see it.
-use Rattle.std.specs.Prelude.{◌≡◌, ℕ, ◌+◌, ◌*◌, ◌<◌, ◌≤◌, ◌⊎◌, cond, true, not, ◌&&◌, ◌==◌, Bool, List, [], ◌∷◌, ◌++◌, length, map}
-use Rattle.std.specs.List.{All, filter, list_any}
+use Rattle.std.specs.Prelude.{◌≡◌, ℕ, ◌+◌, ◌*◌, ◌<◌, ◌≤◌, ◌⊎◌, cond, true, List, [], ◌∷◌, ◌++◌, length, map}
+use Rattle.std.specs.List.{All}
 use Rattle.ms_base.specs.declared.kind.Space.{Space}
 use Rattle.ms_base.specs.declared.kind.Space.TheVariants.{NonClass, Class}
-use Rattle.ms_base.specs.declared.span.Span.{Span}
 use Rattle.ms_base.specs.Level.{root_words}
 use Rattle.ms_base.specs.Part.{is_reserved, node_words}
 use Rattle.ms_base.specs.Policy.{granule_of}
@@ -11,7 +10,7 @@ use Rattle.ms_base.specs.Spaces.{first_class_slot}
 use Rattle.ms_base.specs.Pick.{lowest_unreserved}
 use Rattle.ms_commit.specs.Nodes.{NodesState, AreSound, all_slots, granules_in, slots_of, with_slot}
 use Rattle.ms_buddy.specs.Leaves.{LentLeaf, AreLeaves}
-use Rattle.ms_pool.specs.Ledger.{Loan, Ledger, IsSoundLedger, recommitted}
+use Rattle.ms_pool.specs.Ledger.{Loan, Ledger, IsSoundLedger}
 use Rattle.ms_pool.specs.declared.lender.Lender.{Lender}
 
 -- A lent leaf of the root of that number, as a loan.

@@ -1,6 +1,6 @@
 -- Tallies of refusals, which contracts alone see: whoever makes up a refusal raises none (this
 -- project's choice).
-use Rattle.std.specs.Prelude.{◌≡◌, ℕ, ◌+◌, ◌%◌, ◌^◌, ◌<◌}
+use Rattle.std.specs.Prelude.{ℕ, ◌+◌, ◌%◌, ◌^◌, ◌<◌}
 
 -- How often `take` met the commit limit and the reserve limit, `grow` the commit limit and a want of
 -- room, and an account was refused a number, each modulo 2^64.

@@ -165,7 +165,8 @@ fn take_out(rt: &impl Abort, pool: &Pool, accounts: &mut Places, place: usize) -
     ensures served { Serves pool.now result }
     ensures others { AreServed pool.now accounts.new.items }
     ensures apart { HasNone result.owner accounts.new.items }
-    ensures fewer { (owner : ℕ) → HasNone owner accounts.old.items → HasNone owner accounts.new.items }
+    ensures fewer { (owner : ℕ) → HasNone owner accounts.old.items
+        → HasNone owner accounts.new.items }
 {
     let _ = pool;
     assert!(rt; place < accounts.len());

@@ -1,7 +1,4 @@
-use Rattle.std.proofs.Common.{◌≡◌, ◌+◌, ◌<◌, ap, refl, arith}
-use Rattle.ms_base.specs.declared.span.Span.{Span}
-use Rattle.ms_buddy.specs.declared.node.Leaf.{Leaf}
-use Rattle.ms_pool.specs.Counting.{Counts, chunks_at}
+use Rattle.std.proofs.Common.{◌+◌, ap, refl, arith}
 use Rattle.ms_pool.proofs.CountLemmas.{counts_none, counts_one, room_at}
 use Rattle.ms_pool.proofs.counting.with_leaf.Goals as goal
 

@@ -1,4 +1,4 @@
-use Rattle.std.proofs.Common.{◌≡◌, ◌≤◌, ◌<◌, ℕ, refl, arith}
+use Rattle.std.proofs.Common.{refl, arith}
 use Rattle.ms_pool.proofs.lending.commit.Goals as goal
 
 pub unreachable-requires : goal.unreachable-requires

@@ -1,4 +1,4 @@
-use Rattle.std.proofs.Common.{◌≡◌, ◌<◌, ◌≤◌, ℕ, false, true, length, sym, ap, ◌∙◌, arith}
+use Rattle.std.proofs.Common.{◌≡◌, ◌<◌, false, length, sym, ap, ◌∙◌, arith}
 use Rattle.ms_base.specs.declared.kind.Space.TheVariants.{NonClass}
 use Rattle.ms_base.specs.Part.{is_reserved}
 use Rattle.ms_commit.specs.Nodes.{all_slots}

@@ -1,7 +1,4 @@
-use Rattle.std.proofs.Common.{◌≡◌, ◌+◌, ◌-◌, ◌/◌, ℕ, sym, ap, refl, ◌∙◌, arith}
-use Rattle.ms_base.specs.declared.refusal.Refusal.TheVariants.{CommitLimit}
-use Rattle.ms_base.specs.Policy.{granule_of}
-use Rattle.ms_commit.specs.NumberSet.{count_missing}
+use Rattle.std.proofs.Common.{◌≡◌, refl, arith}
 use Rattle.ms_pool.specs.Ledger.{state_in}
 use Rattle.ms_pool.specs.Keeping.{ledger_of}
 use Rattle.ms_pool.specs.Searching.{lacking}

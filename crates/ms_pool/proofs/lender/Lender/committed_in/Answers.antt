@@ -1,8 +1,7 @@
-use Rattle.std.proofs.Common.{◌≡◌, ◌≤◌, ℕ, ◌+◌, ◌-◌, ◌*◌, ◌/◌, length, ap, sym, ◌∙◌, arith}
+use Rattle.std.proofs.Common.{◌≡◌, ◌-◌, ◌*◌, ◌/◌, length, ap, sym, ◌∙◌, arith}
 use Rattle.ms_base.specs.declared.kind.Space.{Space}
 use Rattle.ms_base.specs.declared.kind.Space.TheVariants.{NonClass, Class}
-use Rattle.ms_commit.specs.NumberSet.{count_missing}
-use Rattle.ms_commit.specs.Nodes.{granules_in, node_granules}
+use Rattle.ms_commit.specs.Nodes.{granules_in}
 use Rattle.ms_commit.proofs.SpaceLemmas.{are_of_two_spaces}
 use Rattle.ms_pool.proofs.CommittedCountLemmas.{below_counted, granules_below}
 use Rattle.ms_pool.proofs.lender.Lender.committed_in.Goals as goal

@@ -1,4 +1,4 @@
-use Rattle.std.proofs.Common.{◌≡◌, ◌≤◌, ◌<◌, ℕ, ◌+◌, ◌-◌, ◌∙◌, sym, ap, get_or, length, refl, arith}
+use Rattle.std.proofs.Common.{ℕ, ◌-◌, ◌∙◌, ap, get_or, refl, arith}
 use Rattle.std.specs.List.{flat_map, range_with_len}
 use Rattle.ms_base.specs.FreeParts.{free_parts}
 use Rattle.ms_commit.specs.Nodes.{slots_of}

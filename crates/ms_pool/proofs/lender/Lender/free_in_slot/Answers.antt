@@ -1,10 +1,9 @@
-use Rattle.std.proofs.Common.{◌≡◌, ◌<◌, ℕ, ◌+◌, ◌*◌, [], length, sym, ◌∙◌, arith}
+use Rattle.std.proofs.Common.{length, sym, ◌∙◌, arith}
 use Rattle.ms_base.specs.FreeParts.{free_in_slot}
 use Rattle.ms_base.specs.Part.{is_reserved}
 use Rattle.ms_commit.specs.Nodes.{all_slots}
 use Rattle.ms_pool.specs.Ledger.{held_in}
 use Rattle.ms_pool.specs.Keeping.{ledger_of}
-use Rattle.ms_pool.specs.Counting.{HasRoom, parts_of}
 use Rattle.ms_pool.proofs.FreeCountLemmas.{none_raised, raised_in_slot, room_in_slot, slot_parts}
 use Rattle.ms_pool.proofs.SlotLoopLemmas.{root_there}
 use Rattle.ms_pool.proofs.lender.Lender.free_in_slot.Goals as goal

@@ -1,10 +1,10 @@
-use Rattle.std.proofs.Common.{◌≡◌, ◌<◌, ◌≤◌, ℕ, ◌+◌, true, Some, List, length, refl, sym, ap, subst, ◌∙◌, arith}
-use Rattle.std.specs.Prelude.{Ok, IfSome, slice_get, slice_set}
+use Rattle.std.proofs.Common.{◌≡◌, ◌<◌, ℕ, Some, List, length, refl, sym, subst, ◌∙◌, arith}
+use Rattle.std.specs.Prelude.{Ok, IfSome, slice_get}
 use Rattle.ms_base.specs.declared.span.Chunk.{Chunk}
 use Rattle.ms_base.specs.PoolSteps.{grown}
-use Rattle.ms_pool.specs.Account.{AccountState, AreChunks}
+use Rattle.ms_pool.specs.Account.{AccountState}
 use Rattle.ms_pool.specs.Lending.{Grows, span_of}
-use Rattle.ms_pool.specs.Ledger.{IsSoundLedger, Serves, state_in, with_grown}
+use Rattle.ms_pool.specs.Ledger.{Serves, state_in}
 use Rattle.ms_pool.specs.Keeping.{ledger_of}
 use Rattle.ms_pool.proofs.GrowingLemmas.{FitsThere, IsOwn, WellReached, fits_there, found_at, is_own, no_more, past_space, set_same, stays_as_it_was, well_reached, within_space}
 use Rattle.ms_pool.proofs.ReachLemmas.{grown_no_room, grown_stays, grown_within}

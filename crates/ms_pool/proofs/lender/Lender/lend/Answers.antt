@@ -1,17 +1,12 @@
-use Rattle.std.proofs.Common.{◌≡◌, ◌<◌, ◌≤◌, ℕ, ◌+◌, ◌-◌, ◌*◌, ◌/◌, List, length, refl, sym, ap, subst, ◌∙◌, arith, true}
+use Rattle.std.proofs.Common.{◌≡◌, ℕ, ◌+◌, ◌-◌, ◌*◌, ◌/◌, List, refl, sym, ap, subst, ◌∙◌, arith}
 use Rattle.ms_base.specs.declared.span.Chunk.{Chunk}
-use Rattle.ms_base.specs.Level.{size_of}
 use Rattle.ms_pool.specs.declared.lender.Lender.{Lender}
-use Rattle.ms_base.specs.Part.{is_reserved, slot_of}
-use Rattle.ms_base.specs.Policy.{granule_of, slot_granules}
+use Rattle.ms_base.specs.Part.{slot_of}
+use Rattle.ms_base.specs.Policy.{granule_of}
 use Rattle.ms_base.proofs.free.HalvesLemmas.{size_falls}
-use Rattle.ms_commit.specs.NumberSet.{count_missing}
-use Rattle.ms_commit.specs.Nodes.{NodeLimits, NodesState, AreSound, all_slots, with_granules}
-use Rattle.ms_commit.proofs.ModelLemmas.{is_among-meeting}
-use Rattle.ms_commit.proofs.RangeLemmas.{is_among-range}
-use Rattle.ms_pool.specs.Ledger.{Ledger, IsSoundLedger, Loan, state_in, with_lent, with_loan}
-use Rattle.ms_pool.specs.Keeping.{ledger_of, loans_from, with_reserved}
-use Rattle.ms_pool.proofs.LackLemmas.{lacks}
+use Rattle.ms_commit.specs.Nodes.{NodeLimits, NodesState, AreSound, with_granules}
+use Rattle.ms_pool.specs.Ledger.{IsSoundLedger, Loan}
+use Rattle.ms_pool.specs.Keeping.{loans_from, with_reserved}
 use Rattle.ms_pool.proofs.OpenLemmas.{open_is_low, open_where_fresh, reserves_one}
 use Rattle.ms_pool.proofs.LentLemmas.{built_of, front_is_reserved, front_within, lent_ledger, with_front_of}
 use Rattle.ms_pool.proofs.lender.Lender.lend.Goals as goal

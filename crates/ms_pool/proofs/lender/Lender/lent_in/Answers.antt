@@ -1,11 +1,10 @@
-use Rattle.std.proofs.Common.{◌≡◌, ◌≤◌, ◌<◌, ℕ, ◌+◌, ◌-◌, ◌*◌, ◌∙◌, [], sym, ap, get_or, length, map, arith}
+use Rattle.std.proofs.Common.{ℕ, ◌*◌, ap, arith}
 use Rattle.std.proofs.lemmas.List.Elements.{recursion_from_All}
-use Rattle.ms_buddy.specs.Leaves.{AreLeaves, chunk_of}
+use Rattle.ms_buddy.specs.Leaves.{AreLeaves}
 use Rattle.ms_pool.specs.Ledger.{held_in}
 use Rattle.ms_pool.specs.Keeping.{ledger_of}
 use Rattle.ms_pool.proofs.FreeRootLemmas.{at_tree}
-use Rattle.ms_pool.proofs.LentCountLemmas.{LentAt, capacity_is, counts_root, fronts_are, lent_are_by_level, lent_at_end, lent_at_start, root_fits, root_within}
-use Rattle.ms_pool.proofs.SlotLoopLemmas.{end_slot, first_slot}
+use Rattle.ms_pool.proofs.LentCountLemmas.{capacity_is, counts_root, fronts_are, lent_are_by_level, lent_at_end, lent_at_start, root_fits, root_within}
 use Rattle.ms_pool.proofs.lender.Lender.lent_in.Goals as goal
 
 pub loop-root-init : goal.loop-root-init

@@ -1,9 +1,9 @@
-use Rattle.std.proofs.Common.{◌≡◌, ◌+◌, ◌*◌, ℕ, replicate, [], length, ap, sym, subst, ◌∙◌, arith}
+use Rattle.std.proofs.Common.{◌≡◌, ◌+◌, ◌*◌, ℕ, replicate, [], length, ap, sym, subst, ◌∙◌}
 use Rattle.std.proofs.lemmas.List.{length-replicate}
 use Rattle.std.proofs.lemmas.List.Elements.{All-same, All-replicate}
 use Rattle.ms_base.specs.Policy.{granule_of}
 use Rattle.ms_base.specs.State.{limits_of}
-use Rattle.ms_buddy.specs.Leaves.{LentLeaf, AreLeaves}
+use Rattle.ms_buddy.specs.Leaves.{AreLeaves}
 use Rattle.ms_commit.specs.Nodes.{NodesState, AreSound, no_nodes}
 use Rattle.ms_commit.proofs.ModelLemmas.{granule_is_size}
 use Rattle.ms_pool.specs.Ledger.{IsSoundLedger}

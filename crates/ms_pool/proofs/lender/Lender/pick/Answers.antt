@@ -1,4 +1,4 @@
-use Rattle.std.proofs.Common.{◌≡◌, ℕ, ◌*◌, ◌==◌, length, max, sym, ap, ◌∙◌, arith, eq-eqb, ne_eqb, inl, inr, true}
+use Rattle.std.proofs.Common.{◌≡◌, ◌*◌, ◌==◌, length, sym, ap, ◌∙◌, arith, eq-eqb, ne_eqb, inl, inr, true}
 use Rattle.ms_base.specs.declared.kind.Space.{Space}
 use Rattle.ms_base.specs.declared.span.Span.{Span}
 use Rattle.ms_base.specs.declared.kind.Space.TheVariants.{NonClass, Class}
@@ -6,7 +6,6 @@ use Rattle.ms_base.specs.Part.{is_reserved, node_words, slot_of}
 use Rattle.ms_commit.specs.Nodes.{slots_of}
 use Rattle.ms_base.specs.Pick.{lowest_unreserved}
 use Rattle.ms_base.specs.Spaces.{by_space, class_slots}
-use Rattle.ms_base.specs.State.{PoolState}
 use Rattle.ms_pool.specs.Ledger.{state_in}
 use Rattle.ms_pool.specs.Keeping.{ledger_of}
 use Rattle.ms_pool.proofs.PickedLemmas.{found_is_reserved, picked_found, picked_new, slot_of_its_root}

@@ -1,5 +1,4 @@
 use Rattle.std.proofs.Common.{◌≡◌}
-use Rattle.ms_pool.specs.declared.lender.Lender.{Lender}
 use Rattle.ms_pool.specs.Keeping.{ledger_of}
 use Rattle.ms_pool.proofs.PurgingLemmas.{purged_to}
 use Rattle.ms_pool.proofs.lender.Lender.purge.Given as goal

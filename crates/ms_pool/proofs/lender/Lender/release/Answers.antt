@@ -1,13 +1,11 @@
-use Rattle.std.proofs.Common.{◌≡◌, ◌≤◌, ℕ, ◌+◌, ◌*◌, ◌/◌, sym, ap, subst, ◌∙◌, arith, inl, inr}
-use Rattle.ms_base.specs.Level.{root_words}
+use Rattle.std.proofs.Common.{◌+◌, ◌*◌, sym, ap, subst, ◌∙◌, arith, inl, inr}
 use Rattle.ms_commit.specs.Nodes.{NodesState, AreSound}
-use Rattle.ms_pool.specs.Ledger.{Ledger, IsSoundLedger}
-use Rattle.ms_pool.specs.Releasing.{with_released}
+use Rattle.ms_pool.specs.Ledger.{IsSoundLedger}
 use Rattle.ms_pool.specs.Keeping.{ledger_of, loans_from}
 use Rattle.ms_pool.proofs.ReleasedPartLemmas.{starts_by}
 use Rattle.ms_pool.proofs.ReleaseLemmas.{released_is_sound}
 use Rattle.ms_pool.proofs.UncommitLemmas.{sound_without_range}
-use Rattle.ms_pool.proofs.PutBackLemmas.{IsPutBack, LeaveThere, keeps_where, leaves_where, released_where_all_stay, released_where_some_leave, seen}
+use Rattle.ms_pool.proofs.PutBackLemmas.{IsPutBack, keeps_where, leaves_where, released_where_all_stay, released_where_some_leave, seen}
 use Rattle.ms_pool.proofs.lender.Lender.release.Goals.{else-ne-via-then-ne+else-granule-size, else-ne-via-else-ne}
 use Rattle.ms_pool.proofs.lender.Lender.release.Goals as goal
 

@@ -1,12 +1,10 @@
-use Rattle.std.proofs.Common.{◌≡◌, ◌<◌, ◌≤◌, ℕ, ◌+◌, ◌-◌, ◌*◌, ◌/◌, ◌%◌, true, List, length, sym, ap, subst, ◌∙◌, arith, inl, inr}
+use Rattle.std.proofs.Common.{◌≡◌, ℕ, ◌+◌, ◌-◌, ◌*◌, ◌/◌, true, List, sym, ap, subst, ◌∙◌, arith, inl, inr}
 use Rattle.std.proofs.lemmas.List.Elements.{recursion_from_All}
-use Rattle.ms_base.specs.Level.{root_words, size_of}
 use Rattle.ms_base.specs.Part.{is_reserved, slot_of}
-use Rattle.ms_base.specs.Policy.{granule_of}
 use Rattle.ms_base.proofs.free.HalvesLemmas.{size_falls}
 use Rattle.ms_commit.specs.Nodes.{NodesState, AreSound, slots_of, with_granules}
 use Rattle.ms_buddy.specs.Leaves.{AreLeaves}
-use Rattle.ms_pool.specs.Ledger.{IsSoundLedger, Loan, with_grown}
+use Rattle.ms_pool.specs.Ledger.{IsSoundLedger, Loan}
 use Rattle.ms_pool.specs.Keeping.{ledger_of, loans_from}
 use Rattle.ms_pool.specs.Growing.{HasNoMore, has_room}
 use Rattle.ms_pool.proofs.LentLemmas.{built_of, front_is_reserved, front_within, with_front_of}

@@ -1,6 +1,5 @@
 use Rattle.std.proofs.Common.{ℕ, sym, ap}
 use Rattle.std.proofs.lemmas.List.FromFn.{length-range_with_len}
-use Rattle.ms_base.specs.declared.refusal.Refusal.{Refusal}
 use Rattle.ms_base.specs.declared.refusal.Refusal.TheVariants.{ReserveLimit}
 use Rattle.ms_pool.proofs.lender.Lender.reserve_limit.Goals as goal
 

@@ -1,11 +1,11 @@
-use Rattle.std.proofs.Common.{◌≡◌, ◌<◌, ℕ, ◌+◌, ◌-◌, sym, ap, ◌∙◌, arith}
+use Rattle.std.proofs.Common.{ℕ, ◌+◌, sym, ap, ◌∙◌, arith}
 use Rattle.std.specs.Prelude.{slice_get}
-use Rattle.std.specs.List.{flat_map, range_with_len}
+use Rattle.std.specs.List.{flat_map}
 use Rattle.ms_base.specs.Pick.{found_at, levels_up}
 use Rattle.ms_base.proofs.free.HalvesLemmas.{size_falls}
 use Rattle.ms_pool.specs.Ledger.{state_in}
 use Rattle.ms_pool.specs.Keeping.{ledger_of}
-use Rattle.ms_pool.specs.Searching.{first_up, first_down}
+use Rattle.ms_pool.specs.Searching.{first_up}
 use Rattle.ms_pool.proofs.SearchLemmas.{first_at-is, head_end, none_here, some_here}
 use Rattle.ms_pool.proofs.lender.Lender.smaller.Goals as goal
 

@@ -1,13 +1,12 @@
-use Rattle.std.proofs.Common.{◌≡◌, ◌≤◌, ℕ, List, ◌++◌, ◌∷◌, [], refl, sym, ap, subst, ◌∙◌, arith}
+use Rattle.std.proofs.Common.{◌≡◌, ◌≤◌, refl, sym, ap, subst, ◌∙◌, arith}
 use Rattle.std.specs.Prelude.{Ok}
 use Rattle.ms_base.specs.declared.span.Chunk.{Chunk}
 use Rattle.ms_base.specs.declared.span.Span.{Span}
-use Rattle.ms_base.specs.Level.{size_of}
 use Rattle.ms_base.specs.Part.{slot_of}
 use Rattle.ms_base.specs.Pick.{chunk_picked}
 use Rattle.ms_base.specs.PoolSteps.{taken}
 use Rattle.ms_base.proofs.free.HalvesLemmas.{size_falls}
-use Rattle.ms_pool.specs.Account.{AccountState, AreChunks}
+use Rattle.ms_pool.specs.Account.{AccountState}
 use Rattle.ms_pool.specs.Lending.{Adds, span_of}
 use Rattle.ms_pool.specs.Ledger.{Serves, state_in}
 use Rattle.ms_pool.specs.Keeping.{IsOpen, ledger_of}

@@ -1,4 +1,4 @@
-use Rattle.std.proofs.Common.{◌≡◌, ℕ, length, sym, ap, ◌∙◌}
+use Rattle.std.proofs.Common.{ℕ, length, sym, ap, ◌∙◌}
 use Rattle.ms_base.specs.declared.kind.Space.{Space}
 use Rattle.ms_commit.specs.Nodes.{slots_of}
 use Rattle.std.proofs.lemmas.List.FromFn.{length-range_with_len}

@@ -1,4 +1,4 @@
-use Rattle.std.proofs.Common.{◌≡◌, ap, subst, ◌∙◌}
+use Rattle.std.proofs.Common.{ap, subst, ◌∙◌}
 use Rattle.ms_base.specs.Totals.{pool_sums}
 use Rattle.ms_pool.specs.Ledger.{Ledger, opened_in, state_in}
 use Rattle.ms_pool.specs.Tallies.{AreTallies}

@@ -1,4 +1,4 @@
-use Rattle.std.proofs.Common.{◌≡◌, ◌≤◌, arith}
+use Rattle.std.proofs.Common.{arith}
 use Rattle.ms_pool.proofs.ledger.TookLemmas.{MayAsk, took_serves, took_serves_others}
 use Rattle.ms_pool.proofs.pool.PoolChunkSource.take.Goals as goal
 

@@ -1,4 +1,3 @@
-use Rattle.std.proofs.Common.{sym}
 use Rattle.ms_pool.proofs.ServingLemmas.{last_is_served, none_but_the_last}
 use Rattle.ms_pool.proofs.tests.desk.put_last.Goals as goal
 

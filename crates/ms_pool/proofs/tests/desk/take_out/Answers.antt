@@ -1,7 +1,6 @@
-use Rattle.std.proofs.Common.{sym, subst, None, Option, List}
-use Rattle.std.specs.Prelude.{slice_set}
+use Rattle.std.proofs.Common.{sym, subst, Option, List}
 use Rattle.ms_pool.specs.Account.{AccountState}
-use Rattle.ms_pool.specs.Serving.{AreServed, HasNone}
+use Rattle.ms_pool.specs.Serving.{HasNone}
 use Rattle.ms_pool.proofs.ServingLemmas.{others_are_served, others_are_apart, none_once_out}
 use Rattle.ms_pool.proofs.tests.desk.take_out.Goals as goal
 
