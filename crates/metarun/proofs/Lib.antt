@@ -3,3 +3,4 @@ pub mod SessionLemmas
 pub mod LengthLemmas
 pub mod ReadingLemmas
 pub mod FaultLemmas
+pub mod OptionLemmas

@@ -1,3 +1,3 @@
-pub mod ShortReport
 pub mod Failure
 pub mod Session
+pub mod Asked

@@ -1,61 +1,60 @@
 //! Answering the commands of a trace: each stretch of steps by one run of the system, and what
 //! stands between two stretches, a `sync` or a `report`, by itself.
-ghost use Rattle.std.specs.Prelude.{◌≡◌, ◌*◌, ◌≤◌, ◌++◌, ℕ, List, IfOk, OnOk, take, length, string_bytes, slice_get, Some, None, [], ◌∷◌};
+//!
+//!     new .. alloc .. free     report      alloc .. purge     sync
+//!     `-- one run ------´     totals      `- one run ---´      -
+//!
+//! Kept true: each command line has one answer, in the trace's order. Takes memory for the steps of a
+//! stretch, for the answers, and for the rows of each report, which the report's text has as lines.
+ghost use Rattle.std.specs.Prelude.{◌≡◌, ◌*◌, ◌≤◌, ◌++◌, ℕ, List, IfOk, OnOk, take, length, slice_get, Some, None, [], ◌∷◌};
 ghost use Rattle.ms_base.specs.State.{Machine, empty_machine, limits_of};
 ghost use Rattle.ms_base.specs.Run.{Run};
+ghost use Rattle.ms_loaders.specs.declared.replies.Answer.{Answer};
 ghost use Rattle.ms_trace.specs.declared.trace.Line.{Line};
 ghost use Rattle.ms_trace.specs.Steps.{step_of};
-ghost use Rattle.metarun.specs.Session.{leading_steps, reply_lines, Outputs};
+ghost use Rattle.metarun.specs.Session.{leading_steps, answers_to, Reports, Answers};
 
-use crate::options::Options;
-use crate::texts::{push_reply_line, push_short_report};
-use ms_base::{Reply, Step};
-use ms_loaders::System;
+use ms_base::{Reply, Settings, Step};
+use ms_loaders::{Answer, Replies, System, Totals};
+use ms_report::totals;
 use ms_trace::{Command, Line};
 use std::alloc::{AllocError, Global};
 
 /// Answers the commands in their order, from a system without loaders on.
-pub fn answer_all(alloc: Global, options: &Options, lines: &[Line]) -> Result<String, AllocError>
-    ensures { IfOk result (λ text. (last : Machine) × Outputs options.now.addresses
-        (empty_machine (limits_of options.now.settings)) lines.now (string_bytes text) last) }
+pub fn answer_all(alloc: Global, settings: Settings, lines: &[Line]) -> Result<Replies, AllocError>
+    ensures { IfOk result (λ replies. (last : Machine) × Answers
+        (empty_machine (limits_of settings)) lines.now replies.answers.items last) }
 {
-    let mut system = System::new(alloc, options.settings)?;
-    let mut text = String::new(alloc);
+    let mut system = System::new(alloc, settings)?;
+    let mut answers = Vec::new(alloc);
     let mut at = 0;
     while at < lines.len() {
-        at += answer_steps(
-            alloc,
-            &mut system,
-            options.addresses,
-            &lines[at..],
-            &mut text,
-        )?;
+        at += answer_steps(alloc, &mut system, &lines[at..], &mut answers)?;
         if at < lines.len() {
-            answer_between(&system, options.addresses, &lines[at], &mut text)?;
+            answer_between(&system, &lines[at], &mut answers)?;
             at += 1;
         }
     }
-    Ok(text)
+    Ok(Replies { answers })
 }
 
 /// Answers the leading commands that ask steps, and tells how many.
 fn answer_steps(
     alloc: Global,
     system: &mut System,
-    addresses: bool,
     lines: &[Line],
-    text: &mut String,
+    answers: &mut Vec<Answer>,
 ) -> Result<usize, AllocError>
     ensures within { IfOk result (λ count. count ≤ length lines.now) }
     ensures stops { IfOk result (λ count. (line : Line) → slice_get lines.now count ≡ Some line
         → step_of line.command ≡ None) }
-    ensures outputs { IfOk result (λ count. (added : List ℕ)
-        × (string_bytes text.new ≡ string_bytes text.old ++ added)
-        × Outputs addresses system.old (take count lines.now) added system.new) }
+    ensures answers { IfOk result (λ count. (added : List Answer)
+        × (answers.new.items ≡ answers.old.items ++ added)
+        × Answers system.old (take count lines.now) added system.new) }
 {
     let steps = leading(alloc, lines)?;
     let replies = system.run(&steps)?;
-    push_replies(text, addresses, lines, &replies)?;
+    push_answers(answers, lines, &replies)?;
     Ok(steps.len())
 }
 
@@ -73,38 +72,48 @@ fn leading(alloc: Global, lines: &[Line]) -> Result<Vec<Step>, AllocError>
     Ok(steps)
 }
 
-/// Appends the lines that answer the first commands.
-fn push_replies(
-    text: &mut String,
-    addresses: bool,
+/// Appends the answers to the first commands.
+fn push_answers(
+    answers: &mut Vec<Answer>,
     lines: &[Line],
     replies: &[Reply],
 ) -> Result<(), AllocError>
     requires { length replies.now ≤ length lines.now }
-    ensures { OnOk result (string_bytes text.new
-        ≡ string_bytes text.old ++ reply_lines addresses lines.now replies.now) }
+    ensures { OnOk result (answers.new.items
+        ≡ answers.old.items ++ answers_to lines.now replies.now) }
 {
     for (index, reply) in replies.iter().enumerate() {
-        push_reply_line(text, addresses, u64::from(lines[index].number), *reply)?;
+        answers.push(Answer {
+            line: lines[index].number,
+            reply: *reply,
+            report: None,
+        })?;
     }
     Ok(())
 }
 
 /// Answers a command that asks no step: a `report` with the totals as they are.
-fn answer_between(
-    system: &System,
-    addresses: bool,
-    line: &Line,
-    text: &mut String,
-) -> Result<(), AllocError>
+fn answer_between(system: &System, line: &Line, answers: &mut Vec<Answer>) -> Result<(), AllocError>
     requires { step_of line.now.command ≡ None }
-    ensures { OnOk result ((added : List ℕ)
-        × (string_bytes text.new ≡ string_bytes text.old ++ added)
-        × Outputs addresses system.now (line.now ∷ []) added system.now) }
+    ensures { OnOk result ((added : List Answer)
+        × (answers.new.items ≡ answers.old.items ++ added)
+        × Answers system.now (line.now ∷ []) added system.now) }
 {
-    push_reply_line(text, addresses, u64::from(line.number), Reply::Ok)?;
-    if let Command::Report = line.command {
-        push_short_report(text, system.committed(), system.used())?;
-    }
+    let report = report_for(system, line.command)?;
+    answers.push(Answer {
+        line: line.number,
+        reply: Reply::Ok,
+        report,
+    })?;
     Ok(())
+}
+
+/// Gathers the totals where a command asks for them.
+fn report_for(system: &System, command: Command) -> Result<Option<Totals>, AllocError>
+    ensures { IfOk result (λ report. Reports command system.now report) }
+{
+    match command {
+        Command::Report => Ok(Some(totals(system)?)),
+        Command::Step(_) | Command::Sync => Ok(None),
+    }
 }

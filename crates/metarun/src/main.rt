@@ -1,11 +1,13 @@
 //! `metarun` runs a trace of class loader operations: one reply a line, and a report of the
 //! metaspace where one is asked for.
 //!
-//!     standard input ── devices ── ms_trace ── answering ── texts ── devices ── standard output
-//!                         read      parse        run        lines     write
+//!     words ──── options ────────┐
+//!     standard input ── devices ── ms_trace ── answering ── ms_report ── devices ── standard output
+//!                         read      parse        run          lines       write
 //!
-//! Kept true: what goes out is the text of a run of the machine on the trace that came in. The
-//! whole trace is read and parsed before anything runs. Stands on `ms_trace` and `ms_loaders`.
+//! Kept true: what goes out is the text of a run of the machine on the trace that came in. The command
+//! line is judged before anything is read, and the whole trace is read and parsed before anything runs.
+//! Stands on `ms_trace`, `ms_loaders` and `ms_report`.
 #![tactic(auto)]
 
 mod answering;
@@ -13,19 +15,37 @@ mod devices;
 mod failure;
 mod options;
 mod session;
-mod texts;
+mod start;
 
-use crate::options::Options;
-use crate::session::session;
+use crate::start::start;
+use std::env;
+use std::io::{self, ErrorKind};
 use std::process::ExitCode;
 
 fn main(rt: HostRuntime) -> ExitCode {
-    let status = session(
+    let words: Vec<String> = match words(&rt) {
+        Ok(words) => words,
+        Err(error) if error.kind() == ErrorKind::OutOfMemory => {
+            let _ = eprintln!(rt; "metarun: out of memory");
+            return ExitCode::from(3);
+        }
+        Err(_) => {
+            let _ = eprintln!(rt; "metarun: the command line is no text");
+            return ExitCode::from(2);
+        }
+    };
+    let status = start(
         rt.alloc(),
-        &Options::DEFAULT,
+        words.as_slice(),
         &mut rt.stdin(),
         &mut rt.stdout(),
         &mut rt.stderr(),
     );
     ExitCode::from(status)
+}
+
+/// Copies the words of the command line, the program's name first. An error says that a growth was
+/// refused, or that a word is no UTF-8 text.
+fn words(rt: &HostRuntime) -> io::Result<Vec<String>> {
+    Ok(env::args(rt)?.collect(rt.alloc())?)
 }

@@ -1,5 +1,20 @@
-//! What a run is asked to be.
-use ms_base::Settings;
+//! What a run is asked to be, and the command line that asks for it.
+//!
+//!     metarun --max-granules 1 --addresses   ->   Options { settings, addresses }
+//!
+//! Kept true: what is accepted lies within the ranges that `Settings` has, and what is not asked for is
+//! the default. `clap` reads the words and writes the texts of refusals and of the help. Only
+//! `options_of` takes memory.
+ghost use Rattle.std.specs.Prelude.{◌≡◌, ◌≤◌, ◌<◌, ◌^◌, ℕ, IfOk, IsOkAnd, None, Some, codes, decimal, length};
+ghost use Rattle.clap.specs.Words.{found_of};
+ghost use Rattle.clap.specs.Matches.{one_text};
+ghost use Rattle.metarun.specs.Asked.{IsAllowed, IsDefault, ReadsNumber, ReadsPolicy, AreRead};
+
+use clap::error::ErrorKind;
+use clap::{Arg, ArgAction, ArgMatches, Command, value_parser};
+use ms_base::{Policy, Settings};
+use std::alloc::{AllocError, Global};
+use std::convert::AsStr;
 
 /// The options of a run: its settings, and whether an accepted `alloc` tells where its block
 /// starts. This project's choice.
@@ -15,4 +30,183 @@ impl Options {
         settings: Settings::DEFAULT,
         addresses: false,
     };
+}
+
+/// Why a command line gives no options.
+#[derive(Debug, Drop)]
+pub enum Refused {
+    /// Help was asked for; this is its text, for standard output.
+    Help(String),
+    /// The line is refused; this text says why, for standard error.
+    Usage(String),
+    /// A growth was refused.
+    OutOfMemory,
+}
+
+/// Reads a command line, whose first word is the program's name. Granules count 8192 words each, 2048
+/// under policy aggressive; nodes count 1048576 words each. `Help` comes where the first of the faults
+/// is a use of `--help`, `Usage` for an unknown or repeated option, a missing value, or one out of its
+/// range. Takes memory. This project's choice.
+pub fn options_of<'a, S: AsStr>(alloc: Global, words: &'a [S]) -> Result<Options, Refused>
+    ensures allowed { IfOk result IsAllowed }
+    ensures default { length words.entry.now ≤ 1 → IsOkAnd result IsDefault }
+{
+    if words.len() <= 1 {
+        return Ok(Options::DEFAULT);
+    }
+    let command = match command(alloc) {
+        Ok(command) => command,
+        Err(_) => return Err(Refused::OutOfMemory),
+    };
+    match command.try_get_matches_from(words) {
+        Ok(matches) => Ok(chosen(&matches)),
+        Err(error) => Err(reason_of(alloc, &error)),
+    }
+}
+
+/// Tells what an error of the command line makes of it.
+fn reason_of(alloc: Global, error: &clap::Error) -> Refused {
+    let Ok(text) = format!(in alloc; "{error}") else {
+        return Refused::OutOfMemory;
+    };
+    match error.kind() {
+        ErrorKind::OutOfMemory => Refused::OutOfMemory,
+        ErrorKind::DisplayHelp => Refused::Help(text),
+        _ => Refused::Usage(text),
+    }
+}
+
+/// Collects what was chosen.
+fn chosen(matches: &ArgMatches) -> Options
+    ensures allowed { IsAllowed result }
+    ensures read { AreRead (found_of matches.now) result }
+{
+    Options {
+        settings: Settings {
+            workers: 1,
+            nodes: number_in(matches, "nodes", 1, 64, 64) as u32,
+            max_granules: number_in(matches, "max-granules", 1, 40960, 8192),
+            policy: policy_in(matches),
+            class_nodes: number_in(matches, "class-nodes", 0, 16, 0) as u32,
+        },
+        addresses: matches.get_flag("addresses"),
+    }
+}
+
+/// Tells the number that was given, or the default where there is none: `clap` accepts no number out of
+/// the range.
+fn number_in(matches: &ArgMatches, id: &str, least: u64, most: u64, default: u64) -> u64
+    requires low { least ≤ default }
+    requires high { default ≤ most }
+    ensures least { least ≤ result }
+    ensures most { result ≤ most }
+    ensures read { ReadsNumber (found_of matches.now) id.now least most default result }
+{
+    match number_given(matches, id) {
+        Some(number) if least <= number && number <= most => number,
+        _ => default,
+    }
+}
+
+/// Tells the number that was given, where there is one.
+fn number_given(matches: &ArgMatches, id: &str) -> Option<u64>
+    ensures absent { one_text (found_of matches.now) id.now ≡ None → result ≡ None }
+    ensures given { (number : ℕ) → number < 2 ^ 64
+        → one_text (found_of matches.now) id.now ≡ Some (decimal number) → result ≡ Some number }
+{
+    matches.get_one::<u64>(id)
+}
+
+/// Tells the policy that was given, or the default.
+fn policy_in(matches: &ArgMatches) -> Policy
+    ensures { ReadsPolicy (found_of matches.now) result }
+{
+    match matches.get_str("policy") {
+        Some(word) => policy_named(word),
+        None => Policy::Balanced,
+    }
+}
+
+/// Tells the policy of that word: `clap` accepts no other than the three.
+fn policy_named(word: &str) -> Policy
+    ensures aggressive { word.now ≡ codes "aggressive" → result ≡ Policy.Aggressive }
+    ensures none { word.now ≡ codes "none" → result ≡ Policy.None }
+    ensures balanced { word.now ≡ codes "balanced" → result ≡ Policy.Balanced }
+{
+    match word {
+        "aggressive" => Policy::Aggressive,
+        "none" => Policy::None,
+        _ => Policy::Balanced,
+    }
+}
+
+/// The first words of the help.
+const ABOUT: &str = "Runs a trace of class loader operations over an elastic metaspace.
+
+Standard input has the trace: one operation a line, as 'new 1 standard' (a loader), 'alloc 1 1 10'
+(a block of 10 words), 'free 1 1', 'unload 1', 'purge' or 'report'. Standard output gets a reply
+for each operation: its line number, and 'ok', 'at A', 'value V' or 'refused NAME'; after a report's
+'ok' the totals. A word is 8 bytes.";
+
+/// The last words of the help.
+const AFTER: &str = "Exit status:
+  0  each line is answered, refused ones included; or this help
+  1  the trace has a fault, which is told on standard error
+  2  the command line is refused; nothing was read
+  3  memory is wanting in the run itself
+  5  standard input or standard output failed
+
+Example:
+  printf 'new 1 standard\\nalloc 1 1 10\\nreport\\n' | metarun --addresses";
+
+/// Describes the command line.
+fn command<'a>(alloc: Global) -> Result<Command<'a>, AllocError> {
+    let addresses = Arg::new(alloc, "addresses")
+        .long("addresses")
+        .action(ArgAction::SetTrue)
+        .help("Tell where each block starts, as a word number [default: no]");
+    let policies = ["balanced", "aggressive", "none"].as_slice();
+    let policy = Arg::new(alloc, "policy")
+        .long("policy")
+        .value_name("P")
+        .value_parser(policies)
+        .help("What becomes of freed memory [default: balanced]");
+    Command::new(alloc, "metarun")
+        .bin_name("metarun")?
+        .about(ABOUT)
+        .after_help(AFTER)
+        .arg(granules(alloc))?
+        .arg(nodes(alloc))?
+        .arg(addresses)?
+        .arg(policy)?
+        .arg(class_nodes(alloc))
+}
+
+/// Describes `--max-granules`.
+fn granules<'a>(alloc: Global) -> Arg<'a> {
+    Arg::new(alloc, "max-granules")
+        .long("max-granules")
+        .value_name("N")
+        .value_parser(value_parser!(u64).range(1..=40960))
+        .help(
+            "Commit at most N granules of 8192 words, 2048 if aggressive: 1 to 40960 [default: 8192]",
+        )
+}
+
+/// Describes `--nodes`.
+fn nodes<'a>(alloc: Global) -> Arg<'a> {
+    Arg::new(alloc, "nodes")
+        .long("nodes")
+        .value_name("N")
+        .value_parser(value_parser!(u64).range(1..=64))
+        .help("Reserve at most N nodes of 1048576 words: 1 to 64 [default: 64]")
+}
+
+/// Describes `--class-nodes`.
+fn class_nodes<'a>(alloc: Global) -> Arg<'a> {
+    Arg::new(alloc, "class-nodes")
+        .long("class-nodes")
+        .value_name("N")
+        .value_parser(value_parser!(u64).range(0..=16))
+        .help("Give the class space N nodes of 1048576 words: 0 to 16 [default: 0]")
 }

@@ -10,6 +10,7 @@ use crate::answering::answer_all;
 use crate::devices::{read_text, write_text};
 use crate::failure::Failure;
 use crate::options::Options;
+use ms_report::lines;
 use ms_trace::parse;
 use std::alloc::Global;
 use std::io::{Read, Write};
@@ -56,7 +57,8 @@ fn answer_to<R: Read>(alloc: Global, options: &Options, input: &mut R) -> Result
 {
     let text = read_text(alloc, input)?;
     let trace = parse(alloc, &text)?;
-    Ok(answer_all(alloc, options, trace.lines.as_slice())?)
+    let replies = answer_all(alloc, options.settings, trace.lines.as_slice())?;
+    Ok(lines(alloc, &replies, options.addresses)?)
 }
 
 #[cfg(test)]

@@ -1,7 +1,12 @@
-use Rattle.metarun.proofs.SessionLemmas.{adds_report}
+use Rattle.std.proofs.Common.{refl, [], ◌∷◌}
+use Rattle.ms_base.specs.declared.step.Reply.TheVariants.{Ok as Done}
+use Rattle.metarun.proofs.SessionLemmas.{answers_of_one}
 use Rattle.metarun.proofs.answering.answer_between.Goals as goal
 
-pub returns-in_ok-push_short_report : goal.returns-in_ok-push_short_report
-returns-in_ok-push_short_report c =
-    adds_report c.args.addresses c.args.system.now c.args.line.now c.from.result c.committed.result c.used.result _ _ _
-    c.in-Report.is c.from.ensures c.committed.ensures c.used.ensures c.in_ok-push_reply_line.ensures c.in_ok-push_short_report.ensures
+pub returns : goal.returns
+returns c = (
+  record { line = c.args.line.now.number; reply = Done; report = c.in_ok-report.report } ∷ [],
+  c.in_ok-push.ensures.items,
+  answers_of_one c.args.system.now c.args.line.now (record { line = c.args.line.now.number; reply = Done; report = c.in_ok-report.report })
+      c.requires refl refl c.in_ok-report.ensures,
+)

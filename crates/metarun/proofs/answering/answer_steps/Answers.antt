@@ -1,14 +1,13 @@
-use Rattle.std.proofs.Common.{◌≡◌, ap, subst, sym, ◌∙◌, List, length, slice_get, arith}
+use Rattle.std.proofs.Common.{◌≡◌, ◌++◌, ap, subst, sym, ◌∙◌, List, length, slice_get, arith}
 use Rattle.ms_base.specs.declared.step.Step.{Step}
 use Rattle.ms_base.specs.declared.step.Reply.{Reply}
-use Rattle.std.specs.Prelude.{string_bytes, ◌++◌}
 use Rattle.ms_base.specs.Run.{Run}
-use Rattle.metarun.specs.Session.{leading_steps, reply_lines}
-use Rattle.metarun.proofs.SessionLemmas.{leading_within, leading_stops, outputs_of_steps, length_of_run}
+use Rattle.metarun.specs.Session.{leading_steps, answers_to}
+use Rattle.metarun.proofs.SessionLemmas.{leading_within, leading_stops, answers_of_steps, length_of_run}
 use Rattle.metarun.proofs.answering.answer_steps.Goals as goal
 
-pub push_replies-requires : goal.push_replies-requires
-push_replies-requires c =
+pub push_answers-requires : goal.push_answers-requires
+push_answers-requires c =
     let ran = length_of_run _ _ _ _ c.in_ok-replies.ensures.run in
     omega (arith, leading_within c.args.lines.now, ran, ap length c.deref.ensures.value, ap length c.in_ok-steps.ensures, ap length c.deref-2.ensures.value)
 
@@ -21,12 +20,12 @@ returns-clause-stops c =
     let count : c.len.result ≡ length (leading_steps c.args.lines.now) = c.len.ensures ∙ c.in_ok-steps.steps.ok.0 ∙ ap length c.in_ok-steps.ensures in
     λ line found. leading_stops c.args.lines.now line (ap (slice_get c.args.lines.now) (sym count) ∙ found)
 
-pub returns-clause-outputs : goal.returns-clause-outputs
-returns-clause-outputs c =
+pub returns-clause-answers : goal.returns-clause-answers
+returns-clause-answers c =
     let count : c.len.result ≡ length (leading_steps c.args.lines.now) = c.len.ensures ∙ c.in_ok-steps.steps.ok.0 ∙ ap length c.in_ok-steps.ensures in
     let ran : Run c.args.system.now (leading_steps c.args.lines.now) c.in_ok-replies.replies.items c.run.new.self =
     subst (λ (steps : List Step). Run c.args.system.now steps c.in_ok-replies.replies.items c.run.new.self) (c.deref.ensures.value ∙ c.in_ok-steps.ensures) c.in_ok-replies.ensures.run in (
-      reply_lines c.args.addresses c.args.lines.now c.in_ok-replies.replies.items,
-      c.in_ok-push_replies.ensures ∙ ap (λ (replies : List Reply). string_bytes c.args.text.now ++ reply_lines c.args.addresses c.args.lines.now replies) c.deref-2.ensures.value,
-      rw count (outputs_of_steps c.args.addresses _ c.args.lines.now c.args.system.now c.in_ok-replies.replies.items ran),
+      answers_to c.args.lines.now c.in_ok-replies.replies.items,
+      c.in_ok-push_answers.ensures ∙ ap (λ (replies : List Reply). c.args.answers.now.items ++ answers_to c.args.lines.now replies) c.deref-2.ensures.value,
+      rw count (answers_of_steps _ c.args.lines.now c.args.system.now c.in_ok-replies.replies.items ran),
     )

@@ -3,6 +3,7 @@ use Rattle.std.proofs.lemmas.Result.{err_from_is_err_and}
 use Rattle.ms_trace.specs.Faults.{BlamesText}
 use Rattle.ms_trace.specs.Spelling.{ReadsAs}
 use Rattle.metarun.proofs.ReadingLemmas.{blames_whole, outputs_whole}
+use Rattle.metarun.proofs.SessionLemmas.{outputs_of_answers}
 use Rattle.metarun.proofs.session.answer_to.Goals as goal
 
 pub returns-in_err-trace-clause-err : goal.returns-in_err-trace-clause-err
@@ -25,7 +26,7 @@ returns-clause-ok g c =
       whole = λ short. c.in_ok-text.ensures.whole (omega (arith, length_is, short));
     }) (record {
       trace = c.in_ok-trace.trace;
-      last = c.in_ok-answer_all.ensures.0;
+      last = c.in_ok-replies.ensures.0;
       reads = subst (λ (bytes : List ℕ). ReadsAs bytes c.in_ok-trace.trace) c.deref.ensures.value c.in_ok-trace.ensures.reads;
-      outputs = rw (← c.as_slice.ensures) c.in_ok-answer_all.ensures.1;
+      outputs = rw c.in_ok-lines.ensures (outputs_of_answers _ _ _ _ _ (rw (← c.as_slice.ensures) c.in_ok-replies.ensures.1));
     })

@@ -1,0 +1,65 @@
+//! The program as a call: the command line is judged, then the trace is read, run and answered.
+ghost use Rattle.std.specs.Prelude.{◌≡◌, ◌*◌, ◌≤◌, ℕ, List, IfSome, length};
+ghost use Rattle.std.specs.Io.KnownBytes.{Appends, Keeps};
+ghost use Rattle.metarun.specs.Asked.{IsDefault};
+ghost use Rattle.metarun.specs.declared.options.Options.{Options};
+ghost use Rattle.metarun.specs.Session.{IsOutput};
+
+use crate::devices::write_text;
+use crate::failure::Failure;
+use crate::options::{Refused, options_of};
+use crate::session::session;
+use std::alloc::Global;
+use std::convert::AsStr;
+use std::io::{Read, Write};
+
+/// Reads a command line, whose first word is the program's name, and runs what it asks for; answers the
+/// exit status.
+///
+/// 0: each line of the trace is answered, or the help was written. 2: the command line is refused, told
+/// on `errors`, and nothing was read or written to `output`. The other statuses are those of a
+/// session; 3 and 5 also come where help lacks memory or could not be written. This project's choice.
+pub fn start<S: AsStr, R: Read, W: Write, E: Write>(
+    alloc: Global,
+    words: &[S],
+    input: &mut R,
+    output: &mut W,
+    errors: &mut E,
+) -> u8
+    ensures answered { result ≡ 0 → length words.now ≤ 1 → IfSome (R.remaining input.old)
+        (λ bytes. (options : Options) × (written : List ℕ) × IsDefault options
+        × IsOutput options.addresses options.settings bytes written
+        × Appends (W.contents output.old) (W.contents output.new) written) }
+    ensures unread { result ≡ 2 → R.remaining input.new ≡ R.remaining input.old }
+    ensures untouched { result ≡ 2 → Keeps (W.contents output.old) (W.contents output.new) }
+    ensures statuses { result ≤ 5 }
+{
+    match options_of(alloc, words) {
+        Ok(options) => session(alloc, &options, input, output, errors),
+        Err(refused) => tell(refused, output, errors),
+    }
+}
+
+/// Tells why there are no options: help on `output`, all else on `errors`; answers the exit status.
+fn tell<W: Write, E: Write>(refused: Refused, output: &mut W, errors: &mut E) -> u8
+    ensures untouched { result ≡ 2 → Keeps (W.contents output.old) (W.contents output.new) }
+    ensures statuses { result ≤ 5 }
+{
+    let failure = match refused {
+        Refused::Help(text) => match write_text(output, text.as_bytes()) {
+            Ok(()) => return 0,
+            Err(_) => Failure::Output,
+        },
+        Refused::Usage(text) => {
+            // Whether the text comes out changes no status.
+            let _ = write_text(errors, text.as_bytes());
+            return 2;
+        }
+        Refused::OutOfMemory => Failure::OutOfMemory,
+    };
+    let _ = writeln!(errors, "{failure}");
+    failure.status()
+}
+
+#[cfg(test)]
+mod tests;
