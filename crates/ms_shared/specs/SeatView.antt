@@ -143,3 +143,11 @@ pub record OverLock (event : Ledger → Ledger → Type 0) (old new : SeatState)
   pub known : IsKnown before old.knows
   pub called : event before after
   pub left : new ≡ record old { knows = view_after before after old.knows }
+
+-- One tally raised by one.
+abbrev pub raise : TallyKind → Tallies → Tallies
+raise commit_of_take tallies = record tallies { take_commit = one_more tallies.take_commit }
+raise reserve_of_take tallies = record tallies { take_reserve = one_more tallies.take_reserve }
+raise commit_of_grow tallies = record tallies { grow_commit = one_more tallies.grow_commit }
+raise room_of_grow tallies = record tallies { grow_room = one_more tallies.grow_room }
+raise ids_of_open tallies = record tallies { open_ids = one_more tallies.open_ids }
