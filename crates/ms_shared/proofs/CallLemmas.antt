@@ -5,6 +5,7 @@ use Rattle.std.specs.Prelude.{Result, Ok, Err, IfOk, OnErr, IfErr}
 use Rattle.std.specs.List.Sorted.{IsPermutation}
 use Rattle.atomic_table.specs.Seated.{TableId}
 use Rattle.ms_base.specs.declared.kind.Space.{Space}
+use Rattle.ms_base.specs.declared.kind.Space.TheVariants.{NonClass, Class}
 use Rattle.ms_base.specs.declared.span.Chunk.{Chunk}
 use Rattle.ms_base.specs.declared.span.Span.{Span}
 use Rattle.ms_base.specs.declared.policy.Policy.{Policy}
@@ -13,9 +14,9 @@ use Rattle.ms_base.specs.declared.refusal.Refusal.TheVariants.{CommitLimit, Rese
 use Rattle.ms_pool.specs.Account.{AccountState}
 use Rattle.ms_pool.specs.Lending.{Adds, Grows}
 use Rattle.ms_pool.specs.Tallies.{Tallies}
-use Rattle.ms_pool.specs.Calls.{Opened, Took, GrewFrom, Grew}
+use Rattle.ms_pool.specs.Calls.{Opened, OpenedBoth, Took, GrewFrom, Grew}
 use Rattle.ms_pool.specs.Ledger.{Ledger, IsSoundLedger, Serves, chunks_of, opened_in}
-use Rattle.ms_pool.proofs.ledger.ClosedLemmas.{ClosesWell}
+use Rattle.ms_pool.proofs.ledger.ClosedLemmas.{ClosesWell, ClosesBothWell}
 use Rattle.ms_shared.specs.declared.lock_rule.SeatView.{SeatView}
 use Rattle.ms_shared.specs.declared.lock_rule.LockView.{LockView}
 use Rattle.ms_shared.specs.Entries.{Has, times, refreshed, fresh}
@@ -107,6 +108,14 @@ module _ (old new : SeatState) (before later : Ledger) (call : IsCall old new be
       → opened_by new.knows space ≡ opened_by old.knows space
   close_elsewhere account well space differs = let moved = counts_then space in let same = well.elsewhere space differs in omega arith
 
+  pub close_both_counts : (account class_account : AccountState) → ((space : Space) → 0 < opened_by old.knows space)
+      → ClosesBothWell before account class_account later
+      → (space : Space) → opened_by new.knows space + 1 ≡ opened_by old.knows space
+  close_both_counts account class_account some well NonClass =
+      let moved = counts_then NonClass in let less = well.counted in let one = some NonClass in omega arith
+  close_both_counts account class_account some well Class =
+      let moved = counts_then Class in let less = well.class_counted in let one = some Class in omega arith
+
   tallies_then : new.knows.tallies ≡ tallies_after before.tallies later.tallies old.knows.tallies
   tallies_then = ap (λ (s : SeatState). s.knows.tallies) call.left
 
@@ -140,6 +149,11 @@ module _ (old new : SeatState) (before later : Ledger) (call : IsCall old new be
       → IfErr result (λ refusal. new.knows.tallies ≡ raise ids_of_open old.knows.tallies)
   open_raises space (Ok account) opened = tt
   open_raises space (Err refusal) refused = tallies_raised ids_of_open (ap (λ (l : Ledger). l.tallies) refused.2)
+
+  pub open_both_raises : (result : Result (AccountState × AccountState) Refusal) → OpenedBoth before result later
+      → IfErr result (λ refusal. new.knows.tallies ≡ raise ids_of_open old.knows.tallies)
+  open_both_raises (Ok accounts) opened = tt
+  open_both_raises (Err refusal) refused = tallies_raised ids_of_open (ap (λ (l : Ledger). l.tallies) refused.2)
 
 -- A chunk that is lent, and one that grows, are the caller's account's; refused, it is as it was.
 pub took_owner : (policy : Policy) (wanted most words : ℕ) (old new : AccountState) (result : Result Span Refusal)

@@ -8,3 +8,5 @@ pub mod DealLemmas
 pub mod MovesLemmas
 pub mod CallLemmas
 pub mod OpenLemmas
+pub mod OwnLemmas
+pub mod CloseLemmas

@@ -11,9 +11,9 @@ use Rattle.ms_base.specs.declared.refusal.Refusal.TheVariants.{CommitLimit, Rese
 use Rattle.ms_pool.specs.Account.{AccountState}
 use Rattle.ms_pool.specs.Tallies.{Tallies, one_more}
 use Rattle.ms_pool.specs.Ledger.{Ledger, opened_in, with_opened}
-use Rattle.ms_pool.specs.Calls.{Opened, Took, GrewFrom, Grew, Closed}
+use Rattle.ms_pool.specs.Calls.{Opened, OpenedBoth, ClosedBoth, Purged, Took, GrewFrom, Grew, Closed}
 use Rattle.ms_pool.proofs.ledger.KeepsLemmas.{Keeps}
-use Rattle.ms_pool.proofs.ledger.ClosedLemmas.{KeepsAll, opened_keeps, ClosesWell}
+use Rattle.ms_pool.proofs.ledger.ClosedLemmas.{KeepsAll, opened_keeps, both_opened_keeps, purged_keeps, ClosesWell, ClosesBothWell}
 use Rattle.ms_shared.specs.declared.lock_rule.SeatView.{SeatView}
 use Rattle.ms_shared.specs.Entries.{times}
 use Rattle.ms_shared.specs.SeatView.{TallyKind, commit_of_take, reserve_of_take, commit_of_grow, room_of_grow, ids_of_open, tally_of, raise, raised_with, tallies_after, opened_by}
@@ -146,6 +146,46 @@ close_moves view old account new own some well closed = let given = well.given i
   limits = well.limits;
   tallies = same_rise old new (ap (λ (l : Ledger). l.tallies) closed);
 }
+
+-- Open both.
+pub open_both_moves : (view : SeatView) (old : Ledger) (result : Result (AccountState × AccountState) Refusal) (new : Ledger) → OpenedBoth old result new → Moves view old new
+open_both_moves view old (Ok accounts) new opened =
+    let given : new.given ≡ old.given + 1 + 1 = ap (λ (l : Ledger). l.given) opened.1 in
+    all_moves view old new (both_opened_keeps old (Ok accounts) new opened) (omega arith)
+    (λ one. subst (λ (l : Ledger). opened_in old one ≤ opened_in l one) (sym opened.1)
+    (let first = opened_more NonClass one old in let second = opened_more Class one (with_opened old NonClass) in omega arith))
+    (ap (λ (l : Ledger). l.limits) opened.1) (same_rise old new (ap (λ (l : Ledger). l.tallies) opened.1))
+open_both_moves view old (Err refusal) new refused =
+    let given : new.given ≡ old.given = ap (λ (l : Ledger). l.given) refused.2 in
+    all_moves view old new (both_opened_keeps old (Err refusal) new refused) (omega arith)
+    (λ one. let same : opened_in new one ≡ opened_in old one = ap (λ (l : Ledger). opened_in l one) refused.2 in omega arith)
+    (ap (λ (l : Ledger). l.limits) refused.2) (raised_rise ids_of_open old new (ap (λ (l : Ledger). l.tallies) refused.2))
+
+-- Close both.
+pub close_both_moves : (view : SeatView) (old : Ledger) (account class_account : AccountState) (new : Ledger) → 0 < times account.owner view.served
+    → 0 < times class_account.owner view.served
+    → ((space : Space) → 0 < opened_by view space) → ClosesBothWell old account class_account new → ClosedBoth old account class_account new → Moves view old new
+close_both_moves view old account class_account new own class_own some well closed = let given = well.given in record {
+  given = omega arith;
+  others = λ other none. well.chunks other
+      (λ same. let mine : 0 < times other view.served = subst (λ (o : ℕ). 0 < times o view.served) (sym same) own in absurd (omega arith))
+      (λ same. let mine : 0 < times other view.served = subst (λ (o : ℕ). 0 < times o view.served) (sym same) class_own in absurd (omega arith));
+  counted = counted;
+  limits = well.limits;
+  tallies = same_rise old new (ap (λ (l : Ledger). l.tallies) closed);
+}
+  where
+    counted : (space : Space) → opened_in old space ≤ opened_by view space + opened_in new space
+    counted NonClass = let less = well.counted in let one = some NonClass in omega arith
+    counted Class = let less = well.class_counted in let one = some Class in omega arith
+
+-- Purge.
+pub purge_moves : (view : SeatView) (old : Ledger) (gone : ℕ) (new : Ledger) → Purged old gone new → Moves view old new
+purge_moves view old gone new purged =
+    let given : new.given ≡ old.given = ap (λ (l : Ledger). l.given) purged.1 in
+    all_moves view old new (purged_keeps old gone new purged) (omega arith)
+    (λ one. let same : opened_in new one ≡ opened_in old one = ap (λ (l : Ledger). opened_in l one) purged.1 in omega arith)
+    (ap (λ (l : Ledger). l.limits) purged.1) (same_rise old new (ap (λ (l : Ledger). l.tallies) purged.1))
 
 -- Nothing changes.
 pub same_moves : (view : SeatView) (pool : Ledger) → Moves view pool pool

@@ -1,6 +1,7 @@
 use Rattle.std.proofs.Common.{refl, ◌∙◌}
 use Rattle.ms_shared.proofs.CallLemmas.{moves_at, is_call, over_lock, served_by_pool, serves_then, counts_stay, limits_stay}
 use Rattle.ms_shared.proofs.MovesLemmas.{same_moves}
+use Rattle.ms_shared.proofs.OwnLemmas.{counts_own}
 use Rattle.ms_shared.proofs.locked_pool.LockedPoolChunkSource.totals.Goals as goal
 
 pub let_go-requires-clause-moves : goal.let_go-requires-clause-moves
@@ -15,5 +16,5 @@ returns g c =
       others = λ other its. serves_then _ _ _ _ call other other its refl (served_by_pool _ _ other call.known its);
       counted = counts_stay _ _ _ _ call refl;
       limits = limits_stay _ _ _ _ call;
-      totalled = over_lock _ _ _ _ _ call (c.totals-totals.ensures, refl);
+      totalled = record { event = over_lock _ _ _ _ _ call (c.totals-totals.ensures, refl); own = counts_own c.seize-pool.result _ _ _ call.known c.requires c.held.ensures.chunks c.totals-totals.ensures };
     }
