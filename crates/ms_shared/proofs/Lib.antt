@@ -10,3 +10,4 @@ pub mod CallLemmas
 pub mod OpenLemmas
 pub mod OwnLemmas
 pub mod CloseLemmas
+pub mod HandLemmas
