@@ -5,3 +5,9 @@ pub mod LockLemmas
 pub mod CutLemmas
 pub mod GatherLemmas
 pub mod DealLemmas
+pub mod MovesLemmas
+pub mod CallLemmas
+pub mod OpenLemmas
+pub mod OwnLemmas
+pub mod CloseLemmas
+pub mod HandLemmas

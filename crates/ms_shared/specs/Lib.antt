@@ -2,3 +2,4 @@ pub mod MeterRule
 pub mod Entries
 pub mod SeatView
 pub mod LockRule
+pub mod LockCalls

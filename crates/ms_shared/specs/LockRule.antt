@@ -5,13 +5,14 @@ use Rattle.std.specs.List.{sum_by}
 use mathlib.Core.Option.{some}
 use lib.ListN.{get_elem?}
 use Rattle.atomic_table.specs.Table.{State, Me, Step}
+use Rattle.atomic_table.specs.Seated.{TableId}
 use Rattle.ms_base.specs.declared.kind.Space.{Space}
 use Rattle.ms_base.specs.State.{Limits}
 use Rattle.ms_base.specs.declared.policy.Policy.TheVariants.{Balanced}
 use Rattle.ms_pool.specs.Tallies.{one_more}
 use Rattle.ms_pool.specs.Ledger.{Ledger, chunks_of, empty_ledger, opened_in}
 use Rattle.ms_shared.specs.Entries.{times, once_given, AreRecords}
-use Rattle.ms_shared.specs.SeatView.{TallyKind, tally_of, opened_by, IsKnown, view_after, knows_limits, knows_all, knows_both}
+use Rattle.ms_shared.specs.SeatView.{TallyKind, tally_of, opened_by, IsKnown, view_after, knows_limits, knows_all, knows_both, without_account, account_alone}
 use Rattle.ms_shared.specs.declared.lock_rule.SeatView.{SeatView}
 use Rattle.ms_shared.specs.declared.lock_rule.LockView.{LockView}
 
@@ -61,6 +62,13 @@ pub record IsLocked (made : ℕ) (limits : Limits) (state : State (Option Ledger
 -- A seat of the table: its view, and the slot that it took.
 abbrev pub Sat : Type 0
 Sat = Me (Option Ledger) LockView
+
+-- A seat of the lock that has both of its parts, and neither slot nor pool.
+pub record IsWhole (lock id : TableId) (seat : Sat) : Type 0 where
+  pub own : id ≡ lock
+  pub slots : seat.1 ≡ []
+  pub parts : seat.0.parts ≡ 2
+  pub free : seat.0.taken ≡ None
 
 -- The seat has the pool.
 abbrev pub with_pool : LockView → Ledger → LockView
@@ -117,6 +125,20 @@ own_seat view = record view { parts = 2 }
 
 abbrev pub other_seats : LockView → LockView
 other_seats view = blank (view.parts - 2) view.knows.limits
+
+-- A view cut by an owner: an account goes with one part and one of the count, as a note. And a view
+-- from which a part is cut off that knows nothing.
+abbrev pub view_without : ℕ → Space → LockView → LockView
+view_without owner space view = record view { parts = view.parts - 1; knows = without_account owner space view.knows }
+
+abbrev pub note_of : ℕ → Space → LockView → LockView
+note_of owner space view = record { parts = 1; knows = account_alone owner space view.knows; taken = None }
+
+abbrev pub less_part : LockView → LockView
+less_part view = record view { parts = view.parts - 1 }
+
+abbrev pub spare_part : LockView → LockView
+spare_part view = blank 1 view.knows.limits
 
 -- Two views in one.
 abbrev pub both : LockView → LockView → LockView

@@ -11,7 +11,7 @@ use Rattle.ms_base.specs.State.{Limits}
 use Rattle.ms_pool.specs.Account.{AccountState}
 use Rattle.ms_pool.specs.Tallies.{Tallies, no_tallies, one_more}
 use Rattle.ms_pool.specs.Ledger.{Ledger, IsSoundLedger, opened_in}
-use Rattle.ms_shared.specs.Entries.{Has, AreRecords, times, once_given, refreshed, fresh}
+use Rattle.ms_shared.specs.Entries.{Has, AreRecords, times, once_given, refreshed, fresh, only, all_but}
 use Rattle.ms_shared.specs.declared.lock_rule.SeatView.{SeatView}
 
 -- The five tallies, each by its name.
@@ -108,6 +108,34 @@ knows_both view other =
       limits = view.limits;
     }
 
+-- A seat that hands an owner's account on, with one of the count; what goes over; and a seat that
+-- takes it in.
+abbrev pub without_account : ℕ → Space → SeatView → SeatView
+without_account owner space view =
+    record view {
+      served = all_but owner view.served;
+      opened = by_space space (view.opened - 1) view.opened;
+      class_opened = by_space space view.class_opened (view.class_opened - 1);
+    }
+
+abbrev pub account_alone : ℕ → Space → SeatView → SeatView
+account_alone owner space view =
+    record {
+      served = only owner view.served;
+      opened = by_space {X = ℕ} space 1 0;
+      class_opened = by_space {X = ℕ} space 0 1;
+      tallies = no_tallies;
+      limits = view.limits;
+    }
+
+abbrev pub with_account : ℕ → Space → SeatView → SeatView → SeatView
+with_account owner space from view =
+    record view {
+      served = view.served ++ only owner from.served;
+      opened = by_space space (view.opened + 1) view.opened;
+      class_opened = by_space space view.class_opened (view.class_opened + 1);
+    }
+
 -- A lock as its callers see it: which one it is, how many seats it was made with, and the limits of
 -- its pool.
 pub record LockState : Type 0 where
@@ -143,3 +171,11 @@ pub record OverLock (event : Ledger → Ledger → Type 0) (old new : SeatState)
   pub known : IsKnown before old.knows
   pub called : event before after
   pub left : new ≡ record old { knows = view_after before after old.knows }
+
+-- One tally raised by one.
+abbrev pub raise : TallyKind → Tallies → Tallies
+raise commit_of_take tallies = record tallies { take_commit = one_more tallies.take_commit }
+raise reserve_of_take tallies = record tallies { take_reserve = one_more tallies.take_reserve }
+raise commit_of_grow tallies = record tallies { grow_commit = one_more tallies.grow_commit }
+raise room_of_grow tallies = record tallies { grow_room = one_more tallies.grow_room }
+raise ids_of_open tallies = record tallies { open_ids = one_more tallies.open_ids }

@@ -8,6 +8,7 @@
 #![tactic(auto)]
 
 mod lock_rule;
+mod locked_pool;
 mod meter_rule;
 mod seat;
 mod shared_pool;
@@ -16,6 +17,7 @@ mod tests;
 mod used_meter;
 
 pub use lock_rule::{LimitsView, LockView, SeatView, TalliesView};
+pub use locked_pool::LockedPool;
 pub use meter_rule::MeterView;
 pub use seat::PoolSeat;
 pub use shared_pool::SharedPool;

@@ -8,13 +8,13 @@
 //! one seat. Each owner number that it gave out is served by one seat, once, with the pool's record
 //! of the owner; its open accounts and tallies are the sums of the seats'. Views, plays, cuts and
 //! joins have no bytes and do nothing when they run. Nothing here takes memory or waits.
-ghost use Rattle.ms_shared.specs.LockRule.{IsLocked, Tries, LetsGo, first_view, own_seat, other_seats, both, nothing};
+ghost use Rattle.ms_shared.specs.LockRule.{IsLocked, Tries, LetsGo, first_view, own_seat, other_seats, both, nothing, view_without, note_of, less_part, spare_part};
 
 use atomic_table::{Join, Play, Split, TableRule};
 use ms_base::{Chunk, Policy};
 use ms_pool::Pool;
 use std::collections::LinkedList;
-use std::marker::Model;
+use std::marker::{Brand, Model, PhantomData};
 use std::snapshot::Snapshot;
 
 /// A pool's limits, as views have them. No value of it is made.
@@ -123,6 +123,44 @@ impl Split<LockView> for CutSeats {
     ghost left = { own_seat };
 
     ghost right = { other_seats };
+}
+
+/// Names an account's owner and space, where a proof picks them.
+pub trait Owner {
+    ghost use Rattle.std.specs.Prelude.{ℕ};
+    ghost use Rattle.ms_base.specs.declared.kind.Space.{Space};
+
+    ghost owner: { ℕ };
+
+    ghost space: { Space };
+}
+
+impl Owner for Brand {
+    ghost use Rattle.ms_base.specs.declared.kind.Space.TheVariants.{NonClass};
+
+    ghost owner = { 0 };
+
+    ghost space = { NonClass };
+}
+
+// An account is cut off, with one of the count, as a note.
+pub struct CutAccount<B> {
+    owner: PhantomData<B>,
+}
+
+impl<B: Owner> Split<LockView> for CutAccount<B> {
+    ghost left = { view_without B.owner B.space };
+
+    ghost right = { note_of B.owner B.space };
+}
+
+// A part that knows nothing is cut off.
+pub struct CutPart;
+
+impl Split<LockView> for CutPart {
+    ghost left = { less_part };
+
+    ghost right = { spare_part };
 }
 
 // Two seats become one.

@@ -10,19 +10,22 @@
 //! the pool's open accounts and tallies are the sums of the seats'. `new` takes memory. What takes
 //! the lock tries its word again until it has the pool. This project's choice; HotSpot has
 //! Metaspace_lock.
-ghost use Rattle.std.specs.Prelude.{◌≡◌, ◌<◌, ◌≤◌, ◌↔◌, ◌∷◌, [], Some, None, IsOk, IfOk, IfErr, vec_len};
+ghost use Rattle.std.specs.Prelude.{◌≡◌, ◌≢◌, ◌<◌, ◌≤◌, ◌↔◌, ◌∷◌, [], Some, None, IsOk, IfOk, IfErr, vec_len};
 ghost use Rattle.std.specs.List.{All};
 ghost use Rattle.ms_pool.specs.Ledger.{IsSoundLedger};
-ghost use Rattle.ms_shared.specs.SeatView.{IsKnown, Gathers, new_seats};
-ghost use Rattle.ms_shared.specs.LockRule.{Moves, after, with_pool, taken_of};
+ghost use Rattle.ms_pool.specs.Account.{AccountState};
+ghost use Rattle.ms_shared.specs.SeatView.{IsKnown, Gathers, ServesBy, opened_by, new_seats, without_account, with_account};
+ghost use Rattle.ms_shared.specs.LockRule.{Moves, IsWhole, after, with_pool, taken_of, both, view_without, note_of, less_part, spare_part};
 
-use crate::lock_rule::{CutSeats, JoinViews, LetsGo, LockKey, LockView, Locked, Tries};
+use crate::lock_rule::{
+    CutAccount, CutPart, CutSeats, JoinViews, LetsGo, LockKey, LockView, Locked, Owner, Tries,
+};
 use crate::seat::PoolSeat;
 use atomic_table::{Refused, Seat, Table};
 use ms_base::{Refusal, Space};
-use ms_pool::Pool;
+use ms_pool::{Account, Pool};
 use std::alloc::Global;
-use std::marker::Model;
+use std::marker::{Brand, Model};
 use std::snapshot::Snapshot;
 use std::sync::Wait;
 use std::thread;
@@ -126,6 +129,50 @@ impl SharedPool {
         }
         let SharedPool { table, made: _ } = self;
         Ok(gathered(table, seats))
+    }
+
+    /// Hands an account on from one seat to another, with one of the count of its space: from then on
+    /// the other seat serves it. Takes no memory, and does not wait. This project's choice.
+    pub fn hand(&self, from: &mut PoolSeat, to: &mut PoolSeat, account: &Account)
+        requires own { from.old.id ≡ self.now.id }
+        requires to_own { to.old.id ≡ self.now.id }
+        requires served { ServesBy from.old.knows account.now }
+        requires counted { 0 < opened_by from.old.knows account.now.space }
+        ensures from { from.new ≡ record from.old {
+          knows = without_account account.now.owner account.now.space from.old.knows;
+        } }
+        ensures to { to.new ≡ record to.old {
+          knows = with_account account.now.owner account.now.space from.old.knows to.old.knows;
+        } }
+        ensures served { ServesBy to.new.knows account.now }
+        ensures others { (other : AccountState) → other.owner ≢ account.now.owner
+            → ServesBy from.old.knows other → ServesBy from.new.knows other }
+        ensures to_others { (other : AccountState) → ServesBy to.old.knows other
+            → ServesBy to.new.knows other }
+    {
+        self.pass::<Brand>(&mut from.seat, &mut to.seat, account);
+    }
+
+    /// Moves an account from one seat to another as a note of one part, and a part back.
+    fn pass<B: Owner>(
+        &self,
+        from: &mut Seat<Option<Pool>, LockView>,
+        to: &mut Seat<Option<Pool>, LockView>,
+        _account: &Account,
+    )
+        requires from { IsWhole self.now.id from.old.table_id from.old.me }
+        requires to { IsWhole self.now.id to.old.table_id to.old.me }
+        requires counted { 0 < opened_by from.old.me.0.knows B.space }
+        ensures from_own { from.new.table_id ≡ from.old.table_id }
+        ensures from { from.new.me ≡ (both (view_without B.owner B.space from.old.me.0) (spare_part to.old.me.0), []) }
+        ensures to_own { to.new.table_id ≡ to.old.table_id }
+        ensures to { to.new.me ≡ (less_part (both to.old.me.0 (note_of B.owner B.space from.old.me.0)), []) }
+    {
+        let shared = &self.table.shared;
+        let note = shared.split_seat::<CutAccount<B>>(from);
+        shared.join_seat::<JoinViews>(to, note);
+        let part = shared.split_seat::<CutPart>(to);
+        shared.join_seat::<JoinViews>(from, part);
     }
 
     /// Takes the pool, once no other seat has it. A caller also learns here what is true of every

@@ -1,0 +1,224 @@
+//! The pool's calls, over the lock.
+//!
+//! Each call takes the pool, which it waits for, makes the one call on it and puts it back. So it is
+//! one event on the pool, and between a thread's calls those of others come. Kept true: the pool
+//! serves what the seat serves, and counts what the seat counts. Only `take` takes memory. This
+//! project's choice.
+ghost use Rattle.std.specs.Prelude.{◌≡◌, ◌≢◌, ◌+◌, ◌<◌, IfOk, IfErr, OnErr, MatchResult};
+ghost use Rattle.ms_base.specs.declared.kind.Space.{Space};
+ghost use Rattle.ms_pool.specs.Account.{AccountState};
+ghost use Rattle.ms_base.specs.declared.kind.Space.TheVariants.{NonClass, Class};
+ghost use Rattle.ms_pool.specs.Calls.{Opened, OpenedBoth, ClosedBoth, Purged, new_account};
+ghost use Rattle.ms_shared.specs.SeatView.{ServesBy, OverLock, opened_by, ids_of_open, raise};
+
+use crate::lock_rule::LockView;
+use crate::seat::PoolSeat;
+use crate::shared_pool::SharedPool;
+use atomic_table::Seat;
+use ms_base::{Level, Refusal, Space, Span};
+use ms_pool::{Account, ChunkSource, Pool, PoolTotals};
+use std::marker::Model;
+use std::sync::Wait;
+
+/// A lock, a seat of it and what waits, in one value. This project's choice.
+pub struct LockedPool<'a, R: Wait> {
+    rt: &'a R,
+    shared: &'a SharedPool,
+    seat: Seat<Option<Pool>, LockView>,
+}
+
+impl<'a, R: Wait> Model for LockedPool<'a, R> {
+    ghost use Rattle.ms_shared.specs.SeatView.{SeatState};
+
+    ghost Value = { SeatState };
+
+    ghost use Rattle.std.specs.Prelude.{◌≡◌, [], None};
+
+    ghost view = { λ pool. record { id = pool.seat.table_id; knows = pool.seat.me.0.knows } };
+
+    ghost invariant = { λ pool. (pool.seat.table_id ≡ pool.shared.now.id) × (pool.seat.me.1 ≡ [])
+        × (pool.seat.me.0.parts ≡ 2) × (pool.seat.me.0.taken ≡ None) };
+}
+
+impl SharedPool {
+    /// Puts the lock, a seat of it and what waits into one value. Takes no memory, and does not
+    /// wait. This project's choice.
+    pub fn at<'a, R: Wait>(&'a self, rt: &'a R, seat: PoolSeat) -> LockedPool<'a, R>
+        requires { seat.id ≡ self.now.id }
+        ensures { result ≡ seat }
+    {
+        let PoolSeat { seat } = seat;
+        LockedPool {
+            rt,
+            shared: self,
+            seat,
+        }
+    }
+}
+
+impl<R: Wait> LockedPool<'_, R> {
+    /// Gives the seat back. Takes no memory, and does not wait. This project's choice.
+    pub fn into_seat(self) -> PoolSeat
+        ensures { result ≡ self.entry }
+    {
+        let LockedPool {
+            rt: _,
+            shared: _,
+            seat,
+        } = self;
+        PoolSeat { seat }
+    }
+
+    /// Opens an account in a space, under the pool's next owner number; the seat serves it and counts
+    /// it. Refused with `IdsUsedUp` exactly where all numbers, 1 to 4294967295, were given out. Takes
+    /// no memory, and waits for the lock.
+    pub fn open(&mut self, space: Space) -> Result<Account, Refusal>
+        ensures event { OverLock (λ before after. Opened before space result after) self.old self.new }
+        ensures served { IfOk result (λ account. ServesBy self.new.knows account) }
+        ensures new { IfOk result (λ account. account ≡ new_account account.owner space) }
+        ensures others { (other : AccountState) → ServesBy self.old.knows other
+            → ServesBy self.new.knows other }
+        ensures counted { MatchResult result
+            (λ account. opened_by self.new.knows space ≡ opened_by self.old.knows space + 1)
+            (λ refusal. opened_by self.new.knows space ≡ opened_by self.old.knows space) }
+        ensures elsewhere { (other : Space) → other ≢ space
+            → opened_by self.new.knows other ≡ opened_by self.old.knows other }
+        ensures limits { self.new.knows.limits ≡ self.old.knows.limits }
+        ensures tallied { IfErr result
+            (λ refusal. self.new.knows.tallies ≡ raise ids_of_open self.old.knows.tallies) }
+    {
+        let mut pool = self.shared.seize(self.rt, &mut self.seat);
+        let answer = pool.open(space);
+        self.shared.let_go(&mut self.seat, pool);
+        answer
+    }
+
+    /// Opens an account in each space, by one event, the first outside the class space; the seat
+    /// serves both and counts both. Refused with `IdsUsedUp` exactly where fewer than two owner
+    /// numbers are left. Takes no memory, and waits for the lock.
+    pub fn open_both(&mut self) -> Result<(Account, Account), Refusal>
+        ensures event { OverLock (λ before after. OpenedBoth before result after) self.old self.new }
+        ensures served { IfOk result (λ accounts. ServesBy self.new.knows accounts.0) }
+        ensures class_served { IfOk result (λ accounts. ServesBy self.new.knows accounts.1) }
+        ensures new { IfOk result (λ accounts. accounts
+            ≡ (new_account accounts.0.owner NonClass, new_account (accounts.0.owner + 1) Class)) }
+        ensures others { (other : AccountState) → ServesBy self.old.knows other
+            → ServesBy self.new.knows other }
+        ensures counted { (space : Space) → MatchResult result
+            (λ accounts. opened_by self.new.knows space ≡ opened_by self.old.knows space + 1)
+            (λ refusal. opened_by self.new.knows space ≡ opened_by self.old.knows space) }
+        ensures limits { self.new.knows.limits ≡ self.old.knows.limits }
+        ensures tallied { IfErr result
+            (λ refusal. self.new.knows.tallies ≡ raise ids_of_open self.old.knows.tallies) }
+    {
+        let mut pool = self.shared.seize(self.rt, &mut self.seat);
+        let answer = pool.open_both();
+        self.shared.let_go(&mut self.seat, pool);
+        answer
+    }
+
+    /// Takes all chunks of the accounts of both spaces back, by one event, and the accounts with
+    /// them; the first is not the class space's. Takes no memory, and waits for the lock.
+    pub fn close_both(&mut self, account: Account, class_account: Account)
+        requires served { ServesBy self.old.knows account }
+        requires class_served { ServesBy self.old.knows class_account }
+        requires space { account.space ≡ NonClass }
+        requires class_space { class_account.space ≡ Class }
+        requires counted { (space : Space) → 0 < opened_by self.old.knows space }
+        ensures event { OverLock (λ before after. ClosedBoth before account class_account after)
+            self.old self.new }
+        ensures none { ServesBy self.new.knows (new_account account.owner NonClass) }
+        ensures class_none { ServesBy self.new.knows (new_account class_account.owner Class) }
+        ensures others { (other : AccountState) → other.owner ≢ account.owner
+            → other.owner ≢ class_account.owner
+            → ServesBy self.old.knows other → ServesBy self.new.knows other }
+        ensures counted { (space : Space)
+            → opened_by self.new.knows space + 1 ≡ opened_by self.old.knows space }
+        ensures limits { self.new.knows.limits ≡ self.old.knows.limits }
+    {
+        let mut pool = self.shared.seize(self.rt, &mut self.seat);
+        pool.close_both(account, class_account);
+        self.shared.let_go(&mut self.seat, pool);
+    }
+
+    /// Drops the pool's nodes that hold no chunk, their granules with them, and answers how many they
+    /// were; those of the class space stay. Takes no memory, and waits for the lock.
+    pub fn purge(&mut self) -> u32
+        ensures event { OverLock (λ before after. Purged before result after) self.old self.new }
+        ensures served { (account : AccountState) → ServesBy self.old.knows account
+            → ServesBy self.new.knows account }
+        ensures counted { opened_by self.new.knows ≡ opened_by self.old.knows }
+        ensures limits { self.new.knows.limits ≡ self.old.knows.limits }
+        ensures tallies { self.new.knows.tallies ≡ self.old.knows.tallies }
+    {
+        let mut pool = self.shared.seize(self.rt, &mut self.seat);
+        let gone = pool.purge();
+        self.shared.let_go(&mut self.seat, pool);
+        gone
+    }
+}
+
+impl<'a, R: Wait> ChunkSource for LockedPool<'a, R> {
+    ghost use Rattle.ms_shared.specs.SeatView.{ServesBy, opened_by};
+    ghost use Rattle.ms_shared.specs.LockCalls.{TookOver, GrewOver, ClosedOver, TotalledOver};
+
+    ghost serves = { λ seat. ServesBy seat.knows };
+
+    ghost opened = { λ seat. opened_by seat.knows };
+
+    ghost limits = { λ seat. seat.knows.limits };
+
+    ghost took = { TookOver };
+
+    ghost grew = { GrewOver };
+
+    ghost closed = { ClosedOver };
+
+    ghost totalled = { TotalledOver };
+
+    fn take(
+        &mut self,
+        account: &mut Account,
+        wanted: Level,
+        most: Level,
+        words: u64,
+    ) -> Result<Span, Refusal> {
+        // What holds of every account and level is learnt here.
+        let _ = account.held();
+        let _ = most.number();
+        let mut pool = self.shared.seize(self.rt, &mut self.seat);
+        let answer = pool.take(account, wanted, most, words);
+        self.shared.let_go(&mut self.seat, pool);
+        answer
+    }
+
+    fn grow(
+        &mut self,
+        account: &mut Account,
+        start: u64,
+        total: u64,
+        may_enlarge: bool,
+    ) -> Result<Span, Refusal> {
+        // What holds of every account is learnt here.
+        let _ = account.held();
+        let mut pool = self.shared.seize(self.rt, &mut self.seat);
+        let answer = pool.grow(account, start, total, may_enlarge);
+        self.shared.let_go(&mut self.seat, pool);
+        answer
+    }
+
+    fn close(&mut self, account: Account) {
+        let mut pool = self.shared.seize(self.rt, &mut self.seat);
+        pool.close(account);
+        self.shared.let_go(&mut self.seat, pool);
+    }
+
+    fn totals(&mut self, account: &Account) -> PoolTotals {
+        // What holds of every account is learnt here.
+        let _ = account.held();
+        let pool = self.shared.seize(self.rt, &mut self.seat);
+        let totals = pool.totals(account);
+        self.shared.let_go(&mut self.seat, pool);
+        totals
+    }
+}
