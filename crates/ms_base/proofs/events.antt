@@ -11,3 +11,5 @@ pub mod AskLemmas
 pub mod LocalLemmas
 pub mod OwedLemmas
 pub mod OpenLemmas
+pub mod FirstLemmas
+pub mod WholeLemmas
