@@ -13,3 +13,4 @@ pub mod OwedLemmas
 pub mod OpenLemmas
 pub mod FirstLemmas
 pub mod WholeLemmas
+pub mod SeenLemmas

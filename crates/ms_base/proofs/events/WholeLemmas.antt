@@ -1,7 +1,7 @@
 -- The first event of a loader's whole step, and the next of one that is begun.
 use Rattle.std.proofs.Common.{◌≡◌, ◌≤◌, ℕ, Bool, true, false, ◌⊎◌, Option, Some, None, List, [], ◌∷◌, ◌++◌, map, refl, sym, ap, ◌∙◌, subst, inl, inr}
 use Rattle.std.specs.Prelude.{⊤, slice_set}
-use Rattle.std.specs.List.{All, flat_map}
+use Rattle.std.specs.List.{All, AllByRecursion, flat_map}
 use Rattle.std.specs.Ordering.{nat_cmp}
 use Rattle.std.specs.BTreeMap.{is_at}
 use Rattle.std.proofs.lemmas.List.{append_assoc}
@@ -31,7 +31,7 @@ use Rattle.ms_base.proofs.events.StageLemmas.{Stage, idle, turned_down, owes_blo
 use Rattle.ms_base.proofs.events.AllocLemmas.{IsPlain}
 use Rattle.ms_base.proofs.events.AskLemmas.{goes_on_grown}
 use Rattle.ms_base.proofs.events.LocalLemmas.{acts_refused, acts_on_block}
-use Rattle.ms_base.proofs.events.OwedLemmas.{goes_on_turned, pays_block, pays_refusal}
+use Rattle.ms_base.proofs.events.OwedLemmas.{goes_on_turned, added_by, pays_block, pays_refusal}
 use Rattle.ms_base.proofs.events.OpenLemmas.{goes_on_opened, goes_on_unopened, goes_on_in_vain, goes_on_emptied, goes_on_closed, goes_on_retracted}
 use Rattle.ms_base.proofs.events.FirstLemmas.{goes_on_first}
 
@@ -180,3 +180,38 @@ module _ (name : ℕ) (old new : Machine) (good : IsGood old) (spread : SpreadSt
         (place_of (growing space mine grows.start grows.total grows.enlarges) (lent grows.chunk) _ grows.events_are true refl)
         (place_of (acting (alloc_in space mine block words)) (replied (At grows.at)) _ grows.events_are false refl) happens))
     first_alloc (inr after) = first_asked after.asked after.rest after.no_span after.goes_on after.events_are
+
+  first_purge : (reply : Reply) → Spreads Purge reply spread.events → goal spread.events
+  first_purge reply its = subst goal (sym its.events_are) (λ happens asks is_mine. absurd (cc))
+
+  -- Each whole step.
+  first_whole : (step : Step) → spread.step ≡ step → Spreads step spread.reply spread.events → goal spread.events
+  first_whole (New mine kind) step_is its = first_new mine kind step_is spread.reply refl its
+  first_whole (Alloc mine block words) step_is its = first_alloc NonClass mine block words step_is spread.reply refl its
+  first_whole (Calloc mine block words) step_is its = first_alloc Class mine block words step_is spread.reply refl its
+  first_whole (Write mine block index value) step_is its = first_write mine block index value step_is spread.reply refl its
+  first_whole (Read mine block index) step_is its = first_read mine block index step_is spread.reply refl its
+  first_whole (Free mine block) step_is its = first_free mine block step_is spread.reply refl its
+  first_whole (Unload mine) step_is its = first_unload mine step_is spread.reply refl its
+  first_whole Purge step_is its = first_purge spread.reply its
+
+-- The first event that is left, however far the step has come.
+pub first_left : (name : ℕ) (stage : Stage) (old new : Machine) → IsGood old → Was stage (named old.loaders name) → (parts : List Part) → Left name stage parts
+    → FirstGoesOn name stage old new parts
+first_left name idle old new good was parts left = subst (FirstGoesOn name idle old new) (sym left.parts_are) (of_steps left.steps (recursion_from_All IsWhole left.steps left.whole))
+  where
+    of_steps : (steps : List SpreadStep) → AllByRecursion IsWhole steps → FirstGoesOn name idle old new (flat_map parts_of steps)
+    of_steps [] whole = tt
+    of_steps (spread ∷ steps) whole =
+        first_whole name old new good spread (flat_map parts_of steps) (record { steps = steps; whole = All-from_recursion IsWhole steps whole.1; parts_are = refl }) spread.step refl whole.0
+first_left name (turned_down spread) old new good was parts left = subst (FirstGoesOn name (turned_down spread) old new) (sym left.parts_are)
+    (goes_on_first left.space name left.block left.words spread left.step_is (turned_down spread) (turned_is_plain spread) old new name (λ part rest e goes. goes)
+    left.asked left.rest spread.reply refl left.no_span (subst (λ (s : Step). GoesOn left.space name s spread.reply left.rest) left.step_is left.goes_on) left.events_are left.more left.whole)
+first_left name (owes_block space block words start) old new good was parts left = subst (FirstGoesOn name (owes_block space block words start) old new) (sym left.parts_are)
+    (λ happens asks is_mine. pays_block space name block words start left.spread old new left.more left.whole left.place_is (added_by space old name block words start new happens))
+first_left name (owes_refusal space block words refusal) old new good was parts left = subst (FirstGoesOn name (owes_refusal space block words refusal) old new) (sym left.parts_are)
+    (λ happens asks is_mine. pays_refusal space name block words refusal left.spread old new left.more left.whole was left.place_is happens)
+first_left name (unloading loader) old new good was parts left = subst (FirstGoesOn name (unloading loader) old new) (sym left.parts_are)
+    (λ happens asks is_mine. goes_on_closed name left.spread old new left.more left.whole loader left.step_is left.reply_is left.place_is good happens)
+first_left name retracting old new good was parts left = subst (FirstGoesOn name retracting old new) (sym left.2.parts_are)
+    (λ happens asks is_mine. goes_on_retracted name left.2.spread old new left.2.more left.2.whole left.0 left.1 left.2.place_is good was happens)
