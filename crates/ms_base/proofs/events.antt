@@ -14,3 +14,4 @@ pub mod OpenLemmas
 pub mod FirstLemmas
 pub mod WholeLemmas
 pub mod SeenLemmas
+pub mod SerialLemmas
