@@ -23,6 +23,7 @@ use Rattle.ms_base.specs.Event.{Event, purging, telling, Answer, counted, told, 
 use Rattle.ms_base.specs.Spread.{SpreadStep, IsWhole, Spreads, Moment, Part, part_of, parts_by, Follow, IsByItself, IsAskedFor, words_asked, IsSpread}
 use Rattle.ms_base.specs.Serial.{done_by, done_at, serial, steps_of, replies_of, is_place, LeavesOthers, IsKeptAt, IsSerial, SpreadsAreSerial}
 use Rattle.ms_base.proofs.granules.FrontSumLemmas.{nothing_is_left}
+use Rattle.ms_base.proofs.events.EntryLemmas.{same_entries}
 use Rattle.ms_base.proofs.events.KeptLemmas.{TakingIsAddable}
 use Rattle.ms_base.proofs.events.HappenLemmas.{good_after, others_after}
 use Rattle.ms_base.proofs.events.StageLemmas.{Stage, idle, turned_down, owes_block, owes_refusal, unloading, retracting, Shows, Was, Left, IsOwed, IsSeen, GoesBack, GoesOnBy}
@@ -204,3 +205,61 @@ by_itself stage moment moments old end none good_then was left happens its later
 
     sim : IsSimulated stage moment.after moments end
     sim = later stage was_then (λ other. subst (Left other (stage other)) (other_first other moment moments (ap (is_name other) none)) (left other))
+
+abbrev IsAside : Moment → Type 0
+IsAside moment = IsByItself (moment.event, moment.answer) (loader_of_event moment.event) moment.of
+
+abbrev IsAsked : Moment → Type 0
+IsAsked moment = IsAskedFor moment.before moment.event (words_asked moment.of)
+
+by_event : (moment : Moment) (moments : List Moment) (old end : Machine) → IsGood old → IsGood moment.after → (stage : ℕ → Stage) → ((other : ℕ) → Was (stage other) (named old.loaders other))
+    → ((other : ℕ) → Left other (stage other) (parts_by other (moment ∷ moments))) → Happens old moment.event moment.answer moment.after
+    → IsAskedFor old moment.event (words_asked moment.of) → IsAside moment → Later moment.after moments end → IsSimulated stage old (moment ∷ moments) end
+by_event moment moments old end good good_then stage was left happens asked its later =
+    elim (loader_of_event moment.event) as (λ (o : Option ℕ). loader_of_event moment.event ≡ o → IsByItself (moment.event, moment.answer) o moment.of → IsSimulated stage old (moment ∷ moments) end) [
+      | Some name ↦ λ is own. by_loader name stage moment moments old end is good good_then was left happens asked later
+      | None ↦ λ none own. by_itself stage moment moments old end none good_then was left happens own later
+    ] refl its
+
+-- All moments, from whatever stages.
+simulated : TakingIsAddable → (moments : List Moment) (old end : Machine) → IsGood old → Follow old moments end → AllByRecursion IsAside moments → AllByRecursion IsAsked moments
+    → Later old moments end
+simulated addable [] old end good follow asides asked stage was left = record {
+  loaders = old.loaders;
+  rises = good.names;
+  shows = λ name. nothing_left name (stage name) (named old.loaders name) (left name);
+  run = follow;
+}
+simulated addable (moment ∷ moments) old end good follow asides asked stage was left =
+    by_event moment moments old end good good_then stage was left follow.1 (subst (λ (m : Machine). IsAskedFor m moment.event (words_asked moment.of)) follow.0 asked.0) asides.0
+    (simulated addable moments moment.after end good_then follow.2 asides.1 asked.1)
+  where
+    good_then : IsGood moment.after
+    good_then = good_after addable old moment.event moment.answer moment.after good follow.1
+
+-- What holds after each moment.
+kept_at : TakingIsAddable → (moments : List Moment) (old end : Machine) → IsGood old → Follow old moments end → AllByRecursion IsKeptAt moments
+kept_at addable [] old end good follow = tt
+kept_at addable (moment ∷ moments) old end good follow = (
+  record {
+    good = good_then;
+    others = subst (λ (m : Machine). LeavesOthers m moment.event moment.after) (sym follow.0) (others_after old moment.event moment.answer moment.after follow.1);
+    given_back = λ none. nothing_is_left moment.after good_then none;
+  },
+  kept_at addable moments moment.after end good_then follow.2,
+)
+  where
+    good_then : IsGood moment.after
+    good_then = good_after addable old moment.event moment.answer moment.after good follow.1
+
+-- So each spread is serial.
+pub spreads_are_serial : TakingIsAddable → SpreadsAreSerial
+spreads_are_serial addable old new moments good follow spread = record {
+  kept = All-from_recursion IsKeptAt moments (kept_at addable moments old new good follow);
+  run = subst (λ (l : List (ℕ × LoaderState)). Run (with_seen old l) (steps_of (serial moments)) (replies_of (serial moments)) new)
+      (same_entries sim.loaders old.loaders sim.rises good.names sim.shows) sim.run;
+}
+  where
+    sim : IsSimulated (λ name. idle) old moments new
+    sim = simulated addable moments old new good follow (recursion_from_All IsAside moments spread.others) (recursion_from_All IsAsked moments spread.asked)
+        (λ name. idle) (λ name. tt) spread.each
