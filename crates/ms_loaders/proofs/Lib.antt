@@ -17,3 +17,4 @@ mod CloseLemmas
 mod UnloadLemmas
 mod UsedLemmas
 mod LoaderLemmas
+mod AddableLemmas

@@ -12,6 +12,7 @@
 //! `alloc` and `calloc`, `Loaders::insert`; nothing waits, but for a source that does.
 #![tactic(auto)]
 
+pub mod laws;
 mod loader;
 mod loaders;
 mod naming;
