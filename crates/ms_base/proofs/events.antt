@@ -11,3 +11,7 @@ pub mod AskLemmas
 pub mod LocalLemmas
 pub mod OwedLemmas
 pub mod OpenLemmas
+pub mod FirstLemmas
+pub mod WholeLemmas
+pub mod SeenLemmas
+pub mod SerialLemmas

@@ -158,10 +158,10 @@ pub record AreWhole (parts : List Part) : Type 0 where
   pub parts_are : parts ≡ flat_map parts_of steps
 
 -- An event of no loader: a Purge, which is a step by itself, or totals, which are no step's.
-abbrev pub IsByItself : Moment → Option ℕ → Option SpreadStep → Type 0
-IsByItself moment (Some name) of = ⊤
-IsByItself moment None (Some spread) = IsWhole spread × (spread.step ≡ Purge) × (spread.events ≡ (moment.event, moment.answer) ∷ [])
-IsByItself moment None None = (space : Space) × (moment.event ≡ telling space)
+abbrev pub IsByItself : Event × Answer → Option ℕ → Option SpreadStep → Type 0
+IsByItself event (Some name) of = ⊤
+IsByItself event None (Some spread) = IsWhole spread × (spread.step ≡ Purge) × (spread.events ≡ event ∷ [])
+IsByItself event None None = (space : Space) × (event.0 ≡ telling space)
 
 -- How many words an allocation is for.
 abbrev pub words_for : Step → ℕ
@@ -201,5 +201,5 @@ IsAskedFor m _ n = ⊤
 -- one after the other; each other event is by itself; and the pool is asked as arenas do.
 pub record IsSpread (moments : List Moment) : Type 0 where
   pub each : (name : ℕ) → AreWhole (parts_by name moments)
-  pub others : All (λ (moment : Moment). IsByItself moment (loader_of_event moment.event) moment.of) moments
+  pub others : All (λ (moment : Moment). IsByItself (moment.event, moment.answer) (loader_of_event moment.event) moment.of) moments
   pub asked : All (λ (moment : Moment). IsAskedFor moment.before moment.event (words_asked moment.of)) moments

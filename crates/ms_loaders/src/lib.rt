@@ -14,6 +14,7 @@
 
 mod collecting;
 mod in_use;
+pub mod laws;
 mod loader;
 mod loaders;
 mod naming;

@@ -5,7 +5,8 @@ use Rattle.std.specs.Prelude.{⊤}
 use Rattle.std.specs.Ordering.{nat_cmp, ordering_reverse}
 use Rattle.std.specs.declared.cmp.Ordering.{Ordering}
 use Rattle.std.specs.declared.cmp.Ordering.TheVariants.{Less, Equal, Greater}
-use Rattle.std.specs.List.{AllByRecursion, flat_map}
+use Rattle.std.specs.List.{All, AllByRecursion, flat_map}
+use Rattle.std.proofs.lemmas.List.Elements.{All-from_recursion}
 use Rattle.std.specs.List.Sorted.{IsStrictlySortedBy}
 use Rattle.std.specs.Map.{keys_of, values_of}
 use Rattle.std.specs.BTreeMap.{is_at}
@@ -162,3 +163,17 @@ without_back es name is r none = same_entries (without (with_new es name is) nam
   | inl eq ↦ ap (named (without (with_new es name is) name)) (sym eq) ∙ named_without_same (with_new es name is) name (rises_with_new es name is r) ∙ sym none ∙ ap (named es) eq
   | inr differ ↦ named_without_other (with_new es name is) name other differ ∙ named_new_other es name is other differ
 ])
+
+-- What holds of the value that each name has holds of all values.
+all_named : {X : Type 0} (P : X → Type 0) (es : List (ℕ × X)) → Rises es → ((name : ℕ) (value : X) → named es name ≡ Some value → P value) → AllByRecursion P (values_of es)
+all_named P [] r each = tt
+all_named {X} P (e ∷ es) r each = (each e.0 e.1 (at_first e es), all_named P es r.1 (λ name value found. elim (cases_eq name e.0) [
+  | inl is ↦ absurd (none_found value (sym found ∙ ap (named es) is ∙ none_above e.0 es r.0))
+  | inr other ↦ each name value (after_first e es name other ∙ found)
+]))
+  where
+    none_found : (value : X) → Some value ≡ None → ⊥
+    none_found value e = absurd (cc)
+
+pub all_values : {X : Type 0} (P : X → Type 0) (es : List (ℕ × X)) → AreNamed es → ((name : ℕ) (value : X) → named es name ≡ Some value → P value) → All P (values_of es)
+all_values P es r each = All-from_recursion P (values_of es) (all_named P es (rises es r) each)

@@ -56,7 +56,7 @@ pub added_chunks : (space : Space) (block words start : ℕ) (before after : Loa
 added_chunks space block words start before after adds one =
     ap (λ (l : LoaderState). (arena_of one l).chunks) adds.after ∙ with_blocks_stay space before (with_new before.blocks block (zeroed start (block_words words))) adds.arena adds.chunks one
 
-emptied_chunks : (loader : LoaderState) (space : Space) → (arena_of space (emptied loader)).chunks ≡ (arena_of space loader).chunks
+pub emptied_chunks : (loader : LoaderState) (space : Space) → (arena_of space (emptied loader)).chunks ≡ (arena_of space loader).chunks
 emptied_chunks loader NonClass = refl
 emptied_chunks loader Class = refl
 

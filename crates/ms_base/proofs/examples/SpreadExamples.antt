@@ -219,6 +219,6 @@ arena_asks = record { loader = empty_loader Standard; has = refl; wanted = refl;
 is_spread : IsSpread moments
 is_spread = record {
   each = only_known;
-  others = All-from_recursion (λ (moment : Moment). IsByItself moment (loader_of_event moment.event) moment.of) moments (tt, (tt, (tt, (tt, tt))));
+  others = All-from_recursion (λ (moment : Moment). IsByItself (moment.event, moment.answer) (loader_of_event moment.event) moment.of) moments (tt, (tt, (tt, (tt, tt))));
   asked = All-from_recursion (λ (moment : Moment). IsAskedFor moment.before moment.event (words_asked moment.of)) moments (tt, (arena_asks, (tt, (tt, tt))));
 }

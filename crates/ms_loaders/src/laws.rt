@@ -1,0 +1,20 @@
+//! The law of the whole: however the steps of loaders are spread over atomic events, what is answered
+//! and what is left are those of whole steps, one after another. It is the contract of a function that
+//! does nothing.
+//!
+//!     loader 1    . empties itself . . . . . . . . . . . . . . . . . closes .
+//!     loader 2    . . . . . . . . . takes a chunk . . . . . . . . . . . . . . places its block .
+//!     loader 3    . . . . . . . . . . . . . . . . is refused a chunk . . . . . passes that on .
+//!     serial order                  Alloc of 2      Alloc of 3      Unload of 1
+ghost use Rattle.ms_base.specs.Serial.{SpreadsAreSerial};
+ghost use Rattle.ms_base.specs.SumLaws.{NoLoaderHoldsNothing};
+
+/// Says what spreads of steps over events come to: from a good state the state is good after each
+/// event, no loader's event changes what is another's, and the steps in the order of their places
+/// are a run of the machine with the same replies, from the same first state to the same last. With
+/// no account left each reserved root is one free part, and nothing is committed unless the policy
+/// keeps it.
+pub fn events()
+    ensures serial { SpreadsAreSerial }
+    ensures given_back { NoLoaderHoldsNothing }
+{}
