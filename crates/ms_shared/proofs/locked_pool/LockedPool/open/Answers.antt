@@ -7,11 +7,11 @@ use Rattle.ms_shared.proofs.locked_pool.LockedPool.open.Goals as goal
 pub let_go-requires-clause-moves : goal.let_go-requires-clause-moves
 let_go-requires-clause-moves g c =
     moves_at c.self.inside.seat.me.0 c.seize-pool.result c.open-answer.new.self _ c.seize-pool.ensures.seat
-    (open_moves c.self.inside.seat.me.0.knows _ _ c.open-answer.result _ c.open-answer.ensures)
+    (open_moves c.self.inside.seat.me.0.knows _ _ c.open-answer.result _ c.open-answer.ensures.opened)
 
 pub returns : goal.returns
 returns g c =
-    let pool = c.seize-pool.ensures in let opened = c.open-answer.ensures in let result = c.open-answer.result in
+    let pool = c.seize-pool.ensures in let opened = c.open-answer.ensures.opened in let result = c.open-answer.result in
     let call = is_call _ _ c.self.inside.seat.me.0 _ c.seize-pool.result c.open-answer.new.self _ _ c.self.view_is pool.known pool.sound pool.seat c.let_go.ensures.seat (c.let_go.ensures.own ∙ pool.own) in
     record {
       event = over_lock _ _ _ _ _ call opened;

@@ -7,11 +7,11 @@ use Rattle.ms_shared.proofs.locked_pool.LockedPool.open_both.Goals as goal
 pub let_go-requires-clause-moves : goal.let_go-requires-clause-moves
 let_go-requires-clause-moves g c =
     moves_at c.self.inside.seat.me.0 c.seize-pool.result c.open_both-answer.new.self _ c.seize-pool.ensures.seat
-    (open_both_moves c.self.inside.seat.me.0.knows _ c.open_both-answer.result _ c.open_both-answer.ensures)
+    (open_both_moves c.self.inside.seat.me.0.knows _ c.open_both-answer.result _ c.open_both-answer.ensures.opened)
 
 pub returns : goal.returns
 returns g c =
-    let pool = c.seize-pool.ensures in let opened = c.open_both-answer.ensures in let result = c.open_both-answer.result in
+    let pool = c.seize-pool.ensures in let opened = c.open_both-answer.ensures.opened in let result = c.open_both-answer.result in
     let call = is_call _ _ c.self.inside.seat.me.0 _ c.seize-pool.result c.open_both-answer.new.self _ _ c.self.view_is pool.known pool.sound pool.seat c.let_go.ensures.seat (c.let_go.ensures.own ∙ pool.own) in
     record {
       event = over_lock _ _ _ _ _ call opened;
