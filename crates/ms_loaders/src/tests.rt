@@ -1,9 +1,10 @@
-//! What no clause says: that memory which is there is given, that blocks lie where the search and
+//! What no clause says: that memory which is there is given, that blocks lie where the searches and
 //! the growth tables put them, and that a step which is refused for want of memory is answered the
-//! second time as if it had never been asked: `rt try --test --fail-alloc N` refuses the Nth growth.
+//! second time as if it had not been asked: `rt try --test --fail-alloc N` refuses the Nth growth.
 //!
-//! `calls` has each public call once, `rows` traces that were worked by hand, `spaces` the class
-//! space, the policies and the limits. Each expected value was worked out apart from this crate.
+//! `calls` has the system's own calls, `loaders` those of a loader and of loaders, `rows` traces
+//! that were worked by hand, `spaces` the class space, the policies and the limits. Each expected
+//! value was worked out apart from this crate.
 ghost use Rattle.std.specs.Prelude.{◌≤◌};
 
 mod calls;
