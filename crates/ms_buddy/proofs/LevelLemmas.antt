@@ -1,6 +1,6 @@
 -- The levels that a split keeps are those of the free leaves below it, and what a walk for a free
 -- leaf of a level skips has none.
-use Rattle.std.proofs.Common.{◌≡◌, ◌<◌, ◌≤◌, ℕ, ◌+◌, ◌^◌, Bool, true, false, cond, ◌&&◌, ◌||◌, List, [], ◌∷◌, Some, None, refl, sym, ap, ◌∙◌, inl, inr, arith, max, bit_or}
+use Rattle.std.proofs.Common.{◌≡◌, ◌<◌, ◌≤◌, ℕ, ◌+◌, ◌^◌, Bool, true, false, cond, ◌&&◌, ◌||◌, List, [], ◌∷◌, Option, Some, None, refl, sym, ap, ◌∙◌, inl, inr, arith, max, bit_or}
 use Rattle.std.specs.Prelude.{◌==◌, nat_le}
 use Rattle.std.specs.Int.{bit_at}
 use Rattle.std.specs.List.{list_any, find}
@@ -16,9 +16,10 @@ use Rattle.ms_buddy.specs.Leaves.{has_level, is_of, is_of_from}
 use Rattle.ms_buddy.specs.Tree.{IsTree, free_in, free_in_halves, levels_of}
 use Rattle.ms_buddy.proofs.HalvesLemmas.{size_of-some}
 use Rattle.ms_buddy.proofs.WalkLemmas.{LiesIn, all_weaker, find-none, free_lies_in}
+use Rattle.ms_buddy.proofs.SplitLemmas.{AtSplit}
 
 -- The bits of two numbers together.
-pub has_level-or : (a b level : ℕ) → has_level (bit_or a b) level ≡ (has_level a level || has_level b level)
+has_level-or : (a b level : ℕ) → has_level (bit_or a b) level ≡ (has_level a level || has_level b level)
 has_level-or a b level =
     ap (λ bit. bit == 1) (bit_at_or a b level) ∙ some (bit_at a level) (bit_at b level) (bit_at-lt a level) (bit_at-lt b level)
   where
@@ -61,12 +62,12 @@ none_of_level level start wanted from node levels tree e none =
     none_from wanted from (free_in level start node) (sym (levels_are_those level start wanted node tree) ∙ ap (λ bits. has_level bits wanted) e ∙ none)
 
 -- The first of two halves is that of the lower one, or, where it has none, that of the upper one.
-pub lower_first : {A : Type 0} (level start wanted from : ℕ) (lower upper : Node A) (part : Span) → find (is_of_from wanted from) (free_in (level + 1) start lower) ≡ Some part
+lower_first : {A : Type 0} (level start wanted from : ℕ) (lower upper : Node A) (part : Span) → find (is_of_from wanted from) (free_in (level + 1) start lower) ≡ Some part
     → find (is_of_from wanted from) (free_in_halves level start lower upper) ≡ Some part
 lower_first level start wanted from lower upper part e =
     find-append (is_of_from wanted from) (free_in (level + 1) start lower) (free_in (level + 1) (start + size_of (level + 1)) upper) ∙ rw e refl
 
-pub upper_first : {A : Type 0} (level start half wanted from : ℕ) (lower upper : Node A) → half ≡ size_of (level + 1) → find (is_of_from wanted from) (free_in (level + 1) start lower) ≡ None
+upper_first : {A : Type 0} (level start half wanted from : ℕ) (lower upper : Node A) → half ≡ size_of (level + 1) → find (is_of_from wanted from) (free_in (level + 1) start lower) ≡ None
     → find (is_of_from wanted from) (free_in_halves level start lower upper) ≡ find (is_of_from wanted from) (free_in (level + 1) (start + half) upper)
 upper_first level start half wanted from lower upper size e =
     find-append (is_of_from wanted from) (free_in (level + 1) start lower) (free_in (level + 1) (start + size_of (level + 1)) upper)
@@ -82,6 +83,25 @@ none_below_from level start wanted from lower tree h =
   where
     not_from : (c : Bool) (a b : ℕ) → b < a → (c && nat_le a b) ≡ false
     not_from c a b h = grind (arith, nat_tests)
+
+-- What a walk finds in the half where it goes on is what is to be found at the split.
+pub found_above : {A : Type 0} (level start half wanted from : ℕ) (node lower upper next : Node A) (found : Option Span) → AtSplit level start half node lower upper → next ≡ upper
+    → found ≡ find (is_of_from wanted from) (free_in (level + 1) (start + half) next) → find (is_of_from wanted from) (free_in (level + 1) start lower) ≡ None
+    → found ≡ find (is_of_from wanted from) (free_in level start node)
+found_above level start half wanted from node lower upper next found s read e none =
+    e
+    ∙ ap (λ (other : Node _). find (is_of_from wanted from) (free_in (level + 1) (start + half) other)) read
+    ∙ sym (ap (find (is_of_from wanted from)) s.free ∙ upper_first level start half wanted from lower upper s.halves.size none)
+
+pub found_below : {A : Type 0} (level start half wanted from : ℕ) (node lower upper : Node A) (part : Span) → AtSplit level start half node lower upper
+    → find (is_of_from wanted from) (free_in (level + 1) start lower) ≡ Some part → Some part ≡ find (is_of_from wanted from) (free_in level start node)
+found_below level start half wanted from node lower upper part s e = sym (ap (find (is_of_from wanted from)) s.free ∙ lower_first level start wanted from lower upper part e)
+
+-- What is told of a half behind its box.
+pub told_below : {A : Type 0} (level start wanted from : ℕ) (lower next : Node A) (found told : Option Span) → next ≡ lower
+    → found ≡ find (is_of_from wanted from) (free_in (level + 1) start next) → found ≡ told → find (is_of_from wanted from) (free_in (level + 1) start lower) ≡ told
+told_below level start wanted from lower next found told read e is =
+    sym (e ∙ ap (λ (other : Node _). find (is_of_from wanted from) (free_in (level + 1) start other)) read) ∙ is
 
 -- From offset 0 on every leaf of the level counts.
 pub find-from_start : (level : ℕ) (parts : List Span) → find (is_of_from level 0) parts ≡ find (is_of level) parts

@@ -1,6 +1,6 @@
 -- The lowest number of a range whose bit is set, a word at a time: a word has none in the range, or
 -- its lowest place that it has there is the answer.
-use Rattle.std.proofs.Common.{◌≡◌, ◌<◌, ◌≤◌, ℕ, ◌+◌, ◌-◌, ◌*◌, ◌/◌, ◌%◌, ◌^◌, Bool, true, false, ◌&&◌, List, length, get_or, refl, sym, ap, ◌∙◌, inl, inr, arith, bit_and, w64}
+use Rattle.std.proofs.Common.{◌≡◌, ◌<◌, ◌≤◌, ℕ, ◌+◌, ◌-◌, ◌*◌, ◌^◌, Bool, true, false, ◌&&◌, List, get_or, refl, sym, ap, ◌∙◌, inl, inr, arith, bit_and, w64}
 use Rattle.std.specs.Prelude.{◌==◌, nat_lt, nat_le, Option, Some, None, IfNone}
 use Rattle.std.specs.Int.{bit_at, trailing_zeros}
 use Rattle.std.proofs.lemmas.Bool.{cases_lt}

@@ -227,6 +227,23 @@ fn ranges_may_start_and_end_anywhere_in_a_word(rt: HostRuntime) {
 }
 
 #[test]
+fn the_lowest_member_of_a_range_is_found_in_any_word(rt: HostRuntime) {
+    let mut mask: Mask<3> = Mask::empty();
+    assert_eq!(rt; mask.lowest_within(0, 192), None);
+    mask.insert(63);
+    mask.insert(64);
+    mask.insert(190);
+    assert_eq!(rt; mask.lowest_within(0, 192), Some(63));
+    assert_eq!(rt; mask.lowest_within(64, 128), Some(64));
+    assert_eq!(rt; mask.lowest_within(65, 125), None);
+    assert_eq!(rt; mask.lowest_within(65, 126), Some(190));
+    mask.remove(63);
+    assert_eq!(rt; mask.lowest_within(0, 192), Some(64));
+    assert_eq!(rt; mask.lowest_within(0, 0), None);
+    assert_eq!(rt; mask.lowest_within(192, 1000), None);
+}
+
+#[test]
 fn the_first_and_last_granules_of_the_first_and_last_slots(rt: HostRuntime) {
     let mut nodes = Nodes::new(64, 4, 8192, 0);
     for slot in 0..64 {

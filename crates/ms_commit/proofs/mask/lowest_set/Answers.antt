@@ -1,4 +1,4 @@
-use Rattle.std.proofs.Common.{◌<◌, ◌^◌, ◌+◌, ◌*◌, get_or, arith, bit_and, w64}
+use Rattle.std.proofs.Common.{◌+◌, ◌*◌, get_or, arith, bit_and, w64}
 use Rattle.std.specs.Int.{trailing_zeros}
 use Rattle.std.proofs.lemmas.Nat.{and_le_r}
 use Rattle.ms_commit.proofs.LowestLemmas.{IsLowestIn, lowest_here, none_more}

@@ -3,7 +3,7 @@ use Rattle.std.proofs.Common.{rules, arith, sym, ap, ◌∙◌}
 use Rattle.ms_buddy.specs.Tree.{levels_of}
 use Rattle.ms_buddy.proofs.HalvesLemmas.{lower_place, upper_place}
 use Rattle.ms_buddy.proofs.SplitLemmas.{at_split}
-use Rattle.ms_buddy.proofs.LevelLemmas.{lower_first, upper_first, none_of_level, none_below_from}
+use Rattle.ms_buddy.proofs.LevelLemmas.{found_above, found_below, told_below, none_of_level, none_below_from}
 use Rattle.ms_buddy.proofs.node.Node.+next_free.Goals as goal
 
 pub returns-then-not-has_level : goal.returns-then-not-has_level
@@ -28,16 +28,14 @@ next_free-requires-in-None g t c κs within =
 pub returns-then-from-middle : goal.returns-then-from-middle
 returns-then-from-middle g t c =
     let s = at_split _ c.args.start _ _ _ _ _ _ _ c.in-Split.is c.requires.tree c.half_of.ensures.size in
-    rw c.deref.ensures at c.next_free.ensures
-    ∙ sym (rw s.free (upper_first _ _ _ _ _ c.in-Split.lower.value c.in-Split.upper.value s.halves.size (none_below_from _ _ _ _ _ s.halves.low_tree (omega (arith, s.halves.size)))))
+    found_above _ _ _ _ _ _ _ _ _ _ s c.deref.ensures c.next_free.ensures (none_below_from _ _ _ _ _ s.halves.low_tree (omega (arith, s.halves.size)))
 
 pub returns-in-Some : goal.returns-in-Some
 returns-in-Some g t c =
     let s = at_split _ c.args.start _ _ _ _ _ _ _ c.in-Split.is c.requires.tree c.half_of.ensures.size in
-    sym (rw s.free (lower_first _ _ _ _ c.in-Split.lower.value c.in-Split.upper.value _ (sym (rw c.deref-in-Split.ensures at c.next_free-in-Split.ensures) ∙ c.in-Some.is)))
+    found_below _ _ _ _ _ _ _ _ _ s (told_below _ _ _ _ _ _ _ _ c.deref-in-Split.ensures c.next_free-in-Split.ensures c.in-Some.is)
 
 pub returns-in-None : goal.returns-in-None
 returns-in-None g t c =
     let s = at_split _ c.args.start _ _ _ _ _ _ _ c.in-Split.is c.requires.tree c.half_of.ensures.size in
-    rw c.deref-in-None.ensures at c.next_free-in-None.ensures
-    ∙ sym (rw s.free (upper_first _ _ _ _ _ c.in-Split.lower.value c.in-Split.upper.value s.halves.size (sym (rw c.deref-in-Split.ensures at c.next_free-in-Split.ensures) ∙ c.in-None.is)))
+    found_above _ _ _ _ _ _ _ _ _ _ s c.deref-in-None.ensures c.next_free-in-None.ensures (told_below _ _ _ _ _ _ _ _ c.deref-in-Split.ensures c.next_free-in-Split.ensures c.in-None.is)
