@@ -20,3 +20,4 @@ mod LoaderLemmas
 mod SumsLemmas
 mod CollectLemmas
 mod TotalsLemmas
+mod SettleLemmas

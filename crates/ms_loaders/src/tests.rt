@@ -2,13 +2,15 @@
 //! the growth tables put them, and that a step which is refused for want of memory is answered the
 //! second time as if it had never been asked: `rt try --test --fail-alloc N` refuses the Nth growth.
 //!
-//! `calls` has each public call once, `rows` traces that were worked by hand, `spaces` the class
-//! space, the policies and the limits. Each expected value was worked out apart from this crate.
+//! `calls` has each public call once, `rows` traces that were worked by hand, `settling` parts that
+//! become a system again, `spaces` the class space, the policies and the limits. Each expected value
+//! was worked out apart from this crate.
 ghost use Rattle.std.specs.Prelude.{◌≤◌};
 
 mod calls;
 mod loaders;
 mod rows;
+mod settling;
 mod spaces;
 
 use crate::{Reply, Step, System};
