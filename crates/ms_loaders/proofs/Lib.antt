@@ -21,3 +21,4 @@ mod SumsLemmas
 mod CollectLemmas
 mod TotalsLemmas
 mod AddableLemmas
+mod SettleLemmas

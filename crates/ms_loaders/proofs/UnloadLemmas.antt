@@ -76,7 +76,7 @@ still_served old new x y loans given (account ∷ accounts) none_x none_y all = 
     differs : (a b : ℕ) → is_it b a ≡ 0 → a ≢ b
     differs a b none same = omega (arith, none, it_is b, ap (is_it b) same)
 
-both_all : (P : AccountState → Type 0) (b a : List AccountState) → AllByRecursion P b → AllByRecursion P a → AllByRecursion P (b ++ a)
+pub both_all : (P : AccountState → Type 0) (b a : List AccountState) → AllByRecursion P b → AllByRecursion P a → AllByRecursion P (b ++ a)
 both_all P [] a first last = last
 both_all P (x ∷ b) a first last = (first.0, both_all P b a first.1 last)
 

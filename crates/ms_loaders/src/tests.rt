@@ -3,13 +3,14 @@
 //! second time as if it had not been asked: `rt try --test --fail-alloc N` refuses the Nth growth.
 //!
 //! `calls` has the system's own calls, `loaders` those of a loader and of loaders, `rows` traces
-//! that were worked by hand, `spaces` the class space, the policies and the limits. Each expected
-//! value was worked out apart from this crate.
+//! that were worked by hand, `settling` parts that become a system again, `spaces` the class space,
+//! the policies and the limits. Each expected value was worked out apart from this crate.
 ghost use Rattle.std.specs.Prelude.{◌≤◌};
 
 mod calls;
 mod loaders;
 mod rows;
+mod settling;
 mod spaces;
 
 use crate::{Reply, Step, System};

@@ -10,6 +10,7 @@
 ghost use Rattle.std.specs.Prelude.{◌≡◌, ◌+◌, ◌*◌, ◌≤◌, ◌↔◌, IfOk, IfErr, IsOk, length};
 ghost use Rattle.ms_base.specs.declared.refusal.Refusal.TheVariants.{Unsettled};
 ghost use Rattle.ms_base.specs.Good.{IsGood};
+ghost use Rattle.ms_base.specs.Names.{AreNamed};
 ghost use Rattle.ms_loaders.specs.System.{machine_of};
 ghost use Rattle.ms_loaders.specs.Settles.{MaySettle, open_accounts, accounts_in};
 
@@ -61,6 +62,7 @@ impl System {
         ensures machine { machine_of result.0 result.1 ≡ self }
         ensures fits { MaySettle result.0 result.1 }
         ensures all { open_accounts result.0 ≡ accounts_in result.1 }
+        ensures names { AreNamed result.1 }
     {
         (self.pool, self.loaders)
     }
