@@ -1,5 +1,6 @@
--- Answers put together: of two stretches of lines, and of lines that ask steps which the machine ran;
--- and the text that they make. Used by the functions of `answering` and by `answer_to` of `session`.
+-- Answers put together: of two stretches of lines, and of lines that ask steps which the machine
+-- ran; and the text that they make. Used by the functions of `answering` and by `answer_to` of
+-- `session`.
 use Rattle.std.proofs.Common.{◌≡◌, ◌≤◌, ℕ, Bool, List, [], ◌∷◌, ◌++◌, Option, Some, None, length, take, drop, ◌+◌, refl, sym, ap, ◌∙◌, subst, append_assoc, ◌<◌, arith, slice_get, suc, get_or, ◌-◌}
 use Rattle.std.proofs.lemmas.List.{take_rest, length-drop, take_more}
 use Rattle.std.proofs.Math.Seq.{take-add}

@@ -24,7 +24,8 @@ pub record IsDefault (options : Options) : Type 0 where
   pub class_nodes : options.settings.class_nodes ≡ 0
   pub addresses : options.addresses ≡ false
 
--- A number is the one given to an option where that lies in its range, and the default where none was.
+-- A number is the one given to an option where that lies in its range, and the default where none
+-- was.
 pub record ReadsNumber (found : Found) (id : List ℕ) (least most default number : ℕ) : Type 0 where
   pub absent : one_text found id ≡ None → number ≡ default
   pub given : (asked : ℕ) → one_text found id ≡ Some (decimal asked) → least ≤ asked → asked ≤ most → number ≡ asked

@@ -4,8 +4,9 @@
 //!     new .. alloc .. free     report      alloc .. purge     sync
 //!     `-- one run ------´     totals      `- one run ---´      -
 //!
-//! Kept true: each command line has one answer, in the trace's order. Takes memory for the steps of a
-//! stretch, for the answers, and for the rows of each report, which the report's text has as lines.
+//! Kept true: each command line has one answer, in the trace's order. Takes memory for the steps
+//! of a stretch, for the answers, and for the rows of each report, which the report's text has as
+//! lines.
 ghost use Rattle.std.specs.Prelude.{◌≡◌, ◌*◌, ◌≤◌, ◌++◌, ℕ, List, IfOk, OnOk, take, length, slice_get, Some, None, [], ◌∷◌};
 ghost use Rattle.ms_base.specs.State.{Machine, empty_machine, limits_of};
 ghost use Rattle.ms_base.specs.Run.{Run};

@@ -5,9 +5,9 @@
 //!     standard input ── devices ── ms_trace ── answering ── ms_report ── devices ── standard output
 //!                         read      parse        run          lines       write
 //!
-//! Kept true: what goes out is the text of a run of the machine on the trace that came in. The command
-//! line is judged before anything is read, and the whole trace is read and parsed before anything runs.
-//! Stands on `ms_trace`, `ms_loaders` and `ms_report`.
+//! Kept true: what goes out is the text of a run of the machine on the trace that came in. The
+//! command line is judged before anything is read, and the whole trace is read and parsed before
+//! anything runs. Stands on `ms_trace`, `ms_loaders` and `ms_report`.
 #![tactic(auto)]
 
 mod answering;

@@ -2,9 +2,9 @@
 //!
 //!     metarun --max-granules 1 --addresses   ->   Options { settings, addresses }
 //!
-//! Kept true: what is accepted lies within the ranges that `Settings` has, and what is not asked for is
-//! the default. `clap` reads the words and writes the texts of refusals and of the help. Only
-//! `options_of` takes memory.
+//! Kept true: what is accepted lies within the ranges that `Settings` has, and what is not asked
+//! for is the default. `clap` reads the words and writes the texts of refusals and of the help.
+//! Only `options_of` takes memory.
 ghost use Rattle.std.specs.Prelude.{◌≡◌, ◌≤◌, ◌<◌, ◌^◌, ℕ, IfOk, IsOkAnd, None, Some, codes, decimal, length};
 ghost use Rattle.clap.specs.Words.{found_of};
 ghost use Rattle.clap.specs.Matches.{one_text};
@@ -43,10 +43,10 @@ pub enum Refused {
     OutOfMemory,
 }
 
-/// Reads a command line, whose first word is the program's name. Granules count 8192 words each, 2048
-/// under policy aggressive; nodes count 1048576 words each. `Help` comes where the first of the faults
-/// is a use of `--help`, `Usage` for an unknown or repeated option, a missing value, or one out of its
-/// range. Takes memory. This project's choice.
+/// Reads a command line, whose first word is the program's name. Granules count 8192 words each,
+/// 2048 under policy aggressive; nodes count 1048576 words each. `Help` comes where the first of
+/// the faults is a use of `--help`, `Usage` for an unknown or repeated option, a missing value, or
+/// one out of its range. Takes memory. This project's choice.
 pub fn options_of<'a, S: AsStr>(alloc: Global, words: &'a [S]) -> Result<Options, Refused>
     ensures allowed { IfOk result IsAllowed }
     ensures default { length words.entry.now ≤ 1 → IsOkAnd result IsDefault }
@@ -93,8 +93,8 @@ fn chosen(matches: &ArgMatches) -> Options
     }
 }
 
-/// Tells the number that was given, or the default where there is none: `clap` accepts no number out of
-/// the range.
+/// Tells the number that was given, or the default where there is none: `clap` accepts no number
+/// out of the range.
 fn number_in(matches: &ArgMatches, id: &str, least: u64, most: u64, default: u64) -> u64
     requires low { least ≤ default }
     requires high { default ≤ most }

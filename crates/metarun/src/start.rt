@@ -13,12 +13,13 @@ use std::alloc::Global;
 use std::convert::AsStr;
 use std::io::{Read, Write};
 
-/// Reads a command line, whose first word is the program's name, and runs what it asks for; answers the
-/// exit status.
+/// Reads a command line, whose first word is the program's name, and runs what it asks for;
+/// answers the exit status.
 ///
-/// 0: each line of the trace is answered, or the help was written. 2: the command line is refused, told
-/// on `errors`, and nothing was read or written to `output`. The other statuses are those of a
-/// session; 3 and 5 also come where help lacks memory or could not be written. This project's choice.
+/// 0: each line of the trace is answered, or the help was written. 2: the command line is refused,
+/// told on `errors`, and nothing was read or written to `output`. The other statuses are those of
+/// a session; 3 and 5 also come where help lacks memory or could not be written. This project's
+/// choice.
 pub fn start<S: AsStr, R: Read, W: Write, E: Write>(
     alloc: Global,
     words: &[S],

@@ -1,5 +1,5 @@
--- Texts that grow at their end: what some calls add, one after the other, is added together. Used by
--- the functions of `sections` and `reply_lines`.
+-- Texts that grow at their end: what some calls add, one after the other, is added together. Used
+-- by the functions of `sections` and `reply_lines`.
 use Rattle.std.proofs.Common.{◌≡◌, ℕ, List, ◌++◌, ap, ◌∙◌, append_assoc}
 
 pub adds_two : (old mid new a b : List ℕ) → mid ≡ old ++ a → new ≡ mid ++ b → new ≡ old ++ (a ++ b)

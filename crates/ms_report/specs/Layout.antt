@@ -1,5 +1,5 @@
--- The layout of a report: its tables, and lines whose columns are filled with spaces (this project's
--- choice). A text is a list of bytes.
+-- The layout of a report: its tables, and lines whose columns are filled with spaces (this
+-- project's choice). A text is a list of bytes.
 use Rattle.std.specs.Prelude.{ℕ, ◌+◌, ◌-◌, List, [], ◌∷◌, ◌++◌, length, replicate, codes}
 use Rattle.std.specs.Fmt.{decimal}
 use Rattle.ms_base.specs.Level.{size_of}
@@ -70,7 +70,8 @@ level_texts level held free = decimal level ∷ decimal (size_of level) ∷ deci
 
 -- A line for each level, counted up from one.
 abbrev pub level_lines : ℕ → List ℕ → List ℕ → List ℕ
-level_lines level (held ∷ helds) (free ∷ frees) = table_line level_table (level_texts level held free) ++ level_lines (level + 1) helds frees
+level_lines level (held ∷ helds) (free ∷ frees) =
+    table_line level_table (level_texts level held free) ++ level_lines (level + 1) helds frees
 level_lines level _ _ = []
 
 -- The word of a kind.
@@ -93,7 +94,13 @@ loader_table =
 
 abbrev pub loader_texts : LoaderRow → List (List ℕ)
 loader_texts row =
-    decimal row.name ∷ kind_text row.kind ∷ decimal row.chunks ∷ decimal row.capacity ∷ decimal row.used ∷ decimal row.live ∷ []
+    decimal row.name
+    ∷ kind_text row.kind
+    ∷ decimal row.chunks
+    ∷ decimal row.capacity
+    ∷ decimal row.used
+    ∷ decimal row.live
+    ∷ []
 
 -- A line for each loader.
 abbrev pub loader_lines : List LoaderRow → List ℕ

@@ -1,5 +1,5 @@
--- Laws about the layout: within the limits each line of a kind has the same length, and no two columns
--- run together. Each is the contract of a function of `laws`.
+-- Laws about the layout: within the limits each line of a kind has the same length, and no two
+-- columns run together. Each is the contract of a function of `laws`.
 use Rattle.std.specs.Prelude.{◌≡◌, ℕ, ◌+◌, ◌≤◌, ◌<◌, ◌^◌, List, ◌∷◌, length}
 use Rattle.std.specs.Fmt.{decimal}
 use Rattle.ms_base.specs.Totals.{LoaderRow}
@@ -7,7 +7,8 @@ use Rattle.ms_report.specs.Layout.{number_line, right_in, table_line, header, le
 
 -- A line of a label and a number has 26 bytes and a newline.
 abbrev pub NumbersLineUp : Type 0
-NumbersLineUp = (label : List ℕ) (number : ℕ) → length label ≤ 12 → number < 10 ^ 12 → length (number_line label number) ≡ 27
+NumbersLineUp =
+    (label : List ℕ) (number : ℕ) → length label ≤ 12 → number < 10 ^ 12 → length (number_line label number) ≡ 27
 
 -- The line of a level has 31 bytes and a newline, and so have the headings.
 abbrev pub LevelsLineUp : Type 0
@@ -16,8 +17,8 @@ LevelsLineUp =
     × ((level held free : ℕ) → level ≤ 12 → held ≤ 655360 → free ≤ 655360
     → length (table_line level_table (level_texts level held free)) ≡ 32)
 
--- A loader's numbers are within the limits: names to 65535, no more chunks and words than both spaces
--- have.
+-- A loader's numbers are within the limits: names to 65535, no more chunks and words than both
+-- spaces have.
 pub record IsWithin (row : LoaderRow) : Type 0 where
   pub name : row.name ≤ 65535
   pub chunks : row.chunks ≤ 655360

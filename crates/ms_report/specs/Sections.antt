@@ -16,10 +16,15 @@ main_part sums =
     ++ codes "Chunks by level\n"
     ++ levels_part sums.space
 
--- The class space, and that it is left out where it has no nodes.
+-- The class space: its eleven numbers and its levels.
 abbrev pub class_lines : SpaceSums → List ℕ
-class_lines space = codes "Class space\n" ++ number_lines (space_rows space) ++ codes "Class chunks by level\n" ++ levels_part space
+class_lines space =
+    codes "Class space\n"
+    ++ number_lines (space_rows space)
+    ++ codes "Class chunks by level\n"
+    ++ levels_part space
 
+-- It is left out where it has no nodes.
 abbrev pub class_part : SpaceSums → List ℕ
 class_part space = if space.nodes == 0 then [] else class_lines space
 

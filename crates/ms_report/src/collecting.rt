@@ -6,9 +6,9 @@ ghost use Rattle.ms_loaders.specs.Sums.{sums_in};
 use ms_loaders::{System, Totals};
 use std::alloc::AllocError;
 
-/// Gathers the totals of a system, each a sum over the machine that it stands for, with a row for each
-/// loader in rising order of name. Takes memory for the rows; an error means that a growth was refused.
-/// After HotSpot's VM.metaspace, with this project's numbers.
+/// Gathers the totals of a system, each a sum over the machine that it stands for, with a row for
+/// each loader in rising order of name. Takes memory for the rows; an error means that a growth
+/// was refused. After HotSpot's VM.metaspace, with this project's numbers.
 pub fn totals(system: &System) -> Result<Totals, AllocError>
     ensures { IfOk result (λ totals. sums_in totals ≡ sums_of system.now) }
 {

@@ -7,19 +7,20 @@ pub fn numbers_line_up()
     ensures { NumbersLineUp }
 {}
 
-/// With at most 655360 chunks held and parts free, each line of a level is as long as the headings: 31
-/// bytes and a newline.
+/// With at most 655360 chunks held and parts free, each line of a level is as long as the
+/// headings: 31 bytes and a newline.
 pub fn levels_line_up()
     ensures { LevelsLineUp }
 {}
 
-/// With at most 655360 chunks and 83886080 words, each line of a loader is as long as the headings: 57
-/// bytes and a newline.
+/// With at most 655360 chunks and 83886080 words, each line of a loader is as long as the
+/// headings: 57 bytes and a newline.
 pub fn loaders_line_up()
     ensures { LoadersLineUp }
 {}
 
-/// A number with fewer digits than its column has places never runs together with what stands before.
+/// A number with fewer digits than its column has places never runs together with what stands
+/// before.
 pub fn columns_stand_apart()
     ensures { ColumnsStandApart }
 {}

@@ -4,8 +4,8 @@
 //!     |  level   words    held    free      a table's headings ..
 //!     |      0  524288       0       1      .. and a line of it, each cell right in its column
 //!
-//! Kept true: a line is the bytes that `specs/Layout.antt` gives for its texts and numbers. All calls
-//! append to a text, and take memory for it alone.
+//! Kept true: a line is the bytes that `specs/Layout.antt` gives for its texts and numbers. All
+//! calls append to a text, and take memory for it alone.
 ghost use Rattle.std.specs.Prelude.{◌≡◌, ◌≤◌, ◌++◌, OnOk, string_bytes, decimal, replicate, length};
 ghost use Rattle.ms_report.specs.Layout.{number_line, number_lines, right_in, cells, table_line, header, headings};
 ghost use Rattle.ms_report.specs.Cells.{pairs_in, text_of, texts_of};
@@ -74,7 +74,8 @@ pub fn push_number_lines(text: &mut String, rows: &[(&'static str, u64)]) -> Res
 
 /// Appends a text with spaces before it to so many places.
 fn push_right(text: &mut String, places: usize, word: &str) -> Result<(), AllocError>
-    ensures { OnOk result (string_bytes text.new ≡ string_bytes text.old ++ right_in places word.now) }
+    ensures { OnOk result (string_bytes text.new
+        ≡ string_bytes text.old ++ right_in places word.now) }
 {
     push_spaces(text, places.saturating_sub(word.len()))?;
     text.push_str(word)?;

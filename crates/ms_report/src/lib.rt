@@ -3,9 +3,9 @@
 //!     System -- collecting --> Totals -- sections, layout --> the report's text
 //!                              Replies -- reply_lines ------> a line each, and reports
 //!
-//! Kept true: each text is exactly the bytes that `specs/` gives for its numbers, and the totals of a
-//! system are the sums over the machine that it stands for. Apart because the text is a file format
-//! of its own: whoever reads reports needs no more than this crate. Stands on `ms_base` and
+//! Kept true: each text is exactly the bytes that `specs/` gives for its numbers, and the totals
+//! of a system are the sums over the machine that it stands for. Apart because the text is a file
+//! format of its own: whoever reads reports needs no more than this crate. Stands on `ms_base` and
 //! `ms_loaders`. All three calls take memory; nothing waits.
 #![tactic(auto)]
 

@@ -4,8 +4,8 @@
 //!     Metaspace               .. then the report, where one was asked for
 //!       loaders          1
 //!
-//! Kept true: a line is the bytes that `ms_base/specs/ReplyText.antt` gives. `lines` takes memory for
-//! the text alone.
+//! Kept true: a line is the bytes that `ms_base/specs/ReplyText.antt` gives. `lines` takes memory
+//! for the text alone.
 ghost use Rattle.std.specs.Prelude.{◌≡◌, ◌++◌, IfOk, OnOk, OnErr, string_bytes, codes};
 ghost use Rattle.ms_base.specs.ReplyText.{name_of, reply_text, reply_line};
 ghost use Rattle.ms_report.specs.ReplyLines.{report_after, answer_text, answers_text};
@@ -16,10 +16,10 @@ use ms_base::{Refusal, Reply};
 use ms_loaders::{Answer, Replies, Totals};
 use std::alloc::{AllocError, Global};
 
-/// Writes a line for each answer, in their order: the number of the trace's line, a space, the reply.
-/// Where a block starts, a word number, is told only if addresses are asked for. After an answer with
-/// totals comes their report. Takes memory for the text; an error means that a growth was refused.
-/// This project's choice.
+/// Writes a line for each answer, in their order: the number of the trace's line, a space, the
+/// reply. Where a block starts, a word number, is told only if addresses are asked for. After an
+/// answer with totals comes their report. Takes memory for the text; an error means that a growth
+/// was refused. This project's choice.
 pub fn lines(alloc: Global, replies: &Replies, addresses: bool) -> Result<String, AllocError>
     ensures { IfOk result (λ text.
         string_bytes text ≡ answers_text addresses replies.now.answers.items) }

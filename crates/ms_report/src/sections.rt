@@ -28,10 +28,10 @@ const LOADER_TABLE: [Column; 6] = [
     ("live", 10),
 ];
 
-/// Writes the report that shows these totals: the numbers of the whole system and of the space that is
-/// not the class space, its chunks by level, the same of the class space where it has nodes, and a line
-/// for each row. Takes memory for the text; an error means that a growth was refused. This project's
-/// choice.
+/// Writes the report that shows these totals: the numbers of the whole system and of the space
+/// that is not the class space, its chunks by level, the same of the class space where it has
+/// nodes, and a line for each row. Takes memory for the text; an error means that a growth was
+/// refused. This project's choice.
 pub fn text(alloc: Global, totals: &Totals) -> Result<String, AllocError>
     ensures { IfOk result (λ text. string_bytes text ≡ report_text (sums_in totals.now)) }
 {

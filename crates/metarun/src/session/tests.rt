@@ -1,5 +1,6 @@
 //! What no clause says: that a session answers where memory is ample, worked rows, the texts on
-//! standard error, and the statuses where devices fail. Reports are written out by hand from the rules.
+//! standard error, and the statuses where devices fail. Reports are written out by hand from the
+//! rules.
 ghost use Rattle.std.specs.Prelude.{◌≡◌, ◌*◌, ◌≤◌};
 
 mod rows;

@@ -1,5 +1,6 @@
-//! What no clause says: that a command line is accepted where memory is ample, the texts of refusals and
-//! of the help, that nothing is read before the line is judged, and each status of the program.
+//! What no clause says: that a command line is accepted where memory is ample, the texts of
+//! refusals and of the help, that nothing is read before the line is judged, and each status of
+//! the program.
 ghost use Rattle.std.specs.Prelude.{◌≡◌, ◌*◌, ◌≤◌};
 
 mod examples;

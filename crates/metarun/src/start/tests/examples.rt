@@ -1,6 +1,6 @@
-//! The traces of the folder `examples/` and their outputs, letter by letter as the files have them, each
-//! with the options that examples/README.md gives. The language has no macro that takes in a file's
-//! text, so whoever changes an example changes its row here too.
+//! The traces of the folder `examples/` and their outputs, letter by letter as the files have
+//! them, each with the options that examples/README.md gives. The language has no macro that takes
+//! in a file's text, so whoever changes an example changes its row here too.
 use super::expect;
 
 #[test]

@@ -8,6 +8,7 @@ use Rattle.ms_report.proofs.sections.push_class_lines.Goals as goal
 
 pub returns : goal.returns
 returns c =
-    adds_four (string_bytes c.args.text.now) _ _ _ _ (codes "Class space\n") (number_lines (space_rows (space_in c.args.space.now)))
-    (codes "Class chunks by level\n") (levels_part (space_in c.args.space.now)) c.in_ok-push_str.ensures.bytes
+    let space = space_in c.args.space.now in
+    adds_four (string_bytes c.args.text.now) _ _ _ _ (codes "Class space\n") (number_lines (space_rows space))
+    (codes "Class chunks by level\n") (levels_part space) c.in_ok-push_str.ensures.bytes
     c.in_ok-push_space.ensures c.in_ok-push_str-2.ensures.bytes c.in_ok-push_levels.ensures

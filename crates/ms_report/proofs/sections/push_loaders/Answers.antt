@@ -7,5 +7,6 @@ use Rattle.ms_report.proofs.sections.push_loaders.Goals as goal
 
 pub returns : goal.returns
 returns c =
-    adds_three (string_bytes c.args.text.now) _ _ _ (codes "Loaders\n") (header loader_table) (loader_lines (map row_in c.args.rows.now))
+    adds_three (string_bytes c.args.text.now) _ _ _ (codes "Loaders\n") (header loader_table)
+    (loader_lines (map row_in c.args.rows.now))
     c.in_ok-push_str.ensures.bytes c.in_ok-push_header.ensures c.in_ok-push_rows.ensures
