@@ -6,7 +6,7 @@
 //!     loader 2    . . . . . . . . . takes a chunk . . . . . . . . . . . . . . places its block .
 //!     loader 3    . . . . . . . . . . . . . . . . is refused a chunk . . . . . passes that on .
 //!     serial order                  Alloc of 2      Alloc of 3      Unload of 1
-ghost use Rattle.ms_base.specs.Serial.{SpreadsAreSerial};
+ghost use Rattle.ms_base.specs.SpreadLaws.{SpreadsAreSerial};
 ghost use Rattle.ms_base.specs.SumLaws.{NoLoaderHoldsNothing};
 
 /// Says what spreads of steps over events come to: from a good state the state is good after each

@@ -1,24 +1,18 @@
 -- An allocation's events: what each does to the serial order's machine.
-use Rattle.std.proofs.Common.{◌≡◌, ℕ, Bool, true, false, Option, Some, None, List, [], ◌∷◌, ◌++◌, length, refl, sym, ap, ◌∙◌, subst, inl, inr}
-use Rattle.std.specs.Prelude.{Ok}
+use Rattle.std.proofs.Common.{◌≡◌, ℕ, Option, Some, None, List, [], ◌∷◌, refl, sym, ap, ◌∙◌, subst}
 use Rattle.ms_base.specs.declared.kind.Space.{Space}
 use Rattle.ms_base.specs.declared.kind.Space.TheVariants.{NonClass, Class}
 use Rattle.ms_base.specs.declared.span.Chunk.{Chunk}
 use Rattle.ms_base.specs.declared.words.LiveBlock.{LiveBlock}
 use Rattle.ms_base.specs.declared.step.Step.{Step}
-use Rattle.ms_base.specs.declared.step.Step.TheVariants.{Alloc, Calloc}
 use Rattle.ms_base.specs.declared.step.Reply.{Reply}
-use Rattle.ms_base.specs.declared.step.Reply.TheVariants.{At, Refused}
-use Rattle.ms_base.specs.declared.refusal.Refusal.{Refusal}
-use Rattle.ms_base.specs.declared.refusal.Refusal.TheVariants.{CommitLimit, ReserveLimit, OutOfMemory}
-use Rattle.ms_base.specs.Names.{named, with_new, with_changed}
+use Rattle.ms_base.specs.declared.step.Reply.TheVariants.{At}
+use Rattle.ms_base.specs.Names.{named, with_changed}
 use Rattle.ms_base.specs.Live.{block_words}
-use Rattle.ms_base.specs.State.{ArenaState, LoaderState, Machine, arena_of, with_arena, chunks_held, slots_in, with_slots, recommitted}
+use Rattle.ms_base.specs.State.{ArenaState, LoaderState, Machine, arena_of, with_arena, slots_in, recommitted}
 use Rattle.ms_base.specs.Good.{IsGood}
 use Rattle.ms_base.specs.Transition.{HasLoader, with_allocated, zeroed, Change, MayChange, Allocates, Transition}
 use Rattle.ms_base.specs.WordLaws.{alloc_in}
-use Rattle.ms_base.specs.Event.{AddsBlock}
-use Rattle.ms_base.specs.Serial.{is_place}
 use Rattle.ms_base.proofs.entries.EntryLemmas.{rises_with_changed}
 use Rattle.ms_base.proofs.entries.LookupLemmas.{named_changed_same, named_changed_other}
 use Rattle.ms_base.proofs.machine.ChangeLemmas.{changed}

@@ -1,6 +1,6 @@
 -- A chunk that an allocation takes or lets grow, or that is refused to it, as its step goes on.
-use Rattle.std.proofs.Common.{◌≡◌, ◌≤◌, ℕ, Bool, true, false, ◌⊎◌, Some, None, List, [], ◌∷◌, ◌++◌, length, refl, sym, ap, ◌∙◌, subst, inl, inr}
-use Rattle.std.specs.Prelude.{⊤, Ok, slice_set}
+use Rattle.std.proofs.Common.{◌≡◌, ℕ, Bool, true, false, Some, List, [], ◌∷◌, refl, sym, ap, ◌∙◌, subst, inl, inr}
+use Rattle.std.specs.Prelude.{slice_set}
 use Rattle.ms_base.specs.declared.kind.Space.{Space}
 use Rattle.ms_base.specs.declared.kind.Space.TheVariants.{NonClass, Class}
 use Rattle.ms_base.specs.declared.span.Chunk.{Chunk}
@@ -15,19 +15,19 @@ use Rattle.ms_base.specs.Names.{named}
 use Rattle.ms_base.specs.Live.{block_words}
 use Rattle.ms_base.specs.Place.{with_chunk}
 use Rattle.ms_base.specs.Asks.{wanted_level}
-use Rattle.ms_base.specs.PoolSteps.{taken, slots_with}
+use Rattle.ms_base.specs.PoolSteps.{slots_with}
 use Rattle.ms_base.specs.State.{ArenaState, LoaderState, Machine, PoolState, arena_of, with_arena, slots_in, pool_of, recommitted}
 use Rattle.ms_base.specs.Good.{IsGood}
-use Rattle.ms_base.specs.Transition.{HasLoader, with_loader, Change, IsGrown, MayChange, IsServable, AllocCause, Transition}
+use Rattle.ms_base.specs.Transition.{HasLoader, with_loader, Change, MayChange, IsServable, AllocCause, Transition}
 use Rattle.ms_base.specs.WordLaws.{alloc_in}
-use Rattle.ms_base.specs.Event.{Event, taking, growing, acting, Answer, lent, replied, refused, Takes, TakesNone, Grows, GrowsNone, with_chunk_at}
+use Rattle.ms_base.specs.Event.{taking, growing, acting, lent, replied, refused, Takes, TakesNone, Grows, with_chunk_at}
 use Rattle.ms_base.specs.Spread.{SpreadStep, Part, AreWhole, AsksChunk, words_for}
 use Rattle.ms_base.specs.Serial.{is_place}
 use Rattle.ms_base.proofs.granules.NeedLemmas.{taken_is}
-use Rattle.ms_base.proofs.machine.ChangeLemmas.{changed, slots_same}
+use Rattle.ms_base.proofs.machine.ChangeLemmas.{slots_same}
 use Rattle.ms_base.proofs.events.GrownLemmas.{grows_well, set_same}
 use Rattle.ms_base.proofs.events.CauseLemmas.{NoneCause, none_cause, leaves_same}
-use Rattle.ms_base.proofs.events.StageLemmas.{Stage, owes_block, owes_refusal, Shows, OwesRefusal, IsPassed, IsOwed, IsSeen, GoesBack, GoesOnBy}
+use Rattle.ms_base.proofs.events.StageLemmas.{Stage, owes_block, owes_refusal, OwesRefusal, IsPassed, IsOwed, GoesOnBy}
 use Rattle.ms_base.proofs.events.BackLemmas.{done_there, with_seen, pool_seen, steps_back}
 use Rattle.ms_base.proofs.events.AllocLemmas.{IsPlain, had_back}
 

@@ -1,6 +1,6 @@
 -- Why a request is refused, and that it is refused so in a machine that has the same under its name.
-use Rattle.std.proofs.Common.{◌≡◌, ◌≤◌, ℕ, Bool, true, false, ◌⊎◌, Some, None, Result, Ok, Err, List, refl, sym, ◌∙◌, subst, inl, inr, length, if◌then◌else◌}
-use Rattle.std.specs.Prelude.{⊤, IsOk}
+use Rattle.std.proofs.Common.{◌≡◌, ℕ, Bool, true, false, Some, Result, Ok, Err, refl, sym, ◌∙◌, subst, inl, inr, length, if◌then◌else◌}
+use Rattle.std.specs.Prelude.{⊤}
 use Rattle.ms_base.specs.declared.kind.Kind.{Kind}
 use Rattle.ms_base.specs.declared.span.Chunk.{Chunk}
 use Rattle.ms_base.specs.declared.kind.Space.{Space}
@@ -10,14 +10,12 @@ use Rattle.ms_base.specs.declared.step.Step.TheVariants.{New, Alloc, Calloc, Wri
 use Rattle.ms_base.specs.declared.step.Reply.TheVariants.{Refused}
 use Rattle.ms_base.specs.declared.refusal.Refusal.{Refusal}
 use Rattle.ms_base.specs.declared.refusal.Refusal.TheVariants.{ZeroWords, TooLarge, CommitLimit, ReserveLimit, OutOfRange, OutOfMemory, NoLoader, LoaderExists, NoBlock, BlockExists, IdsUsedUp}
-use Rattle.ms_base.specs.Level.{root_words}
 use Rattle.ms_base.specs.Names.{named}
 use Rattle.ms_base.specs.Request.{loader_of}
 use Rattle.ms_base.specs.State.{LoaderState, Machine, PoolState}
 use Rattle.ms_base.specs.Pick.{chunk_picked}
 use Rattle.ms_base.specs.Causes.{committed_count, node_limit, granules_needed, meets_reserve_limit, meets_commit_limit, ReserveCause, CommitCause}
-use Rattle.ms_base.specs.PoolSteps.{taken}
-use Rattle.ms_base.specs.Transition.{HasLoader, LacksLoader, HasBlock, LacksBlock, LoaderIsThere, BlockIsThere, IsPast, IsServable, NewCause, AllocCause, BlockCause, WordCause, Cause, Leaves}
+use Rattle.ms_base.specs.Transition.{HasBlock, LacksBlock, IsServable, NewCause, AllocCause, BlockCause, WordCause, Cause, Leaves}
 use Rattle.ms_base.specs.WordLaws.{alloc_in}
 use Rattle.ms_base.specs.Event.{LendsNone, ActsNotCause}
 use Rattle.ms_base.specs.Spread.{IsOwnReply}

@@ -1,6 +1,6 @@
 -- Entries by name that give the same at each name give the same together; so entries with the same
 -- values are the same, and a change is taken back by another.
-use Rattle.std.proofs.Common.{◌≡◌, ◌<◌, ℕ, true, false, cond, Option, Some, None, List, [], ◌∷◌, ◌++◌, refl, sym, ap, ◌∙◌, inl, inr, arith}
+use Rattle.std.proofs.Common.{◌≡◌, ℕ, true, false, cond, Option, Some, None, List, [], ◌∷◌, ◌++◌, refl, sym, ap, ◌∙◌, inl, inr, arith}
 use Rattle.std.specs.Prelude.{⊤}
 use Rattle.std.specs.Ordering.{nat_cmp, ordering_reverse}
 use Rattle.std.specs.declared.cmp.Ordering.{Ordering}
@@ -19,7 +19,7 @@ use Rattle.std.proofs.lemmas.Map.Steps.{set_value_same}
 use Rattle.ms_base.specs.Names.{AreNamed, named, with_new, with_changed, without}
 use Rattle.ms_base.proofs.entries.NameLemmas.{rises_with_new}
 use Rattle.ms_base.proofs.entries.EntryLemmas.{same_name, rises_without}
-use Rattle.ms_base.proofs.entries.LookupLemmas.{named_changed_same, named_new_same, named_new_other, named_without_other, changed_twice}
+use Rattle.ms_base.proofs.entries.LookupLemmas.{named_new_same, named_new_other, named_without_other, changed_twice}
 
 -- The names are all above one.
 abbrev AreAbove : {X : Type 0} → ℕ → List (ℕ × X) → Type 0
@@ -167,10 +167,13 @@ without_back es name is r none = same_entries (without (with_new es name is) nam
 -- What holds of the value that each name has holds of all values.
 all_named : {X : Type 0} (P : X → Type 0) (es : List (ℕ × X)) → Rises es → ((name : ℕ) (value : X) → named es name ≡ Some value → P value) → AllByRecursion P (values_of es)
 all_named P [] r each = tt
-all_named {X} P (e ∷ es) r each = (each e.0 e.1 (at_first e es), all_named P es r.1 (λ name value found. elim (cases_eq name e.0) [
-  | inl is ↦ absurd (none_found value (sym found ∙ ap (named es) is ∙ none_above e.0 es r.0))
-  | inr other ↦ each name value (after_first e es name other ∙ found)
-]))
+all_named {X} P (e ∷ es) r each = (
+  each e.0 e.1 (at_first e es),
+  all_named P es r.1 (λ name value found. elim (cases_eq name e.0) [
+    | inl is ↦ absurd (none_found value (sym found ∙ ap (named es) is ∙ none_above e.0 es r.0))
+    | inr other ↦ each name value (after_first e es name other ∙ found)
+  ]),
+)
   where
     none_found : (value : X) → Some value ≡ None → ⊥
     none_found value e = absurd (cc)

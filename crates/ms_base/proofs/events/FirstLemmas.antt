@@ -1,37 +1,23 @@
 -- The first of the events that are left of a loader's, by what its step is.
-use Rattle.std.proofs.Common.{◌≡◌, ◌≤◌, ℕ, Bool, true, false, ◌⊎◌, Option, Some, None, List, [], ◌∷◌, ◌++◌, map, refl, sym, ap, ◌∙◌, subst, inl, inr}
-use Rattle.std.specs.Prelude.{⊤, slice_set}
-use Rattle.std.specs.List.{All, flat_map}
-use Rattle.std.specs.Ordering.{nat_cmp}
-use Rattle.std.specs.BTreeMap.{is_at}
-use Rattle.std.proofs.lemmas.List.Elements.{recursion_from_All, All-from_recursion}
-use Rattle.std.proofs.lemmas.Map.Steps.{set_value_same}
-use Rattle.ms_base.specs.declared.kind.Kind.{Kind}
+use Rattle.std.proofs.Common.{◌≡◌, ℕ, true, false, Some, List, [], ◌∷◌, ◌++◌, refl, sym, ap, ◌∙◌, subst, inl, inr}
 use Rattle.ms_base.specs.declared.kind.Space.{Space}
 use Rattle.ms_base.specs.declared.kind.Space.TheVariants.{NonClass, Class}
 use Rattle.ms_base.specs.declared.span.Chunk.{Chunk}
 use Rattle.ms_base.specs.declared.step.Step.{Step}
-use Rattle.ms_base.specs.declared.step.Step.TheVariants.{New, Alloc, Calloc, Write, Read, Free, Unload, Purge}
 use Rattle.ms_base.specs.declared.step.Reply.{Reply}
 use Rattle.ms_base.specs.declared.step.Reply.TheVariants.{Ok as Done, At, Value, Refused}
 use Rattle.ms_base.specs.declared.refusal.Refusal.{Refusal}
-use Rattle.ms_base.specs.declared.refusal.Refusal.TheVariants.{OutOfMemory, IdsUsedUp}
-use Rattle.ms_base.specs.Names.{named, with_changed, without}
 use Rattle.ms_base.specs.Request.{loader_of}
-use Rattle.ms_base.specs.Spaces.{space_at}
-use Rattle.ms_base.specs.State.{LoaderState, Machine}
-use Rattle.ms_base.specs.Good.{IsGood}
-use Rattle.ms_base.specs.Transition.{HasLoader, with_loader, with_block, with_freed, Transition}
+use Rattle.ms_base.specs.State.{Machine}
 use Rattle.ms_base.specs.WordLaws.{alloc_in}
-use Rattle.ms_base.specs.Event.{Event, opening, taking, growing, closing, acting, Answer, accepted, lent, replied, refused, Happens, Acts, loader_of_event}
-use Rattle.ms_base.specs.Spread.{SpreadStep, Spreads, IsWhole, IsAlone, IsOwnReply, Part, parts_of, AreWhole, HasNoSpan, not_asked, not_had, GoesOn, GrowsFirst, GoesOnAfter, SpreadsAlloc, IsAskedFor, words_asked, AsksChunk, words_for}
+use Rattle.ms_base.specs.Event.{Event, taking, acting, Answer, lent, replied, refused, Happens}
+use Rattle.ms_base.specs.Spread.{SpreadStep, IsOwnReply, Part, AreWhole, HasNoSpan, not_asked, not_had, GoesOn}
 use Rattle.ms_base.specs.Serial.{is_place}
-use Rattle.ms_base.proofs.events.StageLemmas.{Stage, idle, turned_down, owes_block, owes_refusal, unloading, retracting, Shows, Was, Left, rest_of, IsOnItsWay, IsOwed, GoesOnBy, FirstGoesOn}
+use Rattle.ms_base.proofs.events.StageLemmas.{Stage, rest_of, GoesOnBy, FirstGoesOn}
 use Rattle.ms_base.proofs.events.AllocLemmas.{IsPlain}
-use Rattle.ms_base.proofs.events.AskLemmas.{goes_on_taken, goes_on_grown, goes_on_refused}
-use Rattle.ms_base.proofs.events.LocalLemmas.{acts_refused, acts_on_block}
-use Rattle.ms_base.proofs.events.OwedLemmas.{goes_on_turned, added_by, pays_block, pays_refusal, goes_on_placed}
-use Rattle.ms_base.proofs.events.OpenLemmas.{goes_on_opened, goes_on_unopened, goes_on_in_vain, goes_on_emptied, goes_on_closed, goes_on_retracted}
+use Rattle.ms_base.proofs.events.AskLemmas.{goes_on_taken, goes_on_refused}
+use Rattle.ms_base.proofs.events.LocalLemmas.{acts_refused}
+use Rattle.ms_base.proofs.events.OwedLemmas.{added_by, goes_on_placed}
 
 -- No allocation is answered by another reply.
 not_done : (space : Space) (old : Machine) (name block words : ℕ) (new : Machine) → Happens old (acting (alloc_in space name block words)) (replied Done) new → ⊥

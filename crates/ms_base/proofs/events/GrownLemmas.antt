@@ -1,6 +1,6 @@
 -- A chunk that grows leaves a good state.
 use Rattle.std.proofs.Common.{Bool, ◌≡◌, ◌≤◌, ◌+◌, ℕ, suc, zero, Some, List, [], ◌∷◌, ◌++◌, length, refl, sym, ap, ◌∙◌, subst, arith, inl, inr}
-use Rattle.std.specs.Prelude.{Ok, slice_get, slice_set}
+use Rattle.std.specs.Prelude.{slice_get, slice_set}
 use Rattle.std.specs.Ordering.{nat_cmp}
 use Rattle.std.specs.List.{Contains}
 use Rattle.std.specs.BTreeMap.{is_at}
@@ -8,15 +8,13 @@ use Rattle.std.proofs.lemmas.Map.Steps.{set_value_same}
 use Rattle.ms_base.specs.declared.kind.Space.{Space}
 use Rattle.ms_base.specs.declared.kind.Space.TheVariants.{NonClass, Class}
 use Rattle.ms_base.specs.declared.span.Chunk.{Chunk}
-use Rattle.ms_base.specs.Level.{size_of}
 use Rattle.ms_base.specs.Spaces.{other_space}
-use Rattle.ms_base.specs.Names.{named, with_changed}
-use Rattle.ms_base.specs.State.{ArenaState, LoaderState, Machine, PoolState, arena_of, with_arena, chunks_held, slots_in, with_slots, committed_in, committed_now, pool_of, recommitted}
+use Rattle.ms_base.specs.Names.{with_changed}
+use Rattle.ms_base.specs.State.{ArenaState, LoaderState, Machine, PoolState, arena_of, with_arena, chunks_held, slots_in, committed_in, committed_now, pool_of, recommitted}
 use Rattle.ms_base.specs.Live.{runs_in}
-use Rattle.ms_base.specs.Good.{IsSound, IsSoundLoader, IsGood}
-use Rattle.ms_base.specs.Causes.{committed_count, granules_missing}
-use Rattle.ms_base.specs.PoolSteps.{grown}
-use Rattle.ms_base.specs.Transition.{HasLoader, with_loader, IsGrown}
+use Rattle.ms_base.specs.Good.{IsSoundLoader, IsGood}
+use Rattle.ms_base.specs.Causes.{granules_missing}
+use Rattle.ms_base.specs.Transition.{with_loader, IsGrown}
 use Rattle.ms_base.specs.SumLaws.{GrowsWell, with_grown}
 use Rattle.ms_base.specs.Event.{Grows, with_chunk_at}
 use Rattle.ms_base.proofs.entries.EntryLemmas.{Split, split_at}
@@ -24,7 +22,7 @@ use Rattle.ms_base.proofs.machine.GoodLemmas.{chunks_split, loader_is_sound}
 use Rattle.ms_base.proofs.machine.ChangeLemmas.{changed, slots_same, recommitted_same}
 use Rattle.ms_base.proofs.granules.GrowingLemmas.{growing_commits_the_missing, growing_keeps_the_limit, growing_is_clear}
 use Rattle.ms_base.proofs.arena.BlockLemmas.{arena_there, arena_elsewhere}
-use Rattle.ms_base.proofs.arena.GrownLemmas.{GrowsClear, grown_is_sound, good_with_grown}
+use Rattle.ms_base.proofs.arena.GrownLemmas.{grown_is_sound, good_with_grown}
 use Rattle.ms_base.proofs.events.KeptLemmas.{sound_with_arena}
 
 -- A place among chunks, with others before and after.

@@ -1,28 +1,26 @@
 -- Each event leaves a good state, and all that is another loader's.
-use Rattle.std.proofs.Common.{◌≡◌, ℕ, Bool, true, false, ◌⊎◌, Some, None, List, [], ◌∷◌, ◌++◌, refl, sym, ap, ◌∙◌, subst, inl, inr}
+use Rattle.std.proofs.Common.{◌≡◌, ℕ, false, ◌⊎◌, Some, List, refl, sym, ap, ◌∙◌, subst, inl, inr}
 use Rattle.std.specs.Prelude.{◌==◌, slice_set}
 use Rattle.std.proofs.lemmas.Bool.{both_ways, eq-eqb}
 use Rattle.ms_base.specs.declared.kind.Space.{Space}
 use Rattle.ms_base.specs.declared.kind.Space.TheVariants.{NonClass, Class}
-use Rattle.ms_base.specs.declared.span.Chunk.{Chunk}
 use Rattle.ms_base.specs.declared.words.LiveBlock.{LiveBlock}
 use Rattle.ms_base.specs.declared.step.Step.{Step}
-use Rattle.ms_base.specs.declared.step.Step.TheVariants.{New, Alloc, Calloc, Write, Read, Free, Unload, Purge}
+use Rattle.ms_base.specs.declared.step.Step.TheVariants.{Alloc, Calloc, Write, Read, Free, Unload}
 use Rattle.ms_base.specs.declared.step.Reply.{Reply}
 use Rattle.ms_base.specs.declared.step.Reply.TheVariants.{Ok as Done, At, Value, Refused}
 use Rattle.ms_base.specs.declared.refusal.Refusal.TheVariants.{IdsUsedUp}
 use Rattle.ms_base.specs.Spaces.{space_at}
 use Rattle.ms_base.specs.Names.{named, with_new, with_changed, without}
 use Rattle.ms_base.specs.Request.{loader_of, is_name}
-use Rattle.ms_base.specs.State.{ArenaState, LoaderState, Machine, arena_of, with_arena, empty_loader, with_slots, recommitted}
+use Rattle.ms_base.specs.State.{ArenaState, LoaderState, Machine, arena_of, with_arena, empty_loader}
 use Rattle.ms_base.specs.Live.{block_words}
-use Rattle.ms_base.specs.Good.{IsSoundLoader, IsGood}
+use Rattle.ms_base.specs.Good.{IsGood}
 use Rattle.ms_base.specs.Transition.{HasLoader, with_loader, zeroed}
-use Rattle.ms_base.specs.Event.{Event, opening, taking, growing, closing, purging, telling, acting, Answer, accepted, lent, counted, told, replied, refused, Happens, Acts, Adds, AddsBlock, Empties, emptied, IsSoundAfter, Opens, Closes, loader_of_event}
-use Rattle.ms_base.specs.Serial.{LeavesOthers}
+use Rattle.ms_base.specs.Event.{Event, opening, taking, growing, closing, purging, telling, acting, Answer, accepted, lent, counted, told, replied, refused, Happens, Acts, Adds, AddsBlock, emptied, IsSoundAfter}
+use Rattle.ms_base.specs.SpreadLaws.{LeavesOthers}
 use Rattle.ms_base.proofs.entries.LookupLemmas.{named_changed_same, named_changed_other, named_new_other, named_without_other}
 use Rattle.ms_base.proofs.machine.GoodLemmas.{good_with_new_loader, good_with_loader, good_without_loader, good_when_purged}
-use Rattle.ms_base.proofs.arena.BlockLemmas.{arena_there, arena_elsewhere}
 use Rattle.ms_base.proofs.events.KeptLemmas.{TakingIsAddable, good_with_taken}
 use Rattle.ms_base.proofs.events.GrownLemmas.{good_with_greater}
 

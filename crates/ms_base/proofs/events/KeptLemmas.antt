@@ -1,35 +1,27 @@
 -- Each event leaves a good state, and all that is another loader's.
-use Rattle.std.proofs.Common.{◌≡◌, ◌≤◌, ◌+◌, ℕ, suc, zero, Bool, true, false, Option, Some, None, List, [], ◌∷◌, ◌++◌, length, refl, sym, ap, ◌∙◌, subst, arith, inl, inr, length-append}
-use Rattle.std.specs.Prelude.{Ok, ◌||◌, nat_le, slice_get, slice_set}
-use Rattle.std.specs.Ordering.{nat_cmp}
-use Rattle.std.specs.List.{list_any, list_all, zip, Contains, filter, flat_map}
+use Rattle.std.proofs.Common.{◌≡◌, ◌≤◌, ◌+◌, ℕ, Bool, true, false, List, [], ◌∷◌, ◌++◌, length, refl, sym, ap, ◌∙◌, subst, arith, length-append}
+use Rattle.std.specs.Prelude.{Ok, ◌||◌, nat_le}
+use Rattle.std.specs.List.{list_any, list_all, zip, filter, flat_map}
 use Rattle.std.specs.List.Sorted.{IsStrictlyIncreasing}
-use Rattle.std.specs.BTreeMap.{is_at}
 use Rattle.std.proofs.lemmas.List.{append_assoc}
-use Rattle.std.proofs.lemmas.Map.Steps.{set_value_same}
-use Rattle.ms_base.specs.declared.kind.Kind.{Kind}
 use Rattle.ms_base.specs.declared.kind.Space.{Space}
 use Rattle.ms_base.specs.declared.kind.Space.TheVariants.{NonClass, Class}
 use Rattle.ms_base.specs.declared.span.Chunk.{Chunk}
 use Rattle.ms_base.specs.Interval.{lies_in}
-use Rattle.ms_base.specs.Level.{size_of}
 use Rattle.ms_base.specs.Part.{slot_of, is_reserved}
 use Rattle.ms_base.specs.Spaces.{other_space, is_in}
 use Rattle.ms_base.specs.Committed.{committed_with, is_committed, granules_of}
 use Rattle.ms_base.specs.Pick.{granule_in, has_committed}
-use Rattle.ms_base.specs.Names.{named, with_changed}
-use Rattle.ms_base.specs.State.{ArenaState, LoaderState, Machine, PoolState, arena_of, with_arena, chunks_held, slots_in, with_slots, committed_in, committed_now, pool_of, recommitted}
+use Rattle.ms_base.specs.Names.{with_changed}
+use Rattle.ms_base.specs.State.{ArenaState, LoaderState, Machine, arena_of, with_arena, chunks_held, committed_in, pool_of}
 use Rattle.ms_base.specs.Live.{runs_in}
-use Rattle.ms_base.specs.Good.{is_in_use, topped, IsSound, IsSoundLoader, IsGood}
+use Rattle.ms_base.specs.Good.{topped, IsSound, IsSoundLoader, IsGood}
 use Rattle.ms_base.specs.Causes.{committed_count, granules_missing}
-use Rattle.ms_base.specs.PoolSteps.{taken, grown, slots_with}
+use Rattle.ms_base.specs.PoolSteps.{taken}
 use Rattle.ms_base.specs.Place.{with_chunk}
-use Rattle.ms_base.specs.Transition.{HasLoader, with_loader, IsGrown}
-use Rattle.ms_base.specs.SumLaws.{GrowsWell}
-use Rattle.ms_base.specs.Event.{IsAskable, Takes, Grows, with_chunk_at}
+use Rattle.ms_base.specs.Event.{IsAskable, Takes}
 use Rattle.ms_base.proofs.entries.EntryLemmas.{Split, split_at}
 use Rattle.ms_base.proofs.machine.GoodLemmas.{each_space, chunks_split, loader_is_sound}
-use Rattle.ms_base.proofs.machine.ChangeLemmas.{changed, slots_same}
 use Rattle.ms_base.proofs.machine.AddedLemmas.{MayReserve, IsAddable, slots_then, good_with_chunk}
 use Rattle.ms_base.proofs.machine.SlotLemmas.{reserved_with, slots_rise_with}
 use Rattle.ms_base.proofs.granules.CountLemmas.{meets_front, count_with_front, committed_in_slots, committed_with_slot}
@@ -154,4 +146,3 @@ good_with_taken addable space old name p most words chunk new good takes =
         ≡ length (committed_in space old) + granules_missing (pool_of space old) chunk
     count = count_with_front (pool_of space old) (chunks_held space (with_changed old.loaders name other)) (slots_then space old chunk.start) chunk (good.pools space)
         its.addable.placed its.addable.front.some its.addable.front.within slots.rising slots.reserved slots.as_before adds
-

@@ -1,32 +1,23 @@
 -- Local events, as their steps go on.
-use Rattle.std.proofs.Common.{◌≡◌, ◌≤◌, ℕ, Bool, true, false, ◌⊎◌, Option, Some, None, List, [], ◌∷◌, ◌++◌, length, refl, sym, ap, ◌∙◌, subst, inl, inr}
-use Rattle.std.specs.Prelude.{⊤, slice_set}
-use Rattle.ms_base.specs.declared.kind.Space.{Space}
-use Rattle.ms_base.specs.declared.kind.Space.TheVariants.{NonClass, Class}
-use Rattle.ms_base.specs.declared.span.Chunk.{Chunk}
+use Rattle.std.proofs.Common.{◌≡◌, ℕ, true, Some, List, [], ◌∷◌, refl, sym, ◌∙◌, subst}
 use Rattle.ms_base.specs.declared.step.Step.{Step}
-use Rattle.ms_base.specs.declared.step.Step.TheVariants.{Write, Read, Free, Unload}
 use Rattle.ms_base.specs.declared.step.Reply.{Reply}
-use Rattle.ms_base.specs.declared.step.Reply.TheVariants.{Ok as Done, At, Value, Refused}
+use Rattle.ms_base.specs.declared.step.Reply.TheVariants.{Refused}
 use Rattle.ms_base.specs.declared.refusal.Refusal.{Refusal}
-use Rattle.ms_base.specs.declared.refusal.Refusal.TheVariants.{CommitLimit, ReserveLimit, OutOfMemory}
 use Rattle.ms_base.specs.Names.{named, with_changed}
-use Rattle.ms_base.specs.Live.{block_words}
 use Rattle.ms_base.specs.Request.{loader_of}
-use Rattle.ms_base.specs.State.{ArenaState, LoaderState, Machine, arena_of, slots_in, recommitted}
-use Rattle.ms_base.specs.Good.{IsSoundLoader, IsGood}
-use Rattle.ms_base.specs.Transition.{HasLoader, with_loader, with_allocated, zeroed, Allocates, IsServable, Cause, Serves, Transition}
-use Rattle.ms_base.specs.WordLaws.{alloc_in}
-use Rattle.ms_base.specs.Event.{Event, growing, acting, Answer, replied, refused, Happens, Acts, Adds, AddsBlock, ActsNotCause, IsSoundAfter, GrowsNone}
+use Rattle.ms_base.specs.State.{LoaderState, Machine}
+use Rattle.ms_base.specs.Good.{IsGood}
+use Rattle.ms_base.specs.Transition.{HasLoader, with_loader, Transition}
+use Rattle.ms_base.specs.Event.{acting, replied, ActsNotCause}
 use Rattle.ms_base.specs.Spread.{SpreadStep, Part, AreWhole, IsOwnReply}
 use Rattle.ms_base.specs.Serial.{is_place}
 use Rattle.ms_base.proofs.entries.EntryLemmas.{rises_with_changed}
 use Rattle.ms_base.proofs.entries.LookupLemmas.{named_changed_same, named_changed_other}
-use Rattle.ms_base.proofs.machine.ChangeLemmas.{unchanged_pools}
 use Rattle.ms_base.proofs.events.EntryLemmas.{changed_back}
 use Rattle.ms_base.proofs.events.CauseLemmas.{acts_not, leaves_same}
-use Rattle.ms_base.proofs.events.StageLemmas.{Stage, idle, turned_down, owes_block, owes_refusal, Shows, Left, IsPassed, IsOnItsWay, IsOwed, IsSeen, GoesBack, GoesOnBy}
-use Rattle.ms_base.proofs.events.BackLemmas.{done_there, done_elsewhere, with_seen, goes_back, steps_back}
+use Rattle.ms_base.proofs.events.StageLemmas.{Stage, idle, IsSeen, GoesBack, GoesOnBy}
+use Rattle.ms_base.proofs.events.BackLemmas.{done_there, with_seen, steps_back}
 use Rattle.ms_base.proofs.events.AllocLemmas.{IsPlain}
 use Rattle.ms_base.proofs.events.AskLemmas.{same_step}
 

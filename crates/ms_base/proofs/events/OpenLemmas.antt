@@ -1,5 +1,5 @@
 -- Openings and closings, and the local event of an unload, as their steps go on.
-use Rattle.std.proofs.Common.{◌≡◌, ◌≤◌, ◌+◌, ℕ, Bool, true, false, Option, Some, None, List, [], ◌∷◌, ◌++◌, refl, sym, ap, ◌∙◌, subst, inl, inr}
+use Rattle.std.proofs.Common.{◌≡◌, ◌+◌, ℕ, true, false, Some, None, List, [], ◌∷◌, ◌++◌, refl, sym, ap, ◌∙◌, subst, inr}
 use Rattle.ms_base.specs.declared.kind.Kind.{Kind}
 use Rattle.ms_base.specs.declared.kind.Space.{Space}
 use Rattle.ms_base.specs.declared.kind.Space.TheVariants.{NonClass, Class}
@@ -12,7 +12,7 @@ use Rattle.ms_base.specs.declared.refusal.Refusal.TheVariants.{OutOfMemory, IdsU
 use Rattle.ms_base.specs.Names.{named, with_new, with_changed, without}
 use Rattle.ms_base.specs.State.{LoaderState, Machine, arena_of, chunks_held, empty_loader, recommitted}
 use Rattle.ms_base.specs.Good.{IsGood}
-use Rattle.ms_base.specs.Transition.{NewCause, Transition}
+use Rattle.ms_base.specs.Transition.{NewCause}
 use Rattle.ms_base.specs.Event.{opening, closing, acting, accepted, replied, refused, Opens, Closes, Empties, emptied}
 use Rattle.ms_base.specs.Spread.{SpreadStep, Part, AreWhole}
 use Rattle.ms_base.specs.Serial.{is_place, done_by}
@@ -23,7 +23,7 @@ use Rattle.ms_base.proofs.machine.GoodLemmas.{chunks_split, chunks_joined, loade
 use Rattle.ms_base.proofs.machine.ChangeLemmas.{recommitted_same}
 use Rattle.ms_base.proofs.events.EntryLemmas.{named_without_same, new_back, without_back}
 use Rattle.ms_base.proofs.events.CauseLemmas.{leaves_same}
-use Rattle.ms_base.proofs.events.StageLemmas.{idle, unloading, retracting, Was, IsOwed, IsSeen, GoesBack, GoesOnBy}
+use Rattle.ms_base.proofs.events.StageLemmas.{idle, unloading, retracting, Was, IsSeen, GoesBack, GoesOnBy}
 use Rattle.ms_base.proofs.events.BackLemmas.{done_there, done_elsewhere, with_seen, recommitted_seen, goes_back, steps_back}
 use Rattle.ms_base.proofs.events.AskLemmas.{same_step}
 
@@ -110,12 +110,14 @@ module _ (name : ℕ) (spread : SpreadStep) (old new : Machine) (more : List Par
           let there = named_new_same seen name loader in
           steps_back name (unloading loader) old (recommitted mid) seen (with_new seen name loader) _ (Unload name) Done
           (done_there spread (closing name) accepted here ∙ same_step spread (Unload name) Done step_is reply_is)
-          (rises_with_new seen name loader its.rises) (λ other differ. named_new_other seen name loader other differ) there
-          (record {
-            loader = loader;
-            has = there;
-            after = sym (ap (λ (l : List (ℕ × LoaderState)). recommitted (record old { loaders = l })) (without_back seen name loader its.rises none) ∙ recommitted_seen mid seen its.held);
-          }, its.good)
+          (rises_with_new seen name loader its.rises) (λ other differ. named_new_other seen name loader other differ) there (
+            record {
+              loader = loader;
+              has = there;
+              after = sym (ap (λ (l : List (ℕ × LoaderState)). recommitted (record old { loaders = l })) (without_back seen name loader its.rises none) ∙ recommitted_seen mid seen its.held);
+            },
+            its.good,
+          )
 
   -- One that was made in vain is closed: nothing changes but its name.
   pub goes_on_retracted : (step : Step) (reply : Reply) → is_place spread.events (closing name, accepted) ≡ false → IsGood old → Was retracting (named old.loaders name) → Closes old name new

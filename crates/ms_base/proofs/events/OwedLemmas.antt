@@ -1,38 +1,29 @@
 -- The local event of an allocation, as its step goes on, and those of Write, Read and Free.
-use Rattle.std.proofs.Common.{◌≡◌, ◌≤◌, ℕ, Bool, true, false, ◌⊎◌, Option, Some, None, List, [], ◌∷◌, ◌++◌, length, refl, sym, ap, ◌∙◌, subst, inl, inr}
-use Rattle.std.specs.Prelude.{⊤, slice_set}
-use Rattle.std.specs.Ordering.{nat_cmp}
-use Rattle.std.specs.BTreeMap.{is_at}
-use Rattle.std.proofs.lemmas.Map.Steps.{set_value_same}
+use Rattle.std.proofs.Common.{◌≡◌, ℕ, Bool, true, false, Some, List, refl, sym, ap, ◌∙◌, subst, inl}
 use Rattle.ms_base.specs.declared.kind.Space.{Space}
 use Rattle.ms_base.specs.declared.kind.Space.TheVariants.{NonClass, Class}
 use Rattle.ms_base.specs.declared.span.Chunk.{Chunk}
-use Rattle.ms_base.specs.declared.words.LiveBlock.{LiveBlock}
 use Rattle.ms_base.specs.declared.step.Step.{Step}
-use Rattle.ms_base.specs.declared.step.Step.TheVariants.{Write, Read, Free}
-use Rattle.ms_base.specs.declared.step.Reply.{Reply}
-use Rattle.ms_base.specs.declared.step.Reply.TheVariants.{Ok as Done, At, Value, Refused}
+use Rattle.ms_base.specs.declared.step.Reply.TheVariants.{At, Refused}
 use Rattle.ms_base.specs.declared.refusal.Refusal.{Refusal}
 use Rattle.ms_base.specs.declared.refusal.Refusal.TheVariants.{CommitLimit, ReserveLimit, OutOfMemory}
 use Rattle.ms_base.specs.Names.{named, with_changed}
-use Rattle.ms_base.specs.Live.{block_words}
 use Rattle.ms_base.specs.Request.{loader_of}
-use Rattle.ms_base.specs.Spaces.{space_at}
-use Rattle.ms_base.specs.State.{ArenaState, LoaderState, Machine, arena_of, slots_in, with_slots, recommitted}
+use Rattle.ms_base.specs.State.{LoaderState, Machine, slots_in, with_slots, recommitted}
 use Rattle.ms_base.specs.Good.{IsSoundLoader, IsGood}
-use Rattle.ms_base.specs.Transition.{HasLoader, HasBlock, with_loader, with_block, with_freed, with_allocated, zeroed, Change, Allocates, IsServable, Writes, Reads, Frees, Transition}
+use Rattle.ms_base.specs.Transition.{HasLoader, with_loader, Change, Allocates, IsServable}
 use Rattle.ms_base.specs.WordLaws.{alloc_in}
-use Rattle.ms_base.specs.Event.{Event, growing, acting, Answer, replied, refused, Happens, Adds, AddsBlock, ActsNotCause, IsSoundAfter, GrowsNone}
-use Rattle.ms_base.specs.Spread.{SpreadStep, Part, AreWhole, HasNoSpan, GoesOn}
+use Rattle.ms_base.specs.Event.{growing, acting, replied, refused, Happens, Adds, ActsNotCause, IsSoundAfter, GrowsNone}
+use Rattle.ms_base.specs.Spread.{SpreadStep, Part, AreWhole}
 use Rattle.ms_base.specs.Serial.{is_place}
 use Rattle.ms_base.proofs.entries.LookupLemmas.{named_changed_same}
 use Rattle.ms_base.proofs.machine.ChangeLemmas.{unchanged_pools}
 use Rattle.ms_base.proofs.events.EntryLemmas.{changed_back}
-use Rattle.ms_base.proofs.events.StageLemmas.{Stage, idle, turned_down, owes_block, owes_refusal, Shows, IsPassed, IsOnItsWay, IsSeen, GoesBack, GoesOnBy}
+use Rattle.ms_base.proofs.events.StageLemmas.{Stage, idle, turned_down, owes_block, owes_refusal, IsPassed, IsOnItsWay, GoesOnBy}
 use Rattle.ms_base.proofs.events.BackLemmas.{done_there, done_elsewhere, with_seen, goes_back}
 use Rattle.ms_base.proofs.events.AllocLemmas.{IsPlain, served_in}
 use Rattle.ms_base.proofs.events.AskLemmas.{same_step}
-use Rattle.ms_base.proofs.events.LocalLemmas.{served_back, acts_on_block}
+use Rattle.ms_base.proofs.events.LocalLemmas.{served_back}
 
 -- A growth that is refused changes nothing, and is no step's place.
 pub goes_on_turned : (space : Space) (name : ℕ) (spread : SpreadStep) (stage : Stage) → IsPlain stage → (old new : Machine) (at total : ℕ) (enlarges : Bool) (refusal : Refusal) (rest : List Part)

@@ -1,7 +1,5 @@
 -- The serial order's machine has the same chunks as the other, and is good too.
-use Rattle.std.proofs.Common.{◌≡◌, ℕ, Option, Some, None, List, [], ◌∷◌, refl, sym, ap, ◌∙◌, subst}
-use Rattle.std.specs.List.{flat_map}
-use Rattle.std.specs.Map.{values_of}
+use Rattle.std.proofs.Common.{◌≡◌, ℕ, Option, Some, None, List, [], refl, sym, ap, ◌∙◌, subst}
 use Rattle.ms_base.specs.declared.kind.Kind.{Kind}
 use Rattle.ms_base.specs.declared.kind.Space.{Space}
 use Rattle.ms_base.specs.declared.kind.Space.TheVariants.{NonClass, Class}
@@ -9,11 +7,10 @@ use Rattle.ms_base.specs.declared.span.Chunk.{Chunk}
 use Rattle.ms_base.specs.Names.{AreNamed, named}
 use Rattle.ms_base.specs.State.{LoaderState, Machine, arena_of, empty_loader, chunks_held, pool_of}
 use Rattle.ms_base.specs.Good.{IsSoundLoader, IsGood}
-use Rattle.ms_base.specs.Event.{emptied}
 use Rattle.ms_base.proofs.machine.GoodLemmas.{sound_with, loader_is_sound}
 use Rattle.ms_base.proofs.events.EntryLemmas.{given, same_given, all_values}
 use Rattle.ms_base.proofs.events.HappenLemmas.{added_chunks, emptied_chunks}
-use Rattle.ms_base.proofs.events.StageLemmas.{Stage, idle, turned_down, owes_block, owes_refusal, unloading, retracting, Shows, Was, IsSeen}
+use Rattle.ms_base.proofs.events.StageLemmas.{Stage, idle, turned_down, owes_block, owes_refusal, unloading, retracting, Shows, Was}
 use Rattle.ms_base.proofs.events.BackLemmas.{with_seen}
 
 abbrev chunks_in : Space → LoaderState → List Chunk

@@ -1,8 +1,8 @@
 -- Each spread is serial, by a walk over its moments from the last: before each there is a machine of
 -- the serial order from which its steps are a run.
-use Rattle.std.proofs.Common.{◌≡◌, ℕ, Bool, true, false, cond, Option, Some, None, List, [], ◌∷◌, ◌++◌, map, length, refl, sym, ap, ◌∙◌, subst, inl, inr}
+use Rattle.std.proofs.Common.{◌≡◌, ℕ, Bool, false, cond, Option, Some, None, List, [], ◌∷◌, ◌++◌, map, refl, sym, ap, ◌∙◌, subst, inl, inr}
 use Rattle.std.specs.Prelude.{⊤, ◌==◌}
-use Rattle.std.specs.List.{All, AllByRecursion, filter}
+use Rattle.std.specs.List.{AllByRecursion, filter}
 use Rattle.std.proofs.lemmas.Bool.{cases_eq, eq-eqb, false_from_ne_true, eqb-true}
 use Rattle.std.proofs.lemmas.List.Elements.{recursion_from_All, All-from_recursion}
 use Rattle.ms_base.specs.declared.kind.Space.{Space}
@@ -18,15 +18,16 @@ use Rattle.ms_base.specs.Held.{has_chunk_in}
 use Rattle.ms_base.specs.State.{LoaderState, Machine, chunks_held, recommitted}
 use Rattle.ms_base.specs.Good.{IsGood}
 use Rattle.ms_base.specs.Run.{Run}
-use Rattle.ms_base.specs.Transition.{Transition, purged}
+use Rattle.ms_base.specs.Transition.{purged}
 use Rattle.ms_base.specs.Event.{Event, purging, telling, Answer, counted, told, Happens, loader_of_event}
-use Rattle.ms_base.specs.Spread.{SpreadStep, IsWhole, Spreads, Moment, Part, part_of, parts_by, Follow, IsByItself, IsAskedFor, words_asked, IsSpread}
-use Rattle.ms_base.specs.Serial.{done_by, done_at, serial, steps_of, replies_of, is_place, LeavesOthers, IsKeptAt, IsSerial, SpreadsAreSerial}
+use Rattle.ms_base.specs.Spread.{SpreadStep, Spreads, Moment, part_of, parts_by, Follow, IsByItself, IsAskedFor, words_asked}
+use Rattle.ms_base.specs.Serial.{done_by, done_at, serial, steps_of, replies_of, is_place}
+use Rattle.ms_base.specs.SpreadLaws.{LeavesOthers, IsKeptAt, SpreadsAreSerial}
 use Rattle.ms_base.proofs.granules.FrontSumLemmas.{nothing_is_left}
 use Rattle.ms_base.proofs.events.EntryLemmas.{same_entries}
 use Rattle.ms_base.proofs.events.KeptLemmas.{TakingIsAddable}
 use Rattle.ms_base.proofs.events.HappenLemmas.{good_after, others_after}
-use Rattle.ms_base.proofs.events.StageLemmas.{Stage, idle, turned_down, owes_block, owes_refusal, unloading, retracting, Shows, Was, Left, IsOwed, IsSeen, GoesBack, GoesOnBy}
+use Rattle.ms_base.proofs.events.StageLemmas.{Stage, idle, turned_down, owes_block, owes_refusal, unloading, retracting, Shows, Was, Left, GoesBack, GoesOnBy}
 use Rattle.ms_base.proofs.events.BackLemmas.{done_there, with_seen, recommitted_seen}
 use Rattle.ms_base.proofs.events.AskLemmas.{same_step}
 use Rattle.ms_base.proofs.events.WholeLemmas.{first_left}

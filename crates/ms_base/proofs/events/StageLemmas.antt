@@ -1,13 +1,9 @@
 -- How far a loader's step has come, and how the machine of the serial order then differs from the
 -- one in which the events happen.
-use Rattle.std.proofs.Common.{◌≡◌, ◌≤◌, ℕ, Bool, true, false, Option, Some, None, List, [], ◌∷◌, ◌++◌, map, refl, sym, ap, ◌∙◌, subst, inl, inr}
-use Rattle.std.specs.Prelude.{⊤, ◌==◌}
-use Rattle.std.specs.List.{All, flat_map}
-use Rattle.std.specs.Map.{values_of}
+use Rattle.std.proofs.Common.{◌≡◌, ◌≤◌, ℕ, Bool, true, false, Option, Some, None, List, [], ◌∷◌, ◌++◌, map}
+use Rattle.std.specs.Prelude.{⊤}
 use Rattle.ms_base.specs.declared.kind.Kind.{Kind}
 use Rattle.ms_base.specs.declared.kind.Space.{Space}
-use Rattle.ms_base.specs.declared.kind.Space.TheVariants.{NonClass, Class}
-use Rattle.ms_base.specs.declared.span.Chunk.{Chunk}
 use Rattle.ms_base.specs.declared.step.Step.{Step}
 use Rattle.ms_base.specs.declared.step.Step.TheVariants.{Unload}
 use Rattle.ms_base.specs.declared.step.Reply.{Reply}
@@ -16,13 +12,12 @@ use Rattle.ms_base.specs.declared.refusal.Refusal.{Refusal}
 use Rattle.ms_base.specs.declared.refusal.Refusal.TheVariants.{CommitLimit, ReserveLimit, OutOfMemory}
 use Rattle.ms_base.specs.Level.{root_words}
 use Rattle.ms_base.specs.Names.{AreNamed, named}
-use Rattle.ms_base.specs.State.{LoaderState, Machine, PoolState, arena_of, empty_loader, chunks_held, pool_of, recommitted}
+use Rattle.ms_base.specs.State.{LoaderState, Machine, empty_loader, chunks_held}
 use Rattle.ms_base.specs.Good.{IsSoundLoader, IsGood}
 use Rattle.ms_base.specs.Run.{Run}
-use Rattle.ms_base.specs.Transition.{Transition}
 use Rattle.ms_base.specs.WordLaws.{alloc_in}
-use Rattle.ms_base.specs.Event.{Event, growing, closing, acting, Answer, accepted, replied, refused, Happens, AddsBlock, emptied, loader_of_event}
-use Rattle.ms_base.specs.Spread.{SpreadStep, IsWhole, Part, parts_of, AreWhole, HasNoSpan, GoesOn, IsAskedFor, words_asked}
+use Rattle.ms_base.specs.Event.{Event, closing, acting, Answer, accepted, replied, Happens, AddsBlock, emptied, loader_of_event}
+use Rattle.ms_base.specs.Spread.{SpreadStep, Part, AreWhole, HasNoSpan, GoesOn, IsAskedFor, words_asked}
 use Rattle.ms_base.specs.Serial.{is_place, done_by, steps_of, replies_of}
 
 -- How far a loader's step has come: none is begun, or one is whose growth was refused; its block is

@@ -1,33 +1,30 @@
 -- The first event of a loader's whole step, and the next of one that is begun.
-use Rattle.std.proofs.Common.{◌≡◌, ◌≤◌, ℕ, Bool, true, false, ◌⊎◌, Option, Some, None, List, [], ◌∷◌, ◌++◌, map, refl, sym, ap, ◌∙◌, subst, inl, inr}
-use Rattle.std.specs.Prelude.{⊤, slice_set}
-use Rattle.std.specs.List.{All, AllByRecursion, flat_map}
+use Rattle.std.proofs.Common.{◌≡◌, ℕ, Bool, true, false, Option, Some, List, [], ◌∷◌, ◌++◌, refl, sym, ap, ◌∙◌, subst, inl, inr}
+use Rattle.std.specs.Prelude.{slice_set}
+use Rattle.std.specs.List.{AllByRecursion, flat_map}
 use Rattle.std.specs.Ordering.{nat_cmp}
 use Rattle.std.specs.BTreeMap.{is_at}
-use Rattle.std.proofs.lemmas.List.{append_assoc}
 use Rattle.std.proofs.lemmas.List.Elements.{recursion_from_All, All-from_recursion}
 use Rattle.std.proofs.lemmas.Map.Steps.{set_value_same}
 use Rattle.ms_base.specs.declared.kind.Kind.{Kind}
 use Rattle.ms_base.specs.declared.kind.Space.{Space}
 use Rattle.ms_base.specs.declared.kind.Space.TheVariants.{NonClass, Class}
-use Rattle.ms_base.specs.declared.span.Chunk.{Chunk}
 use Rattle.ms_base.specs.declared.step.Step.{Step}
 use Rattle.ms_base.specs.declared.step.Step.TheVariants.{New, Alloc, Calloc, Write, Read, Free, Unload, Purge}
 use Rattle.ms_base.specs.declared.step.Reply.{Reply}
 use Rattle.ms_base.specs.declared.step.Reply.TheVariants.{Ok as Done, At, Value, Refused}
 use Rattle.ms_base.specs.declared.refusal.Refusal.{Refusal}
 use Rattle.ms_base.specs.declared.refusal.Refusal.TheVariants.{OutOfMemory, IdsUsedUp}
-use Rattle.ms_base.specs.Names.{named, with_changed, without}
-use Rattle.ms_base.specs.Request.{loader_of}
+use Rattle.ms_base.specs.Names.{named}
 use Rattle.ms_base.specs.Spaces.{space_at}
-use Rattle.ms_base.specs.State.{LoaderState, Machine, arena_of}
+use Rattle.ms_base.specs.State.{LoaderState, Machine}
 use Rattle.ms_base.specs.Good.{IsGood}
-use Rattle.ms_base.specs.Transition.{HasLoader, with_loader, with_block, with_freed, Transition}
+use Rattle.ms_base.specs.Transition.{HasLoader, with_loader, with_block, with_freed}
 use Rattle.ms_base.specs.WordLaws.{alloc_in}
-use Rattle.ms_base.specs.Event.{Event, opening, taking, growing, closing, purging, acting, Answer, accepted, lent, counted, replied, refused, Happens, Acts, loader_of_event}
-use Rattle.ms_base.specs.Spread.{SpreadStep, Spreads, IsWhole, IsAlone, IsOwnReply, Part, parts_of, AreWhole, HasNoSpan, not_asked, not_had, GoesOn, GrowsFirst, GoesOnAfter, SpreadsAlloc, IsAskedFor, words_asked}
+use Rattle.ms_base.specs.Event.{Event, opening, growing, closing, acting, Answer, accepted, lent, replied, refused, Happens}
+use Rattle.ms_base.specs.Spread.{SpreadStep, Spreads, IsWhole, IsAlone, Part, parts_of, AreWhole, HasNoSpan, not_asked, not_had, GoesOn, SpreadsAlloc}
 use Rattle.ms_base.specs.Serial.{is_place}
-use Rattle.ms_base.proofs.events.StageLemmas.{Stage, idle, turned_down, owes_block, owes_refusal, unloading, retracting, Shows, Was, Left, rest_of, IsOnItsWay, IsOwed, GoesOnBy, FirstGoesOn}
+use Rattle.ms_base.proofs.events.StageLemmas.{Stage, idle, turned_down, owes_block, owes_refusal, unloading, retracting, Was, Left, rest_of, GoesOnBy, FirstGoesOn}
 use Rattle.ms_base.proofs.events.AllocLemmas.{IsPlain}
 use Rattle.ms_base.proofs.events.AskLemmas.{goes_on_grown}
 use Rattle.ms_base.proofs.events.LocalLemmas.{acts_refused, acts_on_block}
