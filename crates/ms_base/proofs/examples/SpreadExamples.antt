@@ -1,7 +1,8 @@
 -- Worked examples: steps spread over events, their serial order, and lists of events that are no
 -- whole steps.
-use Rattle.std.proofs.Common.{◌≡◌, ℕ, zero, suc, true, false, List, [], ◌∷◌, ◌++◌, Some, length, refl, ap, ◌∙◌, inl, inr, arith, map}
+use Rattle.std.proofs.Common.{◌≡◌, ℕ, zero, suc, true, false, List, [], ◌∷◌, ◌++◌, Option, Some, None, length, take, refl, ap, ◌∙◌, inl, inr, arith, map}
 use Rattle.std.specs.Prelude.{◌==◌}
+use Rattle.std.specs.List.{flat_map}
 use Rattle.std.proofs.lemmas.List.Elements.{All-from_recursion}
 use Rattle.ms_base.specs.declared.kind.Kind.TheVariants.{Standard, Boot}
 use Rattle.ms_base.specs.declared.kind.Space.{Space}
@@ -14,7 +15,7 @@ use Rattle.ms_base.specs.declared.refusal.Refusal.TheVariants.{CommitLimit, OutO
 use Rattle.ms_base.specs.State.{ArenaState, LoaderState, Machine, empty_machine, empty_arena, empty_loader, arena_of}
 use Rattle.ms_base.specs.Transition.{zeroed}
 use Rattle.ms_base.specs.Event.{Event, opening, taking, growing, closing, purging, acting, Answer, accepted, lent, counted, replied, refused, Happens, emptied, loader_of_event}
-use Rattle.ms_base.specs.Spread.{SpreadStep, Moment, GoesOn, HasNoSpan, Spreads, IsWhole, IsByItself, IsAskedFor, words_asked, AreWhole, IsSpread, not_asked, not_had, parts_by}
+use Rattle.ms_base.specs.Spread.{SpreadStep, Moment, GoesOn, HasNoSpan, Spreads, IsWhole, IsByItself, IsAskedFor, words_asked, Part, parts_of, AreWhole, IsSpread, not_asked, not_had, parts_by}
 use Rattle.ms_base.specs.Serial.{is_accepted, is_taking, is_closing, is_acting, is_place, serial}
 
 abbrev chunk : ℕ → ℕ → ℕ → Chunk
@@ -222,3 +223,32 @@ is_spread = record {
   others = All-from_recursion (λ (moment : Moment). IsByItself (moment.event, moment.answer) (loader_of_event moment.event) moment.of) moments (tt, (tt, (tt, (tt, tt))));
   asked = All-from_recursion (λ (moment : Moment). IsAskedFor moment.before moment.event (words_asked moment.of)) moments (tt, (arena_asks, (tt, (tt, tt))));
 }
+
+abbrev some_spread : SpreadStep → Option SpreadStep
+some_spread spread = Some spread
+
+-- The step whose event is the first.
+abbrev whose : List Part → Option SpreadStep
+whose [] = None
+whose (part ∷ parts) = part.0
+
+-- Without the last moment it is none: the unload is never closed.
+abbrev unclosed : List Part
+unclosed = parts_by 1 (take 3 moments)
+
+unclosed_is_no_step : AreWhole unclosed → ⊥
+unclosed_is_no_step are = of_steps are.steps are.parts_are
+  where
+    its : (spread : SpreadStep) (events : List (Event × Answer)) (more : List Part) → spread.events ≡ events
+        → (unclosed ≡ more → ⊥) → unclosed ≡ map (λ (one : Event × Answer). (Some spread, one.0, one.1)) events ++ more → ⊥
+    its spread [] more has later e = later e
+    its spread (one ∷ []) more has later e =
+        let first : some_spread unload ≡ some_spread spread = ap (λ (l : List Part). whose l) e in
+        let same : unload ≡ spread = cc in
+        let counts : length unload.events ≡ 1 = ap (λ (one : SpreadStep). length one.events) same ∙ ap length has in
+        absurd (cc)
+    its spread (one ∷ other ∷ events) more has later e = absurd (cc)
+
+    of_steps : (steps : List SpreadStep) → unclosed ≡ flat_map parts_of steps → ⊥
+    of_steps [] e = absurd (cc)
+    of_steps (spread ∷ steps) e = its spread spread.events (flat_map parts_of steps) refl (of_steps steps) e
