@@ -18,10 +18,12 @@ use Rattle.ms_pool.proofs.ledger.TakenLemmas.{HasSlot, IsLendable, taken_is_lend
 use Rattle.ms_pool.proofs.ledger.SlotLemmas.{same_with}
 
 -- The slot of a chunk of a space may be reserved there.
-may_reserve : (space : Space) (m : Machine) (start : ℕ) → IsGood m → is_in space start ≡ true → HasSlot (pool_of space m) (slot_of start) → MayReserve space m (slot_of start)
+may_reserve : (space : Space) (m : Machine) (start : ℕ) → IsGood m → is_in space start ≡ true
+    → HasSlot (pool_of space m) (slot_of start) → MayReserve space m (slot_of start)
 may_reserve NonClass m start good here has = (omega (arith, ltb-true start 67108864 here), within has)
   where
-    within : HasSlot (pool_of NonClass m) (slot_of start) → length (insert_key nat_cmp m.slots (slot_of start)) ≤ m.limits.nodes
+    within : HasSlot (pool_of NonClass m) (slot_of start)
+        → length (insert_key nat_cmp m.slots (slot_of start)) ≤ m.limits.nodes
     within (inl reserved) = omega (
       arith,
       ap length (same_with m.slots (slot_of start) (sorted_from_strictly_increasing m.slots (good.pools NonClass).slots) reserved),

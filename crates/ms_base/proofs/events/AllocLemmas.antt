@@ -36,7 +36,8 @@ twice : (space : Space) (loader : LoaderState) (first second : ArenaState) (bloc
 twice NonClass loader first second block made = refl
 twice Class loader first second block made = refl
 
-pub served_in : (space : Space) (old : Machine) (name block words start : ℕ) (new : Machine) → Allocates old space name block words start new → IsGood new
+pub served_in : (space : Space) (old : Machine) (name block words start : ℕ) (new : Machine)
+    → Allocates old space name block words start new → IsGood new
     → Transition old (alloc_in space name block words) (At start) new
 served_in NonClass old name block words start new allocates good = (allocates, good)
 served_in Class old name block words start new allocates good = (allocates, good)
@@ -53,12 +54,16 @@ module _ (space : Space) (old : Machine) (name block words start : ℕ) (before 
   abbrev change : List Chunk → List ℕ → Change
   change chunks into = record { chunks = chunks; slots = into }
 
-  pub had_back : (stage : Stage) → IsPlain stage → MayChange old.limits.policy (block_words words) (change (arena_of space before).chunks (slots_in space old)) (change arena.chunks slots)
+  pub had_back : (stage : Stage) → IsPlain stage
+      → MayChange old.limits.policy (block_words words) (change (arena_of space before).chunks (slots_in space old)) (change arena.chunks slots)
       → (seen : List (ℕ × LoaderState)) → IsSeen name (owes_block space block words start) (recommitted mid) seen
-      → (done : List (Step × Reply)) → done ≡ (alloc_in space name block words, At start) ∷ [] → GoesBack name stage old (recommitted mid) seen done
+      → (done : List (Step × Reply)) → done ≡ (alloc_in space name block words, At start) ∷ []
+      → GoesBack name stage old (recommitted mid) seen done
   had_back stage plain changes seen its done one =
-      steps_back name stage old (recommitted mid) seen loaders done (alloc_in space name block words) (At start) one (rises_with_changed seen name before its.rises)
-      (λ other differ. named_changed_other seen name before other differ) (plain (named loaders name) (named old.loaders name) (found ∙ sym has))
+      steps_back name stage old (recommitted mid) seen loaders done (alloc_in space name block words) (At start) one
+      (rises_with_changed seen name before its.rises)
+      (λ other differ. named_changed_other seen name before other differ)
+      (plain (named loaders name) (named old.loaders name) (found ∙ sym has))
       (served_in space (with_seen old loaders) name block words start (with_seen (recommitted mid) seen) (record {
         some = owed.some;
         fits = owed.fits;
@@ -68,8 +73,10 @@ module _ (space : Space) (old : Machine) (name block words start : ℕ) (before 
         found = found;
         unused = subst (λ (l : LoaderState). named l.blocks block ≡ None) (sym is) owed.adds.unused;
         inside = owed.adds.inside;
-        changes = subst (λ (l : List Chunk). MayChange old.limits.policy (block_words words) (change (arena_of space before).chunks (slots_in space old)) (change l slots)) (sym chunks) changes;
-        after = sym (ap (λ (l : List (ℕ × LoaderState)). recommitted (with_seen mid l)) restored ∙ recommitted_seen mid seen its.held);
+        changes = subst (λ (l : List Chunk). MayChange old.limits.policy (block_words words)
+            (change (arena_of space before).chunks (slots_in space old)) (change l slots)) (sym chunks) changes;
+        after = sym (ap (λ (l : List (ℕ × LoaderState)). recommitted (with_seen mid l)) restored
+            ∙ recommitted_seen mid seen its.held);
       }) its.good)
     where
       owed : OwesBlock space block words start (named seen name) (named mid.loaders name)
@@ -82,10 +89,12 @@ module _ (space : Space) (old : Machine) (name block words start : ℕ) (before 
       found = named_changed_same seen name owed.after before owed.serial_is
 
       is : with_it ≡ owed.before
-      is = same_loader with_it owed.before (named mid.loaders name) (named_changed_same old.loaders name before with_it has) owed.real_is
+      is = same_loader with_it owed.before (named mid.loaders name)
+          (named_changed_same old.loaders name before with_it has) owed.real_is
 
       chunks : owed.adds.arena.chunks ≡ arena.chunks
-      chunks = owed.adds.chunks ∙ ap (λ (l : LoaderState). (arena_of space l).chunks) (sym is) ∙ ap (λ (a : ArenaState). a.chunks) (arena_there space before arena)
+      chunks = owed.adds.chunks ∙ ap (λ (l : LoaderState). (arena_of space l).chunks) (sym is) ∙ ap
+          (λ (a : ArenaState). a.chunks) (arena_there space before arena)
 
       made : LiveBlock
       made = zeroed start (block_words words)

@@ -20,11 +20,13 @@ use Rattle.ms_base.proofs.events.LocalLemmas.{acts_refused}
 use Rattle.ms_base.proofs.events.OwedLemmas.{added_by, goes_on_placed}
 
 -- No allocation is answered by another reply.
-not_done : (space : Space) (old : Machine) (name block words : ℕ) (new : Machine) → Happens old (acting (alloc_in space name block words)) (replied Done) new → ⊥
+not_done : (space : Space) (old : Machine) (name block words : ℕ) (new : Machine)
+    → Happens old (acting (alloc_in space name block words)) (replied Done) new → ⊥
 not_done NonClass old name block words new does = does.0
 not_done Class old name block words new does = does.0
 
-not_value : (space : Space) (old : Machine) (name block words value : ℕ) (new : Machine) → Happens old (acting (alloc_in space name block words)) (replied (Value value)) new → ⊥
+not_value : (space : Space) (old : Machine) (name block words value : ℕ) (new : Machine)
+    → Happens old (acting (alloc_in space name block words)) (replied (Value value)) new → ⊥
 not_value NonClass old name block words value new does = does.0
 not_value Class old name block words value new does = does.0
 
@@ -38,14 +40,18 @@ module _ (space : Space) (mine block words : ℕ) (spread : SpreadStep) (step_is
   request = alloc_in space mine block words
 
   -- Its local event alone.
-  alone : (reply : Reply) → spread.reply ≡ reply → IsOwnReply reply → (more : List Part) → AreWhole more → is_place spread.events (acting request, replied reply) ≡ true
-      → Happens old (acting request) (replied reply) new → GoesOnBy mine stage old new (Some spread, acting request, replied reply) more
+  alone : (reply : Reply) → spread.reply ≡ reply → IsOwnReply reply → (more : List Part) → AreWhole more
+      → is_place spread.events (acting request, replied reply) ≡ true
+      → Happens old (acting request) (replied reply) new
+      → GoesOnBy mine stage old new (Some spread, acting request, replied reply) more
   alone Done reply_is own more whole here does = absurd (not_done space old mine block words new does)
   alone (Value value) reply_is own more whole here does = absurd (not_value space old mine block words value new does)
   alone (At start) reply_is own more whole here does =
-      goes_on_placed space mine block words start spread step_is reply_is stage plain old new more whole here (added_by space old mine block words start new does)
+      goes_on_placed space mine block words start spread step_is reply_is stage plain old new more whole here
+      (added_by space old mine block words start new does)
   alone (Refused refusal) reply_is own more whole here does =
-      acts_refused mine spread stage old new request refusal more whole plain step_is reply_is (names_it space mine block words) own here does
+      acts_refused mine spread stage old new request refusal more whole plain step_is reply_is
+      (names_it space mine block words) own here does
 
   abbrev took : (p m n start : ℕ) (chunk : Chunk) → List (Event × Answer)
   took p m n start chunk = (taking space mine p m n, lent chunk) ∷ (acting request, replied (At start)) ∷ []
@@ -67,7 +73,8 @@ module _ (space : Space) (mine block words : ℕ) (spread : SpreadStep) (step_is
   places_passed [] not_asked p m n refusal = record { here = refl; elsewhere = refl }
   places_passed (a ∷ asked) (not_had at total enlarges other) p m n refusal = record { here = refl; elsewhere = refl }
 
-  place_alone : (asked : List (Event × Answer)) → HasNoSpan space mine asked → (reply : Reply) → is_place (asked ++ (acting request, replied reply) ∷ []) (acting request, replied reply) ≡ true
+  place_alone : (asked : List (Event × Answer)) → HasNoSpan space mine asked → (reply : Reply)
+      → is_place (asked ++ (acting request, replied reply) ∷ []) (acting request, replied reply) ≡ true
   place_alone [] not_asked reply = refl
   place_alone (a ∷ asked) (not_had at total enlarges other) reply = refl
 
@@ -76,26 +83,35 @@ module _ (space : Space) (mine block words : ℕ) (spread : SpreadStep) (step_is
     abbrev goal : List (Event × Answer) → List Part → Type 0
     goal rest more = FirstGoesOn name stage old new (rest_of spread rest ++ more)
 
-    pub goes_on_first : (asked rest : List (Event × Answer)) (reply : Reply) → spread.reply ≡ reply → HasNoSpan space mine asked → GoesOn space mine request reply rest
-        → spread.events ≡ asked ++ rest → (more : List Part) → AreWhole more → goal rest more
+    pub goes_on_first : (asked rest : List (Event × Answer)) (reply : Reply) → spread.reply ≡ reply
+        → HasNoSpan space mine asked → GoesOn space mine request reply rest → spread.events ≡ asked ++ rest
+        → (more : List Part) → AreWhole more → goal rest more
     goes_on_first asked rest reply reply_is no_span (inl takes) events_are more whole =
-        let its : spread.events ≡ asked ++ took takes.p takes.m takes.words takes.at takes.chunk = events_are ∙ ap (λ (l : List (Event × Answer)). asked ++ l) takes.events_are in
+        let its : spread.events ≡ asked ++ took takes.p takes.m takes.words takes.at takes.chunk = events_are ∙ ap
+        (λ (l : List (Event × Answer)). asked ++ l) takes.events_are in
         let places = places_taken asked no_span takes.p takes.m takes.words takes.at takes.chunk in
         subst (λ (l : List (Event × Answer)). goal l more) (sym takes.events_are) (λ happens asks is_mine.
-        onto (Some spread, taking space mine takes.p takes.m takes.words, lent takes.chunk) ((Some spread, acting request, replied (At takes.at)) ∷ more) is_mine
+        onto (Some spread, taking space mine takes.p takes.m takes.words, lent takes.chunk)
+        ((Some spread, acting request, replied (At takes.at)) ∷ more) is_mine
         (goes_on_taken space mine block words spread step_is stage plain old new more whole takes.p takes.m takes.words takes.at takes.chunk (reply_is ∙ takes.served)
         (ap (λ (l : List (Event × Answer)). is_place l (taking space mine takes.p takes.m takes.words, lent takes.chunk)) its ∙ places.here)
-        (ap (λ (l : List (Event × Answer)). is_place l (acting request, replied (At takes.at))) its ∙ places.elsewhere) happens asks))
+        (ap (λ (l : List (Event × Answer)). is_place l (acting request, replied (At takes.at))) its
+        ∙ places.elsewhere) happens asks))
     goes_on_first asked rest reply reply_is no_span (inr (inl passes)) events_are more whole =
-        let its : spread.events ≡ asked ++ passed passes.p passes.m passes.words passes.refusal = events_are ∙ ap (λ (l : List (Event × Answer)). asked ++ l) passes.events_are in
+        let its : spread.events ≡ asked ++ passed passes.p passes.m passes.words passes.refusal = events_are ∙ ap
+        (λ (l : List (Event × Answer)). asked ++ l) passes.events_are in
         let places = places_passed asked no_span passes.p passes.m passes.words passes.refusal in
         subst (λ (l : List (Event × Answer)). goal l more) (sym passes.events_are) (λ happens asks is_mine.
-        onto (Some spread, taking space mine passes.p passes.m passes.words, refused passes.refusal) ((Some spread, acting request, replied (Refused passes.refusal)) ∷ more) is_mine
+        onto (Some spread, taking space mine passes.p passes.m passes.words, refused passes.refusal)
+        ((Some spread, acting request, replied (Refused passes.refusal)) ∷ more) is_mine
         (goes_on_refused space mine block words spread step_is stage plain old new more whole passes.p passes.m passes.words passes.refusal (reply_is ∙ passes.passed)
         (ap (λ (l : List (Event × Answer)). is_place l (taking space mine passes.p passes.m passes.words, refused passes.refusal)) its ∙ places.here)
-        (ap (λ (l : List (Event × Answer)). is_place l (acting request, replied (Refused passes.refusal))) its ∙ places.elsewhere) happens asks))
+        (ap (λ (l : List (Event × Answer)). is_place l (acting request, replied (Refused passes.refusal))) its
+        ∙ places.elsewhere) happens asks))
     goes_on_first asked rest reply reply_is no_span (inr (inr none)) events_are more whole =
         subst (λ (l : List (Event × Answer)). goal l more) (sym none.events_are) (λ happens asks is_mine.
         onto (Some spread, acting request, replied reply) more (sym (names_it space mine block words) ∙ is_mine)
         (alone reply reply_is none.own more whole
-        (ap (λ (l : List (Event × Answer)). is_place l (acting request, replied reply)) (events_are ∙ ap (λ (l : List (Event × Answer)). asked ++ l) none.events_are) ∙ place_alone asked no_span reply) happens))
+        (ap (λ (l : List (Event × Answer)). is_place l (acting request, replied reply))
+        (events_are ∙ ap (λ (l : List (Event × Answer)). asked ++ l) none.events_are)
+        ∙ place_alone asked no_span reply) happens))

@@ -107,9 +107,11 @@ abbrev pub Left : ℕ → Stage → List Part → Type 0
 Left name idle parts = AreWhole parts
 Left name (turned_down spread) parts = IsOnItsWay name spread parts
 Left name (owes_block space block words start) parts =
-    IsOwed (alloc_in space name block words) (At start) (acting (alloc_in space name block words)) (replied (At start)) false parts
+    IsOwed (alloc_in space name block words) (At start) (acting (alloc_in space name block words))
+    (replied (At start)) false parts
 Left name (owes_refusal space block words refusal) parts =
-    IsOwed (alloc_in space name block words) (Refused refusal) (acting (alloc_in space name block words)) (replied (Refused refusal)) false parts
+    IsOwed (alloc_in space name block words) (Refused refusal) (acting (alloc_in space name block words))
+    (replied (Refused refusal)) false parts
 Left name (unloading loader) parts = IsOwed (Unload name) Done (closing name) accepted true parts
 Left name retracting parts = (step : Step) × (reply : Reply) × IsOwed step reply (closing name) accepted false parts
 
@@ -127,7 +129,8 @@ pub record GoesBack (name : ℕ) (stage : Stage) (old new : Machine) (seen : Lis
   pub rises : AreNamed loaders
   pub others : (other : ℕ) → (name ≡ other → ⊥) → named loaders other ≡ named seen other
   pub mine : Shows stage (named loaders name) (named old.loaders name)
-  pub run : (later : List (Step × Reply)) (end : Machine) → Run (record new { loaders = seen }) (steps_of later) (replies_of later) end
+  pub run : (later : List (Step × Reply)) (end : Machine)
+      → Run (record new { loaders = seen }) (steps_of later) (replies_of later) end
       → Run (record old { loaders = loaders }) (steps_of (done ++ later)) (replies_of (done ++ later)) end
 
 -- An event of a loader's: how far its step comes by it, and that loaders go back.
@@ -135,7 +138,8 @@ pub record GoesOnBy (name : ℕ) (stage : Stage) (old new : Machine) (part : Par
   pub next : Stage
   pub was : Was next (named new.loaders name)
   pub left : Left name next rest
-  pub back : (seen : List (ℕ × LoaderState)) → IsSeen name next new seen → GoesBack name stage old new seen (done_by part.0 (part.1, part.2))
+  pub back : (seen : List (ℕ × LoaderState)) → IsSeen name next new seen
+      → GoesBack name stage old new seen (done_by part.0 (part.1, part.2))
 
 -- So for the first of the events that are left, as it happens.
 abbrev pub FirstGoesOn : ℕ → Stage → Machine → Machine → List Part → Type 0
