@@ -130,12 +130,8 @@ pub goes_on_placed : (space : Space) (name block words start : ℕ) (spread : Sp
     → HasAdded old space name block words start new
     → GoesOnBy name stage old new (Some spread, acting (alloc_in space name block words), replied (At start)) more
 goes_on_placed space name block words start spread step_is reply_is stage plain old new more whole here added =
-    subst (λ (one : Machine). GoesOnBy name stage old one (
-      Some spread,
-      acting
-          (alloc_in space name block words),
-      replied (At start),
-    ) more) (sym adds.after) (record {
+    subst (λ (one : Machine). GoesOnBy name stage old one (Some spread, acting (alloc_in space name block words), replied (At start)) more)
+    (sym adds.after) (record {
       next = idle;
       was = tt;
       left = whole;

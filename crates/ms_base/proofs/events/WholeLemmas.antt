@@ -38,6 +38,13 @@ idle_is_plain serial real e = e
 turned_is_plain : (spread : SpreadStep) → IsPlain (turned_down spread)
 turned_is_plain spread serial real e = e
 
+-- The events of a New that finds no memory after the opening, and those of an Unload.
+abbrev in_vain : ℕ → Kind → List (Event × Answer)
+in_vain name kind = (opening name kind, accepted) ∷ (closing name, accepted) ∷ []
+
+abbrev unload_of : ℕ → List (Event × Answer)
+unload_of name = (acting (Unload name), replied Done) ∷ (closing name, accepted) ∷ []
+
 abbrev some_name : ℕ → Option ℕ
 some_name name = Some name
 
@@ -56,18 +63,19 @@ module _ (name : ℕ) (old new : Machine) (good : IsGood old) (spread : SpreadSt
       → is_place events (event, answer) ≡ b → is_place spread.events (event, answer) ≡ b
   place_of event answer events its b e = ap (λ (l : List (Event × Answer)). is_place l (event, answer)) its ∙ e
 
-  -- A step that is its local event, where it is refused.
+  -- A step that is its local event alone is done there.
+  alone_here : (step : Step) (reply : Reply) → IsAlone step reply spread.events
+      → is_place spread.events (acting step, replied reply) ≡ true
+  alone_here step reply alone = place_of (acting step) (replied reply) ((acting step, replied reply) ∷ []) alone.events_are true refl
+
+  -- So where it is refused.
   refused_alone : (step : Step) (refusal : Refusal) → spread.step ≡ step → spread.reply ≡ Refused refusal
       → IsAlone step (Refused refusal) spread.events → goal spread.events
   refused_alone step refusal step_is reply_is alone = subst goal (sym alone.events_are) (λ happens asks is_mine.
       acts_refused name spread idle old new step refusal more whole idle_is_plain step_is reply_is is_mine alone.own
-      (place_of (acting step) (replied (Refused refusal)) ((
-        acting step,
-        replied
-            (Refused refusal),
-      ) ∷ []) alone.events_are true refl) happens)
+      (alone_here step (Refused refusal) alone) happens)
 
-  -- One that is its local event, where no such reply is given.
+  -- And no other reply is given than those that the request is served with.
   never : (step : Step) (reply : Reply) → IsAlone step reply spread.events
       → (Happens old (acting step) (replied reply) new → ⊥) → goal spread.events
   never step reply alone none = subst goal (sym alone.events_are) (λ happens asks is_mine. absurd (none happens))
@@ -86,10 +94,8 @@ module _ (name : ℕ) (old new : Machine) (good : IsGood old) (spread : SpreadSt
   first_new mine kind step_is (Refused OutOfMemory) reply_is (inl its) = subst goal (sym its) (λ happens asks is_mine.
       onto mine (Some spread, opening mine kind, accepted) ((Some spread, closing mine, accepted) ∷ more) is_mine
       (goes_on_in_vain mine spread old new more whole kind step_is reply_is
-      (place_of (opening mine kind) accepted ((opening mine kind, accepted) ∷
-      (closing mine, accepted) ∷ []) its true refl)
-      (place_of (closing mine) accepted ((opening mine kind, accepted) ∷
-      (closing mine, accepted) ∷ []) its false refl) happens))
+      (place_of (opening mine kind) accepted (in_vain mine kind) its true refl)
+      (place_of (closing mine) accepted (in_vain mine kind) its false refl) happens))
   first_new mine kind step_is (Refused OutOfMemory) reply_is (inr its) = refused_alone
       (New mine kind) OutOfMemory step_is reply_is its
   first_new mine kind step_is (Refused refusal) reply_is its = refused_alone (New mine kind) refusal step_is reply_is its
@@ -102,10 +108,8 @@ module _ (name : ℕ) (old new : Machine) (good : IsGood old) (spread : SpreadSt
   first_unload mine step_is Done reply_is its = subst goal (sym its) (λ happens asks is_mine.
       onto mine (Some spread, acting (Unload mine), replied Done) ((Some spread, closing mine, accepted) ∷ more) is_mine
       (goes_on_emptied mine spread old new more whole good step_is reply_is
-      (place_of (acting (Unload mine)) (replied Done) ((acting (Unload mine), replied Done) ∷
-      (closing mine, accepted) ∷ []) its false refl)
-      (place_of (closing mine) accepted ((acting (Unload mine), replied Done) ∷
-      (closing mine, accepted) ∷ []) its true refl) happens.0))
+      (place_of (acting (Unload mine)) (replied Done) (unload_of mine) its false refl)
+      (place_of (closing mine) accepted (unload_of mine) its true refl) happens.0))
   first_unload mine step_is (Refused refusal) reply_is its = refused_alone (Unload mine) refusal step_is reply_is its
   first_unload mine step_is (At start) reply_is its = never (Unload mine) (At start) its (λ happens. happens.0)
   first_unload mine step_is (Value value) reply_is its = never (Unload mine) (Value value) its (λ happens. happens.0)
@@ -117,10 +121,18 @@ module _ (name : ℕ) (old new : Machine) (good : IsGood old) (spread : SpreadSt
       let writes = happens.0 in
       onto mine (Some spread, acting (Write mine block index value), replied Done) more is_mine
       (acts_on_block mine spread old new (Write mine block index value) Done more whole step_is reply_is
-      (place_of (acting (Write mine block index value)) (replied Done)
-      ((acting (Write mine block index value), replied Done) ∷ []) its.events_are true refl)
-      writes.loader (with_block writes.loader block (record writes.found { contents = slice_set writes.found.contents index value })) writes.has.loader_is writes.after
-      (λ m has sound. (record { loader = writes.loader; found = writes.found; has = record { loader_is = has; block_is = writes.has.block_is }; within = writes.within; after = refl }, sound))))
+      (alone_here (Write mine block index value) Done its) writes.loader
+      (with_block writes.loader block (record writes.found { contents = slice_set writes.found.contents index value }))
+      writes.has.loader_is writes.after (λ m has sound. (
+        record {
+          loader = writes.loader;
+          found = writes.found;
+          has = record { loader_is = has; block_is = writes.has.block_is };
+          within = writes.within;
+          after = refl;
+        },
+        sound,
+      ))))
   first_write mine block index value step_is (Refused refusal) reply_is its = refused_alone
       (Write mine block index value) refusal step_is reply_is its
   first_write mine block index value step_is (At start) reply_is its = never (Write mine block index value)
@@ -137,10 +149,17 @@ module _ (name : ℕ) (old new : Machine) (good : IsGood old) (spread : SpreadSt
       (set_value_same (is_at (nat_cmp mine)) m.loaders reads.loader has) in
       onto mine (Some spread, acting (Read mine block index), replied (Value value)) more is_mine
       (acts_on_block mine spread old new (Read mine block index) (Value value) more whole step_is reply_is
-      (place_of (acting (Read mine block index)) (replied (Value value))
-      ((acting (Read mine block index), replied (Value value)) ∷ []) its.events_are true refl)
-      reads.loader reads.loader reads.has.loader_is (reads.after ∙ sym (same old reads.has.loader_is))
-      (λ m has sound. (record { loader = reads.loader; found = reads.found; has = record { loader_is = has; block_is = reads.has.block_is }; word = reads.word; after = same m has }, sound))))
+      (alone_here (Read mine block index) (Value value) its) reads.loader reads.loader reads.has.loader_is
+      (reads.after ∙ sym (same old reads.has.loader_is)) (λ m has sound. (
+        record {
+          loader = reads.loader;
+          found = reads.found;
+          has = record { loader_is = has; block_is = reads.has.block_is };
+          word = reads.word;
+          after = same m has;
+        },
+        sound,
+      ))))
   first_read mine block index step_is (Refused refusal) reply_is its = refused_alone
       (Read mine block index) refusal step_is reply_is its
   first_read mine block index step_is Done reply_is its = never (Read mine block index) Done its (λ happens. happens.0)
@@ -153,13 +172,18 @@ module _ (name : ℕ) (old new : Machine) (good : IsGood old) (spread : SpreadSt
       let frees = happens.0 in
       onto mine (Some spread, acting (Free mine block), replied Done) more is_mine
       (acts_on_block mine spread old new (Free mine block) Done more whole step_is reply_is
-      (place_of (acting (Free mine block)) (replied Done) ((
-        acting
-            (Free mine block),
-        replied Done,
-      ) ∷ []) its.events_are true refl)
-      frees.loader (with_freed (space_at frees.found.start) frees.loader block frees.kept) frees.has.loader_is frees.after
-      (λ m has sound. (record { loader = frees.loader; found = frees.found; kept = frees.kept; has = record { loader_is = has; block_is = frees.has.block_is }; after = refl }, sound))))
+      (alone_here (Free mine block) Done its) frees.loader
+      (with_freed (space_at frees.found.start) frees.loader block frees.kept) frees.has.loader_is frees.after
+      (λ m has sound. (
+        record {
+          loader = frees.loader;
+          found = frees.found;
+          kept = frees.kept;
+          has = record { loader_is = has; block_is = frees.has.block_is };
+          after = refl;
+        },
+        sound,
+      ))))
   first_free mine block step_is (Refused refusal) reply_is its = refused_alone
       (Free mine block) refusal step_is reply_is its
   first_free mine block step_is (At start) reply_is its = never (Free mine block) (At start) its (λ happens. happens.0)
