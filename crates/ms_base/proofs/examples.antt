@@ -9,3 +9,4 @@ pub mod StepExamples
 pub mod MachineExamples
 pub mod EventExamples
 pub mod SpreadExamples
+pub mod FollowExamples

@@ -18,7 +18,7 @@ use Rattle.ms_base.specs.Event.{Event, opening, taking, growing, closing, purgin
 use Rattle.ms_base.specs.Spread.{SpreadStep, Moment, GoesOn, HasNoSpan, Spreads, IsWhole, IsByItself, IsAskedFor, words_asked, Part, parts_of, AreWhole, IsSpread, not_asked, not_had, parts_by}
 use Rattle.ms_base.specs.Serial.{is_accepted, is_taking, is_closing, is_acting, is_place, serial}
 
-abbrev chunk : ℕ → ℕ → ℕ → Chunk
+abbrev pub chunk : ℕ → ℕ → ℕ → Chunk
 chunk at level front = record { start = at; level = level; front = front }
 
 -- An unload counts as done at its closing, and not at its local event.
@@ -150,19 +150,19 @@ growth_is_enough (inr on) = by_asked on.no_span on.events_are
 
 -- A spread with its states: a loader's unload and another's allocation, each between the other's
 -- events.
-abbrev arena_with : List Chunk → List ℕ → ArenaState
+abbrev pub arena_with : List Chunk → List ℕ → ArenaState
 arena_with chunks tops = record { chunks = chunks; tops = tops; kept = [] }
 
-abbrev full : LoaderState
+abbrev pub full : LoaderState
 full = record { kind = Standard; arena = arena_with (chunk 0 10 512 ∷ []) (10 ∷ []); class_arena = empty_arena; blocks = (1, zeroed 0 10) ∷ [] }
 
-abbrev with_its_chunk : LoaderState
+abbrev pub with_its_chunk : LoaderState
 with_its_chunk = record (empty_loader Standard) { arena = arena_with (chunk 512 10 512 ∷ []) [] }
 
-abbrev with_its_block : LoaderState
+abbrev pub with_its_block : LoaderState
 with_its_block = record with_its_chunk { arena = arena_with (chunk 512 10 512 ∷ []) (10 ∷ []); blocks = (1, zeroed 512 10) ∷ [] }
 
-abbrev two : LoaderState → LoaderState → Machine
+abbrev pub two : LoaderState → LoaderState → Machine
 two first second = record (empty_machine (record { nodes = 64; granules = 8192; policy = Balanced; class_nodes = 0 })) {
   loaders = (1, first) ∷ (2, second) ∷ [];
   slots = 0 ∷ [];
@@ -170,10 +170,10 @@ two first second = record (empty_machine (record { nodes = 64; granules = 8192; 
   given = 4;
 }
 
-abbrev at_the_end : Machine
+abbrev pub at_the_end : Machine
 at_the_end = record (two full full) { loaders = (2, with_its_block) ∷ [] }
 
-abbrev moments : List Moment
+abbrev pub moments : List Moment
 moments =
     record { before = two full (empty_loader Standard); event = acting (Unload 1); answer = replied Done; after = two (emptied full) (empty_loader Standard); of = Some unload }
     ∷ record { before = two (emptied full) (empty_loader Standard); event = taking NonClass 2 10 12 10; answer = lent (chunk 512 10 512); after = two (emptied full) with_its_chunk; of = Some alloc }
@@ -189,7 +189,7 @@ none_of_the_class_space : (space : Space) → (arena_of space (emptied full)).ke
 none_of_the_class_space NonClass = refl
 none_of_the_class_space Class = refl
 
-chunk_is_taken : Happens (two (emptied full) (empty_loader Standard)) (taking NonClass 2 10 12 10) (lent (chunk 512 10 512)) (two (emptied full) with_its_chunk)
+pub chunk_is_taken : Happens (two (emptied full) (empty_loader Standard)) (taking NonClass 2 10 12 10) (lent (chunk 512 10 512)) (two (emptied full) with_its_chunk)
 chunk_is_taken = record {
   loader = empty_loader Standard;
   has = refl;
@@ -199,7 +199,7 @@ chunk_is_taken = record {
   after = refl;
 }
 
-loader_is_closed : Happens (two (emptied full) with_its_block) (closing 1) accepted at_the_end
+pub loader_is_closed : Happens (two (emptied full) with_its_block) (closing 1) accepted at_the_end
 loader_is_closed = record { loader = emptied full; has = refl; blocks = refl; kept = none_of_the_class_space; after = refl }
 
 only_known : (name : ℕ) → AreWhole (parts_by name moments)
@@ -217,7 +217,7 @@ only_known (suc (suc (suc name))) = record { steps = []; whole = All-from_recurs
 arena_asks : IsAskedFor (two (emptied full) (empty_loader Standard)) (taking NonClass 2 10 12 10) (words_asked (Some alloc))
 arena_asks = record { loader = empty_loader Standard; has = refl; wanted = refl; most_is = refl; words_are = refl }
 
-is_spread : IsSpread moments
+pub is_spread : IsSpread moments
 is_spread = record {
   each = only_known;
   others = All-from_recursion (λ (moment : Moment). IsByItself (moment.event, moment.answer) (loader_of_event moment.event) moment.of) moments (tt, (tt, (tt, (tt, tt))));
