@@ -5,11 +5,11 @@ use Rattle.ms_base.specs.declared.kind.Space.{Space}
 use Rattle.ms_base.specs.declared.kind.Space.TheVariants.{NonClass, Class}
 use Rattle.ms_base.specs.declared.policy.Policy.TheVariants.{Balanced}
 use Rattle.ms_base.specs.declared.span.Chunk.{Chunk}
-use Rattle.ms_base.specs.declared.step.Step.TheVariants.{New, Unload}
+use Rattle.ms_base.specs.declared.step.Step.TheVariants.{New, Alloc, Unload}
 use Rattle.ms_base.specs.declared.step.Reply.TheVariants.{Refused}
-use Rattle.ms_base.specs.declared.refusal.Refusal.TheVariants.{NoLoader, NoRoom, ReserveLimit, IdsUsedUp}
+use Rattle.ms_base.specs.declared.refusal.Refusal.TheVariants.{CommitLimit, NoLoader, NoRoom, ReserveLimit, IdsUsedUp}
 use Rattle.ms_base.specs.State.{ArenaState, LoaderState, Machine, empty_machine, empty_arena, empty_loader, arena_of}
-use Rattle.ms_base.specs.Transition.{zeroed}
+use Rattle.ms_base.specs.Transition.{zeroed, Cause}
 use Rattle.ms_base.specs.Event.{opening, taking, growing, closing, purging, acting, accepted, lent, counted, replied, refused, Happens, emptied}
 
 abbrev chunk : ℕ → ℕ → ℕ → Chunk
@@ -97,3 +97,30 @@ no_loader = (refl, refl)
 
 ids_are_the_pools : Happens alone (acting (New 2 Boot)) (replied (Refused IdsUsedUp)) alone → ⊥
 ids_are_the_pools none = none.0
+
+-- With a limit of one granule a chunk is refused while another loader holds it, and for no cause
+-- when it doesn't: neither once that one is closed nor before it had the chunk. So an unload counts
+-- as done at its closing and not before, and a refused allocation where its chunk is refused.
+abbrev tight : List (ℕ × LoaderState) → List ℕ → Machine
+tight loaders granules = record (empty_machine (record { nodes = 64; granules = 1; policy = Balanced; class_nodes = 0 })) {
+  loaders = loaders;
+  slots = 0 ∷ [];
+  committed = granules;
+  given = 4;
+}
+
+abbrev holder : LoaderState
+holder = record (empty_loader Standard) { arena = arena (chunk 0 6 8192 ∷ []) [] }
+
+limit_is_met : Happens (tight ((1, holder) ∷ (2, empty_loader Standard) ∷ []) (0 ∷ [])) (taking NonClass 2 10 12 10) (refused (CommitLimit 1 1 1))
+    (tight ((1, holder) ∷ (2, empty_loader Standard) ∷ []) (0 ∷ []))
+limit_is_met = record {
+  loader = empty_loader Standard;
+  has = refl;
+  askable = record { order = omega arith; least = omega arith; some = omega arith; fits = omega arith };
+  cause = inl refl;
+  after = refl;
+}
+
+without_it_none_is : Cause (tight ((2, empty_loader Standard) ∷ []) []) (Alloc 2 1 10) (CommitLimit 1 1 1) → ⊥
+without_it_none_is cause = let committed = cause.1.cause.committed_are in absurd (cc)
