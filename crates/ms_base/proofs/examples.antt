@@ -7,4 +7,6 @@ pub mod AloneExamples
 pub mod ArenaExamples
 pub mod StepExamples
 pub mod MachineExamples
+pub mod EventExamples
 pub mod SpreadExamples
+pub mod FollowExamples

@@ -128,8 +128,8 @@ pub record Tells (old : Machine) (space : Space) (sums : PoolSums) (new : Machin
   pub sums_are : sums ≡ pool_sums (pool_of space old) (length old.loaders)
   pub after : new ≡ old
 
--- A block is added to a loader, new zeros in a space: its chunks stay, and what it keeps there, and
--- its tops, may change.
+-- A block is added to a loader, new zeros in a space: its chunks stay. Where it lies, which tops of
+-- that space rise and what is kept there are left open: the loader is sound then.
 pub record AddsBlock (space : Space) (block words start : ℕ) (old new : LoaderState) : Type 0 where
   pub arena : ArenaState
   pub unused : named old.blocks block ≡ None

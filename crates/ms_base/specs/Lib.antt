@@ -32,6 +32,10 @@ pub mod Run
 pub mod Alone
 -- what a report shows
 pub mod Totals
+-- steps spread over events, and their serial order
+pub mod Event
+pub mod Spread
+pub mod Serial
 -- laws about these, each the contract of a function of `laws`
 pub mod Laws
 pub mod FreeLaws
@@ -39,7 +43,4 @@ pub mod LevelLaws
 pub mod SumLaws
 pub mod BlockLaws
 pub mod WordLaws
--- steps spread over events, and their serial order
-pub mod Event
-pub mod Spread
-pub mod Serial
+pub mod SpreadLaws

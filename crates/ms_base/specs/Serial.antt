@@ -1,23 +1,16 @@
 -- The serial order of a spread: its steps in the order in which they count as done.
-use Rattle.std.specs.Prelude.{◌≡◌, ℕ, Bool, true, false, ◌||◌, ◌==◌, List, [], ◌∷◌, map, length, Option, Some, None, if◌then◌else◌}
-use Rattle.std.specs.List.{All, list_any, flat_map}
+use Rattle.std.specs.Prelude.{Bool, true, false, ◌||◌, ◌&&◌, ◌==◌, List, [], ◌∷◌, map, length, Option, Some, None, if◌then◌else◌}
+use Rattle.std.specs.List.{list_any, flat_map}
 use Rattle.ms_base.specs.declared.step.Step.{Step}
 use Rattle.ms_base.specs.declared.step.Reply.{Reply}
-use Rattle.ms_base.specs.Names.{named}
-use Rattle.ms_base.specs.Request.{is_name}
-use Rattle.ms_base.specs.State.{Machine}
-use Rattle.ms_base.specs.Good.{IsGood}
-use Rattle.ms_base.specs.Run.{Run}
-use Rattle.ms_base.specs.SumLaws.{HoldsNothing}
-use Rattle.ms_base.specs.Event.{Event, opening, taking, growing, closing, acting, Answer, lent, loader_of_event}
-use Rattle.ms_base.specs.Spread.{SpreadStep, Moment, Follow, IsSpread}
+use Rattle.ms_base.specs.Event.{Event, opening, taking, growing, closing, acting, Answer, lent}
+use Rattle.ms_base.specs.Spread.{SpreadStep, Moment}
 
--- Kinds of events: an accepted growth or chunk, a chunk asked for, an opening, a closing, a local
+-- Kinds of events: a growth that is asked for, a chunk that is, an opening, a closing, and a local
 -- event.
-abbrev pub is_accepted : Event × Answer → Bool
-is_accepted (taking space name p m words, lent chunk) = true
-is_accepted (growing space name start total enlarges, lent chunk) = true
-is_accepted _ = false
+abbrev pub is_growing : Event × Answer → Bool
+is_growing (growing space name start total enlarges, answer) = true
+is_growing _ = false
 
 abbrev pub is_taking : Event × Answer → Bool
 is_taking (taking space name p m words, answer) = true
@@ -34,6 +27,14 @@ is_closing _ = false
 abbrev pub is_acting : Event × Answer → Bool
 is_acting (acting step, answer) = true
 is_acting _ = false
+
+-- A growth or a chunk that is had.
+abbrev pub is_lent : Answer → Bool
+is_lent (lent chunk) = true
+is_lent _ = false
+
+abbrev pub is_accepted : Event × Answer → Bool
+is_accepted event = (is_growing event || is_taking event) && is_lent event.1
 
 -- Of a step's events, its place: its accepted growth or chunk, else the first that there is of its
 -- taking, its opening, its closing and its only event, else its local event.
@@ -62,27 +63,3 @@ steps_of done = map (λ (one : Step × Reply). one.0) done
 
 abbrev pub replies_of : List (Step × Reply) → List Reply
 replies_of done = map (λ (one : Step × Reply). one.1) done
-
--- An event leaves all that is another loader's: its chunks, books and blocks.
-abbrev pub LeavesOthers : Machine → Event → Machine → Type 0
-LeavesOthers old event new =
-    (name : ℕ) → is_name name (loader_of_event event) ≡ false → named new.loaders name ≡ named old.loaders name
-
--- After a moment the state is good, other loaders are as they were, and with no loader left all
--- memory has been given back.
-pub record IsKeptAt (moment : Moment) : Type 0 where
-  pub good : IsGood moment.after
-  pub others : LeavesOthers moment.before moment.event moment.after
-  pub given_back : moment.after.loaders ≡ [] → HoldsNothing moment.after
-
--- So it is after each moment, and the serial order is a run of the machine with the same replies,
--- from the same first state to the same last.
-pub record IsSerial (old : Machine) (moments : List Moment) (new : Machine) : Type 0 where
-  pub kept : All IsKeptAt moments
-  pub run : Run old (steps_of (serial moments)) (replies_of (serial moments)) new
-
--- Each spread is serial: however steps are spread over events, their replies and the state are those
--- of whole steps, one after another.
-abbrev pub SpreadsAreSerial : Type 0
-SpreadsAreSerial =
-    (old new : Machine) (moments : List Moment) → IsGood old → Follow old moments new → IsSpread moments → IsSerial old moments new

@@ -1,5 +1,5 @@
 -- A chunk that the pool lends may be added to a machine; for the law about events.
-use Rattle.std.proofs.Common.{◌≡◌, ◌≤◌, ◌<◌, ℕ, true, ◌⊎◌, length, refl, ap, subst, arith, inl, inr}
+use Rattle.std.proofs.Common.{◌≡◌, ◌≤◌, ℕ, true, length, ap, arith, inl, inr}
 use Rattle.std.specs.Ordering.{nat_cmp}
 use Rattle.std.specs.BTreeSet.{insert_key}
 use Rattle.std.proofs.lemmas.Bool.{ltb-true}
@@ -7,7 +7,7 @@ use Rattle.std.proofs.lemmas.List.FromFn.{length-range_with_len}
 use Rattle.std.proofs.lemmas.Map.Keys.{sorted_from_strictly_increasing}
 use Rattle.ms_base.specs.declared.kind.Space.{Space}
 use Rattle.ms_base.specs.declared.kind.Space.TheVariants.{NonClass, Class}
-use Rattle.ms_base.specs.Part.{slot_of, is_reserved}
+use Rattle.ms_base.specs.Part.{slot_of}
 use Rattle.ms_base.specs.Spaces.{is_in}
 use Rattle.ms_base.specs.State.{Machine, pool_of}
 use Rattle.ms_base.specs.Good.{IsGood}
@@ -18,10 +18,12 @@ use Rattle.ms_pool.proofs.ledger.TakenLemmas.{HasSlot, IsLendable, taken_is_lend
 use Rattle.ms_pool.proofs.ledger.SlotLemmas.{same_with}
 
 -- The slot of a chunk of a space may be reserved there.
-may_reserve : (space : Space) (m : Machine) (start : ℕ) → IsGood m → is_in space start ≡ true → HasSlot (pool_of space m) (slot_of start) → MayReserve space m (slot_of start)
+may_reserve : (space : Space) (m : Machine) (start : ℕ) → IsGood m → is_in space start ≡ true
+    → HasSlot (pool_of space m) (slot_of start) → MayReserve space m (slot_of start)
 may_reserve NonClass m start good here has = (omega (arith, ltb-true start 67108864 here), within has)
   where
-    within : HasSlot (pool_of NonClass m) (slot_of start) → length (insert_key nat_cmp m.slots (slot_of start)) ≤ m.limits.nodes
+    within : HasSlot (pool_of NonClass m) (slot_of start)
+        → length (insert_key nat_cmp m.slots (slot_of start)) ≤ m.limits.nodes
     within (inl reserved) = omega (
       arith,
       ap length (same_with m.slots (slot_of start) (sorted_from_strictly_increasing m.slots (good.pools NonClass).slots) reserved),

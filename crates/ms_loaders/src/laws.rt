@@ -1,12 +1,8 @@
-//! The law of the whole: however the steps of loaders are spread over atomic events, what is answered
-//! and what is left are those of whole steps, one after another. It is the contract of a function that
-//! does nothing.
-//!
-//!     loader 1    . empties itself . . . . . . . . . . . . . . . . . closes .
-//!     loader 2    . . . . . . . . . takes a chunk . . . . . . . . . . . . . . places its block .
-//!     loader 3    . . . . . . . . . . . . . . . . is refused a chunk . . . . . passes that on .
-//!     serial order                  Alloc of 2      Alloc of 3      Unload of 1
-ghost use Rattle.ms_base.specs.Serial.{SpreadsAreSerial};
+//! The law of the whole: however the steps of loaders are spread over atomic events, the replies and
+//! the state are those of whole steps, one after another. It is the contract of a function that does
+//! nothing, and speaks of the model alone: what happens at an event (`Event` in the specs of
+//! `ms_base`), how steps are spread over events (`Spread`), and when each counts as done (`Serial`).
+ghost use Rattle.ms_base.specs.SpreadLaws.{SpreadsAreSerial};
 ghost use Rattle.ms_base.specs.SumLaws.{NoLoaderHoldsNothing};
 
 /// Says what spreads of steps over events come to: from a good state the state is good after each

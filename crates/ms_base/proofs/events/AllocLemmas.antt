@@ -1,24 +1,18 @@
 -- An allocation's events: what each does to the serial order's machine.
-use Rattle.std.proofs.Common.{◌≡◌, ℕ, Bool, true, false, Option, Some, None, List, [], ◌∷◌, ◌++◌, length, refl, sym, ap, ◌∙◌, subst, inl, inr}
-use Rattle.std.specs.Prelude.{Ok}
+use Rattle.std.proofs.Common.{◌≡◌, ℕ, Option, Some, None, List, [], ◌∷◌, refl, sym, ap, ◌∙◌, subst}
 use Rattle.ms_base.specs.declared.kind.Space.{Space}
 use Rattle.ms_base.specs.declared.kind.Space.TheVariants.{NonClass, Class}
 use Rattle.ms_base.specs.declared.span.Chunk.{Chunk}
 use Rattle.ms_base.specs.declared.words.LiveBlock.{LiveBlock}
 use Rattle.ms_base.specs.declared.step.Step.{Step}
-use Rattle.ms_base.specs.declared.step.Step.TheVariants.{Alloc, Calloc}
 use Rattle.ms_base.specs.declared.step.Reply.{Reply}
-use Rattle.ms_base.specs.declared.step.Reply.TheVariants.{At, Refused}
-use Rattle.ms_base.specs.declared.refusal.Refusal.{Refusal}
-use Rattle.ms_base.specs.declared.refusal.Refusal.TheVariants.{CommitLimit, ReserveLimit, OutOfMemory}
-use Rattle.ms_base.specs.Names.{named, with_new, with_changed}
+use Rattle.ms_base.specs.declared.step.Reply.TheVariants.{At}
+use Rattle.ms_base.specs.Names.{named, with_changed}
 use Rattle.ms_base.specs.Live.{block_words}
-use Rattle.ms_base.specs.State.{ArenaState, LoaderState, Machine, arena_of, with_arena, chunks_held, slots_in, with_slots, recommitted}
+use Rattle.ms_base.specs.State.{ArenaState, LoaderState, Machine, arena_of, with_arena, slots_in, recommitted}
 use Rattle.ms_base.specs.Good.{IsGood}
 use Rattle.ms_base.specs.Transition.{HasLoader, with_allocated, zeroed, Change, MayChange, Allocates, Transition}
 use Rattle.ms_base.specs.WordLaws.{alloc_in}
-use Rattle.ms_base.specs.Event.{AddsBlock}
-use Rattle.ms_base.specs.Serial.{is_place}
 use Rattle.ms_base.proofs.entries.EntryLemmas.{rises_with_changed}
 use Rattle.ms_base.proofs.entries.LookupLemmas.{named_changed_same, named_changed_other}
 use Rattle.ms_base.proofs.machine.ChangeLemmas.{changed}
@@ -42,7 +36,8 @@ twice : (space : Space) (loader : LoaderState) (first second : ArenaState) (bloc
 twice NonClass loader first second block made = refl
 twice Class loader first second block made = refl
 
-pub served_in : (space : Space) (old : Machine) (name block words start : ℕ) (new : Machine) → Allocates old space name block words start new → IsGood new
+pub served_in : (space : Space) (old : Machine) (name block words start : ℕ) (new : Machine)
+    → Allocates old space name block words start new → IsGood new
     → Transition old (alloc_in space name block words) (At start) new
 served_in NonClass old name block words start new allocates good = (allocates, good)
 served_in Class old name block words start new allocates good = (allocates, good)
@@ -59,12 +54,16 @@ module _ (space : Space) (old : Machine) (name block words start : ℕ) (before 
   abbrev change : List Chunk → List ℕ → Change
   change chunks into = record { chunks = chunks; slots = into }
 
-  pub had_back : (stage : Stage) → IsPlain stage → MayChange old.limits.policy (block_words words) (change (arena_of space before).chunks (slots_in space old)) (change arena.chunks slots)
+  pub had_back : (stage : Stage) → IsPlain stage
+      → MayChange old.limits.policy (block_words words) (change (arena_of space before).chunks (slots_in space old)) (change arena.chunks slots)
       → (seen : List (ℕ × LoaderState)) → IsSeen name (owes_block space block words start) (recommitted mid) seen
-      → (done : List (Step × Reply)) → done ≡ (alloc_in space name block words, At start) ∷ [] → GoesBack name stage old (recommitted mid) seen done
+      → (done : List (Step × Reply)) → done ≡ (alloc_in space name block words, At start) ∷ []
+      → GoesBack name stage old (recommitted mid) seen done
   had_back stage plain changes seen its done one =
-      steps_back name stage old (recommitted mid) seen loaders done (alloc_in space name block words) (At start) one (rises_with_changed seen name before its.rises)
-      (λ other differ. named_changed_other seen name before other differ) (plain (named loaders name) (named old.loaders name) (found ∙ sym has))
+      steps_back name stage old (recommitted mid) seen loaders done (alloc_in space name block words) (At start) one
+      (rises_with_changed seen name before its.rises)
+      (λ other differ. named_changed_other seen name before other differ)
+      (plain (named loaders name) (named old.loaders name) (found ∙ sym has))
       (served_in space (with_seen old loaders) name block words start (with_seen (recommitted mid) seen) (record {
         some = owed.some;
         fits = owed.fits;
@@ -74,8 +73,10 @@ module _ (space : Space) (old : Machine) (name block words start : ℕ) (before 
         found = found;
         unused = subst (λ (l : LoaderState). named l.blocks block ≡ None) (sym is) owed.adds.unused;
         inside = owed.adds.inside;
-        changes = subst (λ (l : List Chunk). MayChange old.limits.policy (block_words words) (change (arena_of space before).chunks (slots_in space old)) (change l slots)) (sym chunks) changes;
-        after = sym (ap (λ (l : List (ℕ × LoaderState)). recommitted (with_seen mid l)) restored ∙ recommitted_seen mid seen its.held);
+        changes = subst (λ (l : List Chunk). MayChange old.limits.policy (block_words words)
+            (change (arena_of space before).chunks (slots_in space old)) (change l slots)) (sym chunks) changes;
+        after = sym (ap (λ (l : List (ℕ × LoaderState)). recommitted (with_seen mid l)) restored
+            ∙ recommitted_seen mid seen its.held);
       }) its.good)
     where
       owed : OwesBlock space block words start (named seen name) (named mid.loaders name)
@@ -88,10 +89,12 @@ module _ (space : Space) (old : Machine) (name block words start : ℕ) (before 
       found = named_changed_same seen name owed.after before owed.serial_is
 
       is : with_it ≡ owed.before
-      is = same_loader with_it owed.before (named mid.loaders name) (named_changed_same old.loaders name before with_it has) owed.real_is
+      is = same_loader with_it owed.before (named mid.loaders name)
+          (named_changed_same old.loaders name before with_it has) owed.real_is
 
       chunks : owed.adds.arena.chunks ≡ arena.chunks
-      chunks = owed.adds.chunks ∙ ap (λ (l : LoaderState). (arena_of space l).chunks) (sym is) ∙ ap (λ (a : ArenaState). a.chunks) (arena_there space before arena)
+      chunks = owed.adds.chunks ∙ ap (λ (l : LoaderState). (arena_of space l).chunks) (sym is) ∙ ap
+          (λ (a : ArenaState). a.chunks) (arena_there space before arena)
 
       made : LiveBlock
       made = zeroed start (block_words words)

@@ -1,6 +1,6 @@
 -- Why a request is refused, and that it is refused so in a machine that has the same under its name.
-use Rattle.std.proofs.Common.{◌≡◌, ◌≤◌, ℕ, Bool, true, false, ◌⊎◌, Some, None, Result, Ok, Err, List, refl, sym, ◌∙◌, subst, inl, inr, length, if◌then◌else◌}
-use Rattle.std.specs.Prelude.{⊤, IsOk}
+use Rattle.std.proofs.Common.{◌≡◌, ℕ, Bool, true, false, Some, Result, Ok, Err, refl, sym, ◌∙◌, subst, inl, inr, length, if◌then◌else◌}
+use Rattle.std.specs.Prelude.{⊤}
 use Rattle.ms_base.specs.declared.kind.Kind.{Kind}
 use Rattle.ms_base.specs.declared.span.Chunk.{Chunk}
 use Rattle.ms_base.specs.declared.kind.Space.{Space}
@@ -10,14 +10,12 @@ use Rattle.ms_base.specs.declared.step.Step.TheVariants.{New, Alloc, Calloc, Wri
 use Rattle.ms_base.specs.declared.step.Reply.TheVariants.{Refused}
 use Rattle.ms_base.specs.declared.refusal.Refusal.{Refusal}
 use Rattle.ms_base.specs.declared.refusal.Refusal.TheVariants.{ZeroWords, TooLarge, CommitLimit, ReserveLimit, OutOfRange, OutOfMemory, NoLoader, LoaderExists, NoBlock, BlockExists, IdsUsedUp}
-use Rattle.ms_base.specs.Level.{root_words}
 use Rattle.ms_base.specs.Names.{named}
 use Rattle.ms_base.specs.Request.{loader_of}
 use Rattle.ms_base.specs.State.{LoaderState, Machine, PoolState}
 use Rattle.ms_base.specs.Pick.{chunk_picked}
 use Rattle.ms_base.specs.Causes.{committed_count, node_limit, granules_needed, meets_reserve_limit, meets_commit_limit, ReserveCause, CommitCause}
-use Rattle.ms_base.specs.PoolSteps.{taken}
-use Rattle.ms_base.specs.Transition.{HasLoader, LacksLoader, HasBlock, LacksBlock, LoaderIsThere, BlockIsThere, IsPast, IsServable, NewCause, AllocCause, BlockCause, WordCause, Cause, Leaves}
+use Rattle.ms_base.specs.Transition.{HasBlock, LacksBlock, IsServable, NewCause, AllocCause, BlockCause, WordCause, Cause, Leaves}
 use Rattle.ms_base.specs.WordLaws.{alloc_in}
 use Rattle.ms_base.specs.Event.{LendsNone, ActsNotCause}
 use Rattle.ms_base.specs.Spread.{IsOwnReply}
@@ -35,16 +33,20 @@ refused_as refusal = Err refusal
 same_refusal : (a b : Refusal) → refused_as a ≡ refused_as b → a ≡ b
 same_refusal a b e = cc
 
-pub none_cause : (pool : PoolState) (p m words : ℕ) (refusal : Refusal) → LendsNone pool p m words refusal → NoneCause pool p m words refusal
+pub none_cause : (pool : PoolState) (p m words : ℕ) (refusal : Refusal) → LendsNone pool p m words refusal
+    → NoneCause pool p m words refusal
 none_cause pool p m words refusal (inr wants) = subst (NoneCause pool p m words) (sym wants.1) tt
-none_cause pool p m words refusal (inl is) = go (meets_reserve_limit pool m) (meets_commit_limit pool p m words) refl refl is
+none_cause pool p m words refusal (inl is) = go (meets_reserve_limit pool m)
+    (meets_commit_limit pool p m words) refl refl is
   where
     go : (a b : Bool) → meets_reserve_limit pool m ≡ a → meets_commit_limit pool p m words ≡ b
         → (if a then Err (ReserveLimit (length pool.slots) (node_limit pool)) else if b then Err (CommitLimit (committed_count pool) pool.limits.granules (granules_needed pool p m words)) else Ok (chunk_picked pool p m words)) ≡ Err refusal
         → NoneCause pool p m words refusal
-    go true b e f is = subst (NoneCause pool p m words) (same_refusal (ReserveLimit (length pool.slots) (node_limit pool)) refusal is)
+    go true b e f is = subst (NoneCause pool p m words) (same_refusal
+        (ReserveLimit (length pool.slots) (node_limit pool)) refusal is)
         (record { met = e; nodes_are = refl; limit_is = refl })
-    go false true e f is = subst (NoneCause pool p m words) (same_refusal (CommitLimit (committed_count pool) pool.limits.granules (granules_needed pool p m words)) refusal is)
+    go false true e f is = subst (NoneCause pool p m words) (same_refusal
+        (CommitLimit (committed_count pool) pool.limits.granules (granules_needed pool p m words)) refusal is)
         (record { met = f; committed_are = refl; limit_is = refl; need_is = refl })
     go false false e f is = absurd (cc)
 
@@ -55,7 +57,8 @@ leaves_same m _ _ = refl
 
 -- Two machines that have the same under a name, and have given out as many owner numbers.
 module _ (m other : Machine) (name : ℕ) (same : named other.loaders name ≡ named m.loaders name) (given : other.given ≡ m.given) where
-  has_block : (block : ℕ) (loader : LoaderState) (found : _) → HasBlock m name block loader found → HasBlock other name block loader found
+  has_block : (block : ℕ) (loader : LoaderState) (found : _) → HasBlock m name block loader found
+      → HasBlock other name block loader found
   has_block block loader found has = record { loader_is = same ∙ has.loader_is; block_is = has.block_is }
 
   pub lacks_block : (block : ℕ) → LacksBlock m name block → LacksBlock other name block
@@ -75,7 +78,8 @@ module _ (m other : Machine) (name : ℕ) (same : named other.loaders name ≡ n
   block_cause block NoBlock cause = lacks_block block cause
   block_cause block _ cause = absurd cause
 
-  word_cause : (block index : ℕ) (refusal : Refusal) → WordCause m name block index refusal → WordCause other name block index refusal
+  word_cause : (block index : ℕ) (refusal : Refusal) → WordCause m name block index refusal
+      → WordCause other name block index refusal
   word_cause block index (OutOfRange words) cause = record {
     loader = cause.loader;
     found = cause.found;
@@ -87,7 +91,8 @@ module _ (m other : Machine) (name : ℕ) (same : named other.loaders name ≡ n
   word_cause block index NoBlock cause = lacks_block block cause
   word_cause block index _ cause = absurd cause
 
-  alloc_cause : (space : Space) (block words : ℕ) (refusal : Refusal) → IsOwnReply (Refused refusal) → AllocCause m space name block words refusal → AllocCause other space name block words refusal
+  alloc_cause : (space : Space) (block words : ℕ) (refusal : Refusal) → IsOwnReply (Refused refusal)
+      → AllocCause m space name block words refusal → AllocCause other space name block words refusal
   alloc_cause space block words NoLoader own cause = same ∙ cause
   alloc_cause space block words BlockExists own cause = record { loader = cause.loader; found = cause.found; has = has_block block cause.loader cause.found cause.has }
   alloc_cause space block words ZeroWords own cause = (lacks_block block cause.0, cause.1)
@@ -97,11 +102,13 @@ module _ (m other : Machine) (name : ℕ) (same : named other.loaders name ≡ n
   alloc_cause space block words (ReserveLimit nodes limit) own cause = absurd own
   alloc_cause space block words _ own cause = absurd cause
 
-  acts_not_new : (kind : Kind) (refusal : Refusal) → ActsNotCause m (New name kind) refusal → Cause other (New name kind) refusal
+  acts_not_new : (kind : Kind) (refusal : Refusal) → ActsNotCause m (New name kind) refusal
+      → Cause other (New name kind) refusal
   acts_not_new kind IdsUsedUp cause = absurd cause
   acts_not_new kind refusal cause = new_cause refusal cause
 
-  acts_not_alloc : (space : Space) (block words : ℕ) (refusal : Refusal) → IsOwnReply (Refused refusal) → ActsNotCause m (alloc_in space name block words) refusal → AllocCause other space name block words refusal
+  acts_not_alloc : (space : Space) (block words : ℕ) (refusal : Refusal) → IsOwnReply (Refused refusal)
+      → ActsNotCause m (alloc_in space name block words) refusal → AllocCause other space name block words refusal
   acts_not_alloc space block words (CommitLimit committed limit need) own cause = absurd own
   acts_not_alloc space block words (ReserveLimit nodes limit) own cause = absurd own
   acts_not_alloc NonClass block words refusal own cause = alloc_cause NonClass block words refusal own cause
@@ -112,8 +119,9 @@ module _ (m other : Machine) (name : ℕ) (same : named other.loaders name ≡ n
   unload_cause _ cause = absurd cause
 
 -- So a local event that is refused is refused in the other machine too, for the same cause.
-pub acts_not : (m other : Machine) (name : ℕ) → named other.loaders name ≡ named m.loaders name → other.given ≡ m.given → (step : Step) (refusal : Refusal)
-    → loader_of step ≡ Some name → IsOwnReply (Refused refusal) → ActsNotCause m step refusal → Cause other step refusal
+pub acts_not : (m other : Machine) (name : ℕ) → named other.loaders name ≡ named m.loaders name
+    → other.given ≡ m.given → (step : Step) (refusal : Refusal) → loader_of step ≡ Some name
+    → IsOwnReply (Refused refusal) → ActsNotCause m step refusal → Cause other step refusal
 acts_not m other name same given (New mine kind) refusal its own cause =
     let eq : name ≡ mine = cc in
     acts_not_new m other mine (subst (λ (n : ℕ). named other.loaders n ≡ named m.loaders n) eq same) given kind refusal cause

@@ -1,44 +1,32 @@
 -- The first of the events that are left of a loader's, by what its step is.
-use Rattle.std.proofs.Common.{◌≡◌, ◌≤◌, ℕ, Bool, true, false, ◌⊎◌, Option, Some, None, List, [], ◌∷◌, ◌++◌, map, refl, sym, ap, ◌∙◌, subst, inl, inr}
-use Rattle.std.specs.Prelude.{⊤, slice_set}
-use Rattle.std.specs.List.{All, flat_map}
-use Rattle.std.specs.Ordering.{nat_cmp}
-use Rattle.std.specs.BTreeMap.{is_at}
-use Rattle.std.proofs.lemmas.List.Elements.{recursion_from_All, All-from_recursion}
-use Rattle.std.proofs.lemmas.Map.Steps.{set_value_same}
-use Rattle.ms_base.specs.declared.kind.Kind.{Kind}
+use Rattle.std.proofs.Common.{◌≡◌, ℕ, true, false, Some, List, [], ◌∷◌, ◌++◌, refl, sym, ap, ◌∙◌, subst, inl, inr}
 use Rattle.ms_base.specs.declared.kind.Space.{Space}
 use Rattle.ms_base.specs.declared.kind.Space.TheVariants.{NonClass, Class}
 use Rattle.ms_base.specs.declared.span.Chunk.{Chunk}
 use Rattle.ms_base.specs.declared.step.Step.{Step}
-use Rattle.ms_base.specs.declared.step.Step.TheVariants.{New, Alloc, Calloc, Write, Read, Free, Unload, Purge}
 use Rattle.ms_base.specs.declared.step.Reply.{Reply}
 use Rattle.ms_base.specs.declared.step.Reply.TheVariants.{Ok as Done, At, Value, Refused}
 use Rattle.ms_base.specs.declared.refusal.Refusal.{Refusal}
-use Rattle.ms_base.specs.declared.refusal.Refusal.TheVariants.{OutOfMemory, IdsUsedUp}
-use Rattle.ms_base.specs.Names.{named, with_changed, without}
 use Rattle.ms_base.specs.Request.{loader_of}
-use Rattle.ms_base.specs.Spaces.{space_at}
-use Rattle.ms_base.specs.State.{LoaderState, Machine}
-use Rattle.ms_base.specs.Good.{IsGood}
-use Rattle.ms_base.specs.Transition.{HasLoader, with_loader, with_block, with_freed, Transition}
+use Rattle.ms_base.specs.State.{Machine}
 use Rattle.ms_base.specs.WordLaws.{alloc_in}
-use Rattle.ms_base.specs.Event.{Event, opening, taking, growing, closing, acting, Answer, accepted, lent, replied, refused, Happens, Acts, loader_of_event}
-use Rattle.ms_base.specs.Spread.{SpreadStep, Spreads, IsWhole, IsAlone, IsOwnReply, Part, parts_of, AreWhole, HasNoSpan, not_asked, not_had, GoesOn, GrowsFirst, GoesOnAfter, SpreadsAlloc, IsAskedFor, words_asked, AsksChunk, words_for}
+use Rattle.ms_base.specs.Event.{Event, taking, acting, Answer, lent, replied, refused, Happens}
+use Rattle.ms_base.specs.Spread.{SpreadStep, IsOwnReply, Part, AreWhole, HasNoSpan, not_asked, not_had, GoesOn}
 use Rattle.ms_base.specs.Serial.{is_place}
-use Rattle.ms_base.proofs.events.StageLemmas.{Stage, idle, turned_down, owes_block, owes_refusal, unloading, retracting, Shows, Was, Left, rest_of, IsOnItsWay, IsOwed, GoesOnBy, FirstGoesOn}
+use Rattle.ms_base.proofs.events.StageLemmas.{Stage, rest_of, GoesOnBy, FirstGoesOn}
 use Rattle.ms_base.proofs.events.AllocLemmas.{IsPlain}
-use Rattle.ms_base.proofs.events.AskLemmas.{goes_on_taken, goes_on_grown, goes_on_refused}
-use Rattle.ms_base.proofs.events.LocalLemmas.{acts_refused, acts_on_block}
-use Rattle.ms_base.proofs.events.OwedLemmas.{goes_on_turned, added_by, pays_block, pays_refusal, goes_on_placed}
-use Rattle.ms_base.proofs.events.OpenLemmas.{goes_on_opened, goes_on_unopened, goes_on_in_vain, goes_on_emptied, goes_on_closed, goes_on_retracted}
+use Rattle.ms_base.proofs.events.AskLemmas.{goes_on_taken, goes_on_refused}
+use Rattle.ms_base.proofs.events.LocalLemmas.{acts_refused}
+use Rattle.ms_base.proofs.events.OwedLemmas.{added_by, goes_on_placed}
 
 -- No allocation is answered by another reply.
-not_done : (space : Space) (old : Machine) (name block words : ℕ) (new : Machine) → Happens old (acting (alloc_in space name block words)) (replied Done) new → ⊥
+not_done : (space : Space) (old : Machine) (name block words : ℕ) (new : Machine)
+    → Happens old (acting (alloc_in space name block words)) (replied Done) new → ⊥
 not_done NonClass old name block words new does = does.0
 not_done Class old name block words new does = does.0
 
-not_value : (space : Space) (old : Machine) (name block words value : ℕ) (new : Machine) → Happens old (acting (alloc_in space name block words)) (replied (Value value)) new → ⊥
+not_value : (space : Space) (old : Machine) (name block words value : ℕ) (new : Machine)
+    → Happens old (acting (alloc_in space name block words)) (replied (Value value)) new → ⊥
 not_value NonClass old name block words value new does = does.0
 not_value Class old name block words value new does = does.0
 
@@ -52,14 +40,18 @@ module _ (space : Space) (mine block words : ℕ) (spread : SpreadStep) (step_is
   request = alloc_in space mine block words
 
   -- Its local event alone.
-  alone : (reply : Reply) → spread.reply ≡ reply → IsOwnReply reply → (more : List Part) → AreWhole more → is_place spread.events (acting request, replied reply) ≡ true
-      → Happens old (acting request) (replied reply) new → GoesOnBy mine stage old new (Some spread, acting request, replied reply) more
+  alone : (reply : Reply) → spread.reply ≡ reply → IsOwnReply reply → (more : List Part) → AreWhole more
+      → is_place spread.events (acting request, replied reply) ≡ true
+      → Happens old (acting request) (replied reply) new
+      → GoesOnBy mine stage old new (Some spread, acting request, replied reply) more
   alone Done reply_is own more whole here does = absurd (not_done space old mine block words new does)
   alone (Value value) reply_is own more whole here does = absurd (not_value space old mine block words value new does)
   alone (At start) reply_is own more whole here does =
-      goes_on_placed space mine block words start spread step_is reply_is stage plain old new more whole here (added_by space old mine block words start new does)
+      goes_on_placed space mine block words start spread step_is reply_is stage plain old new more whole here
+      (added_by space old mine block words start new does)
   alone (Refused refusal) reply_is own more whole here does =
-      acts_refused mine spread stage old new request refusal more whole plain step_is reply_is (names_it space mine block words) own here does
+      acts_refused mine spread stage old new request refusal more whole plain step_is reply_is
+      (names_it space mine block words) own here does
 
   abbrev took : (p m n start : ℕ) (chunk : Chunk) → List (Event × Answer)
   took p m n start chunk = (taking space mine p m n, lent chunk) ∷ (acting request, replied (At start)) ∷ []
@@ -81,7 +73,8 @@ module _ (space : Space) (mine block words : ℕ) (spread : SpreadStep) (step_is
   places_passed [] not_asked p m n refusal = record { here = refl; elsewhere = refl }
   places_passed (a ∷ asked) (not_had at total enlarges other) p m n refusal = record { here = refl; elsewhere = refl }
 
-  place_alone : (asked : List (Event × Answer)) → HasNoSpan space mine asked → (reply : Reply) → is_place (asked ++ (acting request, replied reply) ∷ []) (acting request, replied reply) ≡ true
+  place_alone : (asked : List (Event × Answer)) → HasNoSpan space mine asked → (reply : Reply)
+      → is_place (asked ++ (acting request, replied reply) ∷ []) (acting request, replied reply) ≡ true
   place_alone [] not_asked reply = refl
   place_alone (a ∷ asked) (not_had at total enlarges other) reply = refl
 
@@ -90,26 +83,35 @@ module _ (space : Space) (mine block words : ℕ) (spread : SpreadStep) (step_is
     abbrev goal : List (Event × Answer) → List Part → Type 0
     goal rest more = FirstGoesOn name stage old new (rest_of spread rest ++ more)
 
-    pub goes_on_first : (asked rest : List (Event × Answer)) (reply : Reply) → spread.reply ≡ reply → HasNoSpan space mine asked → GoesOn space mine request reply rest
-        → spread.events ≡ asked ++ rest → (more : List Part) → AreWhole more → goal rest more
+    pub goes_on_first : (asked rest : List (Event × Answer)) (reply : Reply) → spread.reply ≡ reply
+        → HasNoSpan space mine asked → GoesOn space mine request reply rest → spread.events ≡ asked ++ rest
+        → (more : List Part) → AreWhole more → goal rest more
     goes_on_first asked rest reply reply_is no_span (inl takes) events_are more whole =
-        let its : spread.events ≡ asked ++ took takes.p takes.m takes.words takes.at takes.chunk = events_are ∙ ap (λ (l : List (Event × Answer)). asked ++ l) takes.events_are in
+        let its : spread.events ≡ asked ++ took takes.p takes.m takes.words takes.at takes.chunk = events_are ∙ ap
+        (λ (l : List (Event × Answer)). asked ++ l) takes.events_are in
         let places = places_taken asked no_span takes.p takes.m takes.words takes.at takes.chunk in
         subst (λ (l : List (Event × Answer)). goal l more) (sym takes.events_are) (λ happens asks is_mine.
-        onto (Some spread, taking space mine takes.p takes.m takes.words, lent takes.chunk) ((Some spread, acting request, replied (At takes.at)) ∷ more) is_mine
+        onto (Some spread, taking space mine takes.p takes.m takes.words, lent takes.chunk)
+        ((Some spread, acting request, replied (At takes.at)) ∷ more) is_mine
         (goes_on_taken space mine block words spread step_is stage plain old new more whole takes.p takes.m takes.words takes.at takes.chunk (reply_is ∙ takes.served)
         (ap (λ (l : List (Event × Answer)). is_place l (taking space mine takes.p takes.m takes.words, lent takes.chunk)) its ∙ places.here)
-        (ap (λ (l : List (Event × Answer)). is_place l (acting request, replied (At takes.at))) its ∙ places.elsewhere) happens asks))
+        (ap (λ (l : List (Event × Answer)). is_place l (acting request, replied (At takes.at))) its
+        ∙ places.elsewhere) happens asks))
     goes_on_first asked rest reply reply_is no_span (inr (inl passes)) events_are more whole =
-        let its : spread.events ≡ asked ++ passed passes.p passes.m passes.words passes.refusal = events_are ∙ ap (λ (l : List (Event × Answer)). asked ++ l) passes.events_are in
+        let its : spread.events ≡ asked ++ passed passes.p passes.m passes.words passes.refusal = events_are ∙ ap
+        (λ (l : List (Event × Answer)). asked ++ l) passes.events_are in
         let places = places_passed asked no_span passes.p passes.m passes.words passes.refusal in
         subst (λ (l : List (Event × Answer)). goal l more) (sym passes.events_are) (λ happens asks is_mine.
-        onto (Some spread, taking space mine passes.p passes.m passes.words, refused passes.refusal) ((Some spread, acting request, replied (Refused passes.refusal)) ∷ more) is_mine
+        onto (Some spread, taking space mine passes.p passes.m passes.words, refused passes.refusal)
+        ((Some spread, acting request, replied (Refused passes.refusal)) ∷ more) is_mine
         (goes_on_refused space mine block words spread step_is stage plain old new more whole passes.p passes.m passes.words passes.refusal (reply_is ∙ passes.passed)
         (ap (λ (l : List (Event × Answer)). is_place l (taking space mine passes.p passes.m passes.words, refused passes.refusal)) its ∙ places.here)
-        (ap (λ (l : List (Event × Answer)). is_place l (acting request, replied (Refused passes.refusal))) its ∙ places.elsewhere) happens asks))
+        (ap (λ (l : List (Event × Answer)). is_place l (acting request, replied (Refused passes.refusal))) its
+        ∙ places.elsewhere) happens asks))
     goes_on_first asked rest reply reply_is no_span (inr (inr none)) events_are more whole =
         subst (λ (l : List (Event × Answer)). goal l more) (sym none.events_are) (λ happens asks is_mine.
         onto (Some spread, acting request, replied reply) more (sym (names_it space mine block words) ∙ is_mine)
         (alone reply reply_is none.own more whole
-        (ap (λ (l : List (Event × Answer)). is_place l (acting request, replied reply)) (events_are ∙ ap (λ (l : List (Event × Answer)). asked ++ l) none.events_are) ∙ place_alone asked no_span reply) happens))
+        (ap (λ (l : List (Event × Answer)). is_place l (acting request, replied reply))
+        (events_are ∙ ap (λ (l : List (Event × Answer)). asked ++ l) none.events_are)
+        ∙ place_alone asked no_span reply) happens))

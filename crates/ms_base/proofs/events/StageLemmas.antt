@@ -1,13 +1,9 @@
 -- How far a loader's step has come, and how the machine of the serial order then differs from the
 -- one in which the events happen.
-use Rattle.std.proofs.Common.{◌≡◌, ◌≤◌, ℕ, Bool, true, false, Option, Some, None, List, [], ◌∷◌, ◌++◌, map, refl, sym, ap, ◌∙◌, subst, inl, inr}
-use Rattle.std.specs.Prelude.{⊤, ◌==◌}
-use Rattle.std.specs.List.{All, flat_map}
-use Rattle.std.specs.Map.{values_of}
+use Rattle.std.proofs.Common.{◌≡◌, ◌≤◌, ℕ, Bool, true, false, Option, Some, None, List, [], ◌∷◌, ◌++◌, map}
+use Rattle.std.specs.Prelude.{⊤}
 use Rattle.ms_base.specs.declared.kind.Kind.{Kind}
 use Rattle.ms_base.specs.declared.kind.Space.{Space}
-use Rattle.ms_base.specs.declared.kind.Space.TheVariants.{NonClass, Class}
-use Rattle.ms_base.specs.declared.span.Chunk.{Chunk}
 use Rattle.ms_base.specs.declared.step.Step.{Step}
 use Rattle.ms_base.specs.declared.step.Step.TheVariants.{Unload}
 use Rattle.ms_base.specs.declared.step.Reply.{Reply}
@@ -16,13 +12,12 @@ use Rattle.ms_base.specs.declared.refusal.Refusal.{Refusal}
 use Rattle.ms_base.specs.declared.refusal.Refusal.TheVariants.{CommitLimit, ReserveLimit, OutOfMemory}
 use Rattle.ms_base.specs.Level.{root_words}
 use Rattle.ms_base.specs.Names.{AreNamed, named}
-use Rattle.ms_base.specs.State.{LoaderState, Machine, PoolState, arena_of, empty_loader, chunks_held, pool_of, recommitted}
+use Rattle.ms_base.specs.State.{LoaderState, Machine, empty_loader, chunks_held}
 use Rattle.ms_base.specs.Good.{IsSoundLoader, IsGood}
 use Rattle.ms_base.specs.Run.{Run}
-use Rattle.ms_base.specs.Transition.{Transition}
 use Rattle.ms_base.specs.WordLaws.{alloc_in}
-use Rattle.ms_base.specs.Event.{Event, growing, closing, acting, Answer, accepted, replied, refused, Happens, AddsBlock, emptied, loader_of_event}
-use Rattle.ms_base.specs.Spread.{SpreadStep, IsWhole, Part, parts_of, AreWhole, HasNoSpan, GoesOn, IsAskedFor, words_asked}
+use Rattle.ms_base.specs.Event.{Event, closing, acting, Answer, accepted, replied, Happens, AddsBlock, emptied, loader_of_event}
+use Rattle.ms_base.specs.Spread.{SpreadStep, Part, AreWhole, HasNoSpan, GoesOn, IsAskedFor, words_asked}
 use Rattle.ms_base.specs.Serial.{is_place, done_by, steps_of, replies_of}
 
 -- How far a loader's step has come: none is begun, or one is whose growth was refused; its block is
@@ -112,9 +107,11 @@ abbrev pub Left : ℕ → Stage → List Part → Type 0
 Left name idle parts = AreWhole parts
 Left name (turned_down spread) parts = IsOnItsWay name spread parts
 Left name (owes_block space block words start) parts =
-    IsOwed (alloc_in space name block words) (At start) (acting (alloc_in space name block words)) (replied (At start)) false parts
+    IsOwed (alloc_in space name block words) (At start) (acting (alloc_in space name block words))
+    (replied (At start)) false parts
 Left name (owes_refusal space block words refusal) parts =
-    IsOwed (alloc_in space name block words) (Refused refusal) (acting (alloc_in space name block words)) (replied (Refused refusal)) false parts
+    IsOwed (alloc_in space name block words) (Refused refusal) (acting (alloc_in space name block words))
+    (replied (Refused refusal)) false parts
 Left name (unloading loader) parts = IsOwed (Unload name) Done (closing name) accepted true parts
 Left name retracting parts = (step : Step) × (reply : Reply) × IsOwed step reply (closing name) accepted false parts
 
@@ -132,7 +129,8 @@ pub record GoesBack (name : ℕ) (stage : Stage) (old new : Machine) (seen : Lis
   pub rises : AreNamed loaders
   pub others : (other : ℕ) → (name ≡ other → ⊥) → named loaders other ≡ named seen other
   pub mine : Shows stage (named loaders name) (named old.loaders name)
-  pub run : (later : List (Step × Reply)) (end : Machine) → Run (record new { loaders = seen }) (steps_of later) (replies_of later) end
+  pub run : (later : List (Step × Reply)) (end : Machine)
+      → Run (record new { loaders = seen }) (steps_of later) (replies_of later) end
       → Run (record old { loaders = loaders }) (steps_of (done ++ later)) (replies_of (done ++ later)) end
 
 -- An event of a loader's: how far its step comes by it, and that loaders go back.
@@ -140,7 +138,8 @@ pub record GoesOnBy (name : ℕ) (stage : Stage) (old new : Machine) (part : Par
   pub next : Stage
   pub was : Was next (named new.loaders name)
   pub left : Left name next rest
-  pub back : (seen : List (ℕ × LoaderState)) → IsSeen name next new seen → GoesBack name stage old new seen (done_by part.0 (part.1, part.2))
+  pub back : (seen : List (ℕ × LoaderState)) → IsSeen name next new seen
+      → GoesBack name stage old new seen (done_by part.0 (part.1, part.2))
 
 -- So for the first of the events that are left, as it happens.
 abbrev pub FirstGoesOn : ℕ → Stage → Machine → Machine → List Part → Type 0

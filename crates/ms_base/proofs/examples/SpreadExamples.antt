@@ -1,7 +1,8 @@
 -- Worked examples: steps spread over events, their serial order, and lists of events that are no
 -- whole steps.
-use Rattle.std.proofs.Common.{◌≡◌, ℕ, zero, suc, true, false, List, [], ◌∷◌, ◌++◌, Some, length, refl, ap, ◌∙◌, inl, inr, arith, map}
+use Rattle.std.proofs.Common.{◌≡◌, ℕ, zero, suc, true, false, List, [], ◌∷◌, ◌++◌, Option, Some, None, length, take, refl, ap, ◌∙◌, inl, inr, arith, map}
 use Rattle.std.specs.Prelude.{◌==◌}
+use Rattle.std.specs.List.{flat_map}
 use Rattle.std.proofs.lemmas.List.Elements.{All-from_recursion}
 use Rattle.ms_base.specs.declared.kind.Kind.TheVariants.{Standard, Boot}
 use Rattle.ms_base.specs.declared.kind.Space.{Space}
@@ -14,10 +15,10 @@ use Rattle.ms_base.specs.declared.refusal.Refusal.TheVariants.{CommitLimit, OutO
 use Rattle.ms_base.specs.State.{ArenaState, LoaderState, Machine, empty_machine, empty_arena, empty_loader, arena_of}
 use Rattle.ms_base.specs.Transition.{zeroed}
 use Rattle.ms_base.specs.Event.{Event, opening, taking, growing, closing, purging, acting, Answer, accepted, lent, counted, replied, refused, Happens, emptied, loader_of_event}
-use Rattle.ms_base.specs.Spread.{SpreadStep, Moment, GoesOn, HasNoSpan, Spreads, IsWhole, IsByItself, IsAskedFor, words_asked, AreWhole, IsSpread, not_asked, not_had, parts_by}
+use Rattle.ms_base.specs.Spread.{SpreadStep, Moment, GoesOn, HasNoSpan, Spreads, IsWhole, IsByItself, IsAskedFor, words_asked, Part, parts_of, AreWhole, IsSpread, not_asked, not_had, parts_by}
 use Rattle.ms_base.specs.Serial.{is_accepted, is_taking, is_closing, is_acting, is_place, serial}
 
-abbrev chunk : ℕ → ℕ → ℕ → Chunk
+abbrev pub chunk : ℕ → ℕ → ℕ → Chunk
 chunk at level front = record { start = at; level = level; front = front }
 
 -- An unload counts as done at its closing, and not at its local event.
@@ -149,19 +150,19 @@ growth_is_enough (inr on) = by_asked on.no_span on.events_are
 
 -- A spread with its states: a loader's unload and another's allocation, each between the other's
 -- events.
-abbrev arena_with : List Chunk → List ℕ → ArenaState
+abbrev pub arena_with : List Chunk → List ℕ → ArenaState
 arena_with chunks tops = record { chunks = chunks; tops = tops; kept = [] }
 
-abbrev full : LoaderState
+abbrev pub full : LoaderState
 full = record { kind = Standard; arena = arena_with (chunk 0 10 512 ∷ []) (10 ∷ []); class_arena = empty_arena; blocks = (1, zeroed 0 10) ∷ [] }
 
-abbrev with_its_chunk : LoaderState
+abbrev pub with_its_chunk : LoaderState
 with_its_chunk = record (empty_loader Standard) { arena = arena_with (chunk 512 10 512 ∷ []) [] }
 
-abbrev with_its_block : LoaderState
+abbrev pub with_its_block : LoaderState
 with_its_block = record with_its_chunk { arena = arena_with (chunk 512 10 512 ∷ []) (10 ∷ []); blocks = (1, zeroed 512 10) ∷ [] }
 
-abbrev two : LoaderState → LoaderState → Machine
+abbrev pub two : LoaderState → LoaderState → Machine
 two first second = record (empty_machine (record { nodes = 64; granules = 8192; policy = Balanced; class_nodes = 0 })) {
   loaders = (1, first) ∷ (2, second) ∷ [];
   slots = 0 ∷ [];
@@ -169,10 +170,10 @@ two first second = record (empty_machine (record { nodes = 64; granules = 8192; 
   given = 4;
 }
 
-abbrev at_the_end : Machine
+abbrev pub at_the_end : Machine
 at_the_end = record (two full full) { loaders = (2, with_its_block) ∷ [] }
 
-abbrev moments : List Moment
+abbrev pub moments : List Moment
 moments =
     record { before = two full (empty_loader Standard); event = acting (Unload 1); answer = replied Done; after = two (emptied full) (empty_loader Standard); of = Some unload }
     ∷ record { before = two (emptied full) (empty_loader Standard); event = taking NonClass 2 10 12 10; answer = lent (chunk 512 10 512); after = two (emptied full) with_its_chunk; of = Some alloc }
@@ -188,7 +189,7 @@ none_of_the_class_space : (space : Space) → (arena_of space (emptied full)).ke
 none_of_the_class_space NonClass = refl
 none_of_the_class_space Class = refl
 
-chunk_is_taken : Happens (two (emptied full) (empty_loader Standard)) (taking NonClass 2 10 12 10) (lent (chunk 512 10 512)) (two (emptied full) with_its_chunk)
+pub chunk_is_taken : Happens (two (emptied full) (empty_loader Standard)) (taking NonClass 2 10 12 10) (lent (chunk 512 10 512)) (two (emptied full) with_its_chunk)
 chunk_is_taken = record {
   loader = empty_loader Standard;
   has = refl;
@@ -198,7 +199,7 @@ chunk_is_taken = record {
   after = refl;
 }
 
-loader_is_closed : Happens (two (emptied full) with_its_block) (closing 1) accepted at_the_end
+pub loader_is_closed : Happens (two (emptied full) with_its_block) (closing 1) accepted at_the_end
 loader_is_closed = record { loader = emptied full; has = refl; blocks = refl; kept = none_of_the_class_space; after = refl }
 
 only_known : (name : ℕ) → AreWhole (parts_by name moments)
@@ -216,9 +217,38 @@ only_known (suc (suc (suc name))) = record { steps = []; whole = All-from_recurs
 arena_asks : IsAskedFor (two (emptied full) (empty_loader Standard)) (taking NonClass 2 10 12 10) (words_asked (Some alloc))
 arena_asks = record { loader = empty_loader Standard; has = refl; wanted = refl; most_is = refl; words_are = refl }
 
-is_spread : IsSpread moments
+pub is_spread : IsSpread moments
 is_spread = record {
   each = only_known;
   others = All-from_recursion (λ (moment : Moment). IsByItself (moment.event, moment.answer) (loader_of_event moment.event) moment.of) moments (tt, (tt, (tt, (tt, tt))));
   asked = All-from_recursion (λ (moment : Moment). IsAskedFor moment.before moment.event (words_asked moment.of)) moments (tt, (arena_asks, (tt, (tt, tt))));
 }
+
+abbrev some_spread : SpreadStep → Option SpreadStep
+some_spread spread = Some spread
+
+-- The step whose event is the first.
+abbrev whose : List Part → Option SpreadStep
+whose [] = None
+whose (part ∷ parts) = part.0
+
+-- Without the last moment it is none: the unload is never closed.
+abbrev unclosed : List Part
+unclosed = parts_by 1 (take 3 moments)
+
+unclosed_is_no_step : AreWhole unclosed → ⊥
+unclosed_is_no_step are = of_steps are.steps are.parts_are
+  where
+    its : (spread : SpreadStep) (events : List (Event × Answer)) (more : List Part) → spread.events ≡ events
+        → (unclosed ≡ more → ⊥) → unclosed ≡ map (λ (one : Event × Answer). (Some spread, one.0, one.1)) events ++ more → ⊥
+    its spread [] more has later e = later e
+    its spread (one ∷ []) more has later e =
+        let first : some_spread unload ≡ some_spread spread = ap (λ (l : List Part). whose l) e in
+        let same : unload ≡ spread = cc in
+        let counts : length unload.events ≡ 1 = ap (λ (one : SpreadStep). length one.events) same ∙ ap length has in
+        absurd (cc)
+    its spread (one ∷ other ∷ events) more has later e = absurd (cc)
+
+    of_steps : (steps : List SpreadStep) → unclosed ≡ flat_map parts_of steps → ⊥
+    of_steps [] e = absurd (cc)
+    of_steps (spread ∷ steps) e = its spread spread.events (flat_map parts_of steps) refl (of_steps steps) e
