@@ -2,7 +2,7 @@
 use Rattle.std.proofs.Common.{◌≡◌, ℕ, ◌+◌, ◌*◌, ◌%◌, ◌^◌, ◌≤◌, List, [], ◌∷◌, ◌++◌, length, slice_index, sym, ap, ◌∙◌, subst, arith, Option, Some, None}
 use Rattle.std.specs.List.{All, sum_by}
 use Rattle.std.proofs.lemmas.List.{length-append}
-use Rattle.std.proofs.lemmas.List.Elements.{All-append, All-cons, All-nil}
+use Rattle.std.proofs.lemmas.List.Elements.{All-nil}
 use mathlib.Core.Option.{some, some-injective}
 use lib.ListN.{get_elem?}
 use Rattle.atomic_table.specs.Table.{Final, Seen}
@@ -14,7 +14,7 @@ use Rattle.ms_shared.specs.declared.lock_rule.LockView.{LockView}
 use Rattle.ms_shared.specs.Entries.{times, once_given, AreRecords}
 use Rattle.ms_shared.specs.SeatView.{TallyKind, tally_of, opened_by, knows_both, SeatState, Gathers}
 use Rattle.ms_shared.specs.LockRule.{IsLocked, IsIdle, has_pool, count_some, both, some_pool}
-use Rattle.ms_shared.proofs.TotalLemmas.{alone, total_popped, none_left}
+use Rattle.ms_shared.proofs.TotalLemmas.{alone, total_popped, none_left, all_pushed}
 use Rattle.ms_shared.proofs.EntryLemmas.{times-append, records_front, records_back}
 use Rattle.ms_shared.proofs.CutLemmas.{tally_of_both, opened_by_both}
 
@@ -78,9 +78,7 @@ pub record IsGathering (made : ℕ) (all rest : List SeatState) (whole : LockVie
 
 all_more : (pool : Ledger) (old rest : List SeatState) (last : SeatState) → old ≡ rest ++ last ∷ [] → AreRecords pool last.knows.served → AllRecords pool rest
     → AllRecords pool old
-all_more pool old rest last is here others =
-    let P = λ (seat : SeatState). AreRecords pool seat.knows.served in
-    subst (All P) (sym is) (All-append P rest (last ∷ []) others (All-cons P last [] here (All-nil P)))
+all_more pool old rest last is here others = all_pushed (λ (seat : SeatState). AreRecords pool seat.knows.served) rest old last is others here
 
 pub gather_begins : (made : ℕ) (all rest : List SeatState) (last : SeatState) (whole : LockView) → all ≡ rest ++ last ∷ [] → length all ≡ made
     → whole.knows ≡ last.knows

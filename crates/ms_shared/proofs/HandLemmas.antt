@@ -154,3 +154,12 @@ taker_serves from to owner space other serves = record {
   entry = has_left to.served (only owner from.served) other.owner serves.chunks serves.entry;
   same = serves.same;
 }
+
+pub taker_counts : (from to : SeatView) (owner : ℕ) (space : Space) → opened_by (with_account owner space from to) space ≡ opened_by to space + 1
+taker_counts from to owner NonClass = refl
+taker_counts from to owner Class = refl
+
+pub left_counts : (from : SeatView) (owner : ℕ) (space : Space) → 0 < opened_by from space
+    → opened_by (without_account owner space from) space + 1 ≡ opened_by from space
+left_counts from owner NonClass some = omega arith
+left_counts from owner Class some = omega arith

@@ -2,7 +2,7 @@
 -- the meter and of the lock rest on these.
 use Rattle.std.proofs.Common.{◌≡◌, ◌≤◌, ℕ, zero, suc, ◌+◌, ◌*◌, ◌/◌, ◌%◌, List, [], ◌∷◌, ◌++◌, length, set, sym, refl, ap, ◌∙◌, subst, arith}
 use Rattle.std.specs.List.{All, sum_by}
-use Rattle.std.proofs.lemmas.List.Elements.{All-head, All-tail, All-cons}
+use Rattle.std.proofs.lemmas.List.Elements.{All-head, All-tail, All-cons, All-append, All-nil}
 use Rattle.std.proofs.lemmas.List.Sums.{sum_by-cons, sum_by_push}
 use Rattle.std.proofs.Math.Nat.{add-mul-mod_self_right, mod-add-div'}
 use mathlib.Core.Option.{some, some-injective, some-ne-none}
@@ -97,6 +97,9 @@ module _ {V : Type 0} where
 
   pub all_last : (P : V → Type 0) (old new : List V) (last : V) → old ≡ new ++ last ∷ [] → All P old → P last
   all_last P old new last is all = all_at_end P new last (subst (All P) is all)
+
+  pub all_pushed : (P : V → Type 0) (old new : List V) (last : V) → new ≡ old ++ last ∷ [] → All P old → P last → All P new
+  all_pushed P old new last is all here = subst (All P) (sym is) (All-append P old (last ∷ []) all (All-cons P last [] here (All-nil P)))
 
   pub none_left : (xs : List V) (n : ℕ) → n ≡ length xs → n ≡ 0 → xs ≡ []
   none_left [] n is none = refl

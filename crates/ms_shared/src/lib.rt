@@ -12,8 +12,6 @@ mod locked_pool;
 mod meter_rule;
 mod seat;
 mod shared_pool;
-#[cfg(test)]
-mod tests;
 mod used_meter;
 
 pub use lock_rule::{LimitsView, LockView, SeatView, TalliesView};

@@ -11,6 +11,9 @@ ghost use Rattle.ms_base.specs.declared.kind.Space.TheVariants.{NonClass, Class}
 ghost use Rattle.ms_pool.specs.Calls.{Opened, OpenedBoth, ClosedBoth, Purged, new_account};
 ghost use Rattle.ms_shared.specs.SeatView.{ServesBy, OverLock, opened_by, ids_of_open, raise};
 
+#[cfg(test)]
+mod tests;
+
 use crate::lock_rule::LockView;
 use crate::seat::PoolSeat;
 use crate::shared_pool::SharedPool;

@@ -10,7 +10,7 @@
 //! the pool's open accounts and tallies are the sums of the seats'. `new` takes memory. What takes
 //! the lock tries its word again until it has the pool. This project's choice; HotSpot has
 //! Metaspace_lock.
-ghost use Rattle.std.specs.Prelude.{◌≡◌, ◌≢◌, ◌<◌, ◌≤◌, ◌↔◌, ◌∷◌, [], Some, None, IsOk, IfOk, IfErr, vec_len};
+ghost use Rattle.std.specs.Prelude.{◌≡◌, ◌≢◌, ◌+◌, ◌<◌, ◌≤◌, ◌↔◌, ◌∷◌, [], Some, None, IsOk, IfOk, IfErr, vec_len};
 ghost use Rattle.std.specs.List.{All};
 ghost use Rattle.ms_pool.specs.Ledger.{IsSoundLedger};
 ghost use Rattle.ms_pool.specs.Account.{AccountState};
@@ -149,6 +149,10 @@ impl SharedPool {
             → ServesBy from.old.knows other → ServesBy from.new.knows other }
         ensures to_others { (other : AccountState) → ServesBy to.old.knows other
             → ServesBy to.new.knows other }
+        ensures counted { opened_by to.new.knows account.now.space
+            ≡ opened_by to.old.knows account.now.space + 1 }
+        ensures from_counted { opened_by from.new.knows account.now.space + 1
+            ≡ opened_by from.old.knows account.now.space }
     {
         self.pass::<Brand>(&mut from.seat, &mut to.seat, account);
     }

@@ -9,6 +9,9 @@ ghost use Rattle.std.specs.Prelude.{◌≡◌, ◌≢◌, ◌%◌, ◌^◌, ◌<
 ghost use Rattle.std.specs.List.{All, sum_by};
 ghost use Rattle.ms_shared.specs.MeterRule.{added, taken_off, meter_view};
 
+#[cfg(test)]
+mod tests;
+
 use crate::meter_rule::{Adds, CutSeat, JoinSeats, Looks, MeterView, Metered, Subtracts};
 use atomic_table::{Seat, Table};
 use ms_base::Refusal;
