@@ -44,7 +44,8 @@ served_in Class old name block words start new allocates good = (allocates, good
 
 -- Where a chunk is had, be it taken or grown, the allocation counts as done: in the serial order's
 -- machine the loader has its block at once.
-module _ (space : Space) (old : Machine) (name block words start : ℕ) (before : LoaderState) (arena : ArenaState) (slots : List ℕ) (has : HasLoader old name before) where
+module _ (space : Space) (old : Machine) (name block words start : ℕ) (before : LoaderState) (arena : ArenaState)
+    (slots : List ℕ) (has : HasLoader old name before) where
   abbrev with_it : LoaderState
   with_it = with_arena space before arena
 

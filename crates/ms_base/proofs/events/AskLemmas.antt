@@ -64,7 +64,9 @@ pub same_step : (spread : SpreadStep) (step : Step) (reply : Reply) → spread.s
     → one_done spread.step spread.reply ≡ one_done step reply
 same_step spread step reply e f = ap (λ (s : Step). one_done s spread.reply) e ∙ ap (one_done step) f
 
-module _ (space : Space) (name block words : ℕ) (spread : SpreadStep) (step_is : spread.step ≡ alloc_in space name block words) (stage : Stage) (plain : IsPlain stage) (old new : Machine) (more : List Part) (whole : AreWhole more) where
+module _ (space : Space) (name block words : ℕ) (spread : SpreadStep)
+    (step_is : spread.step ≡ alloc_in space name block words) (stage : Stage) (plain : IsPlain stage)
+    (old new : Machine) (more : List Part) (whole : AreWhole more) where
   abbrev request : Step
   request = alloc_in space name block words
 

@@ -43,7 +43,8 @@ recommitted_seen m seen held =
     }) (pool_seen Class m seen (held Class))
 
 -- An event that is not its step's place leaves the serial order's machine.
-pub goes_back : (name : ℕ) (stage : Stage) (old new : Machine) (seen : List (ℕ × LoaderState)) (done : List (Step × Reply))
+pub goes_back : (name : ℕ) (stage : Stage) (old new : Machine) (seen : List (ℕ × LoaderState))
+    (done : List (Step × Reply))
     → done ≡ [] → AreNamed seen → Shows stage (named seen name) (named old.loaders name)
     → with_seen new seen ≡ with_seen old seen → GoesBack name stage old new seen done
 goes_back name stage old new seen done none rises mine same = record {
@@ -57,7 +58,8 @@ goes_back name stage old new seen done none rises mine same = record {
 }
 
 -- The place of a step is that step of the serial order's machine.
-pub steps_back : (name : ℕ) (stage : Stage) (old new : Machine) (seen loaders : List (ℕ × LoaderState)) (done : List (Step × Reply)) (step : Step) (reply : Reply)
+pub steps_back : (name : ℕ) (stage : Stage) (old new : Machine) (seen loaders : List (ℕ × LoaderState))
+    (done : List (Step × Reply)) (step : Step) (reply : Reply)
     → done ≡ (step, reply) ∷ [] → AreNamed loaders
     → ((other : ℕ) → (name ≡ other → ⊥) → named loaders other ≡ named seen other)
     → Shows stage (named loaders name) (named old.loaders name)

@@ -56,7 +56,8 @@ leaves_same m (New name kind) OutOfMemory = inl refl
 leaves_same m _ _ = refl
 
 -- Two machines that have the same under a name, and have given out as many owner numbers.
-module _ (m other : Machine) (name : ℕ) (same : named other.loaders name ≡ named m.loaders name) (given : other.given ≡ m.given) where
+module _ (m other : Machine) (name : ℕ) (same : named other.loaders name ≡ named m.loaders name)
+    (given : other.given ≡ m.given) where
   has_block : (block : ℕ) (loader : LoaderState) (found : _) → HasBlock m name block loader found
       → HasBlock other name block loader found
   has_block block loader found has = record { loader_is = same ∙ has.loader_is; block_is = has.block_is }

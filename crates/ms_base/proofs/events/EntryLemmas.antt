@@ -134,7 +134,8 @@ itself (e ∷ es) = ap (λ (l : List (ℕ × _)). e ∷ l) (itself es)
 pub same_entries : {X : Type 0} (es fs : List (ℕ × X)) → AreNamed es → AreNamed fs
     → ((name : ℕ) → named es name ≡ named fs name) → es ≡ fs
 same_entries {X} es fs r s same =
-    sym (itself es) ∙ alike listed es fs (rises es r) (rises fs s) (λ name. ap (given listed name) (same name)) ∙ itself fs
+    sym (itself es) ∙ alike listed es fs (rises es r) (rises fs s)
+    (λ name. ap (given listed name) (same name)) ∙ itself fs
   where
     listed : ℕ → X → List (ℕ × X)
     listed name value = (name, value) ∷ []

@@ -35,7 +35,9 @@ names_it NonClass name block words = refl
 names_it Class name block words = refl
 
 -- What an allocation does once no growth was had.
-module _ (space : Space) (mine block words : ℕ) (spread : SpreadStep) (step_is : spread.step ≡ alloc_in space mine block words) (stage : Stage) (plain : IsPlain stage) (old new : Machine) where
+module _ (space : Space) (mine block words : ℕ) (spread : SpreadStep)
+    (step_is : spread.step ≡ alloc_in space mine block words) (stage : Stage) (plain : IsPlain stage)
+    (old new : Machine) where
   abbrev request : Step
   request = alloc_in space mine block words
 

@@ -70,7 +70,8 @@ same_arena NonClass loader = refl
 same_arena Class loader = refl
 
 -- It is one that the pool holds.
-module _ (space : Space) (old : Machine) (name start total : ℕ) (may_enlarge : Bool) (chunk : Chunk) (new : Machine) (good : IsGood old) (grows : Grows old space name start total may_enlarge chunk new) where
+module _ (space : Space) (old : Machine) (name start total : ℕ) (may_enlarge : Bool) (chunk : Chunk) (new : Machine)
+    (good : IsGood old) (grows : Grows old space name start total may_enlarge chunk new) where
   abbrev split : Split old.loaders name grows.loader
   split = split_at old.loaders name grows.loader grows.asked.has
 
@@ -101,7 +102,8 @@ module _ (space : Space) (old : Machine) (name start total : ℕ) (may_enlarge :
       (good.pools space) is_held grows.answer
 
 -- A chunk that grows leaves a good state: it stays, or it is a greater one of this loader's.
-pub good_with_greater : (space : Space) (old : Machine) (name start total : ℕ) (may_enlarge : Bool) (chunk : Chunk) (new : Machine)
+pub good_with_greater : (space : Space) (old : Machine) (name start total : ℕ) (may_enlarge : Bool) (chunk : Chunk)
+    (new : Machine)
     → IsGood old → Grows old space name start total may_enlarge chunk new → IsGood new
 good_with_greater space old name start total may_enlarge chunk new good grows = subst IsGood (sym grows.after)
     (elim well.changes [

@@ -22,7 +22,8 @@ use Rattle.ms_base.proofs.events.AllocLemmas.{IsPlain}
 use Rattle.ms_base.proofs.events.AskLemmas.{same_step}
 
 -- A local event that is refused is the whole step, or its place: nothing changes.
-pub acts_refused : (name : ℕ) (spread : SpreadStep) (stage : Stage) (old new : Machine) (step : Step) (refusal : Refusal) (more : List Part)
+pub acts_refused : (name : ℕ) (spread : SpreadStep) (stage : Stage) (old new : Machine) (step : Step)
+    (refusal : Refusal) (more : List Part)
     → AreWhole more → IsPlain stage → spread.step ≡ step → spread.reply ≡ Refused refusal → loader_of step ≡ Some name
     → IsOwnReply (Refused refusal) → is_place spread.events (acting step, replied (Refused refusal)) ≡ true
     → ActsNotCause old step refusal × (new ≡ old)
@@ -43,10 +44,18 @@ acts_refused name spread stage old new step refusal more whole plain step_is rep
           );
     })
 
+-- It is a step of the serial order's machine, whatever other loaders that has.
+abbrev StepsThere : ℕ → Machine → Step → Reply → LoaderState → LoaderState → Type 0
+StepsThere name old step reply before after =
+    (seen : List (ℕ × LoaderState)) → named seen name ≡ Some after
+    → HasLoader (with_seen old (with_changed seen name before)) name before → IsGood (with_seen old seen)
+    → Transition (with_seen old (with_changed seen name before)) step reply
+    (with_loader (with_seen old (with_changed seen name before)) name after)
+
 -- A local event that is served changes its loader in both machines.
-pub served_back : (name : ℕ) (stage : Stage) (old : Machine) (step : Step) (reply : Reply) (before after : LoaderState)
-    → IsPlain stage → HasLoader old name before
-    → ((seen : List (ℕ × LoaderState)) → named seen name ≡ Some after → HasLoader (with_seen old (with_changed seen name before)) name before → IsGood (with_seen old seen) → Transition (with_seen old (with_changed seen name before)) step reply (with_loader (with_seen old (with_changed seen name before)) name after))
+pub served_back : (name : ℕ) (stage : Stage) (old : Machine) (step : Step) (reply : Reply)
+    (before after : LoaderState) → IsPlain stage → HasLoader old name before
+    → StepsThere name old step reply before after
     → (seen : List (ℕ × LoaderState)) → IsSeen name idle (with_loader old name after) seen
     → (done : List (Step × Reply)) → done ≡ (step, reply) ∷ []
     → GoesBack name stage old (with_loader old name after) seen done
@@ -66,14 +75,16 @@ served_back name stage old step reply before after plain has transition seen its
     found = named_changed_same seen name after before there
 
 -- Write, Read and Free.
-pub acts_on_block : (name : ℕ) (spread : SpreadStep) (old new : Machine) (step : Step) (reply : Reply) (more : List Part)
+pub acts_on_block : (name : ℕ) (spread : SpreadStep) (old new : Machine) (step : Step) (reply : Reply)
+    (more : List Part)
     → AreWhole more → spread.step ≡ step → spread.reply ≡ reply
     → is_place spread.events (acting step, replied reply) ≡ true → (before after : LoaderState)
     → HasLoader old name before → new ≡ with_loader old name after
     → ((m : Machine) → HasLoader m name before → IsGood (with_loader m name after) → Transition m step reply (with_loader m name after))
     → GoesOnBy name idle old new (Some spread, acting step, replied reply) more
 acts_on_block name spread old new step reply more whole step_is reply_is here before after has is transition =
-    subst (λ (one : Machine). GoesOnBy name idle old one (Some spread, acting step, replied reply) more) (sym is) (record {
+    subst (λ (one : Machine). GoesOnBy name idle old one (Some spread, acting step, replied reply) more) (sym is)
+    (record {
       next = idle;
       was = tt;
       left = whole;

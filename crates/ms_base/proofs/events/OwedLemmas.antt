@@ -65,7 +65,8 @@ added_by Class old name block words start new does = has_added old Class name bl
     (alloc_in Class name block words) refl does.0 does.1
 
 -- A block that is owed is there in the serial order already.
-pub pays_block : (space : Space) (name block words start : ℕ) (spread : SpreadStep) (old new : Machine) (more : List Part)
+pub pays_block : (space : Space) (name block words start : ℕ) (spread : SpreadStep) (old new : Machine)
+    (more : List Part)
     → AreWhole more → is_place spread.events (acting (alloc_in space name block words), replied (At start)) ≡ false
     → HasAdded old space name block words start new
     → GoesOnBy name (owes_block space block words start) old new (Some spread, acting (alloc_in space name block words), replied (At start)) more
@@ -103,7 +104,8 @@ servable_by Class m name block words (ReserveLimit nodes limit) passed cause = c
 servable_by Class m name block words OutOfMemory passed cause = cause
 servable_by space m name block words _ passed cause = absurd passed
 
-pub pays_refusal : (space : Space) (name block words : ℕ) (refusal : Refusal) (spread : SpreadStep) (old new : Machine) (more : List Part)
+pub pays_refusal : (space : Space) (name block words : ℕ) (refusal : Refusal) (spread : SpreadStep)
+    (old new : Machine) (more : List Part)
     → AreWhole more → IsPassed refusal
     → is_place spread.events (acting (alloc_in space name block words), replied (Refused refusal)) ≡ false
     → ActsNotCause old (alloc_in space name block words) refusal × (new ≡ old)

@@ -78,7 +78,8 @@ abbrev pub rest_of : SpreadStep → List (Event × Answer) → List Part
 rest_of spread events = map (λ (one : Event × Answer). (Some spread, one.0, one.1)) events
 
 -- One event is owed, and whether it is the step's place; whole steps follow.
-pub record IsOwed (step : Step) (reply : Reply) (event : Event) (answer : Answer) (place : Bool) (parts : List Part) : Type 0 where
+pub record IsOwed (step : Step) (reply : Reply) (event : Event) (answer : Answer) (place : Bool)
+    (parts : List Part) : Type 0 where
   pub spread : SpreadStep
   pub more : List Part
   pub step_is : spread.step ≡ step
@@ -124,7 +125,8 @@ pub record IsSeen (name : ℕ) (stage : Stage) (m : Machine) (seen : List (ℕ �
 
 -- Such loaders before the event: a run from the machine that has them after it is one from the machine
 -- that has these, with the step before it that counts as done.
-pub record GoesBack (name : ℕ) (stage : Stage) (old new : Machine) (seen : List (ℕ × LoaderState)) (done : List (Step × Reply)) : Type 0 where
+pub record GoesBack (name : ℕ) (stage : Stage) (old new : Machine) (seen : List (ℕ × LoaderState))
+    (done : List (Step × Reply)) : Type 0 where
   pub loaders : List (ℕ × LoaderState)
   pub rises : AreNamed loaders
   pub others : (other : ℕ) → (name ≡ other → ⊥) → named loaders other ≡ named seen other

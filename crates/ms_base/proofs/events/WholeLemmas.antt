@@ -51,7 +51,8 @@ some_name name = Some name
 same_name : (mine name : ℕ) → some_name mine ≡ some_name name → mine ≡ name
 same_name mine name e = cc
 
-module _ (name : ℕ) (old new : Machine) (good : IsGood old) (spread : SpreadStep) (more : List Part) (whole : AreWhole more) where
+module _ (name : ℕ) (old new : Machine) (good : IsGood old) (spread : SpreadStep) (more : List Part)
+    (whole : AreWhole more) where
   abbrev goal : List (Event × Answer) → Type 0
   goal events = FirstGoesOn name idle old new (rest_of spread events ++ more)
 
@@ -191,7 +192,8 @@ module _ (name : ℕ) (old new : Machine) (good : IsGood old) (spread : SpreadSt
       (λ happens. happens.0)
 
   -- An Alloc or a Calloc.
-  turned_elsewhere : (space : Space) (mine at total : ℕ) (enlarges : Bool) (refusal : Refusal) (step : Step) (reply : Reply) (rest : List (Event × Answer))
+  turned_elsewhere : (space : Space) (mine at total : ℕ) (enlarges : Bool) (refusal : Refusal) (step : Step)
+      (reply : Reply) (rest : List (Event × Answer))
       → GoesOn space mine step reply rest
       → is_place ((growing space mine at total enlarges, refused refusal) ∷ rest) (growing space mine at total enlarges, refused refusal) ≡ false
   turned_elsewhere space mine at total enlarges refusal step reply rest goes_on = elim goes_on [
@@ -206,7 +208,8 @@ module _ (name : ℕ) (old new : Machine) (good : IsGood old) (spread : SpreadSt
       elsewhere l = is_place ((growing space mine at total enlarges, refused refusal) ∷ l)
           (growing space mine at total enlarges, refused refusal) ≡ false
 
-  module _ (space : Space) (mine block words : ℕ) (step_is : spread.step ≡ alloc_in space mine block words) (reply : Reply) (reply_is : spread.reply ≡ reply) where
+  module _ (space : Space) (mine block words : ℕ) (step_is : spread.step ≡ alloc_in space mine block words)
+      (reply : Reply) (reply_is : spread.reply ≡ reply) where
     first_asked : (asked rest : List (Event × Answer)) → HasNoSpan space mine asked
         → GoesOn space mine (alloc_in space mine block words) reply rest → spread.events ≡ asked ++ rest
         → goal spread.events
