@@ -1,5 +1,5 @@
 -- A loader's write, read and free are steps of its machine; for system.rt.
-use Rattle.std.proofs.Common.{◌≡◌, ◌+◌, ℕ, true, false, Option, is_some, Some, None, List, [], ◌∷◌, ◌++◌, length, refl, sym, ap, ◌∙◌, subst}
+use Rattle.std.proofs.Common.{◌≡◌, ◌+◌, ℕ, Bool, true, false, Option, is_some, Some, None, List, [], ◌∷◌, ◌++◌, length, refl, sym, ap, ◌∙◌, subst}
 use Rattle.std.specs.Ordering.{nat_cmp}
 use Rattle.std.specs.BTreeMap.{is_at}
 use Rattle.std.proofs.lemmas.Map.Steps.{set_value_same}
@@ -77,3 +77,7 @@ found (Some x) e = (x, refl)
 pub missing : {X : Type 0} (o : Option X) → is_some o ≡ false → o ≡ None
 missing None e = refl
 missing (Some x) e = absurd (cc)
+
+-- A name that is told to be free is free.
+pub unused_name : (loaders : List (ℕ × LoaderView)) (name : ℕ) (told : Bool) → told ≡ is_some (named loaders name) → told ≡ false → named loaders name ≡ None
+unused_name loaders name told is free = missing (named loaders name) (sym is ∙ free)

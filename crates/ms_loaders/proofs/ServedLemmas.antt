@@ -214,11 +214,16 @@ length_changed {X} (e ∷ es) name x =
       | false ↦ ap suc (length_changed es name x)
     ]
 
+-- What is true of every loader is true of one.
+pub own_sound : (ledger : Ledger) (loaders : List (ℕ × LoaderView)) (name : ℕ) (v : LoaderView) → named loaders name ≡ Some v → AreTogether ledger loaders → IsSoundView v
+own_sound ledger loaders name v found its =
+    subst (λ (o : Option LoaderView). IfSome o IsSoundView) found (IfSome-lookup_from_All IsSoundView (is_at (nat_cmp name)) loaders its.loaders_sound)
+
 pub together_after : (space : Space) (old new : Ledger) (loaders : List (ℕ × LoaderView)) (name block words : ℕ) (was is : LoaderView) (answer : Result Block Refusal)
     → named loaders name ≡ Some was → AllocatesBlock Grew Took old.limits.policy space was block words old answer is new
     → Serves new (account_in space is) → ((other : AccountState) → other.owner ≢ (account_in space was).owner → Serves old other → Serves new other)
-    → opened_in new ≡ opened_in old → IsSoundLedger new → IsSoundView was → IsSoundView is → AreTogether old loaders → AreTogether new (with_changed loaders name is)
-together_after space old new loaders name block words was is answer found allocates own each opened ledger_sound was_sound is_sound its = record {
+    → opened_in new ≡ opened_in old → IsSoundLedger new → IsSoundView is → AreTogether old loaders → AreTogether new (with_changed loaders name is)
+together_after space old new loaders name block words was is answer found allocates own each opened ledger_sound is_sound its = record {
   ledger_sound = ledger_sound;
   loaders_sound = All-values-set_value (is_at (nat_cmp name)) IsSoundView loaders is its.loaders_sound is_sound;
   names = rises_with_changed loaders name is its.names;
@@ -228,7 +233,7 @@ together_after space old new loaders name block words was is answer found alloca
         (rw (ap accounts_of split.is ∙ accounts_split split.before split.after name was) at (recursion_from_All (Serves old) (accounts_of loaders) its.served.served))));
     distinct = subst AreDistinct (sym owners_same) its.served.distinct;
     no_other = All-from_recursion _ new.loans (subst (λ (owners : List ℕ). AllByRecursion (HasOwner owners) new.loans) (sym owners_same)
-        (block_has (owners_of loaders) space was is block words old new answer was_sound allocates (own_is_among space loaders name was found) (recursion_from_All _ old.loans its.served.no_other)));
+        (block_has (owners_of loaders) space was is block words old new answer (own_sound old loaders name was found its) allocates (own_is_among space loaders name was found) (recursion_from_All _ old.loans its.served.no_other)));
     opened = ap (λ (f : Space → ℕ). f NonClass) opened ∙ its.served.opened ∙ sym (length_changed loaders name is);
     class_opened = ap (λ (f : Space → ℕ). f Class) opened ∙ its.served.class_opened ∙ sym (length_changed loaders name is);
   };
@@ -249,7 +254,7 @@ together_after space old new loaders name block words was is answer found alloca
         ∙ ap (λ (n : ℕ). owners_of split.before ++ was.owner ∷ n ∷ owners_of split.after) keeps.class_owner
         ∙ sym (ap owners_of split.is ∙ owners_split split.before split.after name was)
 
--- Each loader's accounts are served, and what is true of every loader is true of it.
+-- Each loader's accounts are served.
 pub own_served : (space : Space) (ledger : Ledger) (loaders : List (ℕ × LoaderView)) (name : ℕ) (v : LoaderView) → named loaders name ≡ Some v → AreServed ledger loaders
     → Serves ledger (account_in space v)
 own_served space ledger loaders name v found its = go space
@@ -264,10 +269,6 @@ own_served space ledger loaders name v found its = go space
     go : (one : Space) → Serves ledger (account_in one v)
     go NonClass = parts.1
     go Class = parts.2
-
-pub own_sound : (ledger : Ledger) (loaders : List (ℕ × LoaderView)) (name : ℕ) (v : LoaderView) → named loaders name ≡ Some v → AreTogether ledger loaders → IsSoundView v
-own_sound ledger loaders name v found its =
-    subst (λ (o : Option LoaderView). IfSome o IsSoundView) found (IfSome-lookup_from_All IsSoundView (is_at (nat_cmp name)) loaders its.loaders_sound)
 
 -- Pool and loaders are together still where a loader changes but for its owners and chunks.
 pub together_with : (ledger : Ledger) (loaders : List (ℕ × LoaderView)) (name : ℕ) (was is : LoaderView) → named loaders name ≡ Some was → is.owner ≡ was.owner → is.class_owner ≡ was.class_owner
