@@ -214,7 +214,6 @@ length_changed {X} (e ∷ es) name x =
       | false ↦ ap suc (length_changed es name x)
     ]
 
--- What is true of every loader is true of one.
 pub own_sound : (ledger : Ledger) (loaders : List (ℕ × LoaderView)) (name : ℕ) (v : LoaderView) → named loaders name ≡ Some v → AreTogether ledger loaders → IsSoundView v
 own_sound ledger loaders name v found its =
     subst (λ (o : Option LoaderView). IfSome o IsSoundView) found (IfSome-lookup_from_All IsSoundView (is_at (nat_cmp name)) loaders its.loaders_sound)

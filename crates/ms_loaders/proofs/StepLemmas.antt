@@ -31,7 +31,7 @@ use Rattle.ms_base.specs.Causes.{meets_reserve_limit, meets_commit_limit, commit
 use Rattle.ms_base.specs.PoolSteps.{taken, slots_with}
 use Rattle.ms_base.specs.State.{ArenaState, LoaderState, Machine, PoolState, arena_of, chunks_held, slots_in, with_slots, pool_of, recommitted as machine_recommitted}
 use Rattle.ms_base.specs.Good.{IsGood}
-use Rattle.ms_base.specs.Transition.{HasLoader, LacksBlock, with_loader, with_allocated, zeroed, Change, IsGrown, GrowsOne, AddsOne, MayChange, Allocates, BlockIsThere, IsServable, CommitsTooMuch, AllocCause}
+use Rattle.ms_base.specs.Transition.{HasLoader, LacksLoader, LacksBlock, with_loader, with_allocated, zeroed, Change, IsGrown, GrowsOne, AddsOne, MayChange, Allocates, BlockIsThere, IsServable, CommitsTooMuch, AllocCause}
 use Rattle.ms_base.specs.SumLaws.{GrowsWell}
 use Rattle.ms_base.proofs.entries.EntryLemmas.{Split, split_at}
 use Rattle.ms_base.proofs.runs.ApartLemmas.{All-middle_of}
@@ -47,18 +47,22 @@ use Rattle.ms_pool.specs.Calls.{tallied, Took, Grew}
 use Rattle.ms_arena.specs.Arena.{ArenaView, IsAskable, PlaceRefused}
 use Rattle.ms_loaders.specs.Loader.{LoaderView, IsSoundView, IsArenaOf, AfterAlloc, AsksArena, NameRefused, AllocatesBlock}
 use Rattle.ms_loaders.specs.System.{states_of, machine_of, AreTogether}
-use Rattle.ms_loaders.proofs.MappedLemmas.{found-mapped, changed-mapped}
+use Rattle.ms_loaders.proofs.MappedLemmas.{found-mapped, missing-mapped, changed-mapped}
 use Rattle.ms_loaders.proofs.OutcomeLemmas.{SameBut, GrownBy, LentBy, IsMade, IsNotMade, TakeCause, picked_is}
 use Rattle.ms_loaders.proofs.AskedLemmas.{outcome}
 use Rattle.ms_loaders.proofs.FitLemmas.{fits, machine_is_good, recommitted_machine}
 use Rattle.ms_loaders.proofs.ServedLemmas.{apart_of, own_sound}
 
-abbrev pub state_of : LoaderView → LoaderState
+abbrev state_of : LoaderView → LoaderState
 state_of loader = loader.state
 
 -- A loader of the system is one of the machine.
 pub has_loader : (ledger : Ledger) (loaders : List (ℕ × LoaderView)) (name : ℕ) (v : LoaderView) → named loaders name ≡ Some v → HasLoader (machine_of ledger loaders) name v.state
 has_loader ledger loaders name v found = found-mapped state_of loaders name v found
+
+-- And a name that no loader of the system has, none of the machine has.
+pub lacks_loader : (ledger : Ledger) (loaders : List (ℕ × LoaderView)) (name : ℕ) → named loaders name ≡ None → LacksLoader (machine_of ledger loaders) name
+lacks_loader ledger loaders name none = missing-mapped state_of loaders name none
 
 -- The machine where a loader changed, before the granules follow.
 pub machine_with : (ledger : Ledger) (loaders : List (ℕ × LoaderView)) (name : ℕ) (v : LoaderView)

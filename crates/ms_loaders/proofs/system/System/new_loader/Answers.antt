@@ -3,9 +3,8 @@ use Rattle.ms_base.specs.declared.kind.Space.TheVariants.{NonClass, Class}
 use Rattle.ms_base.specs.Names.{named}
 use Rattle.ms_pool.specs.Ledger.{Ledger, Serves, IsSoundLedger}
 use Rattle.ms_loaders.specs.Loader.{LoaderView, account_in, IsSoundView}
-use Rattle.ms_loaders.proofs.MappedLemmas.{missing-mapped}
 use Rattle.ms_loaders.proofs.FitLemmas.{machine_is_good}
-use Rattle.ms_loaders.proofs.StepLemmas.{has_loader, state_of}
+use Rattle.ms_loaders.proofs.StepLemmas.{has_loader, lacks_loader}
 use Rattle.ms_loaders.proofs.CallLemmas.{found, unused_name}
 use Rattle.ms_loaders.proofs.CloseLemmas.{with_both, first_account, second_account, first_served, second_served, together_made, machine_made}
 use Rattle.ms_loaders.proofs.UnloadLemmas.{made_of, closed_again, together_again, numbers_used, numbers_left, insert_is_refused}
@@ -18,7 +17,7 @@ returns-then-contains-clause-refused c =
 
 pub returns-in-Err-clause-refused : goal.returns-in-Err-clause-refused
 returns-in-Err-clause-refused c = rw (c.in-Err.ensures.opened.0, c.in-Err.ensures.opened.2, ← c.self.view_is)
-    ((missing-mapped state_of c.self.inside.loaders c.args.name (unused_name c.self.inside.loaders c.args.name c.contains.result c.contains.ensures c.if-contains.false), c.in-Err.ensures.opened.1), refl)
+    ((lacks_loader c.self.inside.pool c.self.inside.loaders c.args.name (unused_name c.self.inside.loaders c.args.name c.contains.result c.contains.ensures c.if-contains.false), c.in-Err.ensures.opened.1), refl)
 
 pub invariant_of-self-in-Ok-insert : goal.invariant_of-self-in-Ok-insert
 invariant_of-self-in-Ok-insert c =
@@ -48,7 +47,7 @@ pub invariant_of-self-in-Err-insert : goal.invariant_of-self-in-Err-insert
 invariant_of-self-in-Err-insert c =
     let made = made_of c.self.inside.pool c.args.kind c.in-Ok.accounts c.new-loader.result c.new-loader.ensures.made c.in-Ok.ensures.opened.0 in
     let closed = closed_again c.self.inside.pool c.open_both.new.self c.close_both.new.self c.args.kind c.in-Err-insert.loader c.into_accounts-account.result c.in-Ok.ensures.opened.1
-        (c.in-Err-insert.ensures.back ∙ made) c.into_accounts-account.ensures.account c.into_accounts-account.ensures.class_account c.close_both.ensures in
+    (c.in-Err-insert.ensures.back ∙ made) c.into_accounts-account.ensures.account c.into_accounts-account.ensures.class_account c.close_both.ensures in
     rw c.in-Err-insert.ensures.unchanged (record {
       together = together_again c.self.inside.pool c.close_both.new.self c.self.inside.loaders closed c.committed-in-Err-insert.ensures.sound c.self.invariant.together;
       policy_is = c.self.invariant.policy_is ∙ ap (λ (l : Ledger). l.limits.policy) (sym closed);
@@ -59,9 +58,9 @@ returns-in-Ok-insert-clause-served c =
     let unused = unused_name c.self.inside.loaders c.args.name c.contains.result c.contains.ensures c.if-contains.false in
     let made = made_of c.self.inside.pool c.args.kind c.in-Ok.accounts c.new-loader.result c.new-loader.ensures.made c.in-Ok.ensures.opened.0 in
     let together = together_made c.self.inside.pool c.self.inside.loaders c.args.name c.args.kind unused c.self.invariant.together
-        (subst IsSoundLedger c.in-Ok.ensures.opened.1 c.committed.ensures.sound) (subst IsSoundView made c.new-loader.ensures.sound) in
+    (subst IsSoundLedger c.in-Ok.ensures.opened.1 c.committed.ensures.sound) (subst IsSoundView made c.new-loader.ensures.sound) in
     rw (c.in-Ok-insert.ensures.inserted, made, c.in-Ok.ensures.opened.1, ← c.self.view_is) (
-      record { unused = missing-mapped state_of c.self.inside.loaders c.args.name unused; after = machine_made c.self.inside.pool c.self.inside.loaders c.args.name c.args.kind unused c.self.invariant.together },
+      record { unused = lacks_loader c.self.inside.pool c.self.inside.loaders c.args.name unused; after = machine_made c.self.inside.pool c.self.inside.loaders c.args.name c.args.kind unused c.self.invariant.together },
       machine_is_good (with_both c.self.inside.pool) _ together,
     )
 
@@ -70,8 +69,8 @@ returns-in-Err-insert-clause-refused c =
     let unused = unused_name c.self.inside.loaders c.args.name c.contains.result c.contains.ensures c.if-contains.false in
     let made = made_of c.self.inside.pool c.args.kind c.in-Ok.accounts c.new-loader.result c.new-loader.ensures.made c.in-Ok.ensures.opened.0 in
     let closed = closed_again c.self.inside.pool c.open_both.new.self c.close_both.new.self c.args.kind c.in-Err-insert.loader c.into_accounts-account.result c.in-Ok.ensures.opened.1
-        (c.in-Err-insert.ensures.back ∙ made) c.into_accounts-account.ensures.account c.into_accounts-account.ensures.class_account c.close_both.ensures in
+    (c.in-Err-insert.ensures.back ∙ made) c.into_accounts-account.ensures.account c.into_accounts-account.ensures.class_account c.close_both.ensures in
     rw (insert_is_refused c.self.inside.loaders c.args.name c.in-Err-insert.refusal unused c.in-Err-insert.ensures.refused, c.in-Err-insert.ensures.unchanged, ← c.self.view_is) (
-      (missing-mapped state_of c.self.inside.loaders c.args.name unused, numbers_left c.self.inside.pool c.close_both.new.self c.self.inside.loaders closed c.committed-in-Err-insert.ensures.sound c.self.invariant.together),
+      (lacks_loader c.self.inside.pool c.self.inside.loaders c.args.name unused, numbers_left c.self.inside.pool c.close_both.new.self c.self.inside.loaders closed c.committed-in-Err-insert.ensures.sound c.self.invariant.together),
       inr (numbers_used c.self.inside.pool c.close_both.new.self c.self.inside.loaders closed c.committed-in-Err-insert.ensures.sound c.self.invariant.together),
     )

@@ -5,8 +5,8 @@ use Rattle.ms_pool.specs.Ledger.{Serves, Ledger, with_both_closed}
 use Rattle.ms_base.specs.State.{Machine}
 use Rattle.ms_base.specs.Transition.{HasLoader}
 use Rattle.ms_loaders.specs.Loader.{LoaderView, account_in}
-use Rattle.ms_loaders.proofs.StepLemmas.{has_loader, state_of}
-use Rattle.ms_loaders.proofs.MappedLemmas.{missing-mapped, without_missing}
+use Rattle.ms_loaders.proofs.StepLemmas.{has_loader, lacks_loader}
+use Rattle.ms_loaders.proofs.MappedLemmas.{without_missing}
 use Rattle.ms_loaders.proofs.ServedLemmas.{own_served}
 use Rattle.ms_loaders.proofs.UnloadLemmas.{closed_of, together_unloaded, is_unloaded}
 use Rattle.ms_loaders.proofs.system.System.unload.Goals as goal
@@ -44,10 +44,10 @@ returns-in-Some-clause-no_loader c = (
 )
 
 pub returns-in-None-clause-no_loader : goal.returns-in-None-clause-no_loader
-returns-in-None-clause-no_loader c = ((λ e. rw (← c.self.view_is) (missing-mapped state_of c.self.inside.loaders c.args.name (sym c.remove.ensures.found ∙ c.in-None.is))), λ lacks. refl)
+returns-in-None-clause-no_loader c = ((λ e. rw (← c.self.view_is) (lacks_loader c.self.inside.pool c.self.inside.loaders c.args.name (sym c.remove.ensures.found ∙ c.in-None.is))), λ lacks. refl)
 
 pub returns-in-None-clause-refused : goal.returns-in-None-clause-refused
 returns-in-None-clause-refused c = (
-  rw (← c.self.view_is) (missing-mapped state_of c.self.inside.loaders c.args.name (sym c.remove.ensures.found ∙ c.in-None.is)),
+  rw (← c.self.view_is) (lacks_loader c.self.inside.pool c.self.inside.loaders c.args.name (sym c.remove.ensures.found ∙ c.in-None.is)),
   rw (← c.self.view_is, c.remove.ensures.rest, without_missing c.self.inside.loaders c.args.name (sym c.remove.ensures.found ∙ c.in-None.is)) refl,
 )
