@@ -1,12 +1,12 @@
 -- The pool serves the loaders' accounts, and lends to no other, after a loader's allocation.
-use Rattle.std.proofs.Common.{◌≡◌, ◌≢◌, ◌≤◌, ◌+◌, ℕ, suc, Bool, true, false, cond, not, ◌||◌, Option, Some, IfSome, Result, Ok, Err, List, [], ◌∷◌, ◌++◌, map, length, refl, sym, ap, ◌∙◌, subst, inl, inr, arith}
+use Rattle.std.proofs.Common.{◌≡◌, ◌≢◌, ◌+◌, ℕ, suc, Bool, true, false, cond, ◌||◌, Option, Some, IfSome, Result, Ok, Err, List, [], ◌∷◌, ◌++◌, map, length, refl, sym, ap, ◌∙◌, subst, inl, inr, arith}
 use Rattle.std.specs.Prelude.{◌==◌, nat_lt}
 use Rattle.std.specs.Ordering.{nat_cmp}
 use Rattle.std.specs.List.{All, AllByRecursion, count_by, list_any, flat_map}
 use Rattle.std.specs.Map.{values_of}
 use Rattle.std.specs.BTreeMap.{is_at}
 use Rattle.std.proofs.lemmas.Bool.{eq-eqb}
-use Rattle.std.proofs.lemmas.List.{map-append, length-set}
+use Rattle.std.proofs.lemmas.List.{map-append}
 use Rattle.std.proofs.lemmas.List.Concat.{flat_map-append}
 use Rattle.std.proofs.lemmas.List.Sums.{sum_by-cons, sum_by-append}
 use Rattle.std.proofs.lemmas.List.Elements.{recursion_from_All, All-from_recursion}
@@ -22,7 +22,7 @@ use Rattle.ms_base.specs.Held.{words_of}
 use Rattle.ms_base.specs.Spaces.{other_space, by_space}
 use Rattle.ms_base.specs.Committed.{is_among}
 use Rattle.ms_base.specs.Names.{named, with_new, with_changed}
-use Rattle.ms_base.specs.State.{ArenaState, LoaderState, arena_of}
+use Rattle.ms_base.specs.State.{ArenaState, arena_of}
 use Rattle.ms_base.specs.Transition.{zeroed}
 use Rattle.ms_base.proofs.entries.EntryLemmas.{Split, split_at, values_split, rises_with_changed}
 use Rattle.ms_base.proofs.runs.ApartLemmas.{list_any-with}

@@ -1,54 +1,39 @@
 -- An allocation of a system that is answered by a block is a step of its machine: which chunks and
 -- slots it changes. Used by the calls of a system.
-use Rattle.std.proofs.Common.{◌≡◌, ◌≤◌, ◌<◌, ◌+◌, ◌-◌, ℕ, zero, suc, Bool, true, false, ◌⊎◌, Some, None, Result, Ok, Err, List, [], ◌∷◌, ◌++◌, length, map, cond, refl, sym, ap, ◌∙◌, subst, inl, inr, arith, if◌then◌else◌}
-use Rattle.std.specs.Prelude.{◌==◌, slice_get, slice_set, IsTrue}
+use Rattle.std.proofs.Common.{◌≡◌, ℕ, zero, suc, Some, None, Result, Ok, List, [], ◌∷◌, map, cond, refl, sym, ap, ◌∙◌, subst, inl, inr}
+use Rattle.std.specs.Prelude.{◌==◌, slice_get, slice_set}
 use Rattle.std.specs.List.{All, AllByRecursion, Contains}
 use Rattle.std.specs.List.Sorted.{IsPermutation}
 use Rattle.std.proofs.lemmas.List.Elements.{recursion_from_All, All-contains_itself}
 use Rattle.std.proofs.lemmas.List.Sorted.{All-permutation}
-use Rattle.std.specs.Ordering.{nat_cmp}
-use Rattle.std.specs.BTreeMap.{is_at}
-use Rattle.std.proofs.lemmas.Map.Steps.{set_value_same}
-use Rattle.ms_base.specs.declared.kind.Kind.{Kind}
 use Rattle.ms_base.specs.declared.kind.Space.{Space}
 use Rattle.ms_base.specs.declared.kind.Space.TheVariants.{NonClass, Class}
-use Rattle.ms_base.specs.declared.policy.Policy.{Policy}
 use Rattle.ms_base.specs.declared.span.Chunk.{Chunk}
 use Rattle.ms_base.specs.declared.span.Block.{Block}
-use Rattle.ms_base.specs.declared.words.LiveBlock.{LiveBlock}
 use Rattle.ms_base.specs.declared.refusal.Refusal.{Refusal}
-use Rattle.ms_base.specs.declared.refusal.Refusal.TheVariants.{ZeroWords, TooLarge, CommitLimit, ReserveLimit, NotLive, OutOfRange, OutOfMemory, NoLoader, LoaderExists, NoBlock, BlockExists, IdsUsedUp, NoRoom}
-use Rattle.ms_base.specs.Level.{size_of, root_words, level_that_holds}
+use Rattle.ms_base.specs.Level.{size_of}
 use Rattle.ms_base.specs.Front.{front_for}
-use Rattle.ms_base.specs.Spaces.{by_space, is_in}
-use Rattle.ms_base.specs.FreeLaws.{with_held}
-use Rattle.ms_base.specs.Names.{named, with_new, with_changed}
+use Rattle.ms_base.specs.Spaces.{by_space}
+use Rattle.ms_base.specs.Names.{named, with_changed}
 use Rattle.ms_base.specs.Live.{block_words}
 use Rattle.ms_base.specs.Place.{last_place}
-use Rattle.ms_base.specs.Asks.{wanted_level}
-use Rattle.ms_base.specs.Pick.{chunk_picked}
-use Rattle.ms_base.specs.Causes.{meets_reserve_limit, meets_commit_limit, committed_count, node_limit, granules_needed, ReserveCause, CommitCause}
-use Rattle.ms_base.specs.PoolSteps.{taken, slots_with}
-use Rattle.ms_base.specs.State.{ArenaState, LoaderState, Machine, PoolState, arena_of, chunks_held, slots_in, with_slots, pool_of, recommitted as machine_recommitted}
+use Rattle.ms_base.specs.PoolSteps.{slots_with}
+use Rattle.ms_base.specs.State.{ArenaState, LoaderState, Machine, arena_of, chunks_held, slots_in, with_slots, recommitted as machine_recommitted}
 use Rattle.ms_base.specs.Good.{IsGood}
-use Rattle.ms_base.specs.Transition.{HasLoader, LacksLoader, LacksBlock, with_loader, with_allocated, zeroed, Change, IsGrown, GrowsOne, AddsOne, MayChange, Allocates, BlockIsThere, IsServable, CommitsTooMuch, AllocCause}
+use Rattle.ms_base.specs.Transition.{HasLoader, LacksLoader, with_loader, with_allocated, zeroed, Change, MayChange, Allocates}
 use Rattle.ms_base.specs.SumLaws.{GrowsWell}
-use Rattle.ms_base.proofs.entries.EntryLemmas.{Split, split_at}
+use Rattle.ms_base.proofs.entries.EntryLemmas.{split_at}
 use Rattle.ms_base.proofs.runs.ApartLemmas.{All-middle_of}
 use Rattle.ms_base.proofs.machine.GoodLemmas.{chunks_split}
-use Rattle.ms_base.proofs.machine.ChangeLemmas.{changed, slots_same, unchanged_pools}
-use Rattle.ms_base.proofs.arena.BlockLemmas.{arena_there}
-use Rattle.ms_base.proofs.free.AlikeLemmas.{permuted_are_alike}
-use Rattle.ms_base.proofs.free.OrderLemmas.{taken_alike}
+use Rattle.ms_base.proofs.machine.ChangeLemmas.{slots_same, unchanged_pools}
 use Rattle.ms_base.proofs.granules.GrowingLemmas.{growing_keeps_the_limit}
-use Rattle.ms_pool.specs.Tallies.{Tallies}
-use Rattle.ms_pool.specs.Ledger.{Loan, Ledger, held_in, state_in, with_loan, with_lent, with_grown}
+use Rattle.ms_pool.specs.Ledger.{Loan, Ledger, held_in, state_in, with_loan}
 use Rattle.ms_pool.specs.Calls.{tallied, Took, Grew}
-use Rattle.ms_arena.specs.Arena.{ArenaView, IsAskable, PlaceRefused}
-use Rattle.ms_loaders.specs.Loader.{LoaderView, IsSoundView, IsArenaOf, AfterAlloc, AsksArena, NameRefused, AllocatesBlock}
+use Rattle.ms_arena.specs.Arena.{ArenaView}
+use Rattle.ms_loaders.specs.Loader.{LoaderView, IsSoundView, IsArenaOf, AllocatesBlock}
 use Rattle.ms_loaders.specs.System.{states_of, machine_of, AreTogether}
 use Rattle.ms_loaders.proofs.MappedLemmas.{found-mapped, missing-mapped, changed-mapped}
-use Rattle.ms_loaders.proofs.OutcomeLemmas.{SameBut, GrownBy, LentBy, IsMade, IsNotMade, TakeCause, picked_is}
+use Rattle.ms_loaders.proofs.OutcomeLemmas.{GrownBy, LentBy, IsMade, picked_is}
 use Rattle.ms_loaders.proofs.AskedLemmas.{outcome}
 use Rattle.ms_loaders.proofs.FitLemmas.{fits, machine_is_good, recommitted_machine}
 use Rattle.ms_loaders.proofs.ServedLemmas.{apart_of, own_sound}

@@ -1,11 +1,10 @@
 -- Pool and loaders stay together, and the machine makes its step, where a loader is unloaded, or is
 -- refused once its accounts were opened; both close two accounts.
-use Rattle.std.proofs.Common.{◌≡◌, ◌≢◌, ◌≤◌, ◌<◌, ◌+◌, ◌-◌, ℕ, suc, Bool, true, false, cond, not, ◌||◌, Some, None, List, [], ◌∷◌, ◌++◌, map, length, refl, sym, ap, ◌∙◌, subst, inl, inr, arith}
+use Rattle.std.proofs.Common.{◌≡◌, ◌≢◌, ◌≤◌, ◌+◌, ℕ, Bool, true, false, cond, not, ◌||◌, Some, None, List, [], ◌∷◌, ◌++◌, map, length, refl, sym, ap, ◌∙◌, subst, arith}
 use Rattle.std.specs.Prelude.{◌==◌}
 use Rattle.std.specs.Ordering.{nat_cmp}
-use Rattle.std.specs.List.{All, AllByRecursion, filter, list_any}
+use Rattle.std.specs.List.{All, AllByRecursion}
 use Rattle.std.specs.List.Sorted.{IsPermutation}
-use Rattle.std.specs.Map.{values_of}
 use Rattle.std.specs.BTreeMap.{is_at}
 use Rattle.std.proofs.lemmas.Bool.{eqb-true, eq-eqb, both_ways}
 use Rattle.std.proofs.lemmas.List.{length-append, map-append}
@@ -13,12 +12,11 @@ use Rattle.std.proofs.lemmas.List.Sums.{sum_by-append, sum_by-cons}
 use Rattle.std.proofs.lemmas.List.Elements.{recursion_from_All, All-from_recursion}
 use Rattle.std.proofs.lemmas.Map.Views.{All-map-remove_entry}
 use Rattle.ms_base.specs.declared.kind.Kind.{Kind}
-use Rattle.ms_base.specs.declared.kind.Space.{Space}
 use Rattle.ms_base.specs.declared.kind.Space.TheVariants.{NonClass, Class}
 use Rattle.ms_base.specs.declared.span.Chunk.{Chunk}
 use Rattle.ms_base.specs.Committed.{is_among}
 use Rattle.ms_base.specs.Names.{named, without}
-use Rattle.ms_base.specs.State.{LoaderState, Machine, chunks_held, recommitted as machine_recommitted}
+use Rattle.ms_base.specs.State.{LoaderState, chunks_held, recommitted as machine_recommitted}
 use Rattle.ms_base.specs.Good.{IsGood}
 use Rattle.ms_base.specs.declared.refusal.Refusal.{Refusal}
 use Rattle.ms_base.specs.declared.refusal.Refusal.TheVariants.{LoaderExists, OutOfMemory}
@@ -31,10 +29,10 @@ use Rattle.ms_base.proofs.runs.ApartLemmas.{list_any-with}
 use Rattle.ms_pool.specs.Account.{AccountState}
 use Rattle.ms_pool.specs.Ledger.{Loan, Ledger, Serves, IsSoundLedger, held_in, others_than, with_both_closed}
 use Rattle.ms_loaders.specs.Loader.{LoaderView, account_in, new_loader, IsSoundView}
-use Rattle.ms_loaders.specs.System.{states_of, accounts_of, owners_of, machine_of, AreDistinct, AreServed, AreTogether}
+use Rattle.ms_loaders.specs.System.{states_of, accounts_of, owners_of, machine_of, AreTogether}
 use Rattle.ms_loaders.proofs.MappedLemmas.{without-mapped}
 use Rattle.ms_loaders.proofs.FitLemmas.{HasOwner, owner_of, owned, others, owned_elsewhere, fits, machine_is_good, recommitted_machine}
-use Rattle.ms_loaders.proofs.ServedLemmas.{one_if, accounts_split, times, is_it, it_is, times_split, all_parts}
+use Rattle.ms_loaders.proofs.ServedLemmas.{accounts_split, times, is_it, it_is, times_split, all_parts}
 use Rattle.ms_loaders.proofs.CloseLemmas.{accounts_joined, all_others, fresh_owner, served_with, with_both, first_account, second_account}
 use Rattle.ms_loaders.proofs.StepLemmas.{has_loader}
 

@@ -2,7 +2,7 @@ use Rattle.std.proofs.Common.{sym, refl, ap, ◌∙◌, subst, inr}
 use Rattle.ms_base.specs.declared.kind.Space.TheVariants.{NonClass, Class}
 use Rattle.ms_base.specs.Names.{named}
 use Rattle.ms_pool.specs.Ledger.{Ledger, Serves, IsSoundLedger}
-use Rattle.ms_loaders.specs.Loader.{LoaderView, account_in, IsSoundView}
+use Rattle.ms_loaders.specs.Loader.{account_in, IsSoundView}
 use Rattle.ms_loaders.proofs.FitLemmas.{machine_is_good}
 use Rattle.ms_loaders.proofs.StepLemmas.{has_loader, lacks_loader}
 use Rattle.ms_loaders.proofs.CallLemmas.{found, unused_name}

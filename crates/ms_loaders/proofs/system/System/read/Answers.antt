@@ -1,5 +1,4 @@
 use Rattle.std.proofs.Common.{sym, refl}
-use Rattle.ms_loaders.specs.Loader.{LoaderView}
 use Rattle.ms_loaders.specs.System.{machine_of}
 use Rattle.ms_loaders.proofs.FitLemmas.{machine_is_good}
 use Rattle.ms_loaders.proofs.StepLemmas.{has_loader, lacks_loader}

@@ -1,10 +1,8 @@
 use Rattle.std.proofs.Common.{sym, refl, ap, ◌∙◌, subst}
 use Rattle.ms_base.specs.declared.kind.Space.TheVariants.{NonClass, Class}
-use Rattle.ms_pool.specs.Account.{AccountState}
-use Rattle.ms_pool.specs.Ledger.{Serves, Ledger, with_both_closed}
+use Rattle.ms_pool.specs.Ledger.{Serves, Ledger}
 use Rattle.ms_base.specs.State.{Machine}
 use Rattle.ms_base.specs.Transition.{HasLoader}
-use Rattle.ms_loaders.specs.Loader.{LoaderView, account_in}
 use Rattle.ms_loaders.proofs.StepLemmas.{has_loader, lacks_loader}
 use Rattle.ms_loaders.proofs.MappedLemmas.{without_missing}
 use Rattle.ms_loaders.proofs.ServedLemmas.{own_served}
