@@ -70,7 +70,8 @@ free_keeps : (space : Space) (loader other : LoaderState) (block : ℕ) → Free
 free_keeps space loader other block frees = ap (λ (l : LoaderState). (arena_of space l).chunks) frees.after
     ∙ freed_keeps space (space_at frees.found.start) loader block (with_new (arena_of (space_at frees.found.start) loader).kept frees.found.start (length frees.found.contents))
 
--- Pool and loaders stay together where a loader writes a word or frees a block, and the machine makes its step.
+-- Where a loader writes a word or frees a block, pool and loaders stay together, and the machine
+-- makes its step.
 module _ (ledger : Ledger) (loaders : List (ℕ × LoaderView)) (name block : ℕ) (was is : LoaderView) (found : named loaders name ≡ Some was)
     (same : is ≡ with_state was is.state) (sound : IsSoundView is) (its : AreTogether ledger loaders) where
   with_chunks : ((space : Space) → (arena_of space is.state).chunks ≡ (arena_of space was.state).chunks) → AreTogether ledger (with_changed loaders name is)
