@@ -1,28 +1,26 @@
 -- What a loader's allocation does to it, from what the arena of the space answers.
-use Rattle.std.proofs.Common.{◌≡◌, ℕ, true, Some, None, Result, Ok, Err, List, length, replicate, refl, sym, ap, ◌∙◌, subst, IfOk, OnErr, inl, inr}
+use Rattle.std.proofs.Common.{◌≡◌, ℕ, true, None, Result, Ok, Err, List, replicate, refl, sym, ap, ◌∙◌, subst, IfOk, OnErr, inr}
 use Rattle.std.specs.BTreeMap.{BTreeMap}
 use Rattle.ms_base.specs.declared.kind.Space.{Space}
 use Rattle.ms_base.specs.declared.kind.Space.TheVariants.{NonClass, Class}
 use Rattle.ms_base.specs.declared.policy.Policy.{Policy}
 use Rattle.ms_base.specs.declared.span.Block.{Block}
-use Rattle.ms_base.specs.declared.words.LiveBlock.{LiveBlock}
 use Rattle.ms_base.specs.declared.refusal.Refusal.{Refusal}
-use Rattle.ms_base.specs.declared.refusal.Refusal.TheVariants.{ZeroWords, TooLarge, CommitLimit, ReserveLimit, NotLive, OutOfRange, OutOfMemory, NoLoader, LoaderExists, NoBlock, BlockExists, IdsUsedUp, NoRoom}
-use Rattle.ms_base.specs.Spaces.{by_space, is_in}
+use Rattle.ms_base.specs.declared.refusal.Refusal.TheVariants.{ZeroWords, TooLarge, OutOfMemory, BlockExists}
+use Rattle.ms_base.specs.Spaces.{is_in}
 use Rattle.ms_base.specs.Names.{named, with_new}
-use Rattle.ms_base.specs.State.{ArenaState, arena_of}
 use Rattle.ms_base.specs.Transition.{with_allocated, zeroed}
 use Rattle.ms_base.proofs.entries.NameLemmas.{rises_with_new}
 use Rattle.ms_base.proofs.entries.LookupLemmas.{named_new_same}
-use Rattle.ms_arena.specs.Arena.{ArenaView, IsSoundArena, with_books, with_zeros}
+use Rattle.ms_arena.specs.Arena.{ArenaView, IsSoundArena}
 use Rattle.ms_arena.specs.Alloc.{TakeRelation, GrowRelation, Allocates}
-use Rattle.ms_loaders.specs.Loader.{LoaderView, with_state, IsArenaOf, AfterAlloc, AsksArena, NameRefused, AllocatesBlock}
+use Rattle.ms_loaders.specs.Loader.{with_state, IsArenaOf, AfterAlloc, NameRefused, AllocatesBlock}
 use Rattle.ms_loaders.specs.LoaderInside.{live_at, blocks_of, IsLoader, view_of}
 use Rattle.ms_loaders.specs.Naming.{EnterRefused, no_block, settled}
 use Rattle.ms_loaders.specs.declared.loader.Loader.TheInside.{Inside}
 use Rattle.ms_loaders.proofs.MappedLemmas.{found-mapped, missing-mapped, new_then_without, new_then_changed}
 use Rattle.ms_loaders.proofs.ChangeLemmas.{ChangesIn, made_matches, made_blocks}
-use Rattle.ms_loaders.proofs.ViewLemmas.{arena_in, is_arena, matches_of, books_of}
+use Rattle.ms_loaders.proofs.ViewLemmas.{arena_in, is_arena, matches_of}
 use Rattle.ms_loaders.proofs.MadeLemmas.{Makes, allocation_makes}
 use Rattle.ms_loaders.proofs.SpaceLemmas.{live_in_space}
 use Rattle.ms_loaders.proofs.LoaderLemmas.{contents_at, with_arena_at, changes_of, replaced, changed_view}

@@ -1,11 +1,11 @@
 -- An allocation's outcome for the pool, read from what the arena's relation says of each call.
-use Rattle.std.proofs.Common.{◌≡◌, ◌+◌, ℕ, Bool, true, false, Option, Some, None, Result, Ok, Err, List, [], ◌∷◌, ◌++◌, map, refl, sym, ap, ◌∙◌, subst, inl, inr}
+use Rattle.std.proofs.Common.{◌≡◌, ℕ, Bool, true, false, Option, Some, None, Result, Ok, Err, List, [], ◌∷◌, ◌++◌, map, refl, sym, ap, ◌∙◌, subst, inl, inr}
 use Rattle.std.specs.Prelude.{slice_set}
 use Rattle.ms_base.specs.declared.span.Chunk.{Chunk}
 use Rattle.ms_base.specs.declared.span.Span.{Span}
 use Rattle.ms_base.specs.declared.span.Block.{Block}
 use Rattle.ms_base.specs.declared.refusal.Refusal.{Refusal}
-use Rattle.ms_base.specs.declared.refusal.Refusal.TheVariants.{ZeroWords, TooLarge, CommitLimit, ReserveLimit, NotLive, OutOfRange, OutOfMemory, NoLoader, LoaderExists, NoBlock, BlockExists, IdsUsedUp, NoRoom}
+use Rattle.ms_base.specs.declared.refusal.Refusal.TheVariants.{CommitLimit, ReserveLimit, OutOfMemory, NoRoom}
 use Rattle.ms_base.specs.Interval.{are_apart}
 use Rattle.ms_base.specs.Level.{level_that_holds}
 use Rattle.ms_base.specs.Held.{words_of}
@@ -13,14 +13,14 @@ use Rattle.ms_base.specs.Live.{block_words}
 use Rattle.ms_base.specs.State.{ArenaState}
 use Rattle.ms_base.specs.Place.{placed, current, last_place}
 use Rattle.ms_base.specs.Asks.{asks_growth, wanted_level, total_asked, may_enlarge}
-use Rattle.ms_base.specs.PoolSteps.{taken, grown}
-use Rattle.ms_pool.specs.Lending.{span_of, chunk_at, reaching}
+use Rattle.ms_base.specs.PoolSteps.{grown}
+use Rattle.ms_pool.specs.Lending.{chunk_at}
 use Rattle.ms_pool.specs.Tallies.{Tallies}
-use Rattle.ms_pool.specs.Ledger.{Ledger, state_in, with_lent}
-use Rattle.ms_pool.specs.Calls.{tallied, Took, Lends, TakeRefused, Grew, GrewFrom}
-use Rattle.ms_arena.specs.Arena.{ArenaView, IsAskable, PlaceRefused, account_of, with_books, with_zeros, block_at}
-use Rattle.ms_arena.specs.Alloc.{AfterTake, Takes, AfterGrow, Grows as GrowsCurrent, AsksChunk, Serves, Allocates}
-use Rattle.ms_loaders.proofs.OutcomeLemmas.{SameBut, GrownBy, LentBy, IsMade, IsNotMade, TakeCause, Outcome, front_is, grown_is, one_there, retired_chunks, placed_chunks}
+use Rattle.ms_pool.specs.Ledger.{Ledger, state_in}
+use Rattle.ms_pool.specs.Calls.{tallied, Took, Grew, GrewFrom}
+use Rattle.ms_arena.specs.Arena.{ArenaView, IsAskable, account_of}
+use Rattle.ms_arena.specs.Alloc.{AfterTake, Takes, AfterGrow, AsksChunk, Serves, Allocates}
+use Rattle.ms_loaders.proofs.OutcomeLemmas.{IsMade, IsNotMade, Outcome, front_is, grown_is, one_there, retired_chunks, placed_chunks}
 
 module _ (was : ArenaView) (words : ℕ) (ledger : Ledger) (answer : Result Block Refusal) (is : ArenaView) (after : Ledger) (apart : are_apart (map words_of was.books.chunks) ≡ true) (askable : IsAskable words) where
   -- A block that is answered.

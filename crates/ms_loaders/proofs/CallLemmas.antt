@@ -1,5 +1,5 @@
 -- A loader's write, read and free are steps of its machine; for system.rt.
-use Rattle.std.proofs.Common.{◌≡◌, ◌+◌, ℕ, true, false, Option, is_some, Some, None, List, [], ◌∷◌, ◌++◌, length, refl, sym, ap, ◌∙◌, subst}
+use Rattle.std.proofs.Common.{◌≡◌, ℕ, Bool, true, false, Option, is_some, Some, None, List, length, refl, sym, ap, ◌∙◌}
 use Rattle.std.specs.Ordering.{nat_cmp}
 use Rattle.std.specs.BTreeMap.{is_at}
 use Rattle.std.proofs.lemmas.Map.Steps.{set_value_same}
@@ -10,12 +10,17 @@ use Rattle.ms_base.specs.declared.refusal.Refusal.TheVariants.{OutOfRange, NoBlo
 use Rattle.ms_base.specs.Spaces.{space_at}
 use Rattle.ms_base.specs.Names.{named, with_new, with_changed}
 use Rattle.ms_base.specs.State.{LoaderState, Machine, arena_of}
+use Rattle.ms_base.specs.Good.{IsGood}
 use Rattle.ms_base.specs.Transition.{HasLoader, with_loader, with_freed, Writes, Frees, Reads, BlockCause, WordCause}
-use Rattle.ms_loaders.specs.Loader.{LoaderView, HasWord, WritesWord, FreesBlock, LacksWord, LacksName}
-use Rattle.ms_loaders.specs.System.{machine_of}
+use Rattle.ms_pool.specs.Ledger.{Ledger}
+use Rattle.ms_loaders.specs.Loader.{LoaderView, with_state, IsSoundView, HasWord, WritesWord, FreesBlock, LacksWord, LacksName}
+use Rattle.ms_loaders.specs.System.{machine_of, AreTogether}
+use Rattle.ms_loaders.proofs.FitLemmas.{machine_is_good}
+use Rattle.ms_loaders.proofs.ServedLemmas.{together_with}
+use Rattle.ms_loaders.proofs.StepLemmas.{has_loader, machine_with}
 
 -- What is served.
-pub write_is_served : (m : Machine) (name block index value : ℕ) (loader other : LoaderState) → HasLoader m name loader
+write_is_served : (m : Machine) (name block index value : ℕ) (loader other : LoaderState) → HasLoader m name loader
     → WritesWord loader block index value other → Writes m name block index value (with_loader m name other)
 write_is_served m name block index value loader other has writes = record {
   loader = loader;
@@ -25,7 +30,7 @@ write_is_served m name block index value loader other has writes = record {
   after = ap (with_loader m name) writes.after;
 }
 
-pub free_is_served : (m : Machine) (name block : ℕ) (loader other : LoaderState) → HasLoader m name loader
+free_is_served : (m : Machine) (name block : ℕ) (loader other : LoaderState) → HasLoader m name loader
     → FreesBlock loader block other → Frees m name block (with_loader m name other)
 free_is_served m name block loader other has frees = record {
   loader = loader;
@@ -52,7 +57,7 @@ free_is_refused m name block loader NoBlock has lacks = record { loader = loader
 free_is_refused m name block loader _ has lacks = absurd lacks
 
 -- Neither changes a chunk.
-pub write_keeps : (space : Space) (loader other : LoaderState) (block index value : ℕ) → WritesWord loader block index value other → (arena_of space other).chunks ≡ (arena_of space loader).chunks
+write_keeps : (space : Space) (loader other : LoaderState) (block index value : ℕ) → WritesWord loader block index value other → (arena_of space other).chunks ≡ (arena_of space loader).chunks
 write_keeps space loader other block index value writes = ap (λ (l : LoaderState). (arena_of space l).chunks) writes.after
 
 freed_keeps : (one there : Space) (loader : LoaderState) (block : ℕ) (kept : List (ℕ × ℕ)) → (arena_of one (with_freed there loader block kept)).chunks ≡ (arena_of one loader).chunks
@@ -61,9 +66,36 @@ freed_keeps NonClass Class loader block kept = refl
 freed_keeps Class NonClass loader block kept = refl
 freed_keeps Class Class loader block kept = refl
 
-pub free_keeps : (space : Space) (loader other : LoaderState) (block : ℕ) → FreesBlock loader block other → (arena_of space other).chunks ≡ (arena_of space loader).chunks
+free_keeps : (space : Space) (loader other : LoaderState) (block : ℕ) → FreesBlock loader block other → (arena_of space other).chunks ≡ (arena_of space loader).chunks
 free_keeps space loader other block frees = ap (λ (l : LoaderState). (arena_of space l).chunks) frees.after
     ∙ freed_keeps space (space_at frees.found.start) loader block (with_new (arena_of (space_at frees.found.start) loader).kept frees.found.start (length frees.found.contents))
+
+-- Where a loader writes a word or frees a block, pool and loaders stay together, and the machine
+-- makes its step.
+module _ (ledger : Ledger) (loaders : List (ℕ × LoaderView)) (name block : ℕ) (was is : LoaderView) (found : named loaders name ≡ Some was)
+    (same : is ≡ with_state was is.state) (sound : IsSoundView is) (its : AreTogether ledger loaders) where
+  with_chunks : ((space : Space) → (arena_of space is.state).chunks ≡ (arena_of space was.state).chunks) → AreTogether ledger (with_changed loaders name is)
+  with_chunks chunks = together_with ledger loaders name was is found (ap (λ (v : LoaderView). v.owner) same) (ap (λ (v : LoaderView). v.class_owner) same) chunks sound its
+
+  pub together_written : (index value : ℕ) → WritesWord was.state block index value is.state → AreTogether ledger (with_changed loaders name is)
+  together_written index value writes = with_chunks (λ space. write_keeps space was.state is.state block index value writes)
+
+  pub is_written : (index value : ℕ) → WritesWord was.state block index value is.state
+      → Writes (machine_of ledger loaders) name block index value (machine_of ledger (with_changed loaders name is)) × IsGood (machine_of ledger (with_changed loaders name is))
+  is_written index value writes = (
+    rw (machine_with ledger loaders name is) (write_is_served (machine_of ledger loaders) name block index value was.state is.state (has_loader ledger loaders name was found) writes),
+    machine_is_good ledger (with_changed loaders name is) (together_written index value writes),
+  )
+
+  pub together_freed : FreesBlock was.state block is.state → AreTogether ledger (with_changed loaders name is)
+  together_freed frees = with_chunks (λ space. free_keeps space was.state is.state block frees)
+
+  pub is_freed : FreesBlock was.state block is.state
+      → Frees (machine_of ledger loaders) name block (machine_of ledger (with_changed loaders name is)) × IsGood (machine_of ledger (with_changed loaders name is))
+  is_freed frees = (
+    rw (machine_with ledger loaders name is) (free_is_served (machine_of ledger loaders) name block was.state is.state (has_loader ledger loaders name was found) frees),
+    machine_is_good ledger (with_changed loaders name is) (together_freed frees),
+  )
 
 -- A loader that is as it was.
 pub same_loaders : (loaders : List (ℕ × LoaderView)) (name : ℕ) (was is : LoaderView) → named loaders name ≡ Some was → is ≡ was → with_changed loaders name is ≡ loaders
@@ -77,3 +109,7 @@ found (Some x) e = (x, refl)
 pub missing : {X : Type 0} (o : Option X) → is_some o ≡ false → o ≡ None
 missing None e = refl
 missing (Some x) e = absurd (cc)
+
+-- A name that is told to be free is free.
+pub unused_name : (loaders : List (ℕ × LoaderView)) (name : ℕ) (told : Bool) → told ≡ is_some (named loaders name) → told ≡ false → named loaders name ≡ None
+unused_name loaders name told is free = missing (named loaders name) (sym is ∙ free)

@@ -1,6 +1,6 @@
 -- What a loader's blocks are, and that names and live blocks still match, where a block is made,
 -- written or freed in the arena of its space.
-use Rattle.std.proofs.Common.{◌≡◌, ℕ, true, false, Some, None, List, [], ◌∷◌, ◌++◌, length, map, replicate, refl, sym, ap, ◌∙◌, subst, arith}
+use Rattle.std.proofs.Common.{◌≡◌, ℕ, true, Some, None, List, [], ◌∷◌, ◌++◌, length, map, replicate, refl, sym, ap, ◌∙◌, subst}
 use Rattle.std.specs.List.{AllByRecursion}
 use Rattle.std.specs.List.Sorted.{IsPermutation}
 use Rattle.std.specs.Map.{values_of}
@@ -23,7 +23,7 @@ use Rattle.ms_arena.specs.Arena.{live_run}
 use Rattle.ms_loaders.specs.LoaderInside.{Contents, live_at, blocks_of, named_runs}
 use Rattle.ms_loaders.proofs.CountLemmas.{without_first}
 use Rattle.ms_loaders.proofs.MappedLemmas.{new-mapped, without-mapped, changed_where}
-use Rattle.ms_loaders.proofs.MatchLemmas.{Matches, IsAt, here, run_of_block, tells_runs, runs_there, one_more, one_run_more, of_blocks, blocks_are_at, block_is_at, gone_differs, Differs, each_same, others_same, live_at_is}
+use Rattle.ms_loaders.proofs.MatchLemmas.{Matches, IsAt, run_of_block, tells_runs, runs_there, one_more, one_run_more, of_blocks, blocks_are_at, block_is_at, gone_differs, Differs, each_same, others_same, live_at_is}
 
 -- The contents of two arenas before and after a change in one space.
 pub record ChangesIn (space : Space) (was is : Contents) (live : List (ℕ × List ℕ)) : Type 0 where

@@ -1,19 +1,18 @@
 -- Pool and loaders stay together, and the machine makes its step, where a loader is made, refused for
 -- want of memory, or unloaded, and where nodes are purged.
-use Rattle.std.proofs.Common.{◌≡◌, ◌≢◌, ◌≤◌, ◌<◌, ◌+◌, ◌-◌, ◌^◌, ℕ, suc, Bool, true, false, cond, not, ◌||◌, Some, None, List, [], ◌∷◌, ◌++◌, map, length, refl, sym, ap, ◌∙◌, subst, inl, inr, arith}
+use Rattle.std.proofs.Common.{◌≡◌, ◌≢◌, ◌≤◌, ◌<◌, ◌+◌, ℕ, Bool, true, false, cond, not, ◌||◌, None, List, [], ◌∷◌, ◌++◌, map, length, refl, sym, ap, ◌∙◌, subst, inl, inr, arith}
 use Rattle.std.specs.Prelude.{◌==◌}
 use Rattle.std.specs.Ordering.{nat_cmp}
-use Rattle.std.specs.List.{All, AllByRecursion, filter, list_any, flat_map}
+use Rattle.std.specs.List.{All, AllByRecursion, filter, flat_map}
 use Rattle.std.specs.List.Sorted.{IsPermutation}
 use Rattle.std.specs.Map.{values_of}
-use Rattle.std.specs.BTreeMap.{is_at}
-use Rattle.std.proofs.lemmas.Bool.{eqb-true, eq-eqb, ne_eqb, both_ways, cases_lt, cases_eq}
+use Rattle.std.proofs.lemmas.Bool.{eq-eqb, ne_eqb, cases_lt, cases_eq}
 use Rattle.std.proofs.lemmas.List.{length-append, map-append}
 use Rattle.std.proofs.lemmas.List.Concat.{flat_map-append}
 use Rattle.std.proofs.lemmas.List.Sums.{sum_by-append, sum_by-cons}
 use Rattle.std.proofs.lemmas.List.Elements.{recursion_from_All, All-from_recursion}
 use Rattle.std.proofs.lemmas.List.Sorted.{IsPermutation-refl}
-use Rattle.std.proofs.lemmas.Map.Views.{All-values-insert_entry, All-map-remove_entry}
+use Rattle.std.proofs.lemmas.Map.Views.{All-values-insert_entry}
 use Rattle.ms_base.specs.declared.kind.Kind.{Kind}
 use Rattle.ms_base.specs.declared.kind.Space.{Space}
 use Rattle.ms_base.specs.declared.kind.Space.TheVariants.{NonClass, Class}
@@ -21,25 +20,22 @@ use Rattle.ms_base.specs.declared.span.Chunk.{Chunk}
 use Rattle.ms_base.specs.Part.{slot_of}
 use Rattle.ms_base.specs.Held.{has_chunk_in}
 use Rattle.ms_base.specs.Committed.{is_among}
-use Rattle.ms_base.specs.Names.{AreNamed, named, with_new, without}
-use Rattle.ms_base.specs.State.{LoaderState, Machine, PoolState, chunks_held, pool_of, empty_loader, committed_now, recommitted as machine_recommitted}
+use Rattle.ms_base.specs.Names.{named, with_new}
+use Rattle.ms_base.specs.State.{LoaderState, chunks_held, empty_loader, recommitted as machine_recommitted}
 use Rattle.ms_base.specs.Good.{IsGood}
-use Rattle.ms_base.specs.Transition.{HasLoader, LacksLoader, HasOwnerNumbers, Makes, Unloads, purged as machine_purged}
-use Rattle.ms_base.proofs.entries.EntryLemmas.{Split, split_at, Gap, gap_at, values_joined, rises_without}
+use Rattle.ms_base.specs.Transition.{purged as machine_purged}
+use Rattle.ms_base.proofs.entries.EntryLemmas.{Gap, gap_at, values_joined}
 use Rattle.ms_base.proofs.entries.NameLemmas.{rises_with_new}
 use Rattle.ms_base.proofs.runs.ApartLemmas.{list_any-with}
-use Rattle.ms_base.proofs.machine.GoodLemmas.{good_with_numbers_used}
-use Rattle.ms_base.proofs.machine.ChangeLemmas.{recommitted_same}
 use Rattle.ms_base.proofs.free.AlikeLemmas.{permuted_are_alike}
 use Rattle.ms_pool.specs.Account.{AccountState}
-use Rattle.ms_pool.specs.Ledger.{Loan, Ledger, Serves, IsSoundLedger, held_in, is_owned_by, others_than, with_opened, with_both_closed, purged, recommitted}
+use Rattle.ms_pool.specs.Ledger.{Loan, Ledger, Serves, IsSoundLedger, held_in, is_owned_by, with_opened, purged}
 use Rattle.ms_pool.specs.Calls.{new_account}
 use Rattle.ms_loaders.specs.Loader.{LoaderView, account_in, new_loader, IsSoundView}
-use Rattle.ms_loaders.specs.System.{states_of, accounts_of, owners_of, machine_of, AreDistinct, AreServed, AreTogether}
-use Rattle.ms_loaders.proofs.MappedLemmas.{new-mapped, without-mapped, missing-mapped}
-use Rattle.ms_loaders.proofs.FitLemmas.{HasOwner, owner_of, owned, others, owned_elsewhere, fits, machine_is_good, recommitted_machine}
-use Rattle.ms_loaders.proofs.ServedLemmas.{one_if, accounts_split, owners_split, times, is_it, it_is, times_split, all_parts, all_joined}
-use Rattle.ms_loaders.proofs.StepLemmas.{has_loader}
+use Rattle.ms_loaders.specs.System.{states_of, accounts_of, owners_of, machine_of, AreTogether}
+use Rattle.ms_loaders.proofs.MappedLemmas.{new-mapped}
+use Rattle.ms_loaders.proofs.FitLemmas.{HasOwner, owner_of, owned, others, fits, machine_is_good, recommitted_machine}
+use Rattle.ms_loaders.proofs.ServedLemmas.{one_if, accounts_split, times, is_it, times_split}
 
 abbrev state_of : LoaderView → LoaderState
 state_of loader = loader.state

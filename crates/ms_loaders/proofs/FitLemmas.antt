@@ -1,8 +1,8 @@
 -- The chunks that the pool has lent are those that the loaders hold, in another order; so the machine
 -- that a pool and its loaders are is good, and its granules are the pool's.
-use Rattle.std.proofs.Common.{◌≡◌, ◌≢◌, ◌≤◌, ◌+◌, ℕ, Bool, true, false, cond, not, ◌&&◌, ◌||◌, List, [], ◌∷◌, ◌++◌, map, ◌-◌, length, refl, sym, ap, ◌∙◌, subst, inl, inr, arith, append-nil}
+use Rattle.std.proofs.Common.{◌≡◌, ◌≢◌, ◌+◌, ℕ, Bool, true, false, cond, not, ◌&&◌, ◌||◌, List, [], ◌∷◌, ◌++◌, map, ◌-◌, refl, sym, ap, ◌∙◌, subst, inl, inr, arith, append-nil}
 use Rattle.std.specs.Prelude.{◌==◌}
-use Rattle.std.specs.List.{All, AllByRecursion, filter, flat_map, count_by, sum_by}
+use Rattle.std.specs.List.{All, AllByRecursion, filter, flat_map, count_by}
 use Rattle.std.specs.List.Sorted.{IsPermutation}
 use Rattle.std.specs.Map.{values_of}
 use Rattle.std.proofs.lemmas.Bool.{and_parts, and_from, or_cases, eqb-true, eq-eqb, both_ways, ne_eqb}
@@ -14,21 +14,20 @@ use Rattle.std.proofs.lemmas.List.Sorted.{IsPermutation-refl, IsPermutation-tran
 use Rattle.ms_base.specs.declared.kind.Space.{Space}
 use Rattle.ms_base.specs.declared.kind.Space.TheVariants.{NonClass, Class}
 use Rattle.ms_base.specs.declared.span.Chunk.{Chunk}
-use Rattle.ms_base.specs.Level.{size_of}
 use Rattle.ms_base.specs.Part.{IsPart, slot_of}
 use Rattle.ms_base.specs.Spaces.{IsSlotOf, is_in}
 use Rattle.ms_base.specs.Committed.{is_among}
-use Rattle.ms_base.specs.State.{LoaderState, Machine, PoolState, arena_of, chunks_held, pool_of, committed_now, recommitted as machine_recommitted}
+use Rattle.ms_base.specs.State.{arena_of, chunks_held, pool_of, committed_now, recommitted as machine_recommitted}
 use Rattle.ms_base.specs.Good.{IsSoundLoader, IsGood}
 use Rattle.ms_base.proofs.free.AlikeLemmas.{permuted_are_alike}
 use Rattle.ms_base.proofs.free.OrderLemmas.{sound_permuted, committed_alike}
 use Rattle.ms_base.proofs.arena.BlockLemmas.{not_in_other}
-use Rattle.ms_pool.specs.Account.{AccountState, AreChunks}
-use Rattle.ms_pool.specs.Ledger.{Loan, Ledger, Serves, held_in, is_owned_by, chunks_of, state_in, recommitted}
-use Rattle.ms_loaders.specs.Loader.{LoaderView, account_in, IsSoundView}
+use Rattle.ms_pool.specs.Account.{AccountState}
+use Rattle.ms_pool.specs.Ledger.{Loan, Ledger, Serves, held_in, is_owned_by, state_in, recommitted}
+use Rattle.ms_loaders.specs.Loader.{LoaderView, IsSoundView}
 use Rattle.ms_loaders.specs.System.{states_of, accounts_of, owners_of, machine_of, AreDistinct, AreServed, AreTogether}
 use Rattle.ms_loaders.proofs.CountLemmas.{Tells, kept-permuted}
-use Rattle.ms_loaders.proofs.MappedLemmas.{rises-mapped, values-mapped}
+use Rattle.ms_loaders.proofs.MappedLemmas.{rises-mapped}
 use Rattle.ms_loaders.proofs.SpaceLemmas.{chunk_in_space}
 
 -- The test that tells chunks.

@@ -11,6 +11,7 @@ mod AskedLemmas
 mod FitLemmas
 mod ServedLemmas
 mod StepLemmas
+mod CauseLemmas
 mod RunLemmas
 mod CallLemmas
 mod CloseLemmas

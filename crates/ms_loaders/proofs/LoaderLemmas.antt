@@ -1,34 +1,28 @@
 -- What a loader's calls do to it, from what its arena of a space does.
-use Rattle.std.proofs.Common.{◌≡◌, ℕ, ◌<◌, true, false, Some, None, Result, Ok, Err, List, [], length, replicate, refl, sym, ap, ◌∙◌, subst, IfOk, IfErr, arith, length-set, inl, inr, OnOk, OnErr}
-use Rattle.std.specs.Prelude.{slice_get, slice_set}
+use Rattle.std.proofs.Common.{◌≡◌, ℕ, true, false, Some, Result, Ok, Err, List, length, refl, sym, ap, ◌∙◌, subst, IfOk, IfErr, length-set, inl, inr, OnOk, OnErr}
+use Rattle.std.specs.Prelude.{slice_set}
 use Rattle.std.specs.BTreeMap.{BTreeMap}
 use Rattle.std.proofs.lemmas.Bool.{both_ways}
 use Rattle.ms_base.specs.declared.kind.Kind.{Kind}
 use Rattle.ms_base.specs.declared.kind.Space.{Space}
 use Rattle.ms_base.specs.declared.kind.Space.TheVariants.{NonClass, Class}
-use Rattle.ms_base.specs.declared.policy.Policy.{Policy}
 use Rattle.ms_base.specs.declared.span.Block.{Block}
 use Rattle.ms_base.specs.declared.words.LiveBlock.{LiveBlock}
 use Rattle.ms_base.specs.declared.refusal.Refusal.{Refusal}
-use Rattle.ms_base.specs.declared.refusal.Refusal.TheVariants.{ZeroWords, TooLarge, CommitLimit, ReserveLimit, NotLive, OutOfRange, OutOfMemory, NoLoader, LoaderExists, NoBlock, BlockExists, IdsUsedUp, NoRoom}
-use Rattle.ms_base.specs.Spaces.{by_space, is_in, space_at}
+use Rattle.ms_base.specs.declared.refusal.Refusal.TheVariants.{NotLive, OutOfRange}
+use Rattle.ms_base.specs.Spaces.{by_space, is_in}
 use Rattle.ms_base.specs.Names.{AreNamed, named, with_new, with_changed, without}
 use Rattle.ms_base.specs.State.{ArenaState, LoaderState, arena_of, with_arena}
-use Rattle.ms_base.specs.Transition.{with_block, with_allocated, with_freed, zeroed}
+use Rattle.ms_base.specs.Transition.{with_block, with_freed}
 use Rattle.ms_base.proofs.entries.EntryLemmas.{rises_without}
-use Rattle.ms_base.proofs.entries.NameLemmas.{rises_with_new}
-use Rattle.ms_pool.specs.Account.{AccountState}
-use Rattle.ms_arena.specs.Arena.{ArenaView, IsSoundArena, IsLive, IsNotLive, ReadsWord, WritesWord as WritesIn, WordRefused, FreesBlock as FreesIn, account_of, with_books, with_zeros}
-use Rattle.ms_arena.specs.Alloc.{TakeRelation, GrowRelation, Allocates}
-use Rattle.ms_loaders.specs.Loader.{LoaderView, with_state, account_in, IsArenaOf, AfterAlloc, AsksArena, IsNotAsked, NameRefused, AllocatesBlock, HasWord, WritesWord, FreesBlock, IsPastEnd, LacksWord, LacksName}
-use Rattle.ms_loaders.specs.LoaderInside.{Contents, live_at, blocks_of, contents_in, IsLoader, IsArena, view_of}
-use Rattle.ms_loaders.specs.Naming.{EnterRefused}
+use Rattle.ms_arena.specs.Arena.{ArenaView, IsSoundArena, IsLive, IsNotLive, ReadsWord, WritesWord as WritesIn, WordRefused, FreesBlock as FreesIn}
+use Rattle.ms_loaders.specs.Loader.{LoaderView, with_state, HasWord, WritesWord, FreesBlock, LacksWord}
+use Rattle.ms_loaders.specs.LoaderInside.{Contents, live_at, blocks_of, contents_in, IsLoader, view_of}
 use Rattle.ms_loaders.specs.declared.loader.Loader.TheInside.{Inside}
-use Rattle.ms_loaders.proofs.MappedLemmas.{found-mapped, missing-mapped}
+use Rattle.ms_loaders.proofs.MappedLemmas.{found-mapped}
 use Rattle.ms_loaders.proofs.MatchLemmas.{Matches, IsAt, where_is, here, run_of_block, block_is_at, live_at_is}
-use Rattle.ms_loaders.proofs.ChangeLemmas.{ChangesIn, made_matches, made_blocks, freed_matches, freed_blocks, written_matches, written_blocks}
-use Rattle.ms_loaders.proofs.ViewLemmas.{arena_in, is_arena, matches_of, books_of}
-use Rattle.ms_loaders.proofs.MadeLemmas.{Makes, allocation_makes}
+use Rattle.ms_loaders.proofs.ChangeLemmas.{ChangesIn, freed_matches, freed_blocks, written_matches, written_blocks}
+use Rattle.ms_loaders.proofs.ViewLemmas.{arena_in, matches_of, books_of}
 
 -- What follows from an answer.
 pub ok_then : {A E : Type 0} (P Q : A → Type 0) (answer : Result A E) → ((a : A) → P a → Q a) → IfOk answer P → IfOk answer Q

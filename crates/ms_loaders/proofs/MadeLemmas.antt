@@ -1,6 +1,6 @@
 -- What an allocation that an arena answers makes of it: other books and one live block more, whatever
 -- the source was asked.
-use Rattle.std.proofs.Common.{◌≡◌, ℕ, Bool, true, false, Option, Some, None, Result, Ok, Err, refl, sym, ap, ◌∙◌, subst, inl, inr}
+use Rattle.std.proofs.Common.{◌≡◌, ℕ, Bool, true, false, Option, Some, None, Result, Ok, Err, ap, ◌∙◌, inl, inr}
 use Rattle.ms_base.specs.declared.policy.Policy.{Policy}
 use Rattle.ms_base.specs.declared.span.Chunk.{Chunk}
 use Rattle.ms_base.specs.declared.span.Span.{Span}
@@ -11,7 +11,7 @@ use Rattle.ms_base.specs.Live.{block_words}
 use Rattle.ms_base.specs.Place.{placed, current}
 use Rattle.ms_base.specs.Asks.{asks_growth}
 use Rattle.ms_arena.specs.Arena.{ArenaView, with_books, with_zeros, block_at}
-use Rattle.ms_arena.specs.Alloc.{TakeRelation, GrowRelation, AfterTake, Takes, AfterGrow, Grows, AsksChunk, Serves, Allocates}
+use Rattle.ms_arena.specs.Alloc.{TakeRelation, GrowRelation, AfterTake, Takes, AfterGrow, AsksChunk, Serves, Allocates}
 
 -- A block is made.
 pub record Makes (old : ArenaView) (block : Block) (new : ArenaView) : Type 0 where

@@ -1,9 +1,9 @@
 -- The named blocks of a loader and the live blocks of its arenas, one to one: what stays so where a
 -- block is made, written or freed, and what the loader's blocks are then.
-use Rattle.std.proofs.Common.{◌≡◌, ◌≢◌, ℕ, ◌⊎◌, inl, inr, Bool, true, false, cond, Option, Some, None, List, [], ◌∷◌, ◌++◌, length, map, replicate, refl, sym, ap, ◌∙◌, subst, arith}
-use Rattle.std.specs.Prelude.{◌==◌, ◌&&◌, slice_set}
+use Rattle.std.proofs.Common.{◌≡◌, ℕ, ◌⊎◌, inl, inr, Bool, true, false, cond, Option, Some, List, [], ◌∷◌, ◌++◌, length, map, refl, sym, ap, ◌∙◌, subst, arith}
+use Rattle.std.specs.Prelude.{◌==◌, ◌&&◌}
 use Rattle.std.specs.Option.{unwrap_or}
-use Rattle.std.specs.Ordering.{nat_cmp, is_eq}
+use Rattle.std.specs.Ordering.{nat_cmp}
 use Rattle.std.specs.declared.cmp.Ordering.TheVariants.{Less}
 use Rattle.std.specs.List.{All, AllByRecursion, filter}
 use Rattle.std.specs.List.Sorted.{IsPermutation, IsStrictlySortedBy}
@@ -11,24 +11,21 @@ use Rattle.std.specs.Map.{keys_of, values_of}
 use Rattle.std.specs.BTreeMap.{is_at}
 use Rattle.std.proofs.lemmas.Bool.{and_parts, and_from, eqb-true, eq-eqb, both_ways}
 use Rattle.std.proofs.lemmas.Bool.Decides.{nat_tests}
-use Rattle.std.proofs.lemmas.List.{map-append, length-replicate}
+use Rattle.std.proofs.lemmas.List.{map-append}
 use Rattle.std.proofs.lemmas.List.Elements.{filter-append, recursion_from_All, All-from_recursion}
-use Rattle.std.proofs.lemmas.List.Sorted.{IsPermutation-refl, IsPermutation-sym, IsPermutation-trans, IsPermutation-cons, IsPermutation-middle, All-permutation}
+use Rattle.std.proofs.lemmas.List.Sorted.{IsPermutation-sym, IsPermutation-middle, All-permutation}
 use Rattle.std.proofs.lemmas.Map.Keys.{sorted_from_strictly_increasing}
 use Rattle.ms_base.specs.declared.kind.Space.{Space}
 use Rattle.ms_base.specs.declared.kind.Space.TheVariants.{NonClass, Class}
 use Rattle.ms_base.specs.declared.span.Block.{Block}
-use Rattle.ms_base.specs.declared.words.LiveBlock.{LiveBlock}
 use Rattle.ms_base.specs.Spaces.{other_space, is_in, space_at}
-use Rattle.ms_base.specs.Names.{AreNamed, named, with_new, with_changed, without}
-use Rattle.ms_base.specs.Transition.{zeroed}
-use Rattle.ms_base.proofs.entries.EntryLemmas.{Split, split_at, Gap, gap_at, same_name}
+use Rattle.ms_base.specs.Names.{AreNamed, named, without}
+use Rattle.ms_base.proofs.entries.EntryLemmas.{same_name}
 use Rattle.ms_base.proofs.arena.BlockLemmas.{in_its_space, not_in_other}
-use Rattle.ms_base.proofs.machine.GoodLemmas.{each_space}
 use Rattle.ms_arena.specs.Arena.{live_run}
 use Rattle.ms_loaders.specs.LoaderInside.{Contents, live_at, blocks_of, named_runs}
-use Rattle.ms_loaders.proofs.CountLemmas.{Tells, without_first}
-use Rattle.ms_loaders.proofs.MappedLemmas.{mapped, mapped-agree, new-mapped, changed-mapped, without-mapped}
+use Rattle.ms_loaders.proofs.CountLemmas.{Tells}
+use Rattle.ms_loaders.proofs.MappedLemmas.{mapped-agree}
 
 -- A word lies in a space or in the other, and there alone.
 pub record IsHere (space : Space) (word : ℕ) : Type 0 where

@@ -1,33 +1,29 @@
 -- What an allocation asked of the pool, by what it answers: nothing, a greater chunk or another one; or
 -- a refusal, and why.
-use Rattle.std.proofs.Common.{◌≡◌, ◌+◌, ◌-◌, ℕ, zero, suc, ◌⊎◌, Bool, true, false, not, ◌&&◌, ◌||◌, Option, Some, None, Result, Ok, Err, List, [], ◌∷◌, ◌++◌, length, map, refl, sym, ap, ◌∙◌, subst, inl, inr, arith, if◌then◌else◌}
-use Rattle.std.specs.Prelude.{⊤, nat_le, ◌*◌, ◌≤◌, slice_get, slice_set, IsTrue}
+use Rattle.std.proofs.Common.{◌≡◌, ◌+◌, ◌-◌, ℕ, zero, suc, ◌⊎◌, Bool, true, false, not, ◌&&◌, Option, Some, None, Result, Ok, Err, List, [], ◌∷◌, ◌++◌, length, map, refl, sym, ap, ◌∙◌, subst, arith, if◌then◌else◌}
+use Rattle.std.specs.Prelude.{⊤, nat_le, ◌*◌, ◌≤◌, slice_get, slice_set}
 use Rattle.std.proofs.lemmas.Bool.{and_parts, or_parts, both_ways, lt-ltb, and_from, not-true}
 use Rattle.std.proofs.lemmas.Nat.{pow_pos}
 use Rattle.ms_base.specs.declared.kind.Space.{Space}
-use Rattle.ms_base.specs.declared.policy.Policy.{Policy}
 use Rattle.ms_base.specs.declared.span.Chunk.{Chunk}
-use Rattle.ms_base.specs.declared.span.Span.{Span}
 use Rattle.ms_base.specs.declared.span.Block.{Block}
 use Rattle.ms_base.specs.declared.refusal.Refusal.{Refusal}
-use Rattle.ms_base.specs.declared.refusal.Refusal.TheVariants.{ZeroWords, TooLarge, CommitLimit, ReserveLimit, NotLive, OutOfRange, OutOfMemory, NoLoader, LoaderExists, NoBlock, BlockExists, IdsUsedUp, NoRoom}
+use Rattle.ms_base.specs.declared.refusal.Refusal.TheVariants.{CommitLimit, ReserveLimit, OutOfMemory, NoRoom}
 use Rattle.ms_base.specs.Interval.{meet, meets_any, are_apart}
 use Rattle.ms_base.specs.Level.{size_of, level_that_holds}
 use Rattle.ms_base.specs.Held.{words_of}
 use Rattle.ms_base.specs.Live.{block_words}
 use Rattle.ms_base.specs.State.{ArenaState, PoolState}
 use Rattle.ms_base.specs.Place.{placed, placed_in, place_at_top, best_fit, current, current_top, last_place, with_top, with_used, retired_chunk}
-use Rattle.ms_base.specs.Asks.{asks_growth, wanted_level, total_asked, may_enlarge}
+use Rattle.ms_base.specs.Asks.{wanted_level}
 use Rattle.ms_base.specs.Causes.{meets_reserve_limit, meets_commit_limit, committed_count, node_limit, granules_needed, granules_missing}
 use Rattle.ms_base.specs.Pick.{chunk_picked}
 use Rattle.ms_base.specs.PoolSteps.{taken, grown, within_limit, with_front, parent_with_front, may_become_parent}
-use Rattle.ms_pool.specs.Account.{AccountState, AreChunks}
 use Rattle.ms_pool.specs.Lending.{span_of, chunk_at, reaching, parent_of}
 use Rattle.ms_pool.specs.Tallies.{Tallies}
 use Rattle.ms_pool.specs.Ledger.{Ledger, state_in, with_lent, with_grown}
-use Rattle.ms_pool.specs.Calls.{tallied, Took, TakeRefused, Grew, GrewFrom}
-use Rattle.ms_arena.specs.Arena.{ArenaView, IsAskable, PlaceRefused, account_of, with_books, with_zeros, block_at}
-use Rattle.ms_arena.specs.Alloc.{AfterTake, Takes, AfterGrow, Grows as GrowsCurrent, AsksChunk, Serves, Allocates}
+use Rattle.ms_pool.specs.Calls.{tallied}
+use Rattle.ms_arena.specs.Arena.{ArenaView, IsAskable, PlaceRefused}
 
 -- The pool is as it was, tallies aside.
 pub record SameBut (old new : Ledger) : Type 0 where

@@ -1,12 +1,12 @@
 -- The pool serves the loaders' accounts, and lends to no other, after a loader's allocation.
-use Rattle.std.proofs.Common.{◌≡◌, ◌≢◌, ◌≤◌, ◌+◌, ℕ, suc, Bool, true, false, cond, not, ◌||◌, Option, Some, IfSome, Result, Ok, Err, List, [], ◌∷◌, ◌++◌, map, length, refl, sym, ap, ◌∙◌, subst, inl, inr, arith}
+use Rattle.std.proofs.Common.{◌≡◌, ◌≢◌, ◌+◌, ℕ, suc, Bool, true, false, cond, ◌||◌, Option, Some, IfSome, Result, Ok, Err, List, [], ◌∷◌, ◌++◌, map, length, refl, sym, ap, ◌∙◌, subst, inl, inr, arith}
 use Rattle.std.specs.Prelude.{◌==◌, nat_lt}
 use Rattle.std.specs.Ordering.{nat_cmp}
 use Rattle.std.specs.List.{All, AllByRecursion, count_by, list_any, flat_map}
 use Rattle.std.specs.Map.{values_of}
 use Rattle.std.specs.BTreeMap.{is_at}
 use Rattle.std.proofs.lemmas.Bool.{eq-eqb}
-use Rattle.std.proofs.lemmas.List.{map-append, length-set}
+use Rattle.std.proofs.lemmas.List.{map-append}
 use Rattle.std.proofs.lemmas.List.Concat.{flat_map-append}
 use Rattle.std.proofs.lemmas.List.Sums.{sum_by-cons, sum_by-append}
 use Rattle.std.proofs.lemmas.List.Elements.{recursion_from_All, All-from_recursion}
@@ -22,7 +22,7 @@ use Rattle.ms_base.specs.Held.{words_of}
 use Rattle.ms_base.specs.Spaces.{other_space, by_space}
 use Rattle.ms_base.specs.Committed.{is_among}
 use Rattle.ms_base.specs.Names.{named, with_new, with_changed}
-use Rattle.ms_base.specs.State.{ArenaState, LoaderState, arena_of}
+use Rattle.ms_base.specs.State.{ArenaState, arena_of}
 use Rattle.ms_base.specs.Transition.{zeroed}
 use Rattle.ms_base.proofs.entries.EntryLemmas.{Split, split_at, values_split, rises_with_changed}
 use Rattle.ms_base.proofs.runs.ApartLemmas.{list_any-with}
@@ -214,11 +214,15 @@ length_changed {X} (e ∷ es) name x =
       | false ↦ ap suc (length_changed es name x)
     ]
 
+pub own_sound : (ledger : Ledger) (loaders : List (ℕ × LoaderView)) (name : ℕ) (v : LoaderView) → named loaders name ≡ Some v → AreTogether ledger loaders → IsSoundView v
+own_sound ledger loaders name v found its =
+    subst (λ (o : Option LoaderView). IfSome o IsSoundView) found (IfSome-lookup_from_All IsSoundView (is_at (nat_cmp name)) loaders its.loaders_sound)
+
 pub together_after : (space : Space) (old new : Ledger) (loaders : List (ℕ × LoaderView)) (name block words : ℕ) (was is : LoaderView) (answer : Result Block Refusal)
     → named loaders name ≡ Some was → AllocatesBlock Grew Took old.limits.policy space was block words old answer is new
     → Serves new (account_in space is) → ((other : AccountState) → other.owner ≢ (account_in space was).owner → Serves old other → Serves new other)
-    → opened_in new ≡ opened_in old → IsSoundLedger new → IsSoundView was → IsSoundView is → AreTogether old loaders → AreTogether new (with_changed loaders name is)
-together_after space old new loaders name block words was is answer found allocates own each opened ledger_sound was_sound is_sound its = record {
+    → opened_in new ≡ opened_in old → IsSoundLedger new → IsSoundView is → AreTogether old loaders → AreTogether new (with_changed loaders name is)
+together_after space old new loaders name block words was is answer found allocates own each opened ledger_sound is_sound its = record {
   ledger_sound = ledger_sound;
   loaders_sound = All-values-set_value (is_at (nat_cmp name)) IsSoundView loaders is its.loaders_sound is_sound;
   names = rises_with_changed loaders name is its.names;
@@ -228,7 +232,7 @@ together_after space old new loaders name block words was is answer found alloca
         (rw (ap accounts_of split.is ∙ accounts_split split.before split.after name was) at (recursion_from_All (Serves old) (accounts_of loaders) its.served.served))));
     distinct = subst AreDistinct (sym owners_same) its.served.distinct;
     no_other = All-from_recursion _ new.loans (subst (λ (owners : List ℕ). AllByRecursion (HasOwner owners) new.loans) (sym owners_same)
-        (block_has (owners_of loaders) space was is block words old new answer was_sound allocates (own_is_among space loaders name was found) (recursion_from_All _ old.loans its.served.no_other)));
+        (block_has (owners_of loaders) space was is block words old new answer (own_sound old loaders name was found its) allocates (own_is_among space loaders name was found) (recursion_from_All _ old.loans its.served.no_other)));
     opened = ap (λ (f : Space → ℕ). f NonClass) opened ∙ its.served.opened ∙ sym (length_changed loaders name is);
     class_opened = ap (λ (f : Space → ℕ). f Class) opened ∙ its.served.class_opened ∙ sym (length_changed loaders name is);
   };
@@ -249,7 +253,7 @@ together_after space old new loaders name block words was is answer found alloca
         ∙ ap (λ (n : ℕ). owners_of split.before ++ was.owner ∷ n ∷ owners_of split.after) keeps.class_owner
         ∙ sym (ap owners_of split.is ∙ owners_split split.before split.after name was)
 
--- Each loader's accounts are served, and what is true of every loader is true of it.
+-- Each loader's accounts are served.
 pub own_served : (space : Space) (ledger : Ledger) (loaders : List (ℕ × LoaderView)) (name : ℕ) (v : LoaderView) → named loaders name ≡ Some v → AreServed ledger loaders
     → Serves ledger (account_in space v)
 own_served space ledger loaders name v found its = go space
@@ -264,10 +268,6 @@ own_served space ledger loaders name v found its = go space
     go : (one : Space) → Serves ledger (account_in one v)
     go NonClass = parts.1
     go Class = parts.2
-
-pub own_sound : (ledger : Ledger) (loaders : List (ℕ × LoaderView)) (name : ℕ) (v : LoaderView) → named loaders name ≡ Some v → AreTogether ledger loaders → IsSoundView v
-own_sound ledger loaders name v found its =
-    subst (λ (o : Option LoaderView). IfSome o IsSoundView) found (IfSome-lookup_from_All IsSoundView (is_at (nat_cmp name)) loaders its.loaders_sound)
 
 -- Pool and loaders are together still where a loader changes but for its owners and chunks.
 pub together_with : (ledger : Ledger) (loaders : List (ℕ × LoaderView)) (name : ℕ) (was is : LoaderView) → named loaders name ≡ Some was → is.owner ≡ was.owner → is.class_owner ≡ was.class_owner

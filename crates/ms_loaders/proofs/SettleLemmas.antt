@@ -1,7 +1,7 @@
 -- Parts of a system of which a loader is held back: they may be given to `settle` still, and with the
 -- loader put back they are what they were. Used by the tests of settling.
-use Rattle.std.proofs.Common.{◌≡◌, ◌≤◌, ◌+◌, ◌*◌, ℕ, true, false, cond, Some, List, [], ◌∷◌, ◌++◌, map, length, refl, sym, ap, ◌∙◌, subst, arith}
-use Rattle.std.specs.Ordering.{nat_cmp, match_ordering, ordering_reverse, is_eq}
+use Rattle.std.proofs.Common.{◌≡◌, ◌+◌, ℕ, true, false, cond, Some, List, [], ◌∷◌, ◌++◌, map, length, refl, sym, ap, ◌∙◌, subst, arith}
+use Rattle.std.specs.Ordering.{nat_cmp, ordering_reverse}
 use Rattle.std.specs.declared.cmp.Ordering.TheVariants.{Less, Greater}
 use Rattle.std.specs.List.{AllByRecursion}
 use Rattle.std.specs.List.Sorted.{IsStrictlySortedBy}
@@ -18,7 +18,7 @@ use Rattle.ms_base.proofs.entries.EntryLemmas.{Split, split_at, same_name}
 use Rattle.ms_pool.specs.Account.{AccountState}
 use Rattle.ms_pool.specs.Ledger.{Ledger, Serves}
 use Rattle.ms_loaders.specs.Loader.{LoaderView, account_in}
-use Rattle.ms_loaders.specs.System.{accounts_of, owners_of}
+use Rattle.ms_loaders.specs.System.{accounts_of}
 use Rattle.ms_loaders.specs.Settles.{MaySettle, open_accounts, accounts_in}
 use Rattle.ms_loaders.proofs.FitLemmas.{owner_of}
 use Rattle.ms_loaders.proofs.ServedLemmas.{accounts_split, times, is_it, times_split, all_parts}

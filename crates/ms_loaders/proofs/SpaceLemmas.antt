@@ -1,8 +1,8 @@
 -- The live blocks of a sound arena lie in its space: they are in use, so in a chunk, and the chunk is a
 -- part of a slot of the space.
-use Rattle.std.proofs.Common.{◌≡◌, ◌≤◌, ◌<◌, ◌+◌, ◌*◌, ◌/◌, ℕ, Bool, true, false, ◌&&◌, ◌||◌, Some, List, [], ◌∷◌, ◌++◌, length, map, refl, sym, ap, ◌∙◌, subst, arith, inl, inr}
+use Rattle.std.proofs.Common.{◌≡◌, ◌≤◌, ◌<◌, ◌+◌, ◌*◌, ℕ, Bool, true, Some, List, [], ◌∷◌, ◌++◌, length, map, sym, ap, ◌∙◌, arith, inl, inr}
 use Rattle.std.specs.Prelude.{nat_le}
-use Rattle.std.specs.List.{All, AllByRecursion, list_any, list_all, zip}
+use Rattle.std.specs.List.{AllByRecursion, list_any, list_all, zip}
 use Rattle.std.proofs.lemmas.Bool.{and_parts, or_cases, leb-true, lt-ltb, le-leb}
 use Rattle.std.proofs.lemmas.Nat.{div-add-mod'}
 use Rattle.std.proofs.lemmas.List.{map-append}
@@ -18,7 +18,6 @@ use Rattle.ms_base.specs.Spaces.{IsSlotOf, is_in, first_class_word}
 use Rattle.ms_base.specs.Names.{named}
 use Rattle.ms_base.proofs.entries.EntryLemmas.{Split, split_at}
 use Rattle.ms_base.proofs.granules.GranuleLemmas.{ends_in_node}
-use Rattle.ms_pool.specs.Account.{AreChunks}
 use Rattle.ms_arena.specs.Arena.{ArenaView, IsSoundArena, live_run, live_runs}
 
 -- A word of a slot of the space lies in the space.

@@ -1,64 +1,42 @@
--- An allocation of a system is a step of its machine: which chunks and slots it changes, and why it is
--- refused.
-use Rattle.std.proofs.Common.{◌≡◌, ◌≤◌, ◌<◌, ◌+◌, ◌-◌, ℕ, zero, suc, Bool, true, false, ◌⊎◌, Some, None, Result, Ok, Err, List, [], ◌∷◌, ◌++◌, length, map, cond, refl, sym, ap, ◌∙◌, subst, inl, inr, arith, if◌then◌else◌}
-use Rattle.std.specs.Prelude.{◌==◌, slice_get, slice_set, IsTrue}
+-- An allocation of a system that is answered by a block is a step of its machine: which chunks and
+-- slots it changes. Used by the calls of a system.
+use Rattle.std.proofs.Common.{◌≡◌, ℕ, zero, suc, Some, None, Result, Ok, List, [], ◌∷◌, map, cond, refl, sym, ap, ◌∙◌, subst, inl, inr}
+use Rattle.std.specs.Prelude.{◌==◌, slice_get, slice_set}
 use Rattle.std.specs.List.{All, AllByRecursion, Contains}
 use Rattle.std.specs.List.Sorted.{IsPermutation}
 use Rattle.std.proofs.lemmas.List.Elements.{recursion_from_All, All-contains_itself}
 use Rattle.std.proofs.lemmas.List.Sorted.{All-permutation}
-use Rattle.std.specs.Ordering.{nat_cmp}
-use Rattle.std.specs.BTreeMap.{is_at}
-use Rattle.std.proofs.lemmas.Map.Steps.{set_value_same}
-use Rattle.ms_base.specs.declared.kind.Kind.{Kind}
 use Rattle.ms_base.specs.declared.kind.Space.{Space}
 use Rattle.ms_base.specs.declared.kind.Space.TheVariants.{NonClass, Class}
-use Rattle.ms_base.specs.declared.policy.Policy.{Policy}
 use Rattle.ms_base.specs.declared.span.Chunk.{Chunk}
 use Rattle.ms_base.specs.declared.span.Block.{Block}
-use Rattle.ms_base.specs.declared.words.LiveBlock.{LiveBlock}
 use Rattle.ms_base.specs.declared.refusal.Refusal.{Refusal}
-use Rattle.ms_base.specs.declared.refusal.Refusal.TheVariants.{ZeroWords, TooLarge, CommitLimit, ReserveLimit, NotLive, OutOfRange, OutOfMemory, NoLoader, LoaderExists, NoBlock, BlockExists, IdsUsedUp, NoRoom}
-use Rattle.ms_base.specs.Level.{size_of, root_words, level_that_holds}
+use Rattle.ms_base.specs.Level.{size_of}
 use Rattle.ms_base.specs.Front.{front_for}
-use Rattle.ms_base.specs.Spaces.{by_space, is_in}
-use Rattle.ms_base.specs.FreeLaws.{with_held}
-use Rattle.ms_base.specs.Names.{named, with_new, with_changed}
+use Rattle.ms_base.specs.Spaces.{by_space}
+use Rattle.ms_base.specs.Names.{named, with_changed}
 use Rattle.ms_base.specs.Live.{block_words}
 use Rattle.ms_base.specs.Place.{last_place}
-use Rattle.ms_base.specs.Asks.{wanted_level}
-use Rattle.ms_base.specs.Pick.{chunk_picked}
-use Rattle.ms_base.specs.Causes.{meets_reserve_limit, meets_commit_limit, committed_count, node_limit, granules_needed, ReserveCause, CommitCause}
-use Rattle.ms_base.specs.PoolSteps.{taken, slots_with}
-use Rattle.ms_base.specs.State.{ArenaState, LoaderState, Machine, PoolState, arena_of, chunks_held, slots_in, with_slots, pool_of, recommitted as machine_recommitted}
+use Rattle.ms_base.specs.PoolSteps.{slots_with}
+use Rattle.ms_base.specs.State.{ArenaState, LoaderState, Machine, arena_of, chunks_held, slots_in, with_slots, recommitted as machine_recommitted}
 use Rattle.ms_base.specs.Good.{IsGood}
-use Rattle.ms_base.specs.Transition.{HasLoader, LacksBlock, with_loader, with_allocated, zeroed, Change, IsGrown, GrowsOne, AddsOne, MayChange, Allocates, BlockIsThere, IsServable, CommitsTooMuch, AllocCause}
+use Rattle.ms_base.specs.Transition.{HasLoader, LacksLoader, with_loader, with_allocated, zeroed, Change, MayChange, Allocates}
 use Rattle.ms_base.specs.SumLaws.{GrowsWell}
-use Rattle.ms_base.proofs.entries.EntryLemmas.{Split, split_at}
+use Rattle.ms_base.proofs.entries.EntryLemmas.{split_at}
 use Rattle.ms_base.proofs.runs.ApartLemmas.{All-middle_of}
 use Rattle.ms_base.proofs.machine.GoodLemmas.{chunks_split}
-use Rattle.ms_base.proofs.machine.ChangeLemmas.{changed, slots_same, unchanged_pools}
-use Rattle.ms_base.proofs.arena.BlockLemmas.{arena_there}
-use Rattle.ms_base.proofs.free.AlikeLemmas.{permuted_are_alike}
-use Rattle.ms_base.proofs.free.OrderLemmas.{taken_alike}
+use Rattle.ms_base.proofs.machine.ChangeLemmas.{slots_same, unchanged_pools}
 use Rattle.ms_base.proofs.granules.GrowingLemmas.{growing_keeps_the_limit}
-use Rattle.ms_pool.specs.Tallies.{Tallies}
-use Rattle.ms_pool.specs.Ledger.{Loan, Ledger, held_in, state_in, with_loan, with_lent, with_grown}
+use Rattle.ms_pool.specs.Ledger.{Loan, Ledger, held_in, state_in, with_loan}
 use Rattle.ms_pool.specs.Calls.{tallied, Took, Grew}
-use Rattle.ms_arena.specs.Arena.{ArenaView, IsAskable, PlaceRefused}
-use Rattle.ms_loaders.specs.Loader.{LoaderView, IsSoundView, IsArenaOf, AfterAlloc, AsksArena, NameRefused, AllocatesBlock}
+use Rattle.ms_arena.specs.Arena.{ArenaView}
+use Rattle.ms_loaders.specs.Loader.{LoaderView, IsSoundView, IsArenaOf, AllocatesBlock}
 use Rattle.ms_loaders.specs.System.{states_of, machine_of, AreTogether}
-use Rattle.ms_loaders.proofs.MappedLemmas.{found-mapped, changed-mapped}
-use Rattle.ms_loaders.proofs.OutcomeLemmas.{SameBut, GrownBy, LentBy, IsMade, IsNotMade, TakeCause, picked_is}
+use Rattle.ms_loaders.proofs.MappedLemmas.{found-mapped, missing-mapped, changed-mapped}
+use Rattle.ms_loaders.proofs.OutcomeLemmas.{GrownBy, LentBy, IsMade, picked_is}
 use Rattle.ms_loaders.proofs.AskedLemmas.{outcome}
 use Rattle.ms_loaders.proofs.FitLemmas.{fits, machine_is_good, recommitted_machine}
-use Rattle.ms_loaders.proofs.ServedLemmas.{apart_of}
-
--- The refusals, as answers.
-abbrev reserve : ℕ → ℕ → Result Chunk Refusal
-reserve nodes limit = Err (ReserveLimit nodes limit)
-
-abbrev commit : ℕ → ℕ → ℕ → Result Chunk Refusal
-commit committed limit need = Err (CommitLimit committed limit need)
+use Rattle.ms_loaders.proofs.ServedLemmas.{apart_of, own_sound}
 
 abbrev state_of : LoaderView → LoaderState
 state_of loader = loader.state
@@ -66,6 +44,10 @@ state_of loader = loader.state
 -- A loader of the system is one of the machine.
 pub has_loader : (ledger : Ledger) (loaders : List (ℕ × LoaderView)) (name : ℕ) (v : LoaderView) → named loaders name ≡ Some v → HasLoader (machine_of ledger loaders) name v.state
 has_loader ledger loaders name v found = found-mapped state_of loaders name v found
+
+-- And a name that no loader of the system has, none of the machine has.
+pub lacks_loader : (ledger : Ledger) (loaders : List (ℕ × LoaderView)) (name : ℕ) → named loaders name ≡ None → LacksLoader (machine_of ledger loaders) name
+lacks_loader ledger loaders name none = missing-mapped state_of loaders name none
 
 -- The machine where a loader changed, before the granules follow.
 pub machine_with : (ledger : Ledger) (loaders : List (ℕ × LoaderView)) (name : ℕ) (v : LoaderView)
@@ -182,33 +164,6 @@ lends space old new loaders name n owner was is after now lent = record {
     slots_are NonClass = ap (λ (o : Machine). record o { slots = slots_with old.slots lent.chunk.start }) (machine_with old loaders name is)
     slots_are Class = machine_with old loaders name is
 
--- The limit that a refused request meets, as the machine tells it.
-is_reserve : (pool : PoolState) (p m words nodes limit : ℕ) → taken pool p m words ≡ Err (ReserveLimit nodes limit) → ReserveCause pool m nodes limit
-is_reserve pool p m words nodes limit is = go (meets_reserve_limit pool m) (meets_commit_limit pool p m words) refl is
-  where
-    numbers : (a b : ℕ) → reserve a b ≡ reserve nodes limit → (nodes ≡ a) × (limit ≡ b)
-    numbers a b e = (cc, cc)
-
-    go : (a b : Bool) → meets_reserve_limit pool m ≡ a
-        → (if a then Err (ReserveLimit (length pool.slots) (node_limit pool)) else if b then Err (CommitLimit (committed_count pool) pool.limits.granules (granules_needed pool p m words)) else Ok (chunk_picked pool p m words)) ≡ Err (ReserveLimit nodes limit)
-        → ReserveCause pool m nodes limit
-    go true b e is = let its = numbers (length pool.slots) (node_limit pool) is in record { met = e; nodes_are = its.0; limit_is = its.1 }
-    go false true e is = absurd (cc)
-    go false false e is = absurd (cc)
-
-is_commit : (pool : PoolState) (p m words committed limit need : ℕ) → taken pool p m words ≡ Err (CommitLimit committed limit need) → CommitCause pool p m words committed limit need
-is_commit pool p m words committed limit need is = go (meets_reserve_limit pool m) (meets_commit_limit pool p m words) refl is
-  where
-    numbers : (a b c : ℕ) → commit a b c ≡ commit committed limit need → (committed ≡ a) × (limit ≡ b) × (need ≡ c)
-    numbers a b c e = (cc, cc, cc)
-
-    go : (a b : Bool) → meets_commit_limit pool p m words ≡ b
-        → (if a then Err (ReserveLimit (length pool.slots) (node_limit pool)) else if b then Err (CommitLimit (committed_count pool) pool.limits.granules (granules_needed pool p m words)) else Ok (chunk_picked pool p m words)) ≡ Err (CommitLimit committed limit need)
-        → CommitCause pool p m words committed limit need
-    go true b e is = absurd (cc)
-    go false true e is = let its = numbers (committed_count pool) pool.limits.granules (granules_needed pool p m words) is in record { met = e; committed_are = its.0; limit_is = its.1; need_is = its.2 }
-    go false false e is = absurd (cc)
-
 -- So an allocation that is answered by a block is served.
 made_is_step : (space : Space) (old new : Ledger) (loaders : List (ℕ × LoaderView)) (name words : ℕ) (was is : LoaderView) (made : Block) (arena after : ArenaView) → named loaders name ≡ Some was
     → IsArenaOf space was arena → AreTogether old loaders → AreTogether new (with_changed loaders name is) → IsMade arena words old made after new
@@ -223,7 +178,7 @@ made_is_step space old new loaders name words was is made arena after found its 
   ]
 ]
 
-pub alloc_is_served : (space : Space) (old new : Ledger) (loaders : List (ℕ × LoaderView)) (name block words : ℕ) (was is : LoaderView) (made : Block) → named loaders name ≡ Some was
+alloc_is_served : (space : Space) (old new : Ledger) (loaders : List (ℕ × LoaderView)) (name block words : ℕ) (was is : LoaderView) (made : Block) → named loaders name ≡ Some was
     → AllocatesBlock Grew Took old.limits.policy space was block words old (Ok made) is new → IsSoundView was → AreTogether old loaders → AreTogether new (with_changed loaders name is)
     → Allocates (machine_of old loaders) space name block words made.start (machine_of new (with_changed loaders name is))
 alloc_is_served space old new loaders name block words was is made found (inl refused) sound before now = absurd (let e = refused.answer_is in cc)
@@ -249,89 +204,12 @@ alloc_is_served space old new loaders name block words was is made found (inr as
     state : is.state ≡ with_allocated space was.state asks.is.books block (zeroed made.start (block_words words))
     state = ap state_of asks.follows.1 ∙ ap (λ (n : ℕ). with_allocated space was.state asks.is.books block (zeroed made.start n)) how.words_are
 
--- And one that is refused is refused for that cause.
-module _ (space : Space) (old : Ledger) (loaders : List (ℕ × LoaderView)) (name block words : ℕ) (was : LoaderView) (found : named loaders name ≡ Some was) (its : AreTogether old loaders) where
-  lacks : named was.state.blocks block ≡ None → LacksBlock (machine_of old loaders) name block
-  lacks unused = record { loader = was.state; loader_is = has_loader old loaders name was found; unused = unused }
-
-  servable : named was.state.blocks block ≡ None → IsAskable words → IsServable (machine_of old loaders) name block words
-  servable unused askable = record { lacks = lacks unused; some = askable.some; fits = askable.fits }
-
-  by_place : (refusal : Refusal) → named was.state.blocks block ≡ None → PlaceRefused words refusal → AllocCause (machine_of old loaders) space name block words refusal
-  by_place ZeroWords unused cause = (lacks unused, cause)
-  by_place TooLarge unused cause = (lacks unused, cause)
-  by_place OutOfMemory unused cause = servable unused cause
-  by_place _ unused cause = absurd cause
-
-  by_name : (refusal : Refusal) → NameRefused was block words refusal → AllocCause (machine_of old loaders) space name block words refusal
-  by_name BlockExists cause = record { loader = was.state; found = cause.0; has = record { loader_is = has_loader old loaders name was found; block_is = cause.1 } }
-  by_name ZeroWords cause = by_place ZeroWords cause.0 cause.1
-  by_name TooLarge cause = by_place TooLarge cause.0 cause.1
-  by_name OutOfMemory cause = by_place OutOfMemory cause.0 cause.1
-  by_name _ cause = absurd cause.1
-
-  in_machine : (p m n : ℕ) → taken (pool_of space (machine_of old loaders)) p m n ≡ taken (state_in space old) p m n
-  in_machine p m n = taken_alike (state_in space old) (chunks_held space (states_of loaders)) (permuted_are_alike (held_in space old) (chunks_held space (states_of loaders)) (fits old loaders its.loaders_sound its.served space)) p m n
-
-  by_take : (refusal : Refusal) → named was.state.blocks block ≡ None → IsAskable words
-      → TakeCause (state_in space old) (wanted_level was.state.kind space (arena_of space was.state) (block_words words)) (level_that_holds (block_words words)) (block_words words) refusal
-      → AllocCause (machine_of old loaders) space name block words refusal
-  by_take (CommitLimit committed limit need) unused askable cause = (
-    servable unused askable,
-    record {
-      loader = was.state;
-      has = has_loader old loaders name was found;
-      cause = is_commit (pool_of space (machine_of old loaders)) p m n committed limit need (in_machine p m n ∙ cause);
-    },
-  )
-    where
-      n : ℕ
-      n = block_words words
-
-      p : ℕ
-      p = wanted_level was.state.kind space (arena_of space was.state) n
-
-      m : ℕ
-      m = level_that_holds n
-  by_take (ReserveLimit nodes limit) unused askable cause = (
-    servable unused askable,
-    is_reserve (pool_of space (machine_of old loaders)) (wanted_level was.state.kind space (arena_of space was.state) (block_words words)) (level_that_holds (block_words words)) (block_words words) nodes limit
-        (in_machine (wanted_level was.state.kind space (arena_of space was.state) (block_words words)) (level_that_holds (block_words words)) (block_words words) ∙ cause),
-  )
-  by_take OutOfMemory unused askable cause = servable unused askable
-  by_take _ unused askable cause = absurd cause
-
--- The machine is as it was.
-same_machine : (old new : Ledger) (loaders : List (ℕ × LoaderView)) (name : ℕ) (was is : LoaderView) → named loaders name ≡ Some was → is ≡ was → SameBut old new
-    → machine_of new (with_changed loaders name is) ≡ machine_of old loaders
-same_machine old new loaders name was is found same but =
-    ap (λ (l : Ledger). machine_of l (with_changed loaders name is)) but.is
-    ∙ ap (machine_of old) (ap (with_changed loaders name) same ∙ set_value_same (is_at (nat_cmp name)) loaders was found)
-
-abbrev refused : Refusal → Result Block Refusal
-refused refusal = Err refusal
-
-same_refusal : (a b : Refusal) → refused a ≡ refused b → b ≡ a
-same_refusal a b e = cc
-
-pub alloc_is_refused : (space : Space) (old new : Ledger) (loaders : List (ℕ × LoaderView)) (name block words : ℕ) (was is : LoaderView) (refusal : Refusal) → named loaders name ≡ Some was
-    → AllocatesBlock Grew Took old.limits.policy space was block words old (Err refusal) is new → IsSoundView was → AreTogether old loaders
-    → AllocCause (machine_of old loaders) space name block words refusal × (machine_of new (with_changed loaders name is) ≡ machine_of old loaders)
-alloc_is_refused space old new loaders name block words was is refusal found (inl not) sound its = (
-  subst (λ (r : Refusal). AllocCause (machine_of old loaders) space name block words r) (same_refusal refusal not.refusal not.answer_is)
-      (by_name space old loaders name block words was found its not.refusal not.cause),
-  same_machine old new loaders name was is found not.loader (record { tallies = old.tallies; is = not.source }),
+-- As the call's answer tells it.
+pub alloc_answers_at : (space : Space) (old new : Ledger) (loaders : List (ℕ × LoaderView)) (name block words : ℕ) (was is : LoaderView) (answer : Result Block Refusal) (made : Block)
+    → answer ≡ Ok made → named loaders name ≡ Some was → AllocatesBlock Grew Took old.limits.policy space was block words old answer is new → AreTogether old loaders → AreTogether new (with_changed loaders name is)
+    → Allocates (machine_of old loaders) space name block words made.start (machine_of new (with_changed loaders name is)) × IsGood (machine_of new (with_changed loaders name is))
+alloc_answers_at space old new loaders name block words was is answer made ok found allocates before now = (
+  alloc_is_served space old new loaders name block words was is made found (subst (λ (a : Result Block Refusal). AllocatesBlock Grew Took old.limits.policy space was block words old a is new) ok allocates)
+      (own_sound old loaders name was found before) before now,
+  machine_is_good new (with_changed loaders name is) now,
 )
-alloc_is_refused space old new loaders name block words was is refusal found (inr asks) sound its = (
-  elim how.cause [
-    | inl place ↦ by_place space old loaders name block words was found its refusal asks.unused place
-    | inr take ↦ by_take space old loaders name block words was found its refusal asks.unused take.0
-        (subst (λ (k : Kind). TakeCause (state_in space old) (wanted_level k space (arena_of space was.state) (block_words words)) (level_that_holds (block_words words)) (block_words words) refusal) asks.arena.kind
-        (subst (λ (s : Space). TakeCause (state_in s old) (wanted_level asks.was.kind s (arena_of space was.state) (block_words words)) (level_that_holds (block_words words)) (block_words words) refusal) asks.arena.space_is
-        (subst (λ (a : ArenaState). TakeCause (state_in asks.was.space old) (wanted_level asks.was.kind asks.was.space a (block_words words)) (level_that_holds (block_words words)) (block_words words) refusal) asks.arena.books take.1)))
-  ],
-  same_machine old new loaders name was is found asks.follows how.ledger,
-)
-  where
-    how : IsNotMade asks.was words old refusal new
-    how = outcome asks.was words old (Err refusal) asks.is new (apart_of space was asks.was sound asks.arena) asks.allocates

@@ -1,23 +1,22 @@
 -- Pool and loaders stay together, and the machine makes its step, where a loader is unloaded, or is
 -- refused once its accounts were opened; both close two accounts.
-use Rattle.std.proofs.Common.{◌≡◌, ◌≢◌, ◌≤◌, ◌<◌, ◌+◌, ◌-◌, ℕ, suc, Bool, true, false, cond, not, ◌||◌, Some, None, List, [], ◌∷◌, ◌++◌, map, length, refl, sym, ap, ◌∙◌, subst, inl, inr, arith}
+use Rattle.std.proofs.Common.{◌≡◌, ◌≢◌, ◌≤◌, ◌+◌, ℕ, Bool, true, false, cond, not, ◌||◌, Some, None, List, [], ◌∷◌, ◌++◌, map, length, refl, sym, ap, ◌∙◌, subst, arith}
 use Rattle.std.specs.Prelude.{◌==◌}
 use Rattle.std.specs.Ordering.{nat_cmp}
-use Rattle.std.specs.List.{All, AllByRecursion, filter, list_any}
+use Rattle.std.specs.List.{All, AllByRecursion}
 use Rattle.std.specs.List.Sorted.{IsPermutation}
-use Rattle.std.specs.Map.{values_of}
 use Rattle.std.specs.BTreeMap.{is_at}
 use Rattle.std.proofs.lemmas.Bool.{eqb-true, eq-eqb, both_ways}
 use Rattle.std.proofs.lemmas.List.{length-append, map-append}
 use Rattle.std.proofs.lemmas.List.Sums.{sum_by-append, sum_by-cons}
 use Rattle.std.proofs.lemmas.List.Elements.{recursion_from_All, All-from_recursion}
 use Rattle.std.proofs.lemmas.Map.Views.{All-map-remove_entry}
-use Rattle.ms_base.specs.declared.kind.Space.{Space}
+use Rattle.ms_base.specs.declared.kind.Kind.{Kind}
 use Rattle.ms_base.specs.declared.kind.Space.TheVariants.{NonClass, Class}
 use Rattle.ms_base.specs.declared.span.Chunk.{Chunk}
 use Rattle.ms_base.specs.Committed.{is_among}
 use Rattle.ms_base.specs.Names.{named, without}
-use Rattle.ms_base.specs.State.{LoaderState, Machine, chunks_held, recommitted as machine_recommitted}
+use Rattle.ms_base.specs.State.{LoaderState, chunks_held, recommitted as machine_recommitted}
 use Rattle.ms_base.specs.Good.{IsGood}
 use Rattle.ms_base.specs.declared.refusal.Refusal.{Refusal}
 use Rattle.ms_base.specs.declared.refusal.Refusal.TheVariants.{LoaderExists, OutOfMemory}
@@ -29,11 +28,11 @@ use Rattle.ms_base.proofs.machine.ChangeLemmas.{recommitted_same}
 use Rattle.ms_base.proofs.runs.ApartLemmas.{list_any-with}
 use Rattle.ms_pool.specs.Account.{AccountState}
 use Rattle.ms_pool.specs.Ledger.{Loan, Ledger, Serves, IsSoundLedger, held_in, others_than, with_both_closed}
-use Rattle.ms_loaders.specs.Loader.{LoaderView, account_in, IsSoundView}
-use Rattle.ms_loaders.specs.System.{states_of, accounts_of, owners_of, machine_of, AreDistinct, AreServed, AreTogether}
+use Rattle.ms_loaders.specs.Loader.{LoaderView, account_in, new_loader, IsSoundView}
+use Rattle.ms_loaders.specs.System.{states_of, accounts_of, owners_of, machine_of, AreTogether}
 use Rattle.ms_loaders.proofs.MappedLemmas.{without-mapped}
 use Rattle.ms_loaders.proofs.FitLemmas.{HasOwner, owner_of, owned, others, owned_elsewhere, fits, machine_is_good, recommitted_machine}
-use Rattle.ms_loaders.proofs.ServedLemmas.{one_if, accounts_split, times, is_it, it_is, times_split, all_parts}
+use Rattle.ms_loaders.proofs.ServedLemmas.{accounts_split, times, is_it, it_is, times_split, all_parts}
 use Rattle.ms_loaders.proofs.CloseLemmas.{accounts_joined, all_others, fresh_owner, served_with, with_both, first_account, second_account}
 use Rattle.ms_loaders.proofs.StepLemmas.{has_loader}
 
@@ -79,6 +78,25 @@ still_served old new x y loans given (account ∷ accounts) none_x none_y all = 
 pub both_all : (P : AccountState → Type 0) (b a : List AccountState) → AllByRecursion P b → AllByRecursion P a → AllByRecursion P (b ++ a)
 both_all P [] a first last = last
 both_all P (x ∷ b) a first last = (first.0, both_all P b a first.1 last)
+
+-- Closing what a loader gave back closes its accounts.
+pub closed_of : (old new : Ledger) (loader : LoaderView) (back : AccountState × AccountState) → back.0 ≡ account_in NonClass loader → back.1 ≡ account_in Class loader
+    → new ≡ with_both_closed old back.0 back.1 → new ≡ with_both_closed old (account_in NonClass loader) (account_in Class loader)
+closed_of old new loader back first second closed = closed ∙ ap (λ (a : AccountState). with_both_closed old a back.1) first
+    ∙ ap (with_both_closed old (account_in NonClass loader)) second
+
+-- A loader is made over the accounts that were just opened.
+pub made_of : (old : Ledger) (kind : Kind) (accounts : AccountState × AccountState) (loader : LoaderView) → loader ≡ new_loader accounts.0 accounts.1 kind
+    → accounts ≡ (first_account old, second_account old) → loader ≡ new_loader (first_account old) (second_account old) kind
+made_of old kind accounts loader made opened = made ∙ ap (λ (p : AccountState × AccountState). new_loader p.0 p.1 kind) opened
+
+-- What it gives back are these accounts.
+pub closed_again : (old opened new : Ledger) (kind : Kind) (loader : LoaderView) (back : AccountState × AccountState) → opened ≡ with_both old
+    → loader ≡ new_loader (first_account old) (second_account old) kind → back.0 ≡ account_in NonClass loader → back.1 ≡ account_in Class loader
+    → new ≡ with_both_closed opened back.0 back.1 → new ≡ with_both_closed (with_both old) (first_account old) (second_account old)
+closed_again old opened new kind loader back opened_is made first second closed = closed_of opened new loader back first second closed
+    ∙ ap (λ (l : Ledger). with_both_closed l (account_in NonClass loader) (account_in Class loader)) opened_is
+    ∙ ap (λ (v : LoaderView). with_both_closed (with_both old) (account_in NonClass v) (account_in Class v)) made
 
 module _ (old new : Ledger) (loaders : List (ℕ × LoaderView)) (name : ℕ) (v : LoaderView) (found : named loaders name ≡ Some v)
     (closed : new ≡ with_both_closed old (account_in NonClass v) (account_in Class v)) (sound : IsSoundLedger new) (its : AreTogether old loaders) where

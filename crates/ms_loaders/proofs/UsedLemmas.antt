@@ -1,19 +1,18 @@
 -- The words in use and those committed, of both spaces: their sums over loaders, and that they can be
 -- counted.
-use Rattle.std.proofs.Common.{◌≡◌, ◌≤◌, ◌+◌, ◌*◌, ℕ, List, [], ◌∷◌, length, refl, ap, arith}
+use Rattle.std.proofs.Common.{◌≡◌, ◌≤◌, ◌+◌, ◌*◌, ℕ, List, [], ◌∷◌, length, refl, arith}
 use Rattle.std.specs.List.{sum_by}
 use Rattle.std.specs.Map.{values_of}
 use Rattle.std.proofs.lemmas.List.Sums.{sum_by-cons}
 use Rattle.std.proofs.Math.Nat.{add-mul}
 use Rattle.ms_base.specs.declared.kind.Space.TheVariants.{NonClass, Class}
 use Rattle.ms_base.specs.Policy.{granule_of}
-use Rattle.ms_base.specs.State.{LoaderState, Machine, arena_of, pool_of}
+use Rattle.ms_base.specs.State.{LoaderState, Machine, pool_of}
 use Rattle.ms_base.specs.Totals.{used_of, used_words}
 use Rattle.ms_base.specs.Good.{IsGood}
 use Rattle.ms_base.proofs.machine.SumLemmas.{used_below, few_slots, committed_within_slots}
-use Rattle.ms_pool.specs.Ledger.{Ledger}
 use Rattle.ms_loaders.specs.Loader.{LoaderView}
-use Rattle.ms_loaders.specs.System.{states_of, machine_of}
+use Rattle.ms_loaders.specs.System.{states_of}
 
 -- A loader's words in use, in both spaces.
 abbrev pub used_in_both : LoaderView → ℕ

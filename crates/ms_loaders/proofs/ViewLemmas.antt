@@ -1,23 +1,21 @@
 -- What is true of every loader follows from what holds of its fields.
-use Rattle.std.proofs.Common.{◌≡◌, ℕ, Bool, true, false, cond, not, ◌&&◌, ◌||◌, Some, List, [], ◌∷◌, ◌++◌, length, map, refl, sym, ap, ◌∙◌, subst}
+use Rattle.std.proofs.Common.{◌≡◌, ℕ, Bool, true, false, cond, not, ◌&&◌, ◌||◌, List, [], ◌∷◌, ◌++◌, map, refl, sym, ap, ◌∙◌, subst}
 use Rattle.std.specs.Prelude.{nat_le}
 use Rattle.std.specs.List.{AllByRecursion, filter, list_all, list_any}
 use Rattle.std.specs.List.Sorted.{IsPermutation}
 use Rattle.std.specs.Map.{values_of}
-use Rattle.std.proofs.lemmas.Bool.{both_ways}
 use Rattle.std.proofs.lemmas.List.Sorted.{list_any-IsPermutation, IsPermutation-append_left, IsPermutation-sym}
 use Rattle.ms_base.specs.declared.kind.Space.{Space}
 use Rattle.ms_base.specs.declared.kind.Space.TheVariants.{NonClass, Class}
 use Rattle.ms_base.specs.declared.span.Block.{Block}
 use Rattle.ms_base.specs.declared.words.LiveBlock.{LiveBlock}
 use Rattle.ms_base.specs.Spaces.{by_space, is_in}
-use Rattle.ms_base.specs.Interval.{are_apart}
-use Rattle.ms_base.specs.Live.{run_of, runs_of, runs_in}
+use Rattle.ms_base.specs.Live.{run_of, runs_in}
 use Rattle.ms_base.specs.State.{ArenaState, arena_of}
 use Rattle.ms_base.specs.Good.{IsSound, is_in_use}
 use Rattle.ms_base.proofs.runs.PermutedLemmas.{apart-permuted}
 use Rattle.ms_pool.specs.Account.{AreChunks}
-use Rattle.ms_arena.specs.Arena.{ArenaView, IsSoundArena, live_runs, live_run}
+use Rattle.ms_arena.specs.Arena.{ArenaView, live_runs}
 use Rattle.ms_loaders.specs.Loader.{IsSoundView}
 use Rattle.ms_loaders.specs.LoaderInside.{Contents, live_at, blocks_of, named_runs, contents_in, IsLoader, IsArena, view_of}
 use Rattle.ms_loaders.specs.declared.loader.Loader.TheInside.{Inside}

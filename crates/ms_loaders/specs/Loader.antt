@@ -1,5 +1,5 @@
 -- A loader as its callers see it, and what its calls do.
-use Rattle.std.specs.Prelude.{◌≡◌, ℕ, ◌<◌, ◌≤◌, ◌⊎◌, List, length, slice_get, slice_set, Some, None, Result, Ok, Err, IsTrue}
+use Rattle.std.specs.Prelude.{◌≡◌, ℕ, ◌<◌, ◌≤◌, ◌⊎◌, length, slice_get, slice_set, Some, None, Result, Ok, Err, IsTrue}
 use Rattle.ms_base.specs.declared.policy.Policy.{Policy}
 use Rattle.ms_base.specs.declared.kind.Kind.{Kind}
 use Rattle.ms_base.specs.declared.kind.Space.{Space}
@@ -13,7 +13,7 @@ use Rattle.ms_base.specs.State.{LoaderState, empty_loader, arena_of}
 use Rattle.ms_base.specs.Good.{IsSoundLoader}
 use Rattle.ms_base.specs.Transition.{with_block, with_allocated, with_freed, zeroed}
 use Rattle.ms_pool.specs.Account.{AccountState, AreChunks}
-use Rattle.ms_arena.specs.Arena.{ArenaView, account_of, PlaceRefused}
+use Rattle.ms_arena.specs.Arena.{ArenaView, PlaceRefused}
 use Rattle.ms_arena.specs.Alloc.{TakeRelation, GrowRelation, Allocates}
 
 -- A loader has an owner's number in each space, and its state in the machine.

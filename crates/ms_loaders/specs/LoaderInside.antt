@@ -1,5 +1,5 @@
 -- What the fields of a loader stand for, and what holds of them.
-use Rattle.std.specs.Prelude.{◌≡◌, ℕ, List, [], map, Option, Some, None}
+use Rattle.std.specs.Prelude.{◌≡◌, ℕ, List, [], map}
 use Rattle.std.specs.Option.{unwrap_or}
 use Rattle.std.specs.Map.{values_of}
 use Rattle.std.specs.List.{filter}

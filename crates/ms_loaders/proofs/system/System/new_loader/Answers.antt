@@ -1,15 +1,13 @@
 use Rattle.std.proofs.Common.{sym, refl, ap, ◌∙◌, subst, inr}
 use Rattle.ms_base.specs.declared.kind.Space.TheVariants.{NonClass, Class}
 use Rattle.ms_base.specs.Names.{named}
-use Rattle.ms_pool.specs.Account.{AccountState}
-use Rattle.ms_pool.specs.Ledger.{Ledger, Serves, IsSoundLedger, with_both_closed}
-use Rattle.ms_loaders.specs.Loader.{LoaderView, account_in, new_loader, IsSoundView}
-use Rattle.ms_loaders.proofs.MappedLemmas.{missing-mapped}
+use Rattle.ms_pool.specs.Ledger.{Ledger, Serves, IsSoundLedger}
+use Rattle.ms_loaders.specs.Loader.{account_in, IsSoundView}
 use Rattle.ms_loaders.proofs.FitLemmas.{machine_is_good}
-use Rattle.ms_loaders.proofs.StepLemmas.{has_loader}
-use Rattle.ms_loaders.proofs.CallLemmas.{found, missing}
+use Rattle.ms_loaders.proofs.StepLemmas.{has_loader, lacks_loader}
+use Rattle.ms_loaders.proofs.CallLemmas.{found, unused_name}
 use Rattle.ms_loaders.proofs.CloseLemmas.{with_both, first_account, second_account, first_served, second_served, together_made, machine_made}
-use Rattle.ms_loaders.proofs.UnloadLemmas.{together_again, numbers_used, numbers_left, insert_is_refused}
+use Rattle.ms_loaders.proofs.UnloadLemmas.{made_of, closed_again, together_again, numbers_used, numbers_left, insert_is_refused}
 use Rattle.ms_loaders.proofs.system.System.new_loader.Goals as goal
 
 pub returns-then-contains-clause-refused : goal.returns-then-contains-clause-refused
@@ -19,47 +17,60 @@ returns-then-contains-clause-refused c =
 
 pub returns-in-Err-clause-refused : goal.returns-in-Err-clause-refused
 returns-in-Err-clause-refused c = rw (c.in-Err.ensures.opened.0, c.in-Err.ensures.opened.2, ← c.self.view_is)
-    ((missing-mapped (λ (loader : LoaderView). loader.state) c.self.inside.loaders c.args.name (missing (named c.self.inside.loaders c.args.name) (sym c.contains.ensures ∙ c.if-contains.false)), c.in-Err.ensures.opened.1), refl)
+    ((lacks_loader c.self.inside.pool c.self.inside.loaders c.args.name (unused_name c.self.inside.loaders c.args.name c.contains.result c.contains.ensures c.if-contains.false), c.in-Err.ensures.opened.1), refl)
 
 pub invariant_of-self-in-Ok-insert : goal.invariant_of-self-in-Ok-insert
-invariant_of-self-in-Ok-insert c = rw (c.in-Ok-insert.ensures.inserted, (c.new-loader.ensures.made ∙ ap (λ (p : AccountState × AccountState). new_loader p.0 p.1 c.args.kind) c.in-Ok.ensures.opened.0), c.in-Ok.ensures.opened.1) (record {
-  together = together_made c.self.inside.pool c.self.inside.loaders c.args.name c.args.kind (missing (named c.self.inside.loaders c.args.name) (sym c.contains.ensures ∙ c.if-contains.false)) c.self.invariant.together (subst IsSoundLedger c.in-Ok.ensures.opened.1 c.committed.ensures.sound) (subst IsSoundView (c.new-loader.ensures.made ∙ ap (λ (p : AccountState × AccountState). new_loader p.0 p.1 c.args.kind) c.in-Ok.ensures.opened.0) c.new-loader.ensures.sound);
-  policy_is = c.self.invariant.policy_is;
-})
+invariant_of-self-in-Ok-insert c =
+    let unused = unused_name c.self.inside.loaders c.args.name c.contains.result c.contains.ensures c.if-contains.false in
+    let made = made_of c.self.inside.pool c.args.kind c.in-Ok.accounts c.new-loader.result c.new-loader.ensures.made c.in-Ok.ensures.opened.0 in
+    rw (c.in-Ok-insert.ensures.inserted, made, c.in-Ok.ensures.opened.1) (record {
+      together = together_made c.self.inside.pool c.self.inside.loaders c.args.name c.args.kind unused c.self.invariant.together
+          (subst IsSoundLedger c.in-Ok.ensures.opened.1 c.committed.ensures.sound) (subst IsSoundView made c.new-loader.ensures.sound);
+      policy_is = c.self.invariant.policy_is;
+    })
 
 pub close_both-requires-clause-served : goal.close_both-requires-clause-served
-close_both-requires-clause-served c = subst (Serves c.open_both.new.self) (sym (c.into_accounts-account.ensures.account ∙ ap (account_in NonClass) (c.in-Err-insert.ensures.back ∙ (c.new-loader.ensures.made ∙ ap (λ (p : AccountState × AccountState). new_loader p.0 p.1 c.args.kind) c.in-Ok.ensures.opened.0))))
-    (subst (λ (l : Ledger). Serves l (first_account c.self.inside.pool)) (sym c.in-Ok.ensures.opened.1) (first_served c.self.inside.pool c.self.inside.loaders c.args.name c.args.kind (missing (named c.self.inside.loaders c.args.name) (sym c.contains.ensures ∙ c.if-contains.false)) c.self.invariant.together))
+close_both-requires-clause-served c =
+    let unused = unused_name c.self.inside.loaders c.args.name c.contains.result c.contains.ensures c.if-contains.false in
+    let made = made_of c.self.inside.pool c.args.kind c.in-Ok.accounts c.new-loader.result c.new-loader.ensures.made c.in-Ok.ensures.opened.0 in
+    subst (Serves c.open_both.new.self) (sym (c.into_accounts-account.ensures.account ∙ ap (account_in NonClass) (c.in-Err-insert.ensures.back ∙ made)))
+    (subst (λ (l : Ledger). Serves l (first_account c.self.inside.pool)) (sym c.in-Ok.ensures.opened.1) (first_served c.self.inside.pool c.self.inside.loaders c.args.name c.args.kind unused c.self.invariant.together))
 
 pub close_both-requires-clause-class_served : goal.close_both-requires-clause-class_served
-close_both-requires-clause-class_served c = subst (Serves c.open_both.new.self) (sym (c.into_accounts-account.ensures.class_account ∙ ap (account_in Class) (c.in-Err-insert.ensures.back ∙ (c.new-loader.ensures.made ∙ ap (λ (p : AccountState × AccountState). new_loader p.0 p.1 c.args.kind) c.in-Ok.ensures.opened.0))))
-    (subst (λ (l : Ledger). Serves l (second_account c.self.inside.pool)) (sym c.in-Ok.ensures.opened.1) (second_served c.self.inside.pool c.self.inside.loaders c.args.name c.args.kind (missing (named c.self.inside.loaders c.args.name) (sym c.contains.ensures ∙ c.if-contains.false)) c.self.invariant.together))
+close_both-requires-clause-class_served c =
+    let unused = unused_name c.self.inside.loaders c.args.name c.contains.result c.contains.ensures c.if-contains.false in
+    let made = made_of c.self.inside.pool c.args.kind c.in-Ok.accounts c.new-loader.result c.new-loader.ensures.made c.in-Ok.ensures.opened.0 in
+    subst (Serves c.open_both.new.self) (sym (c.into_accounts-account.ensures.class_account ∙ ap (account_in Class) (c.in-Err-insert.ensures.back ∙ made)))
+    (subst (λ (l : Ledger). Serves l (second_account c.self.inside.pool)) (sym c.in-Ok.ensures.opened.1) (second_served c.self.inside.pool c.self.inside.loaders c.args.name c.args.kind unused c.self.invariant.together))
 
 pub invariant_of-self-in-Err-insert : goal.invariant_of-self-in-Err-insert
-invariant_of-self-in-Err-insert c = rw c.in-Err-insert.ensures.unchanged (record {
-  together = together_again c.self.inside.pool c.close_both.new.self c.self.inside.loaders (c.close_both.ensures ∙ ap (λ (l : Ledger). with_both_closed l c.into_accounts-account.result.0 c.into_accounts-account.result.1) c.in-Ok.ensures.opened.1
-      ∙ ap (λ (a : AccountState). with_both_closed (with_both c.self.inside.pool) a c.into_accounts-account.result.1) (c.into_accounts-account.ensures.account ∙ ap (account_in NonClass) (c.in-Err-insert.ensures.back ∙ (c.new-loader.ensures.made ∙ ap (λ (p : AccountState × AccountState). new_loader p.0 p.1 c.args.kind) c.in-Ok.ensures.opened.0)))
-      ∙ ap (with_both_closed (with_both c.self.inside.pool) (first_account c.self.inside.pool)) (c.into_accounts-account.ensures.class_account ∙ ap (account_in Class) (c.in-Err-insert.ensures.back ∙ (c.new-loader.ensures.made ∙ ap (λ (p : AccountState × AccountState). new_loader p.0 p.1 c.args.kind) c.in-Ok.ensures.opened.0)))) c.committed-in-Err-insert.ensures.sound c.self.invariant.together;
-  policy_is = c.self.invariant.policy_is ∙ ap (λ (l : Ledger). l.limits.policy) (sym (c.close_both.ensures ∙ ap (λ (l : Ledger). with_both_closed l c.into_accounts-account.result.0 c.into_accounts-account.result.1) c.in-Ok.ensures.opened.1
-      ∙ ap (λ (a : AccountState). with_both_closed (with_both c.self.inside.pool) a c.into_accounts-account.result.1) (c.into_accounts-account.ensures.account ∙ ap (account_in NonClass) (c.in-Err-insert.ensures.back ∙ (c.new-loader.ensures.made ∙ ap (λ (p : AccountState × AccountState). new_loader p.0 p.1 c.args.kind) c.in-Ok.ensures.opened.0)))
-      ∙ ap (with_both_closed (with_both c.self.inside.pool) (first_account c.self.inside.pool)) (c.into_accounts-account.ensures.class_account ∙ ap (account_in Class) (c.in-Err-insert.ensures.back ∙ (c.new-loader.ensures.made ∙ ap (λ (p : AccountState × AccountState). new_loader p.0 p.1 c.args.kind) c.in-Ok.ensures.opened.0)))));
-})
+invariant_of-self-in-Err-insert c =
+    let made = made_of c.self.inside.pool c.args.kind c.in-Ok.accounts c.new-loader.result c.new-loader.ensures.made c.in-Ok.ensures.opened.0 in
+    let closed = closed_again c.self.inside.pool c.open_both.new.self c.close_both.new.self c.args.kind c.in-Err-insert.loader c.into_accounts-account.result c.in-Ok.ensures.opened.1
+    (c.in-Err-insert.ensures.back ∙ made) c.into_accounts-account.ensures.account c.into_accounts-account.ensures.class_account c.close_both.ensures in
+    rw c.in-Err-insert.ensures.unchanged (record {
+      together = together_again c.self.inside.pool c.close_both.new.self c.self.inside.loaders closed c.committed-in-Err-insert.ensures.sound c.self.invariant.together;
+      policy_is = c.self.invariant.policy_is ∙ ap (λ (l : Ledger). l.limits.policy) (sym closed);
+    })
 
 pub returns-in-Ok-insert-clause-served : goal.returns-in-Ok-insert-clause-served
-returns-in-Ok-insert-clause-served c = rw (c.in-Ok-insert.ensures.inserted, (c.new-loader.ensures.made ∙ ap (λ (p : AccountState × AccountState). new_loader p.0 p.1 c.args.kind) c.in-Ok.ensures.opened.0), c.in-Ok.ensures.opened.1, ← c.self.view_is) (
-  record { unused = missing-mapped (λ (loader : LoaderView). loader.state) c.self.inside.loaders c.args.name (missing (named c.self.inside.loaders c.args.name) (sym c.contains.ensures ∙ c.if-contains.false)); after = machine_made c.self.inside.pool c.self.inside.loaders c.args.name c.args.kind (missing (named c.self.inside.loaders c.args.name) (sym c.contains.ensures ∙ c.if-contains.false)) c.self.invariant.together },
-  machine_is_good (with_both c.self.inside.pool) _ (together_made c.self.inside.pool c.self.inside.loaders c.args.name c.args.kind (missing (named c.self.inside.loaders c.args.name) (sym c.contains.ensures ∙ c.if-contains.false)) c.self.invariant.together (subst IsSoundLedger c.in-Ok.ensures.opened.1 c.committed.ensures.sound) (subst IsSoundView (c.new-loader.ensures.made ∙ ap (λ (p : AccountState × AccountState). new_loader p.0 p.1 c.args.kind) c.in-Ok.ensures.opened.0) c.new-loader.ensures.sound)),
-)
+returns-in-Ok-insert-clause-served c =
+    let unused = unused_name c.self.inside.loaders c.args.name c.contains.result c.contains.ensures c.if-contains.false in
+    let made = made_of c.self.inside.pool c.args.kind c.in-Ok.accounts c.new-loader.result c.new-loader.ensures.made c.in-Ok.ensures.opened.0 in
+    let together = together_made c.self.inside.pool c.self.inside.loaders c.args.name c.args.kind unused c.self.invariant.together
+    (subst IsSoundLedger c.in-Ok.ensures.opened.1 c.committed.ensures.sound) (subst IsSoundView made c.new-loader.ensures.sound) in
+    rw (c.in-Ok-insert.ensures.inserted, made, c.in-Ok.ensures.opened.1, ← c.self.view_is) (
+      record { unused = lacks_loader c.self.inside.pool c.self.inside.loaders c.args.name unused; after = machine_made c.self.inside.pool c.self.inside.loaders c.args.name c.args.kind unused c.self.invariant.together },
+      machine_is_good (with_both c.self.inside.pool) _ together,
+    )
 
 pub returns-in-Err-insert-clause-refused : goal.returns-in-Err-insert-clause-refused
-returns-in-Err-insert-clause-refused c = rw (insert_is_refused c.self.inside.loaders c.args.name c.in-Err-insert.refusal (missing (named c.self.inside.loaders c.args.name) (sym c.contains.ensures ∙ c.if-contains.false)) c.in-Err-insert.ensures.refused, c.in-Err-insert.ensures.unchanged, ← c.self.view_is) (
-  (
-    missing-mapped (λ (loader : LoaderView). loader.state) c.self.inside.loaders c.args.name (missing (named c.self.inside.loaders c.args.name) (sym c.contains.ensures ∙ c.if-contains.false)),
-    numbers_left c.self.inside.pool c.close_both.new.self c.self.inside.loaders (c.close_both.ensures ∙ ap (λ (l : Ledger). with_both_closed l c.into_accounts-account.result.0 c.into_accounts-account.result.1) c.in-Ok.ensures.opened.1
-        ∙ ap (λ (a : AccountState). with_both_closed (with_both c.self.inside.pool) a c.into_accounts-account.result.1) (c.into_accounts-account.ensures.account ∙ ap (account_in NonClass) (c.in-Err-insert.ensures.back ∙ (c.new-loader.ensures.made ∙ ap (λ (p : AccountState × AccountState). new_loader p.0 p.1 c.args.kind) c.in-Ok.ensures.opened.0)))
-        ∙ ap (with_both_closed (with_both c.self.inside.pool) (first_account c.self.inside.pool)) (c.into_accounts-account.ensures.class_account ∙ ap (account_in Class) (c.in-Err-insert.ensures.back ∙ (c.new-loader.ensures.made ∙ ap (λ (p : AccountState × AccountState). new_loader p.0 p.1 c.args.kind) c.in-Ok.ensures.opened.0)))) c.committed-in-Err-insert.ensures.sound c.self.invariant.together,
-  ),
-  inr (numbers_used c.self.inside.pool c.close_both.new.self c.self.inside.loaders (c.close_both.ensures ∙ ap (λ (l : Ledger). with_both_closed l c.into_accounts-account.result.0 c.into_accounts-account.result.1) c.in-Ok.ensures.opened.1
-      ∙ ap (λ (a : AccountState). with_both_closed (with_both c.self.inside.pool) a c.into_accounts-account.result.1) (c.into_accounts-account.ensures.account ∙ ap (account_in NonClass) (c.in-Err-insert.ensures.back ∙ (c.new-loader.ensures.made ∙ ap (λ (p : AccountState × AccountState). new_loader p.0 p.1 c.args.kind) c.in-Ok.ensures.opened.0)))
-      ∙ ap (with_both_closed (with_both c.self.inside.pool) (first_account c.self.inside.pool)) (c.into_accounts-account.ensures.class_account ∙ ap (account_in Class) (c.in-Err-insert.ensures.back ∙ (c.new-loader.ensures.made ∙ ap (λ (p : AccountState × AccountState). new_loader p.0 p.1 c.args.kind) c.in-Ok.ensures.opened.0)))) c.committed-in-Err-insert.ensures.sound c.self.invariant.together),
-)
+returns-in-Err-insert-clause-refused c =
+    let unused = unused_name c.self.inside.loaders c.args.name c.contains.result c.contains.ensures c.if-contains.false in
+    let made = made_of c.self.inside.pool c.args.kind c.in-Ok.accounts c.new-loader.result c.new-loader.ensures.made c.in-Ok.ensures.opened.0 in
+    let closed = closed_again c.self.inside.pool c.open_both.new.self c.close_both.new.self c.args.kind c.in-Err-insert.loader c.into_accounts-account.result c.in-Ok.ensures.opened.1
+    (c.in-Err-insert.ensures.back ∙ made) c.into_accounts-account.ensures.account c.into_accounts-account.ensures.class_account c.close_both.ensures in
+    rw (insert_is_refused c.self.inside.loaders c.args.name c.in-Err-insert.refusal unused c.in-Err-insert.ensures.refused, c.in-Err-insert.ensures.unchanged, ← c.self.view_is) (
+      (lacks_loader c.self.inside.pool c.self.inside.loaders c.args.name unused, numbers_left c.self.inside.pool c.close_both.new.self c.self.inside.loaders closed c.committed-in-Err-insert.ensures.sound c.self.invariant.together),
+      inr (numbers_used c.self.inside.pool c.close_both.new.self c.self.inside.loaders closed c.committed-in-Err-insert.ensures.sound c.self.invariant.together),
+    )

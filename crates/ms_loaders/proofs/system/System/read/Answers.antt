@@ -1,15 +1,13 @@
 use Rattle.std.proofs.Common.{sym, refl}
-use Rattle.ms_loaders.specs.Loader.{LoaderView}
 use Rattle.ms_loaders.specs.System.{machine_of}
-use Rattle.ms_loaders.proofs.MappedLemmas.{missing-mapped}
 use Rattle.ms_loaders.proofs.FitLemmas.{machine_is_good}
-use Rattle.ms_loaders.proofs.StepLemmas.{has_loader}
+use Rattle.ms_loaders.proofs.StepLemmas.{has_loader, lacks_loader}
 use Rattle.ms_loaders.proofs.LoaderLemmas.{ok_then, err_then}
 use Rattle.ms_loaders.proofs.CallLemmas.{read_is_served, word_is_refused}
 use Rattle.ms_loaders.proofs.system.System.read.Goals as goal
 
 pub returns-in_default-clause-refused : goal.returns-in_default-clause-refused
-returns-in_default-clause-refused c = (rw (← c.self.view_is) (missing-mapped (λ (loader : LoaderView). loader.state) c.self.inside.loaders c.args.name (sym c.in_default.ensures)), refl)
+returns-in_default-clause-refused c = (rw (← c.self.view_is) (lacks_loader c.self.inside.pool c.self.inside.loaders c.args.name (sym c.in_default.ensures)), refl)
 
 pub returns-clause-served : goal.returns-clause-served
 returns-clause-served c = rw (← c.self.view_is) (ok_then _ _ c.read.result (λ value word. (

@@ -1,11 +1,7 @@
-use Rattle.std.proofs.Common.{sym, refl, ap}
-use Rattle.ms_loaders.specs.Loader.{LoaderView}
+use Rattle.std.proofs.Common.{sym, refl}
 use Rattle.ms_loaders.specs.System.{machine_of}
-use Rattle.ms_loaders.proofs.MappedLemmas.{missing-mapped}
-use Rattle.ms_loaders.proofs.FitLemmas.{machine_is_good}
-use Rattle.ms_loaders.proofs.ServedLemmas.{together_with}
-use Rattle.ms_loaders.proofs.StepLemmas.{has_loader, machine_with}
-use Rattle.ms_loaders.proofs.CallLemmas.{write_is_served, word_is_refused, write_keeps, same_loaders}
+use Rattle.ms_loaders.proofs.StepLemmas.{has_loader, lacks_loader}
+use Rattle.ms_loaders.proofs.CallLemmas.{together_written, is_written, word_is_refused, same_loaders}
 use Rattle.ms_loaders.proofs.system.System.write.Goals as goal
 use Rattle.ms_loaders.proofs.system.System.write.Goals.{in-None, in-Some+in-Ok, in-Some+in-Err}
 
@@ -13,9 +9,8 @@ pub invariant_of-self : goal.invariant_of-self
 invariant_of-self c = elim c.match-get_mut.branch [
   | in-None w ↦ rw w.self-inside-is c.self.invariant
   | in-Some+in-Ok w ↦ rw w.self-inside-is (record {
-    together = together_with c.self.inside.pool c.self.inside.loaders c.args.name w.in-Some.loader.now w.write.new.self (sym w.in-Some.ensures.found)
-        (ap (λ (v : LoaderView). v.owner) w.write.ensures.owners) (ap (λ (v : LoaderView). v.class_owner) w.write.ensures.owners)
-        (λ space. write_keeps space w.in-Some.loader.now.state w.write.new.self.state c.args.block c.args.index c.args.value w.in-Ok.ensures.written) w.write.ensures.sound c.self.invariant.together;
+    together = together_written c.self.inside.pool c.self.inside.loaders c.args.name c.args.block w.in-Some.loader.now w.write.new.self (sym w.in-Some.ensures.found)
+        w.write.ensures.owners w.write.ensures.sound c.self.invariant.together c.args.index c.args.value w.in-Ok.ensures.written;
     policy_is = c.self.invariant.policy_is;
   })
   | in-Some+in-Err w ↦ rw (w.self-inside-is, same_loaders c.self.inside.loaders c.args.name w.in-Some.loader.now w.write.new.self (sym w.in-Some.ensures.found) w.in-Err.ensures.unchanged) c.self.invariant
@@ -24,22 +19,19 @@ invariant_of-self c = elim c.match-get_mut.branch [
 pub returns-clause-served : goal.returns-clause-served
 returns-clause-served c = elim c.match-get_mut.branch [
   | in-None w ↦ rw w.result-is tt
-  | in-Some+in-Ok w ↦ rw (w.result-is, w.self-inside-is, ← c.self.view_is) (
-    rw (machine_with c.self.inside.pool c.self.inside.loaders c.args.name w.write.new.self)
-        (write_is_served (machine_of c.self.inside.pool c.self.inside.loaders) c.args.name c.args.block c.args.index c.args.value w.in-Some.loader.now.state w.write.new.self.state (has_loader c.self.inside.pool c.self.inside.loaders c.args.name w.in-Some.loader.now (sym w.in-Some.ensures.found)) w.in-Ok.ensures.written),
-    machine_is_good c.self.inside.pool _ (together_with c.self.inside.pool c.self.inside.loaders c.args.name w.in-Some.loader.now w.write.new.self (sym w.in-Some.ensures.found)
-        (ap (λ (v : LoaderView). v.owner) w.write.ensures.owners) (ap (λ (v : LoaderView). v.class_owner) w.write.ensures.owners)
-        (λ space. write_keeps space w.in-Some.loader.now.state w.write.new.self.state c.args.block c.args.index c.args.value w.in-Ok.ensures.written) w.write.ensures.sound c.self.invariant.together),
-  )
+  | in-Some+in-Ok w ↦ rw (w.result-is, w.self-inside-is, ← c.self.view_is)
+      (is_written c.self.inside.pool c.self.inside.loaders c.args.name c.args.block w.in-Some.loader.now w.write.new.self (sym w.in-Some.ensures.found)
+      w.write.ensures.owners w.write.ensures.sound c.self.invariant.together c.args.index c.args.value w.in-Ok.ensures.written)
   | in-Some+in-Err w ↦ rw w.result-is tt
 ]
 
 pub returns-clause-refused : goal.returns-clause-refused
 returns-clause-refused c = elim c.match-get_mut.branch [
-  | in-None w ↦ rw (w.result-is, w.self-inside-is, ← c.self.view_is) (missing-mapped (λ (loader : LoaderView). loader.state) c.self.inside.loaders c.args.name (sym w.in-None.ensures.found), refl)
+  | in-None w ↦ rw (w.result-is, w.self-inside-is, ← c.self.view_is) (lacks_loader c.self.inside.pool c.self.inside.loaders c.args.name (sym w.in-None.ensures.found), refl)
   | in-Some+in-Ok w ↦ rw w.result-is tt
   | in-Some+in-Err w ↦ rw (w.result-is, w.self-inside-is, same_loaders c.self.inside.loaders c.args.name w.in-Some.loader.now w.write.new.self (sym w.in-Some.ensures.found) w.in-Err.ensures.unchanged, ← c.self.view_is) (
-    word_is_refused (machine_of c.self.inside.pool c.self.inside.loaders) c.args.name c.args.block c.args.index w.in-Some.loader.now.state w.in-Err.refusal (has_loader c.self.inside.pool c.self.inside.loaders c.args.name w.in-Some.loader.now (sym w.in-Some.ensures.found)) w.in-Err.ensures.refused,
+    word_is_refused (machine_of c.self.inside.pool c.self.inside.loaders) c.args.name c.args.block c.args.index w.in-Some.loader.now.state w.in-Err.refusal
+        (has_loader c.self.inside.pool c.self.inside.loaders c.args.name w.in-Some.loader.now (sym w.in-Some.ensures.found)) w.in-Err.ensures.refused,
     refl,
   )
 ]
