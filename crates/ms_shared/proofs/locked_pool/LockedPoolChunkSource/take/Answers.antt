@@ -21,9 +21,7 @@ let_go-requires-clause-moves g c =
 
 pub returns : goal.returns
 returns g c =
-    let v = c.self.inside.seat.me.0 in let pool = c.seize-pool.ensures in let e = c.take-answer.ensures in let result = c.take-answer.result in
-    let call = is_call _ _ v _ c.seize-pool.result c.take-answer.new.self _ _ c.self.view_is pool.known pool.sound pool.seat c.let_go.ensures.seat (c.let_go.ensures.own ∙ pool.own) in
-    let asks : MayAsk c.args.wanted c.args.most c.args.words = record {
+    let v = c.self.inside.seat.me.0 in let pool = c.seize-pool.ensures in let e = c.take-answer.ensures in let result = c.take-answer.result in let call = is_call _ _ v _ c.seize-pool.result c.take-answer.new.self _ _ c.self.view_is pool.known pool.sound pool.seat c.let_go.ensures.seat (c.let_go.ensures.own ∙ pool.own) in let asks : MayAsk c.args.wanted c.args.most c.args.words = record {
       levels = c.requires.levels;
       real = omega (arith, c.number.ensures.same, c.number.ensures.below);
       some = c.requires.some;
