@@ -1,19 +1,17 @@
 -- An account handed on: the seats are cut and joined, and each knows what it is to. For `hand`.
-use Rattle.std.proofs.Common.{◌≡◌, ◌≢◌, ◌⊎◌, inl, inr, ⊎_elim, ℕ, ◌+◌, ◌-◌, ◌<◌, ◌==◌, Bool, true, false, not, cond, List, [], ◌∷◌, ◌++◌, refl, sym, ap, ◌∙◌, subst, arith, None, eq-eqb, ne_eqb}
+use Rattle.std.proofs.Common.{◌≡◌, ◌≢◌, inl, inr, ⊎_elim, ℕ, ◌+◌, ◌<◌, ◌==◌, Bool, true, false, not, cond, List, [], ◌∷◌, ◌++◌, refl, sym, ap, ◌∙◌, arith, eq-eqb, ne_eqb}
 use Rattle.std.proofs.lemmas.List.{append-nil}
-use Rattle.std.proofs.lemmas.Bool.{eqb-true, eqb-false}
 use Rattle.atomic_table.specs.Seated.{TableId}
 use Rattle.ms_base.specs.declared.kind.Space.{Space}
 use Rattle.ms_base.specs.declared.kind.Space.TheVariants.{NonClass, Class}
 use Rattle.ms_base.specs.declared.span.Chunk.{Chunk}
 use Rattle.ms_base.specs.State.{Limits}
-use Rattle.ms_base.specs.Spaces.{by_space}
 use Rattle.ms_pool.specs.Account.{AccountState}
 use Rattle.ms_pool.specs.Tallies.{Tallies, no_tallies}
 use Rattle.ms_shared.specs.declared.lock_rule.SeatView.{SeatView}
 use Rattle.ms_shared.specs.declared.lock_rule.LockView.{LockView}
 use Rattle.ms_shared.specs.Entries.{Entry, Has, only, all_but}
-use Rattle.ms_shared.specs.SeatView.{SeatState, ServesBy, TallyKind, opened_by, tallies_of_both, knows_limits, knows_both, without_account, account_alone, with_account}
+use Rattle.ms_shared.specs.SeatView.{ServesBy, opened_by, tallies_of_both, knows_limits, knows_both, without_account, account_alone, with_account}
 use Rattle.ms_shared.specs.LockRule.{Sat, both, view_without, note_of, less_part, spare_part}
 use Rattle.ms_shared.proofs.CutLemmas.{Cuts, no_tally, none_opened}
 use Rattle.ms_shared.proofs.EntryLemmas.{times_cut, records_cut, has_left, has_right}

@@ -11,3 +11,4 @@ pub mod OpenLemmas
 pub mod OwnLemmas
 pub mod CloseLemmas
 pub mod HandLemmas
+pub mod TellsLemmas

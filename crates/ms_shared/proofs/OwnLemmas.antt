@@ -1,11 +1,11 @@
 -- The sums that the pool tells count at least the caller's own: its chunks are some of those held. For
 -- `totals`.
-use Rattle.std.proofs.Common.{◌≡◌, ℕ, ◌<◌, ◌≤◌, ◌==◌, cond, List, map, get_or, sym, ap, ◌∙◌, arith}
-use Rattle.std.specs.List.{count_by, sum_by, range_with_len}
+use Rattle.std.proofs.Common.{◌≡◌, ℕ, ◌==◌, cond, get_or, ap, ◌∙◌, arith}
+use Rattle.std.specs.List.{count_by, sum_by}
 use Rattle.std.proofs.lemmas.List.FromFn.{get_or-map-range_with_len}
 use Rattle.ms_base.specs.declared.span.Chunk.{Chunk}
 use Rattle.ms_base.specs.Level.{size_of}
-use Rattle.ms_base.specs.Totals.{PoolSums, pool_sums, all_levels}
+use Rattle.ms_base.specs.Totals.{PoolSums, pool_sums}
 use Rattle.ms_pool.specs.Account.{AccountState, AreChunks}
 use Rattle.ms_pool.specs.Ledger.{Ledger, state_in, held_in, opened_in}
 use Rattle.ms_pool.specs.Calls.{sums_in}

@@ -1,11 +1,14 @@
 -- What each call over the lock answers, and what it leaves its seat: the pool's own relation for it,
 -- on the pool that the seat found, and a tally of the seat raised where a limit refused it (this
 -- project's choice).
-use Rattle.std.specs.Prelude.{◌≡◌, ◌==◌, ◌<◌, ◌≤◌, ℕ, Bool, slice_index, Result, Ok, Err}
+use Rattle.std.specs.Prelude.{◌≡◌, ◌==◌, ◌+◌, ◌<◌, ◌≤◌, ℕ, Bool, slice_index, Result, Ok, Err}
 use Rattle.std.specs.List.{count_by}
+use Rattle.ms_base.specs.declared.kind.Space.{Space}
 use Rattle.ms_base.specs.declared.span.Span.{Span}
 use Rattle.ms_base.specs.declared.refusal.Refusal.{Refusal}
 use Rattle.ms_base.specs.declared.refusal.Refusal.TheVariants.{CommitLimit, ReserveLimit, OutOfMemory, NoRoom}
+use Rattle.ms_base.specs.Spaces.{by_space}
+use Rattle.ms_base.specs.State.{Limits}
 use Rattle.ms_base.specs.Totals.{capacity_of, fronts_of}
 use Rattle.ms_pool.specs.Account.{AccountState}
 use Rattle.ms_pool.specs.Tallies.{Tallies}
@@ -28,10 +31,18 @@ GrowTallies (Err (CommitLimit committed limit need)) old new = new ≡ raise com
 GrowTallies (Err (NoRoom level)) old new = new ≡ raise room_of_grow old
 GrowTallies (Err _) old new = ⊥
 
+-- What a limit that `take` met tells: the limit of granules, which those committed and needed pass,
+-- or that as many nodes are reserved as may be.
+abbrev pub TakeTells : Limits → Space → Result Span Refusal → Type 0
+TakeTells limits space (Err (CommitLimit committed limit need)) = (limit ≡ limits.granules) × (limit < committed + need)
+TakeTells limits space (Err (ReserveLimit nodes limit)) = (nodes ≡ limit) × (limit ≡ by_space space limits.nodes limits.class_nodes)
+TakeTells limits space _ = Unit {0}
+
 -- A chunk is lent or refused.
 pub record TookOver (old : SeatState) (account : AccountState) (wanted most words : ℕ) (result : Result Span Refusal) (new : SeatState) : Type 0 where
   pub event : OverLock (λ before after. Took before account wanted most words result after) old new
   pub tallies : TakeTallies result old.knows.tallies new.knows.tallies
+  pub tells : TakeTells old.knows.limits account.space result
 
 -- A chunk grows or is refused it.
 pub record GrewOver (old : SeatState) (account : AccountState) (start total : ℕ) (may_enlarge : Bool) (result : Result Span Refusal) (new : SeatState) : Type 0 where

@@ -4,10 +4,10 @@
 //!     first        2    1: [0, 512) ..  3: ..      2        yes  ---  the word: 1, the slot empty
 //!     second       2    2: [1024, 2048) ..         1        no
 //!
-//! Kept true between any two steps: there is one pool, in the slot where the word is 0, and else with
-//! one seat. Each owner number that it gave out is served by one seat, once, with the pool's record
-//! of the owner; its open accounts and tallies are the sums of the seats'. Views, plays, cuts and
-//! joins have no bytes and do nothing when they run. Nothing here takes memory or waits.
+//! Kept true between any two steps: there is one pool, in the slot where the word is 0, and else
+//! with one seat. Each owner number that it gave out is served by one seat, once, with the pool's
+//! record of the owner; its open accounts and tallies are the sums of the seats'. Views, plays,
+//! cuts and joins have no bytes and do nothing when they run. Nothing here takes memory or waits.
 ghost use Rattle.ms_shared.specs.LockRule.{IsLocked, Tries, LetsGo, first_view, own_seat, other_seats, both, nothing, view_without, note_of, less_part, spare_part};
 
 use atomic_table::{Join, Play, Split, TableRule};
@@ -75,8 +75,8 @@ pub struct SeatView {
     pub limits: LimitsView,
 }
 
-/// The view of a seat: its parts of the right to know all, what it knows, and the pool while it has
-/// it. No value of it is made.
+/// The view of a seat: its parts of the right to know all, what it knows, and the pool while it
+/// has it. No value of it is made.
 pub struct LockView {
     /// Two for each seat that it stands for.
     pub parts: u64,

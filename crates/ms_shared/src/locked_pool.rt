@@ -1,9 +1,9 @@
 //! The pool's calls, over the lock.
 //!
-//! Each call takes the pool, which it waits for, makes the one call on it and puts it back. So it is
-//! one event on the pool, and between a thread's calls those of others come. Kept true: the pool
-//! serves what the seat serves, and counts what the seat counts. Only `take` takes memory. This
-//! project's choice.
+//! Each call takes the pool, which it waits for, makes the one call on it and puts it back. So it
+//! is one event on the pool, and between a thread's calls those of others come. Kept true: the
+//! pool serves what the seat serves, and counts what the seat counts. Only `take` takes memory.
+//! This project's choice.
 ghost use Rattle.std.specs.Prelude.{◌≡◌, ◌≢◌, ◌+◌, ◌<◌, IfOk, IfErr, OnErr, MatchResult};
 ghost use Rattle.ms_base.specs.declared.kind.Space.{Space};
 ghost use Rattle.ms_pool.specs.Account.{AccountState};
@@ -72,11 +72,12 @@ impl<R: Wait> LockedPool<'_, R> {
         PoolSeat { seat }
     }
 
-    /// Opens an account in a space, under the pool's next owner number; the seat serves it and counts
-    /// it. Refused with `IdsUsedUp` exactly where all numbers, 1 to 4294967295, were given out. Takes
-    /// no memory, and waits for the lock.
+    /// Opens an account in a space, under the pool's next owner number; the seat serves it and
+    /// counts it. Refused with `IdsUsedUp` exactly where all numbers, 1 to 4294967295, were given
+    /// out. Takes no memory, and waits for the lock.
     pub fn open(&mut self, space: Space) -> Result<Account, Refusal>
-        ensures event { OverLock (λ before after. Opened before space result after) self.old self.new }
+        ensures event { OverLock (λ before after. Opened before space result after)
+            self.old self.new }
         ensures served { IfOk result (λ account. ServesBy self.new.knows account) }
         ensures new { IfOk result (λ account. account ≡ new_account account.owner space) }
         ensures others { (other : AccountState) → ServesBy self.old.knows other
@@ -100,7 +101,8 @@ impl<R: Wait> LockedPool<'_, R> {
     /// serves both and counts both. Refused with `IdsUsedUp` exactly where fewer than two owner
     /// numbers are left. Takes no memory, and waits for the lock.
     pub fn open_both(&mut self) -> Result<(Account, Account), Refusal>
-        ensures event { OverLock (λ before after. OpenedBoth before result after) self.old self.new }
+        ensures event { OverLock (λ before after. OpenedBoth before result after)
+            self.old self.new }
         ensures served { IfOk result (λ accounts. ServesBy self.new.knows accounts.0) }
         ensures class_served { IfOk result (λ accounts. ServesBy self.new.knows accounts.1) }
         ensures new { IfOk result (λ accounts. accounts
@@ -144,8 +146,8 @@ impl<R: Wait> LockedPool<'_, R> {
         self.shared.let_go(&mut self.seat, pool);
     }
 
-    /// Drops the pool's nodes that hold no chunk, their granules with them, and answers how many they
-    /// were; those of the class space stay. Takes no memory, and waits for the lock.
+    /// Drops the pool's nodes that hold no chunk, their granules with them, and answers how many
+    /// they were; those of the class space stay. Takes no memory, and waits for the lock.
     pub fn purge(&mut self) -> u32
         ensures event { OverLock (λ before after. Purged before result after) self.old self.new }
         ensures served { (account : AccountState) → ServesBy self.old.knows account

@@ -1,8 +1,8 @@
 //! A thread's right to call a pool behind a lock.
 //!
-//! A seat serves accounts, counts open ones and has tallies of refusals, all of which contracts alone
-//! see. Kept true: it has both of its parts, and neither slot nor pool. Nothing here takes memory or
-//! waits.
+//! A seat serves accounts, counts open ones and has tallies of refusals, all of which contracts
+//! alone see. Kept true: it has both of its parts, and neither slot nor pool. Nothing here takes
+//! memory or waits.
 ghost use Rattle.std.specs.Prelude.{◌≡◌, [], None};
 
 use crate::lock_rule::LockView;

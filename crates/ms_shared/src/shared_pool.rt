@@ -5,10 +5,10 @@
 //!     counts 2  ------> |  pool   | <---  counts 1
 //!                       +---------+
 //!
-//! A call takes the pool out of its slot, calls it and puts it back. Kept true whenever the lock is
-//! free: each owner number given out is served by one seat, whose record of it is the pool's, and
-//! the pool's open accounts and tallies are the sums of the seats'. `new` takes memory. What takes
-//! the lock tries its word again until it has the pool. This project's choice; HotSpot has
+//! A call takes the pool out of its slot, calls it and puts it back. Kept true whenever the lock
+//! is free: each owner number given out is served by one seat, whose record of it is the pool's,
+//! and the pool's open accounts and tallies are the sums of the seats'. `new` takes memory. What
+//! takes the lock tries its word again until it has the pool. This project's choice; HotSpot has
 //! Metaspace_lock.
 ghost use Rattle.std.specs.Prelude.{◌≡◌, ◌≢◌, ◌+◌, ◌<◌, ◌≤◌, ◌↔◌, ◌∷◌, [], Some, None, IsOk, IfOk, IfErr, vec_len};
 ghost use Rattle.std.specs.List.{All};
@@ -105,8 +105,9 @@ impl SharedPool {
 
     /// Gives the pool out, once all seats are given back: it serves what the seats served, each
     /// owner by one of them, counts what they counted, and has the same limits. Refused with
-    /// `Unsettled`, the numbers of seats made and given, exactly where not all seats are given; then
-    /// all is handed back as it was. Takes no memory and does not wait. This project's choice.
+    /// `Unsettled`, the numbers of seats made and given, exactly where not all seats are given;
+    /// then all is handed back as it was. Takes no memory and does not wait. This project's
+    /// choice.
     pub fn into_pool(
         self,
         seats: Vec<PoolSeat>,
@@ -131,8 +132,8 @@ impl SharedPool {
         Ok(gathered(table, seats))
     }
 
-    /// Hands an account on from one seat to another, with one of the count of its space: from then on
-    /// the other seat serves it. Takes no memory, and does not wait. This project's choice.
+    /// Hands an account on from one seat to another, with one of the count of its space: from then
+    /// on the other seat serves it. Takes no memory, and does not wait. This project's choice.
     pub fn hand(&self, from: &mut PoolSeat, to: &mut PoolSeat, account: &Account)
         requires own { from.old.id ≡ self.now.id }
         requires to_own { to.old.id ≡ self.now.id }
@@ -168,9 +169,11 @@ impl SharedPool {
         requires to { IsWhole self.now.id to.old.table_id to.old.me }
         requires counted { 0 < opened_by from.old.me.0.knows B.space }
         ensures from_own { from.new.table_id ≡ from.old.table_id }
-        ensures from { from.new.me ≡ (both (view_without B.owner B.space from.old.me.0) (spare_part to.old.me.0), []) }
+        ensures from { from.new.me
+            ≡ (both (view_without B.owner B.space from.old.me.0) (spare_part to.old.me.0), []) }
         ensures to_own { to.new.table_id ≡ to.old.table_id }
-        ensures to { to.new.me ≡ (less_part (both to.old.me.0 (note_of B.owner B.space from.old.me.0)), []) }
+        ensures to { to.new.me
+            ≡ (less_part (both to.old.me.0 (note_of B.owner B.space from.old.me.0)), []) }
     {
         let shared = &self.table.shared;
         let note = shared.split_seat::<CutAccount<B>>(from);

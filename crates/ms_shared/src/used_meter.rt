@@ -1,9 +1,9 @@
 //! A meter of used words that threads add to and take from, each by a seat of its own.
 //!
-//! The meter is one word of memory, and a seat's amount, which contracts alone see, is what the seat
-//! added less what it took off. Kept true: the word is the sum of the amounts, modulo 2^64, between
-//! any two steps. So no add is lost, whoever else adds. Each call is one atomic step; only `new`
-//! takes memory, and nothing takes a lock or waits.
+//! The meter is one word of memory, and a seat's amount, which contracts alone see, is what the
+//! seat added less what it took off. Kept true: the word is the sum of the amounts, modulo 2^64,
+//! between any two steps. So no add is lost, whoever else adds. Each call is one atomic step; only
+//! `new` takes memory, and nothing takes a lock or waits.
 //! This project's choice; HotSpot's runningCounters.cpp has such a word.
 ghost use Rattle.std.specs.Prelude.{◌≡◌, ◌≢◌, ◌%◌, ◌^◌, ◌<◌, ◌≤◌, ◌↔◌, IsOk, IfOk, IfErr, OnErr, vec_len, replicate};
 ghost use Rattle.std.specs.List.{All, sum_by};
@@ -39,8 +39,8 @@ impl Model for UsedMeter {
         × (1 ≤ meter.made) };
 }
 
-/// A thread's right to add to a meter and to take from it, with an amount of its own. A seat that is
-/// dropped leaves its amount in the word, and its meter can't be closed. This project's choice.
+/// A thread's right to add to a meter and to take from it, with an amount of its own. A seat that
+/// is dropped leaves its amount in the word, and its meter can't be closed. This project's choice.
 #[derive(Drop)]
 pub struct MeterSeat {
     seat: Seat<u8, MeterView>,
@@ -59,8 +59,8 @@ impl Model for MeterSeat {
 }
 
 impl UsedMeter {
-    /// Makes a meter at 0 words and its seats, 1 to 8 of them, each with amount 0. Takes memory, and
-    /// fails only where that is refused. This project's choice.
+    /// Makes a meter at 0 words and its seats, 1 to 8 of them, each with amount 0. Takes memory,
+    /// and fails only where that is refused. This project's choice.
     pub fn new(alloc: Global, seats: usize) -> Result<(UsedMeter, Vec<MeterSeat>), AllocError>
         requires some { 1 ≤ seats }
         requires few { seats ≤ 8 }
@@ -90,8 +90,8 @@ impl UsedMeter {
             .fetch_add::<Adds>(&mut seat.seat, 0, words);
     }
 
-    /// Takes words off the meter and off the seat's amount, modulo 2^64, by one atomic step. Takes no
-    /// memory and no lock. This project's choice.
+    /// Takes words off the meter and off the seat's amount, modulo 2^64, by one atomic step. Takes
+    /// no memory and no lock. This project's choice.
     pub fn sub(&self, seat: &mut MeterSeat, words: u64)
         requires { seat.old.id ≡ self.now.id }
         ensures { seat.new ≡ record seat.old { amount = taken_off seat.old.amount words } }
@@ -101,8 +101,8 @@ impl UsedMeter {
             .fetch_sub::<Subtracts>(&mut seat.seat, 0, words);
     }
 
-    /// Tells the meter's words as it reads them, by one atomic step: the sum of all amounts at that
-    /// moment, modulo 2^64, of which no clause can speak. Takes no memory and no lock. This
+    /// Tells the meter's words as it reads them, by one atomic step: the sum of all amounts at
+    /// that moment, modulo 2^64, of which no clause can speak. Takes no memory and no lock. This
     /// project's choice.
     pub fn now(&self, seat: &mut MeterSeat) -> u64
         requires { seat.old.id ≡ self.now.id }
@@ -112,8 +112,8 @@ impl UsedMeter {
     }
 
     /// Ends the meter and tells the sum of the amounts, modulo 2^64. Refused with `Unsettled`, the
-    /// numbers of seats made and given, exactly where not all seats are given; then meter and seats
-    /// are handed back as they were. Takes no memory and no lock. This project's choice.
+    /// numbers of seats made and given, exactly where not all seats are given; then meter and
+    /// seats are handed back as they were. Takes no memory and no lock. This project's choice.
     pub fn close(self, seats: Vec<MeterSeat>) -> Result<u64, (Refusal, UsedMeter, Vec<MeterSeat>)>
         requires { All (λ seat. seat.id ≡ self.id) seats.items }
         ensures sum { IfOk result

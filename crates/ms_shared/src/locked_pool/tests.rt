@@ -1,6 +1,6 @@
-//! What no clause says: that calls over the lock find memory, threads and the pool, that `purge` and
-//! `totals` reach the pool and the accounts of other seats, and the granules that a refusal tells.
-//! Everything else is in the clauses.
+//! What no clause says: that calls over the lock find memory, threads and the pool, that `purge`
+//! and `totals` reach the pool and the accounts of other seats, and the granules that a refusal
+//! tells. Everything else is in the clauses.
 ghost use Rattle.std.specs.Prelude.{◌≡◌, ◌<◌, ◌≤◌, IfOk, IfSome};
 ghost use Rattle.std.specs.List.{All};
 ghost use Rattle.ms_base.specs.Level.{size_of};
@@ -122,7 +122,8 @@ fn in_threads<R: Threads + Wait + Sync>(
             requires { seat.id ≡ lock.now.id }
             ensures own { result.0.id ≡ seat.id }
             ensures served { IfSome result.1 (λ account. ServesBy result.0.knows account) }
-            ensures counted { IfSome result.1 (λ account. 0 < opened_by result.0.knows account.space) }
+            ensures counted { IfSome result.1
+                (λ account. 0 < opened_by result.0.knows account.space) }
         { lend(rt, lock, seat) },
     )
 }
@@ -146,8 +147,8 @@ fn close_one<R: Wait>(
     (pool.into_seat(), totals, gone)
 }
 
-/// Closes the accounts, and gives the seats back, with the accounts that were counted and the nodes
-/// that went at last.
+/// Closes the accounts, and gives the seats back, with the accounts that were counted and the
+/// nodes that went at last.
 fn close_all<R: Wait + Abort>(
     rt: &R,
     alloc: Global,

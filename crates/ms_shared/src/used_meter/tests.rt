@@ -1,5 +1,6 @@
-//! What no clause says: that calls find memory and threads, that `now` counts what others added, and
-//! that what many threads add and take off is all there at the end. Everything else is in the clauses.
+//! What no clause says: that calls find memory and threads, that `now` counts what others added,
+//! and that what many threads add and take off is all there at the end. Everything else is in the
+//! clauses.
 ghost use Rattle.std.specs.Prelude.{◌≡◌, IfOk};
 ghost use Rattle.std.specs.List.{All};
 

@@ -9,8 +9,7 @@ use Rattle.ms_shared.proofs.shared_pool.gathered.Goals as goal
 
 pub loop-seat-init : goal.loop-seat-init
 loop-seat-init c =
-    let items = c.in-Some.ensures.items in let whole = c.into_table_seat-whole.ensures in
-    let own = λ (seat : SeatState). seat.id ≡ c.args.table.shared.table_id in (
+    let items = c.in-Some.ensures.items in let whole = c.into_table_seat-whole.ensures in let own = λ (seat : SeatState). seat.id ≡ c.args.table.shared.table_id in (
       whole.own ∙ all_last own _ _ _ items c.requires.own,
       whole.slots,
       gather_begins _ _ _ _ _ items (sym c.args.seats.ok.0 ∙ sym c.requires.made) whole.knows whole.parts whole.free,
@@ -19,13 +18,8 @@ loop-seat-init c =
 
 pub join_seat-requires : goal.join_seat-requires
 join_seat-requires c =
-    let inv = c.loop-seat.invariant in let seat = c.into_table_seat.ensures in let live = inv.2.live in (
-      inv.0,
-      seat.own ∙ all_last (λ (s : SeatState). s.id ≡ c.args.table.shared.table_id) _ _ _ c.in-Some-pop.ensures.items inv.3,
-      seat.slots,
-      search rules,
-      join _ _ _ _ _ _ (omega arith) inv.2.free seat.free,
-    )
+    let inv = c.loop-seat.invariant in let seat = c.into_table_seat.ensures in let live = inv.2.live in let own = λ (s : SeatState). s.id ≡ c.args.table.shared.table_id in
+    (inv.0, seat.own ∙ all_last own _ _ _ c.in-Some-pop.ensures.items inv.3, seat.slots, search rules, join _ _ _ _ _ _ (omega arith) inv.2.free seat.free)
 
 pub loop-seat-preserved : goal.loop-seat-preserved
 loop-seat-preserved c =
@@ -42,14 +36,9 @@ unwrap-requires c =
     let slot = slot_has c.args.table.shared.key.made _ _ _ _ _ c.take-slot.result end.parts end.free c.close_with-closed.ensures.values.2 c.take-slot.ensures.value in
     subst (λ (o : Option Ledger). IsSome o) (sym slot.1) refl
 
-pub returns-clause-limits : goal.returns-clause-limits
-returns-clause-limits c =
+pub returns : goal.returns
+returns c =
     let end = gather_done _ _ _ _ c.loop-seat.invariant.2 c.loop-seat.seats.ok.0 c.in_default-pop.ensures.cases.0 in
     let slot = slot_has c.args.table.shared.key.made _ _ _ _ _ c.take-slot.result end.parts end.free c.close_with-closed.ensures.values.2 c.take-slot.ensures.value in
-    (same_pool _ _ _ c.unwrap.result c.take-slot.result slot.1 c.unwrap.ensures slot.2).limits_are
-
-pub returns-clause-gathered : goal.returns-clause-gathered
-returns-clause-gathered c =
-    let end = gather_done _ _ _ _ c.loop-seat.invariant.2 c.loop-seat.seats.ok.0 c.in_default-pop.ensures.cases.0 in
-    let slot = slot_has c.args.table.shared.key.made _ _ _ _ _ c.take-slot.result end.parts end.free c.close_with-closed.ensures.values.2 c.take-slot.ensures.value in
-    gather_ends _ _ _ _ c.unwrap.result end.seats (same_pool _ _ _ c.unwrap.result c.take-slot.result slot.1 c.unwrap.ensures slot.2)
+    let all = same_pool _ _ _ c.unwrap.result c.take-slot.result slot.1 c.unwrap.ensures slot.2 in
+    record { limits = all.limits_are; gathered = gather_ends _ _ _ _ c.unwrap.result end.seats all }

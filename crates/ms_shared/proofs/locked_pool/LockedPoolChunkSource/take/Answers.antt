@@ -4,6 +4,7 @@ use Rattle.ms_base.specs.State.{Limits}
 use Rattle.ms_pool.specs.Lending.{Adds}
 use Rattle.ms_shared.specs.SeatView.{SeatState, ServesBy}
 use Rattle.ms_shared.proofs.CallLemmas.{moves_at, is_call, over_lock, served_by_pool, own_times, serves_then, counts_stay, limits_stay, take_raises, took_owner}
+use Rattle.ms_shared.proofs.TellsLemmas.{take_tells}
 use Rattle.ms_shared.proofs.MovesLemmas.{kept_moves, take_tallies}
 use Rattle.ms_pool.proofs.ledger.TookLemmas.{MayAsk, took_keeps, took_serves, took_serves_others}
 use Rattle.ms_shared.proofs.locked_pool.LockedPoolChunkSource.take.Goals as goal
@@ -21,9 +22,7 @@ let_go-requires-clause-moves g c =
 
 pub returns : goal.returns
 returns g c =
-    let v = c.self.inside.seat.me.0 in let pool = c.seize-pool.ensures in let e = c.take-answer.ensures in let result = c.take-answer.result in
-    let call = is_call _ _ v _ c.seize-pool.result c.take-answer.new.self _ _ c.self.view_is pool.known pool.sound pool.seat c.let_go.ensures.seat (c.let_go.ensures.own ∙ pool.own) in
-    let asks : MayAsk c.args.wanted c.args.most c.args.words = record {
+    let v = c.self.inside.seat.me.0 in let pool = c.seize-pool.ensures in let e = c.take-answer.ensures in let result = c.take-answer.result in let call = is_call _ _ v _ c.seize-pool.result c.take-answer.new.self _ _ c.self.view_is pool.known pool.sound pool.seat c.let_go.ensures.seat (c.let_go.ensures.own ∙ pool.own) in let asks : MayAsk c.args.wanted c.args.most c.args.words = record {
       levels = c.requires.levels;
       real = omega (arith, c.number.ensures.same, c.number.ensures.below);
       some = c.requires.some;
@@ -37,5 +36,5 @@ returns g c =
       limits = limits_stay _ _ _ _ call;
       added = subst (λ (l : Limits). IfOk result (λ span. Adds l.policy c.args.wanted c.args.most c.args.words c.args.account.now span c.take-answer.new.account)) call.known.limits e.added;
       unchanged = e.unchanged;
-      took = record { event = over_lock _ _ _ _ _ call e.took; tallies = take_raises _ _ _ _ call _ _ _ _ result e.took };
+      took = record { event = over_lock _ _ _ _ _ call e.took; tallies = take_raises _ _ _ _ call _ _ _ _ result e.took; tells = take_tells _ _ c.args.account.now _ _ _ result _ call.known.limits e.took };
     }

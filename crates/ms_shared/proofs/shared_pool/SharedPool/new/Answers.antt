@@ -9,8 +9,7 @@ use Rattle.ms_shared.proofs.shared_pool.SharedPool.new.Goals as goal
 
 pub new-requires : goal.new-requires
 new-requires c =
-    let some = c.requires.some in
-    let slots = c.push_reserved.ensures.items ∙ ap (λ (l : List (Option Ledger)). l ++ Some c.args.pool ∷ []) c.in-Ok-Ok.ensures'.items in
+    let some = c.requires.some in let slots = c.push_reserved.ensures.items ∙ ap (λ (l : List (Option Ledger)). l ++ Some c.args.pool ∷ []) c.in-Ok-Ok.ensures'.items in
     subst (λ (l : List (Option Ledger)). IsLocked c.args.seats c.of.result.value.limits (opening (0 ∷ []) l (first_view c.args.seats c.of.result.value))) (sym slots)
     (subst (λ (p : Ledger). IsLocked c.args.seats p.limits (opening (0 ∷ []) (Some c.args.pool ∷ []) (first_view c.args.seats p))) (sym c.of.ensures)
     (begins c.args.seats c.args.pool (omega arith) c.all_totals.ensures.tallies))
@@ -27,8 +26,7 @@ split_seat-next-requires c =
 
 pub loop-preserved : goal.loop-preserved
 loop-preserved c =
-    let inv = c.loop.invariant in let s = c.split_seat-next.ensures in let more = c.loop-test.true in
-    let len = c.push_reserved-in-loop.ensures.len in let cap = c.push_reserved-in-loop.ensures.capacity in let count = inv.3 in let room = inv.4 in (
+    let inv = c.loop.invariant in let s = c.split_seat-next.ensures in let more = c.loop-test.true in let len = c.push_reserved-in-loop.ensures.len in let cap = c.push_reserved-in-loop.ensures.capacity in let count = inv.3 in let room = inv.4 in (
       deals_more _ _ _ _ _ _ c.loop.rest.me.0 c.split_seat-next.result.me.0 _ inv.0 more c.push_reserved-in-loop.ensures.items
           (seen_as _ _ _ _ (s.0 ∙ inv.1) (ap (λ (m : Sat). m.0.knows) s.2)) (ap (λ (m : Sat). m.0) s.4),
       s.3 ∙ inv.1,

@@ -1,4 +1,4 @@
-use Rattle.std.proofs.Common.{rules, ◌≡◌, ◌+◌, ◌-◌, ◌<◌, ℕ, List, [], None, sym, ap, ◌∙◌, subst, arith}
+use Rattle.std.proofs.Common.{rules, ◌≡◌, ◌+◌, ◌-◌, sym, ap, ◌∙◌, arith}
 use Rattle.ms_shared.specs.SeatView.{LockState}
 use Rattle.ms_shared.specs.LockRule.{Sat}
 use Rattle.ms_shared.proofs.CutLemmas.{cut, join}
