@@ -3,7 +3,7 @@
     python3 bench/pool.py /tmp/pool && cd /tmp/pool/crates/bench && rt run -- 10000 1000 balanced
 
 Its words are how many free parts of level 12 the pool has, each beside a lent one, how many times it opens an account, takes a
-chunk of level 12 and closes the account again, and the policy. It stands on the crates as they are, and is proved with them: the
+chunk of level 10 and closes the account again, and the policy. It stands on the crates as they are, and is proved with them: the
 account that holds the lent parts and the one that gave its parts back are the pool's own. The numbers are in README.md.
 """
 import pathlib, shutil, sys
@@ -78,14 +78,14 @@ fn fragmented(pool: &mut Pool, parts: u64) -> Result<(), Refusal> {
     Ok(())
 }
 
-/// Takes a chunk of the smallest size and closes the account.
+/// Takes a chunk of 512 words, which none of those parts has, and closes the account.
 fn take_and_close<S: ChunkSource>(source: &mut S, account: Account) -> u64
     requires served { S.serves source.old account }
     requires counted { 0 < S.opened source.old account.space }
 {
-    let smallest = Level::new(12);
+    let level = Level::new(10);
     let mut account = account;
-    let start = match source.take(&mut account, smallest, smallest, 10) {
+    let start = match source.take(&mut account, level, level, 10) {
         Ok(span) => span.start,
         Err(_) => 0,
     };
