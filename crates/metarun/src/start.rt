@@ -1,6 +1,8 @@
 //! The program as a call: the command line is judged, then the trace is read, run and answered.
-ghost use Rattle.std.specs.Prelude.{◌≡◌, ◌*◌, ◌≤◌, ℕ, List, IfSome, length};
+ghost use Rattle.std.specs.Prelude.{◌≡◌, ◌≢◌, ◌*◌, ◌≤◌, ℕ, List, IfSome, length};
 ghost use Rattle.std.specs.Io.KnownBytes.{Appends, Keeps};
+ghost use Rattle.ms_trace.specs.declared.fault.FaultKind.{FaultKind};
+ghost use Rattle.ms_trace.specs.Faults.{HasFault};
 ghost use Rattle.metarun.specs.Asked.{IsDefault};
 ghost use Rattle.metarun.specs.declared.options.Options.{Options};
 ghost use Rattle.metarun.specs.Session.{IsOutput};
@@ -31,6 +33,8 @@ pub fn start<S: AsStr, R: Read, W: Write, E: Write>(
         (λ bytes. (options : Options) × (written : List ℕ) × IsDefault options
         × IsOutput options.addresses options.settings bytes written
         × Appends (W.contents output.old) (W.contents output.new) written) }
+    ensures faulty { result ≡ 1 → IfSome (R.remaining input.old) (λ bytes. (line : ℕ)
+        × (kind : FaultKind) × HasFault bytes line kind) }
     ensures unread { result ≡ 2 → R.remaining input.new ≡ R.remaining input.old }
     ensures untouched { result ≡ 2 → Keeps (W.contents output.old) (W.contents output.new) }
     ensures statuses { result ≤ 5 }
@@ -43,6 +47,7 @@ pub fn start<S: AsStr, R: Read, W: Write, E: Write>(
 
 /// Tells why there are no options: help on `output`, all else on `errors`; answers the exit status.
 fn tell<W: Write, E: Write>(refused: Refused, output: &mut W, errors: &mut E) -> u8
+    ensures no_fault { result ≢ 1 }
     ensures untouched { result ≡ 2 → Keeps (W.contents output.old) (W.contents output.new) }
     ensures statuses { result ≤ 5 }
 {
