@@ -1,12 +1,17 @@
 -- What each call over the lock answers, and what it leaves its seat: the pool's own relation for it,
 -- on the pool that the seat found, and a tally of the seat raised where a limit refused it (this
 -- project's choice).
-use Rattle.std.specs.Prelude.{◌≡◌, ◌==◌, ◌+◌, ◌<◌, ◌≤◌, ℕ, Bool, slice_index, Result, Ok, Err}
+use Rattle.std.specs.Prelude.{◌≡◌, ◌==◌, ◌+◌, ◌<◌, ◌≤◌, ℕ, Bool, true, false, slice_get, slice_index, Some, Result, Ok, Err}
 use Rattle.std.specs.List.{count_by}
 use Rattle.ms_base.specs.declared.kind.Space.{Space}
+use Rattle.ms_base.specs.declared.policy.Policy.{Policy}
+use Rattle.ms_base.specs.declared.span.Chunk.{Chunk}
 use Rattle.ms_base.specs.declared.span.Span.{Span}
 use Rattle.ms_base.specs.declared.refusal.Refusal.{Refusal}
 use Rattle.ms_base.specs.declared.refusal.Refusal.TheVariants.{CommitLimit, ReserveLimit, OutOfMemory, NoRoom}
+use Rattle.ms_base.specs.Level.{size_of}
+use Rattle.ms_base.specs.Policy.{granule_of, keeps}
+use Rattle.ms_base.specs.Front.{granules_for}
 use Rattle.ms_base.specs.Spaces.{by_space}
 use Rattle.ms_base.specs.State.{Limits}
 use Rattle.ms_base.specs.Totals.{capacity_of, fronts_of}
@@ -31,23 +36,51 @@ GrowTallies (Err (CommitLimit committed limit need)) old new = new ≡ raise com
 GrowTallies (Err (NoRoom level)) old new = new ≡ raise room_of_grow old
 GrowTallies (Err _) old new = ⊥
 
+-- How many granules a request of so many words needs: those for its words; under policy none, where
+-- whole chunks are committed, at least one.
+abbrev pub NeedsBy : Bool → ℕ → ℕ → Type 0
+NeedsBy true enough need = 1 ≤ need
+NeedsBy false enough need = need ≡ enough
+
+abbrev pub Needs : Policy → ℕ → ℕ → Type 0
+Needs policy words need = NeedsBy (keeps policy) (granules_for (granule_of policy) words) need
+
 -- What a limit that `take` met tells: the limit of granules, which those committed and needed pass,
 -- or that as many nodes are reserved as may be.
-abbrev pub TakeTells : Limits → Space → Result Span Refusal → Type 0
-TakeTells limits space (Err (CommitLimit committed limit need)) = (limit ≡ limits.granules) × (limit < committed + need)
-TakeTells limits space (Err (ReserveLimit nodes limit)) = (nodes ≡ limit) × (limit ≡ by_space space limits.nodes limits.class_nodes)
-TakeTells limits space _ = Unit {0}
+abbrev pub TakeTells : Limits → Space → ℕ → Result Span Refusal → Type 0
+TakeTells limits space words (Err (CommitLimit committed limit need)) =
+    (limit ≡ limits.granules) × (limit < committed + need) × Needs limits.policy words need
+TakeTells limits space words (Err (ReserveLimit nodes limit)) = (nodes ≡ limit) × (limit ≡ by_space space limits.nodes limits.class_nodes)
+TakeTells limits space words _ = Unit {0}
+
+-- There is no room in place: the chunk that starts there is of this level, and smaller than what was
+-- asked for in all.
+pub record HasNoRoom (account : AccountState) (start total level : ℕ) : Type 0 where
+  pub place : ℕ
+  pub chunk : Chunk
+  pub found : slice_get account.chunks place ≡ Some chunk
+  pub starts : chunk.start ≡ start
+  pub level_is : level ≡ chunk.level
+  pub past : size_of chunk.level < total
+
+-- What a refusal of `grow` tells: the limit of granules, which those committed and needed pass, or
+-- that there is no room in place.
+abbrev pub GrowTells : Limits → AccountState → ℕ → ℕ → Result Span Refusal → Type 0
+GrowTells limits account start total (Err (CommitLimit committed limit need)) = (limit ≡ limits.granules) × (limit < committed + need)
+GrowTells limits account start total (Err (NoRoom level)) = HasNoRoom account start total level
+GrowTells limits account start total _ = Unit {0}
 
 -- A chunk is lent or refused.
 pub record TookOver (old : SeatState) (account : AccountState) (wanted most words : ℕ) (result : Result Span Refusal) (new : SeatState) : Type 0 where
   pub event : OverLock (λ before after. Took before account wanted most words result after) old new
   pub tallies : TakeTallies result old.knows.tallies new.knows.tallies
-  pub tells : TakeTells old.knows.limits account.space result
+  pub tells : TakeTells old.knows.limits account.space words result
 
 -- A chunk grows or is refused it.
 pub record GrewOver (old : SeatState) (account : AccountState) (start total : ℕ) (may_enlarge : Bool) (result : Result Span Refusal) (new : SeatState) : Type 0 where
   pub event : OverLock (λ before after. Grew before account start total may_enlarge result after) old new
   pub tallies : GrowTallies result old.knows.tallies new.knows.tallies
+  pub tells : GrowTells old.knows.limits account start total result
 
 -- An account is closed.
 abbrev pub ClosedOver : SeatState → AccountState → SeatState → Type 0

@@ -5,6 +5,7 @@ use Rattle.ms_pool.specs.Lending.{Grows}
 use Rattle.ms_shared.specs.SeatView.{SeatState, ServesBy}
 use Rattle.ms_shared.proofs.CallLemmas.{moves_at, is_call, over_lock, served_by_pool, own_times, serves_then, counts_stay, limits_stay, grow_raises, grew_owner}
 use Rattle.ms_shared.proofs.MovesLemmas.{kept_moves, grew_tallies}
+use Rattle.ms_shared.proofs.TellsLemmas.{grow_tells}
 use Rattle.ms_pool.proofs.ledger.GrewLemmas.{grew_keeps, grew_serves, grew_serves_others}
 use Rattle.ms_shared.proofs.locked_pool.LockedPoolChunkSource.grow.Goals as goal
 
@@ -34,5 +35,5 @@ returns g c =
       limits = limits_stay _ _ _ _ call;
       grown = subst (λ (l : Limits). IfOk result (λ span. Grows l.policy c.args.start c.args.total c.args.may_enlarge c.args.account.now span c.grow-answer.new.account)) call.known.limits e.grown;
       unchanged = e.unchanged;
-      grew = record { event = over_lock _ _ _ _ _ call e.grew; tallies = grow_raises _ _ _ _ call _ _ _ _ result e.grew };
+      grew = record { event = over_lock _ _ _ _ _ call e.grew; tallies = grow_raises _ _ _ _ call _ _ _ _ result e.grew; tells = grow_tells _ _ c.args.account.now _ _ _ result _ call.known.limits e.grew };
     }

@@ -36,5 +36,5 @@ returns g c =
       limits = limits_stay _ _ _ _ call;
       added = subst (λ (l : Limits). IfOk result (λ span. Adds l.policy c.args.wanted c.args.most c.args.words c.args.account.now span c.take-answer.new.account)) call.known.limits e.added;
       unchanged = e.unchanged;
-      took = record { event = over_lock _ _ _ _ _ call e.took; tallies = take_raises _ _ _ _ call _ _ _ _ result e.took; tells = take_tells _ _ c.args.account.now _ _ _ result _ call.known.limits e.took };
+      took = record { event = over_lock _ _ _ _ _ call e.took; tallies = take_raises _ _ _ _ call _ _ _ _ result e.took; tells = take_tells _ _ c.args.account.now _ _ _ result _ call.known.limits call.sound e.took };
     }
