@@ -1,5 +1,5 @@
 mod CountLemmas
-mod MappedLemmas
+pub mod MappedLemmas
 mod MatchLemmas
 mod ChangeLemmas
 mod ViewLemmas
@@ -8,14 +8,14 @@ mod SpaceLemmas
 mod AllocLemmas
 mod OutcomeLemmas
 mod AskedLemmas
-mod FitLemmas
-mod ServedLemmas
+pub mod FitLemmas
+pub mod ServedLemmas
 mod StepLemmas
 mod CauseLemmas
 mod RunLemmas
-mod CallLemmas
-mod CloseLemmas
-mod UnloadLemmas
+pub mod CallLemmas
+pub mod CloseLemmas
+pub mod UnloadLemmas
 mod UsedLemmas
 mod LoaderLemmas
 mod SumsLemmas

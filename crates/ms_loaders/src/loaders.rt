@@ -2,7 +2,7 @@
 //!
 //! Apart from the system so that loaders can be handed to workers and gathered again. Only `insert`
 //! takes memory.
-ghost use Rattle.std.specs.Prelude.{◌≡◌, ◌<◌, ◌^◌, None, OnOk, IfErr, OnErr, [], length};
+ghost use Rattle.std.specs.Prelude.{◌≡◌, ◌<◌, ◌^◌, ◌∷◌, None, IfSome, OnOk, IfErr, OnErr, [], length};
 ghost use Rattle.std.specs.Option.{option_copied, option_copied_mut, is_some};
 ghost use Rattle.std.specs.List.{All};
 ghost use Rattle.std.specs.Map.{values_of};
@@ -72,6 +72,14 @@ impl Loaders {
         self.by_name.remove(&name)
     }
 
+    /// Takes the loader of the least name out, with its name, where there is any. Takes no memory.
+    pub fn pop_first(&mut self) -> Option<(u16, Loader)>
+        ensures first { IfSome result (λ taken. self.old ≡ taken ∷ self.new) }
+        ensures none { result ≡ None → (self.old ≡ []) × (self.new ≡ []) }
+    {
+        self.by_name.pop_first()
+    }
+
     /// Lends the loader of a name, where there is one; the others stay as they are. Takes no memory.
     pub fn get_mut(&mut self, name: u16) -> Option<&mut Loader>
         ensures* writes_back { sem 𝓛 (LendsLoader self.entry name result) }
@@ -94,16 +102,18 @@ impl Loaders {
         self.by_name.contains_key(&name)
     }
 
-    /// Tells how many loaders there are. Takes no memory.
+    /// Tells how many loaders there are, whose names rise. Takes no memory.
     pub fn len(&self) -> usize
         ensures count { result ≡ length self.now }
+        ensures names { AreNamed self.now }
         ensures small { result < 2 ^ 63 }
     {
         self.by_name.len()
     }
 
-    /// Says what is true of all loaders: their names rise, and each is sound.
-    pub(crate) fn learn(&self)
+    /// Says what is true of all loaders: their names rise, and each is sound. Takes no memory, and looks
+    /// at each loader once.
+    pub fn learn(&self)
         ensures names { AreNamed self.now }
         ensures sound { All IsSoundView (values_of self.now) }
     {
