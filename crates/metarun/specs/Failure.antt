@@ -5,13 +5,18 @@ use Rattle.ms_trace.specs.declared.fault.ParseFault.TheVariants as parse
 use Rattle.ms_trace.specs.Faults.{HasFault}
 use Rattle.metarun.specs.declared.devices.ReadFault.{ReadFault}
 use Rattle.metarun.specs.declared.devices.ReadFault.TheVariants as read
+use Rattle.ms_run.specs.declared.fault.RunFault.{RunFault}
+use Rattle.ms_run.specs.declared.fault.RunFault.TheVariants as run
 use Rattle.metarun.specs.declared.failure.Failure.{Failure}
-use Rattle.metarun.specs.declared.failure.Failure.TheVariants.{Fault, OutOfMemory, Input, Output}
+use Rattle.metarun.specs.declared.failure.Failure.TheVariants.{Fault, OutOfMemory, NoThread, Unsettled, Input, Output}
 
--- The exit status: 1 for a faulty trace, 3 for want of memory, 5 for a device.
+-- The exit status: 1 for a faulty trace, 3 for want of memory or of a thread, 4 for accounts left open
+-- at a phase's end, 5 for a device.
 abbrev pub status_of : Failure → ℕ
 status_of (Fault fault) = 1
 status_of OutOfMemory = 3
+status_of NoThread = 3
+status_of (Unsettled opened gathered) = 4
 status_of Input = 5
 status_of Output = 5
 
@@ -24,7 +29,18 @@ abbrev pub failure_of_parsing : ParseFault → Failure
 failure_of_parsing (parse.Trace fault) = Fault fault
 failure_of_parsing parse.OutOfMemory = OutOfMemory
 
+-- And a fault of the run.
+abbrev pub failure_of_running : RunFault → Failure
+failure_of_running run.OutOfMemory = OutOfMemory
+failure_of_running run.NoThread = NoThread
+failure_of_running (run.Unsettled opened gathered) = Unsettled opened gathered
+
 -- A fault is one of the text's.
 abbrev pub Blames : List ℕ → Failure → Type 0
 Blames text (Fault fault) = HasFault text fault.line fault.kind
 Blames text _ = ⊤
+
+-- No accounts were left open.
+abbrev pub IsSettled : Failure → Type 0
+IsSettled (Unsettled opened gathered) = ⊥
+IsSettled _ = ⊤

@@ -3,6 +3,7 @@ ghost use Rattle.std.specs.Prelude.{◌≡◌};
 ghost use Rattle.metarun.specs.Failure.{status_of};
 
 use crate::devices::ReadFault;
+use ms_run::RunFault;
 use ms_trace::{ParseFault, TraceFault};
 use std::alloc::AllocError;
 use thiserror::Error;
@@ -16,6 +17,12 @@ pub enum Failure {
     /// A growth was refused.
     #[error("metarun: out of memory")]
     OutOfMemory,
+    /// A thread could not be started.
+    #[error("metarun: no thread")]
+    NoThread,
+    /// At a phase's end more accounts were open than the loaders have. It never comes.
+    #[error("metarun: unsettled: open {opened}, gathered {gathered}")]
+    Unsettled { opened: u64, gathered: u64 },
     /// The input's device answered an error.
     #[error("metarun: input failed")]
     Input,
@@ -31,7 +38,8 @@ impl Failure {
     {
         match self {
             Failure::Fault(_) => 1,
-            Failure::OutOfMemory => 3,
+            Failure::OutOfMemory | Failure::NoThread => 3,
+            Failure::Unsettled { .. } => 4,
             Failure::Input | Failure::Output => 5,
         }
     }
@@ -45,6 +53,21 @@ impl From<AllocError> for Failure {
 
     fn from(_error: AllocError) -> Failure {
         Failure::OutOfMemory
+    }
+}
+
+impl From<RunFault> for Failure {
+    ghost use Rattle.std.specs.Prelude.{◌≡◌};
+    ghost use Rattle.metarun.specs.Failure.{failure_of_running};
+
+    ghost from_gives = { λ fault failure. failure ≡ failure_of_running fault };
+
+    fn from(fault: RunFault) -> Failure {
+        match fault {
+            RunFault::OutOfMemory => Failure::OutOfMemory,
+            RunFault::NoThread => Failure::NoThread,
+            RunFault::Unsettled { opened, gathered } => Failure::Unsettled { opened, gathered },
+        }
     }
 }
 

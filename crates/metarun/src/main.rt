@@ -2,15 +2,14 @@
 //! metaspace where one is asked for.
 //!
 //!     words ──── options ────────┐
-//!     standard input ── devices ── ms_trace ── answering ── ms_report ── devices ── standard output
-//!                         read      parse        run          lines       write
+//!     standard input ── devices ── ms_trace ── ms_run ── ms_report ── devices ── standard output
+//!                         read      parse      replay      lines       write
 //!
-//! Kept true: what goes out is the text of a run of the machine on the trace that came in. The
-//! command line is judged before anything is read, and the whole trace is read and parsed before
-//! anything runs. Stands on `ms_trace`, `ms_loaders` and `ms_report`.
+//! Kept true: what goes out is the text of the answers to the trace that came in, those of a run of
+//! the machine with one worker. The command line is judged before anything is read, and the whole
+//! trace is read and parsed before anything runs. Stands on `ms_trace`, `ms_run` and `ms_report`.
 #![tactic(auto)]
 
-mod answering;
 mod devices;
 mod failure;
 mod options;
@@ -35,6 +34,7 @@ fn main(rt: HostRuntime) -> ExitCode {
         }
     };
     let status = start(
+        &rt,
         rt.alloc(),
         words.as_slice(),
         &mut rt.stdin(),

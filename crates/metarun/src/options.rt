@@ -5,7 +5,7 @@
 //! Kept true: what is accepted lies within the ranges that `Settings` has, and what is not asked
 //! for is the default. `clap` reads the words and writes the texts of refusals and of the help.
 //! Only `options_of` takes memory.
-ghost use Rattle.std.specs.Prelude.{◌≡◌, ◌≤◌, ◌<◌, ◌^◌, ℕ, IfOk, IsOkAnd, None, Some, codes, decimal, length};
+ghost use Rattle.std.specs.Prelude.{◌≡◌, ◌≢◌, ◌≤◌, ◌<◌, ◌^◌, ℕ, IfOk, IfErr, IsOkAnd, None, Some, codes, decimal, length};
 ghost use Rattle.clap.specs.Words.{found_of};
 ghost use Rattle.clap.specs.Matches.{one_text};
 ghost use Rattle.metarun.specs.Asked.{IsAllowed, IsDefault, ReadsNumber, ReadsPolicy, AreRead};
@@ -39,6 +39,8 @@ pub enum Refused {
     Help(String),
     /// The line is refused; this text says why, for standard error.
     Usage(String),
+    /// Addresses are asked for of more than one worker.
+    Addresses,
     /// A growth was refused.
     OutOfMemory,
 }
@@ -46,7 +48,8 @@ pub enum Refused {
 /// Reads a command line, whose first word is the program's name. Granules count 8192 words each,
 /// 2048 under policy aggressive; nodes count 1048576 words each. `Help` comes where the first of
 /// the faults is a use of `--help`, `Usage` for an unknown or repeated option, a missing value, or
-/// one out of its range. Takes memory. This project's choice.
+/// one out of its range, `Addresses` where blocks' addresses are asked for of more than one worker,
+/// since a schedule decides them. Takes memory. This project's choice.
 pub fn options_of<'a, S: AsStr>(alloc: Global, words: &'a [S]) -> Result<Options, Refused>
     ensures allowed { IfOk result IsAllowed }
     ensures default { length words.entry.now ≤ 1 → IsOkAnd result IsDefault }
@@ -59,7 +62,7 @@ pub fn options_of<'a, S: AsStr>(alloc: Global, words: &'a [S]) -> Result<Options
         Err(_) => return Err(Refused::OutOfMemory),
     };
     match command.try_get_matches_from(words) {
-        Ok(matches) => Ok(chosen(&matches)),
+        Ok(matches) => chosen(&matches),
         Err(error) => Err(reason_of(alloc, &error)),
     }
 }
@@ -76,21 +79,29 @@ fn reason_of(alloc: Global, error: &clap::Error) -> Refused {
     }
 }
 
-/// Collects what was chosen.
-fn chosen(matches: &ArgMatches) -> Options
-    ensures allowed { IsAllowed result }
-    ensures read { AreRead (found_of matches.now) result }
+/// Collects what was chosen. Only one worker may tell addresses.
+fn chosen(matches: &ArgMatches) -> Result<Options, Refused>
+    ensures allowed { IfOk result IsAllowed }
+    ensures read { IfOk result (AreRead (found_of matches.now)) }
+    ensures refused { IfErr result (λ refused. refused ≡ Refused.Addresses) }
+    ensures many { IfErr result
+        (λ refused. one_text (found_of matches.now) (codes "addresses") ≢ None) }
 {
-    Options {
+    let workers = number_in(matches, "workers", 1, 8, 1) as u32;
+    let addresses = matches.get_flag("addresses");
+    if addresses && workers > 1 {
+        return Err(Refused::Addresses);
+    }
+    Ok(Options {
         settings: Settings {
-            workers: 1,
+            workers,
             nodes: number_in(matches, "nodes", 1, 64, 64) as u32,
             max_granules: number_in(matches, "max-granules", 1, 40960, 8192),
             policy: policy_in(matches),
             class_nodes: number_in(matches, "class-nodes", 0, 16, 0) as u32,
         },
-        addresses: matches.get_flag("addresses"),
-    }
+        addresses,
+    })
 }
 
 /// Tells the number that was given, or the default where there is none: `clap` accepts no number
@@ -153,7 +164,8 @@ const AFTER: &str = "Exit status:
   0  each line is answered, refused ones included; or this help
   1  the trace has a fault, which is told on standard error
   2  the command line is refused; nothing was read
-  3  memory is wanting in the run itself
+  3  memory or a thread is wanting in the run itself
+  4  accounts were left open between phases, which never comes
   5  standard input or standard output failed
 
 Example:
@@ -164,7 +176,7 @@ fn command<'a>(alloc: Global) -> Result<Command<'a>, AllocError> {
     let addresses = Arg::new(alloc, "addresses")
         .long("addresses")
         .action(ArgAction::SetTrue)
-        .help("Tell where each block starts, as a word number [default: no]");
+        .help("Tell where each block starts, as a word number; needs --workers 1 [default: no]");
     let policies = ["balanced", "aggressive", "none"].as_slice();
     let policy = Arg::new(alloc, "policy")
         .long("policy")
@@ -175,11 +187,21 @@ fn command<'a>(alloc: Global) -> Result<Command<'a>, AllocError> {
         .bin_name("metarun")?
         .about(ABOUT)
         .after_help(AFTER)
+        .arg(workers(alloc))?
         .arg(granules(alloc))?
         .arg(nodes(alloc))?
         .arg(addresses)?
         .arg(policy)?
         .arg(class_nodes(alloc))
+}
+
+/// Describes `--workers`.
+fn workers<'a>(alloc: Global) -> Arg<'a> {
+    Arg::new(alloc, "workers")
+        .long("workers")
+        .value_name("N")
+        .value_parser(value_parser!(u64).range(1..=8))
+        .help("Replay loaders on N threads: 1 to 8 [default: 1]")
 }
 
 /// Describes `--max-granules`.

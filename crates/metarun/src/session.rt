@@ -3,24 +3,28 @@ ghost use Rattle.std.specs.Prelude.{◌≡◌, ◌*◌, ◌≤◌, ◌<◌, ◌�
 ghost use Rattle.std.specs.Io.KnownBytes.{Appends, Keeps};
 ghost use Rattle.ms_trace.specs.declared.fault.FaultKind.{FaultKind};
 ghost use Rattle.ms_trace.specs.Faults.{HasFault};
-ghost use Rattle.metarun.specs.Failure.{Blames};
+ghost use Rattle.metarun.specs.Failure.{Blames, IsSettled};
 ghost use Rattle.metarun.specs.Session.{IsOutput};
 
-use crate::answering::answer_all;
 use crate::devices::{read_text, write_text};
 use crate::failure::Failure;
 use crate::options::Options;
 use ms_report::lines;
+use ms_run::{NoGate, replay};
 use ms_trace::parse;
 use std::alloc::Global;
 use std::io::{Read, Write};
+use std::sync::Wait;
+use std::thread::Threads;
 
 /// Reads a trace, runs it, and writes the answer to each of its lines; answers the exit status.
 ///
-/// 0: each line is answered. 1: the trace has a fault, told on `errors`; 3: memory was wanting; in
-/// both cases nothing was written to `output`. 5: a device failed. Nothing runs before the whole
-/// trace is read. This project's choice.
-pub fn session<R: Read, W: Write, E: Write>(
+/// 0: each line is answered. 1: the trace has a fault, told on `errors`; 3: memory or a thread was
+/// wanting; in both cases nothing was written to `output`. 5: a device failed. Nothing runs before
+/// the whole trace is read. With two workers or more it waits for their threads. This project's
+/// choice.
+pub fn session<T: Threads + Wait + Sync, R: Read, W: Write, E: Write>(
+    rt: &T,
     alloc: Global,
     options: &Options,
     input: &mut R,
@@ -36,7 +40,7 @@ pub fn session<R: Read, W: Write, E: Write>(
         → Keeps (W.contents output.old) (W.contents output.new) }
     ensures statuses { (result ≡ 0) ⊎ (result ≡ 1) ⊎ (result ≡ 3) ⊎ (result ≡ 5) }
 {
-    let failure = match answer_to(alloc, options, input) {
+    let failure = match answer_to(rt, alloc, options, input) {
         Ok(text) => match write_text(output, text.as_bytes()) {
             Ok(()) => return 0,
             Err(_) => Failure::Output,
@@ -49,15 +53,21 @@ pub fn session<R: Read, W: Write, E: Write>(
 }
 
 /// Reads a trace, runs it, and gives the text that answers it.
-fn answer_to<R: Read>(alloc: Global, options: &Options, input: &mut R) -> Result<String, Failure>
+fn answer_to<T: Threads + Wait + Sync, R: Read>(
+    rt: &T,
+    alloc: Global,
+    options: &Options,
+    input: &mut R,
+) -> Result<String, Failure>
     ensures ok { IfOk result (λ text. IfSome (R.remaining input.old)
         (λ bytes. IsOutput options.now.addresses options.now.settings bytes (string_bytes text))) }
     ensures err { IfErr result (λ failure. IfSome (R.remaining input.old)
         (λ bytes. Blames bytes failure)) }
+    ensures settled { IfErr result IsSettled }
 {
     let text = read_text(alloc, input)?;
     let trace = parse(alloc, &text)?;
-    let replies = answer_all(alloc, options.settings, trace.lines.as_slice())?;
+    let replies = replay(rt, alloc, &trace, options.settings, &NoGate)?;
     Ok(lines(alloc, &replies, options.addresses)?)
 }
 

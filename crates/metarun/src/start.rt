@@ -14,6 +14,8 @@ use crate::session::session;
 use std::alloc::Global;
 use std::convert::AsStr;
 use std::io::{Read, Write};
+use std::sync::Wait;
+use std::thread::Threads;
 
 /// Reads a command line, whose first word is the program's name, and runs what it asks for;
 /// answers the exit status.
@@ -22,7 +24,8 @@ use std::io::{Read, Write};
 /// told on `errors`, and nothing was read or written to `output`. The other statuses are those of
 /// a session; 3 and 5 also come where help lacks memory or could not be written. This project's
 /// choice.
-pub fn start<S: AsStr, R: Read, W: Write, E: Write>(
+pub fn start<T: Threads + Wait + Sync, S: AsStr, R: Read, W: Write, E: Write>(
+    rt: &T,
     alloc: Global,
     words: &[S],
     input: &mut R,
@@ -40,10 +43,13 @@ pub fn start<S: AsStr, R: Read, W: Write, E: Write>(
     ensures statuses { result ≤ 5 }
 {
     match options_of(alloc, words) {
-        Ok(options) => session(alloc, &options, input, output, errors),
+        Ok(options) => session(rt, alloc, &options, input, output, errors),
         Err(refused) => tell(refused, output, errors),
     }
 }
+
+/// The line on standard error where addresses are asked for of several workers.
+const ADDRESSES_ALONE: &str = "metarun: --addresses needs --workers 1\n";
 
 /// Tells why there are no options: help on `output`, all else on `errors`; answers the exit status.
 fn tell<W: Write, E: Write>(refused: Refused, output: &mut W, errors: &mut E) -> u8
@@ -59,6 +65,10 @@ fn tell<W: Write, E: Write>(refused: Refused, output: &mut W, errors: &mut E) ->
         Refused::Usage(text) => {
             // Whether the text comes out changes no status.
             let _ = write_text(errors, text.as_bytes());
+            return 2;
+        }
+        Refused::Addresses => {
+            let _ = write_text(errors, ADDRESSES_ALONE.as_bytes());
             return 2;
         }
         Refused::OutOfMemory => Failure::OutOfMemory,

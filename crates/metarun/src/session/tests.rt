@@ -13,7 +13,7 @@ use std::test::Fail;
 
 /// Runs a session on a text and compares all that comes of it.
 fn expect_with(
-    rt: &(impl Abort + AllocGlobal),
+    rt: &(impl Abort + AllocGlobal + Threads + Wait + Sync),
     options: &Options,
     text: &[u8],
     status: u8,
@@ -23,7 +23,7 @@ fn expect_with(
     let mut input = text;
     let mut out = Vec::new(rt.alloc());
     let mut err = Vec::new(rt.alloc());
-    let answered = session(rt.alloc(), options, &mut input, &mut out, &mut err);
+    let answered = session(rt, rt.alloc(), options, &mut input, &mut out, &mut err);
     assert_eq!(rt; out.as_slice(), output.as_bytes());
     assert_eq!(rt; err.as_slice(), errors.as_bytes());
     assert_eq!(rt; answered, status);
@@ -31,7 +31,7 @@ fn expect_with(
 
 /// The same with the default settings.
 fn expect(
-    rt: &(impl Abort + AllocGlobal),
+    rt: &(impl Abort + AllocGlobal + Threads + Wait + Sync),
     addresses: bool,
     text: &[u8],
     status: u8,
@@ -278,6 +278,7 @@ fn each_beginning_of_a_trace_is_answered_or_refused(rt: HostRuntime) {
         let mut out = Vec::new(rt.alloc());
         let mut err = Vec::new(rt.alloc());
         let status = session(
+            &rt,
             rt.alloc(),
             &Options::DEFAULT,
             &mut input,
@@ -364,6 +365,7 @@ fn input_that_fails_is_told_even_after_a_fault(rt: HostRuntime) {
         let mut out = Vec::new(rt.alloc());
         let mut err = Vec::new(rt.alloc());
         let status = session(
+            &rt,
             rt.alloc(),
             &Options::DEFAULT,
             &mut input,
@@ -419,6 +421,7 @@ fn output_that_fails_is_told(rt: HostRuntime) {
         };
         let mut err = Vec::new(rt.alloc());
         let answered = session(
+            &rt,
             rt.alloc(),
             &Options::DEFAULT,
             &mut input,
@@ -441,6 +444,7 @@ fn a_failing_standard_error_changes_no_status(rt: HostRuntime) {
         taken: 0,
     };
     let status = session(
+        &rt,
         rt.alloc(),
         &Options::DEFAULT,
         &mut input,

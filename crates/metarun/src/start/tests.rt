@@ -14,7 +14,7 @@ use std::test::Fail;
 
 /// Runs the program on a command line and a trace, and compares all that comes of it.
 fn expect(
-    rt: &(impl Abort + AllocGlobal),
+    rt: &(impl Abort + AllocGlobal + Threads + Wait + Sync),
     words: &[&str],
     trace: &str,
     status: u8,
@@ -24,7 +24,7 @@ fn expect(
     let mut input = trace.as_bytes();
     let mut out = Vec::new(rt.alloc());
     let mut err = Vec::new(rt.alloc());
-    let answered = start(rt.alloc(), words, &mut input, &mut out, &mut err);
+    let answered = start(rt, rt.alloc(), words, &mut input, &mut out, &mut err);
     assert_eq!(rt; out.as_slice(), output.as_bytes());
     assert_eq!(rt; err.as_slice(), errors.as_bytes());
     assert_eq!(rt; answered, status);
@@ -44,11 +44,11 @@ impl Read for Untouchable {
 }
 
 /// Expects a command line to be refused with a text that begins so, and nothing to be read.
-fn expect_refused(rt: &(impl Abort + AllocGlobal), words: &[&str], beginning: &str) {
+fn expect_refused(rt: &(impl Abort + AllocGlobal + Threads + Wait + Sync), words: &[&str], beginning: &str) {
     let mut input = Untouchable { touched: false };
     let mut out = Vec::new(rt.alloc());
     let mut err = Vec::new(rt.alloc());
-    let status = start(rt.alloc(), words, &mut input, &mut out, &mut err);
+    let status = start(rt, rt.alloc(), words, &mut input, &mut out, &mut err);
     assert!(rt; err.as_slice().starts_with(beginning.as_bytes()));
     assert_eq!(rt; status, 2);
     assert!(rt; out.is_empty());
@@ -91,6 +91,18 @@ fn a_bad_command_line_is_refused_before_anything_is_read(rt: HostRuntime) {
             "error: invalid value '17' for '--class-nodes <N>': 17 is not in 0..=16\n",
         ),
         (
+            ["metarun", "--workers", "0"].as_slice(),
+            "error: invalid value '0' for '--workers <N>': 0 is not in 1..=8\n",
+        ),
+        (
+            ["metarun", "--workers=9"].as_slice(),
+            "error: invalid value '9' for '--workers <N>': 9 is not in 1..=8\n",
+        ),
+        (
+            ["metarun", "--addresses", "--workers", "2"].as_slice(),
+            "metarun: --addresses needs --workers 1\n",
+        ),
+        (
             ["metarun", "--policy", "lazy"].as_slice(),
             "error: invalid value 'lazy' for '--policy <P>'\n",
         ),
@@ -109,7 +121,7 @@ fn a_bad_command_line_is_refused_before_anything_is_read(rt: HostRuntime) {
 }
 
 /// Compares the options that a command line asks for.
-fn expect_options(rt: &(impl Abort + AllocGlobal), words: &[&str], options: Options) {
+fn expect_options(rt: &(impl Abort + AllocGlobal + Threads + Wait + Sync), words: &[&str], options: Options) {
     let answered = options_of(rt.alloc(), words);
     match answered {
         Ok(asked) => assert!(rt; asked == options),
@@ -119,12 +131,15 @@ fn expect_options(rt: &(impl Abort + AllocGlobal), words: &[&str], options: Opti
 
 /// Options with these settings.
 fn options(
+    workers: u32,
     nodes: u32,
     max_granules: u64,
     policy: Policy,
     class_nodes: u32,
     addresses: bool,
 ) -> Options
+    requires workers_some { 1 ≤ workers }
+    requires workers_few { workers ≤ 8 }
     requires some { 1 ≤ nodes }
     requires few { nodes ≤ 64 }
     requires granules_some { 1 ≤ max_granules }
@@ -133,7 +148,7 @@ fn options(
 {
     Options {
         settings: Settings {
-            workers: 1,
+            workers,
             nodes,
             max_granules,
             policy,
@@ -146,16 +161,17 @@ fn options(
 #[test]
 fn options_are_as_they_are_asked_for(rt: HostRuntime) {
     let balanced = Policy::Balanced;
-    expect_options(&rt, &["metarun"], options(64, 8192, balanced, 0, false));
-    expect_options(&rt, &[], options(64, 8192, balanced, 0, false));
-    let four = options(4, 8192, balanced, 0, false);
+    expect_options(&rt, &["metarun"], options(1, 64, 8192, balanced, 0, false));
+    expect_options(&rt, &[], options(1, 64, 8192, balanced, 0, false));
+    let four = options(1, 4, 8192, balanced, 0, false);
     expect_options(&rt, &["metarun", "--nodes", "4"], four);
-    let four = options(4, 8192, balanced, 0, false);
+    let four = options(1, 4, 8192, balanced, 0, false);
     expect_options(&rt, &["metarun", "--nodes=4"], four);
-    let least = options(1, 1, Policy::None, 0, true);
+    let least = options(1, 1, 1, Policy::None, 0, true);
     let words = [
         "metarun",
         "--addresses",
+        "--workers=1",
         "--policy",
         "none",
         "--nodes=1",
@@ -163,9 +179,11 @@ fn options_are_as_they_are_asked_for(rt: HostRuntime) {
         "--class-nodes=0",
     ];
     expect_options(&rt, &words, least);
-    let most = options(64, 40960, Policy::Aggressive, 16, false);
+    let most = options(8, 64, 40960, Policy::Aggressive, 16, false);
     let words = [
         "metarun",
+        "--workers",
+        "8",
         "--class-nodes",
         "16",
         "--max-granules",
@@ -184,13 +202,15 @@ fn help_goes_to_standard_output(rt: HostRuntime) -> Result<(), Fail> {
         let mut input = Untouchable { touched: false };
         let mut out = Vec::new(rt.alloc());
         let mut err = Vec::new(rt.alloc());
-        let status = start(rt.alloc(), &words, &mut input, &mut out, &mut err);
+        let status = start(&rt, rt.alloc(), &words, &mut input, &mut out, &mut err);
         assert_eq!(rt; status, 0);
         assert!(rt; err.is_empty());
         assert!(rt; !input.touched);
         let text = String::from_utf8(out).ok().ok_or("no text")?;
         for part in [
             "Usage: metarun [OPTIONS]\n",
+            "--workers <N>",
+            "1 to 8 [default: 1]",
             "--max-granules <N>",
             "1 to 40960 [default: 8192]",
             "--nodes <N>",
@@ -229,7 +249,7 @@ fn help_that_fails_is_told(rt: HostRuntime) {
     let mut input = Untouchable { touched: false };
     let mut err = Vec::new(rt.alloc());
     let words = ["metarun", "--help"];
-    let status = start(rt.alloc(), &words, &mut input, &mut Full, &mut err);
+    let status = start(&rt, rt.alloc(), &words, &mut input, &mut Full, &mut err);
     assert_eq!(rt; status, 5);
     assert_eq!(rt; err.as_slice(), b"metarun: output failed\n".as_slice());
 }
@@ -249,7 +269,7 @@ fn statuses_of_a_session_come_through(rt: HostRuntime) {
     let mut input = Untouchable { touched: false };
     let mut out = Vec::new(rt.alloc());
     let mut err = Vec::new(rt.alloc());
-    let status = start(rt.alloc(), &words, &mut input, &mut out, &mut err);
+    let status = start(&rt, rt.alloc(), &words, &mut input, &mut out, &mut err);
     assert_eq!(rt; status, 5);
     assert_eq!(rt; err.as_slice(), b"metarun: input failed\n".as_slice());
 }

@@ -3,7 +3,7 @@ use Rattle.std.proofs.lemmas.Result.{err_from_is_err_and}
 use Rattle.ms_trace.specs.Faults.{BlamesText}
 use Rattle.ms_trace.specs.Spelling.{ReadsAs}
 use Rattle.metarun.proofs.ReadingLemmas.{blames_whole, outputs_whole}
-use Rattle.metarun.proofs.SessionLemmas.{outputs_of_answers}
+use Rattle.metarun.proofs.SessionLemmas.{run_outputs}
 use Rattle.metarun.proofs.session.answer_to.Goals as goal
 
 pub returns-in_err-trace-clause-err : goal.returns-in_err-trace-clause-err
@@ -26,7 +26,9 @@ returns-clause-ok g c =
       whole = λ short. c.in_ok-text.ensures.whole (omega (arith, length_is, short));
     }) (record {
       trace = c.in_ok-trace.trace;
-      last = c.in_ok-replies.ensures.0;
+      answers = c.in_ok-replies.replies.answers.items;
       reads = subst (λ (bytes : List ℕ). ReadsAs bytes c.in_ok-trace.trace) c.deref.ensures.value c.in_ok-trace.ensures.reads;
-      outputs = rw c.in_ok-lines.ensures (outputs_of_answers _ _ _ _ _ (rw (← c.as_slice.ensures) c.in_ok-replies.ensures.1));
+      own = c.in_ok-replies.ensures.own;
+      output_is = c.in_ok-lines.ensures;
+      run = run_outputs _ _ _ _ _ _ c.in_ok-lines.ensures c.in_ok-replies.ensures.run;
     })

@@ -586,3 +586,84 @@ Loaders
 ";
     expect(&rt, &words, trace, 0, output, "");
 }
+
+#[test]
+fn the_example_workers(rt: HostRuntime) {
+    let trace = "# four loaders; after the meeting each is another worker's
+new 1 standard
+new 2 standard
+new 3 standard
+new 4 standard
+alloc 1 1 4
+alloc 2 1 4
+alloc 3 1 4
+alloc 4 1 4
+write 1 1 0 11
+write 2 1 0 22
+write 3 1 0 33
+write 4 1 0 44
+sync
+read 1 1 0
+read 2 1 0
+read 3 1 0
+read 4 1 0
+report
+";
+    let output = "2 ok
+3 ok
+4 ok
+5 ok
+6 ok
+7 ok
+8 ok
+9 ok
+10 ok
+11 ok
+12 ok
+13 ok
+14 ok
+15 value 11
+16 value 22
+17 value 33
+18 value 44
+19 ok
+Metaspace
+  loaders                4
+  nodes                  1
+  reserved         1048576
+  granules               1
+  committed           8192
+  chunks                 4
+  capacity            2048
+  fronts              2048
+  used                  16
+  live                  16
+  free blocks            0
+  waste                  0
+Chunks by level
+  level   words    held    free
+      0  524288       0       1
+      1  262144       0       1
+      2  131072       0       1
+      3   65536       0       1
+      4   32768       0       1
+      5   16384       0       1
+      6    8192       0       1
+      7    4096       0       1
+      8    2048       0       1
+      9    1024       0       0
+     10     512       4       0
+     11     256       0       0
+     12     128       0       0
+Loaders
+   name        kind  chunks  capacity      used      live
+      1    standard       1       512         4         4
+      2    standard       1       512         4         4
+      3    standard       1       512         4         4
+      4    standard       1       512         4         4
+";
+    for workers in ["1", "2", "4", "8"] {
+        let words = ["metarun", "--workers", workers];
+        expect(&rt, &words, trace, 0, output, "");
+    }
+}

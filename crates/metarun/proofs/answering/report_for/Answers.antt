@@ -1,4 +1,0 @@
-use Rattle.metarun.proofs.answering.report_for.Goals as goal
-
-pub returns-in_ok-totals-in-Report : goal.returns-in_ok-totals-in-Report
-returns-in_ok-totals-in-Report c = rw c.in-Report.is c.in_ok-totals-in-Report.ensures

@@ -1,0 +1,68 @@
+-- What a loader's own lines are told where it is made and unloaded. For `new_loader` and `unload`.
+use Rattle.std.proofs.Common.{◌≡◌, ℕ, Bool, true, false, Option, Some, None, List, [], refl, sym, ap, subst}
+use Rattle.ms_base.specs.declared.kind.Kind.{Kind}
+use Rattle.ms_base.specs.declared.step.Step.TheVariants.{New, Unload}
+use Rattle.ms_base.specs.declared.step.Reply.TheVariants.{Ok as Done, Refused}
+use Rattle.ms_base.specs.declared.refusal.Refusal.{Refusal}
+use Rattle.ms_base.specs.declared.refusal.Refusal.TheVariants.{LoaderExists, NoLoader, OutOfMemory, IdsUsedUp}
+use Rattle.ms_base.specs.Alone.{OwnLoader, OwnReply}
+use Rattle.ms_base.specs.Names.{AreNamed, named, without}
+use Rattle.ms_base.specs.State.{LoaderState}
+use Rattle.ms_base.proofs.events.EntryLemmas.{named_without_same}
+use Rattle.ms_loaders.specs.Loader.{LoaderView}
+use Rattle.ms_loaders.specs.Loaders.{InsertRefused}
+use Rattle.ms_loaders.specs.System.{states_of}
+use Rattle.ms_loaders.proofs.MappedLemmas.{found-mapped, missing-mapped}
+use Rattle.ms_run.specs.Own.{own_of, own_in}
+
+abbrev state_of : LoaderView → LoaderState
+state_of loader = loader.state
+
+own_loader : LoaderState → OwnLoader
+own_loader state = record { kind = state.kind; blocks = state.blocks }
+
+-- What is known of a loader by its name.
+pub own_found : (loaders : List (ℕ × LoaderView)) (name : ℕ) (v : LoaderView) → named loaders name ≡ Some v
+    → own_in (states_of loaders) name ≡ Some (record { kind = v.state.kind; blocks = v.state.blocks })
+own_found loaders name v found = ap own_of (found-mapped state_of loaders name v found)
+
+pub own_missing : (loaders : List (ℕ × LoaderView)) (name : ℕ) → named loaders name ≡ None → own_in (states_of loaders) name ≡ None
+own_missing loaders name none = ap own_of (missing-mapped state_of loaders name none)
+
+-- A name that is used.
+pub exists_reply : (loaders : List (ℕ × LoaderView)) (name : ℕ) (kind : Kind) (v : LoaderView) → named loaders name ≡ Some v
+    → (want : Bool) × OwnReply (own_in (states_of loaders) name) (New name kind) want (Refused LoaderExists) (own_in (states_of loaders) name)
+exists_reply loaders name kind v found =
+    subst (λ (o : Option OwnLoader). (want : Bool) × OwnReply o (New name kind) want (Refused LoaderExists) o) (sym (own_found loaders name v found)) (false, refl)
+
+-- A name that is free, and memory or owner numbers are wanting.
+pub numbers_reply : (before : Option OwnLoader) (refusal : Refusal) (name : ℕ) (kind : Kind) → before ≡ None → refusal ≡ IdsUsedUp
+    → (want : Bool) × OwnReply before (New name kind) want (Refused refusal) before
+numbers_reply before refusal name kind is cause =
+    subst (λ (o : Option OwnLoader). (want : Bool) × OwnReply o (New name kind) want (Refused refusal) o) (sym is)
+    (subst (λ (r : Refusal). (want : Bool) × OwnReply None (New name kind) want (Refused r) None) (sym cause) (true, (tt, tt, refl)))
+
+pub insert_reply : (loaders : List (ℕ × LoaderView)) (before : Option OwnLoader) (refusal : Refusal) (name : ℕ) (kind : Kind) → named loaders name ≡ None → before ≡ None
+    → InsertRefused loaders name refusal
+    → (want : Bool) × OwnReply before (New name kind) want (Refused refusal) before
+insert_reply loaders before LoaderExists name kind none is refused = absurd (let e = refused.1 in cc)
+insert_reply loaders before OutOfMemory name kind none is refused =
+    subst (λ (o : Option OwnLoader). (want : Bool) × OwnReply o (New name kind) want (Refused OutOfMemory) o) (sym is) (true, (tt, tt, refl))
+insert_reply loaders before _ name kind none is refused = absurd refused
+
+-- A loader is made.
+pub made_reply : (before after : Option OwnLoader) (name : ℕ) (kind : Kind) → before ≡ None → after ≡ Some (record { kind = kind; blocks = [] })
+    → OwnReply before (New name kind) false Done after
+made_reply before after name kind is made = subst (λ (o : Option OwnLoader). OwnReply o (New name kind) false Done after) (sym is) made
+
+-- A loader is unloaded, or there is none.
+pub unloaded_reply : (loaders : List (ℕ × LoaderView)) (name : ℕ) (v : LoaderView) → AreNamed loaders → named loaders name ≡ Some v
+    → OwnReply (own_in (states_of loaders) name) (Unload name) false Done (own_in (states_of (without loaders name)) name)
+unloaded_reply loaders name v rises found =
+    subst (λ (o : Option OwnLoader). OwnReply o (Unload name) false Done (own_in (states_of (without loaders name)) name)) (sym (own_found loaders name v found))
+    (own_missing (without loaders name) name (named_without_same loaders name rises))
+
+pub none_reply : (loaders : List (ℕ × LoaderView)) (name : ℕ) → named loaders name ≡ None
+    → OwnReply (own_in (states_of loaders) name) (Unload name) false (Refused NoLoader) (own_in (states_of loaders) name)
+none_reply loaders name none =
+    subst (λ (o : Option OwnLoader). OwnReply o (Unload name) false (Refused NoLoader) o) (sym (own_missing loaders name none)) refl

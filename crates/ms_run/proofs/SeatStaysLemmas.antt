@@ -1,0 +1,392 @@
+-- What an allocation over the lock leaves a seat: it serves the loaders still, and no other owner gets a
+-- first chunk.
+use Rattle.std.proofs.Common.{◌≡◌, ◌≢◌, ◌+◌, ◌-◌, ℕ, suc, ◌⊎◌, Bool, true, false, cond, ◌||◌, Option, Some, None, Result, Ok, Err, List, [], ◌∷◌, ◌++◌, map, length, refl, sym, ap, ◌∙◌, subst, inl, inr, arith, append-nil}
+use Rattle.std.specs.Prelude.{◌==◌}
+use Rattle.std.specs.Ordering.{nat_cmp}
+use Rattle.std.specs.List.{AllByRecursion, count_by, filter, flat_map, list_any}
+use Rattle.std.specs.Map.{values_of}
+use Rattle.std.specs.BTreeMap.{is_at}
+use Rattle.std.proofs.lemmas.Bool.{eq-eqb}
+use Rattle.std.proofs.lemmas.List.{map-append}
+use Rattle.std.proofs.lemmas.List.Concat.{flat_map-append}
+use Rattle.std.proofs.lemmas.List.Sums.{sum_by-cons, sum_by-append}
+use Rattle.std.proofs.lemmas.List.Elements.{recursion_from_All, All-from_recursion}
+use Rattle.ms_base.specs.declared.kind.Space.{Space}
+use Rattle.ms_base.specs.declared.kind.Space.TheVariants.{NonClass, Class}
+use Rattle.ms_base.specs.declared.policy.Policy.{Policy}
+use Rattle.ms_base.specs.declared.span.Chunk.{Chunk}
+use Rattle.ms_base.specs.declared.span.Span.{Span}
+use Rattle.ms_base.specs.declared.span.Block.{Block}
+use Rattle.ms_base.specs.declared.refusal.Refusal.{Refusal}
+use Rattle.ms_base.specs.Spaces.{other_space, by_space}
+use Rattle.ms_base.specs.Committed.{is_among}
+use Rattle.ms_base.specs.Names.{named, with_new, with_changed}
+use Rattle.ms_base.specs.Live.{block_words}
+use Rattle.ms_base.specs.Place.{placed, current}
+use Rattle.ms_base.specs.Asks.{asks_growth, wanted_level, total_asked, may_enlarge}
+use Rattle.ms_base.specs.Level.{level_that_holds}
+use Rattle.ms_base.specs.State.{ArenaState, arena_of}
+use Rattle.ms_base.specs.Transition.{zeroed}
+use Rattle.ms_base.proofs.entries.EntryLemmas.{Split, split_at, values_split}
+use Rattle.ms_base.proofs.entries.LookupLemmas.{named_changed_other}
+use Rattle.ms_base.proofs.runs.ApartLemmas.{list_any-with}
+use Rattle.ms_base.proofs.arena.BlockLemmas.{arena_elsewhere}
+use Rattle.ms_pool.specs.Account.{AccountState}
+use Rattle.ms_pool.specs.Ledger.{Loan, Ledger, chunks_of, is_owned_by}
+use Rattle.ms_pool.specs.Calls.{GrewFrom}
+use Rattle.ms_pool.proofs.ledger.KeepsLemmas.{Keeps, keeps_where_tallied}
+use Rattle.ms_pool.proofs.ledger.TookLemmas.{took_keeps}
+use Rattle.ms_pool.proofs.ledger.GrewLemmas.{grow_refused_raises}
+use Rattle.ms_arena.specs.Arena.{ArenaView, account_of}
+use Rattle.ms_arena.specs.Alloc.{Takes, Grows, AfterGrow, AsksChunk, Serves, Allocates}
+use Rattle.ms_loaders.specs.Loader.{LoaderView, account_in, AllocatesBlock, AfterAlloc}
+use Rattle.ms_loaders.specs.System.{accounts_of, owners_of, AreDistinct}
+use Rattle.ms_shared.specs.declared.lock_rule.SeatView.{SeatView}
+use Rattle.ms_shared.specs.Entries.{Entry, Has, refreshed, fresh}
+use Rattle.ms_shared.specs.SeatView.{SeatState, ServesBy, OverLock, opened_by}
+use Rattle.ms_shared.specs.LockCalls.{TookOver, GrewOver}
+use Rattle.ms_shared.proofs.EntryLemmas.{has_record}
+use Rattle.ms_run.specs.Manned.{IsManned}
+
+-- All that the seat knows of an owner is that it holds no chunk.
+abbrev pub HasNone : SeatView → ℕ → Type 0
+HasNone view owner = (chunks : List Chunk) → Has view.served owner chunks → chunks ≡ []
+
+-- No owner but one gets a first chunk.
+pub record Stays (owner : ℕ) (old new : SeatState) : Type 0 where
+  pub none : (other : ℕ) → other ≢ owner → HasNone old.knows other → HasNone new.knows other
+
+stays_same : (owner : ℕ) (old new : SeatState) → new ≡ old → Stays owner old new
+stays_same owner old new same = subst (Stays owner old) (sym same) (record { none = λ other differs has. has })
+
+stays_on : (owner : ℕ) (old mid new : SeatState) → Stays owner old mid → Stays owner mid new → Stays owner old new
+stays_on owner old mid new first second =
+    record { none = λ other differs has. second.none other differs (first.none other differs has) }
+
+-- An entry that was made anew, as it was.
+record WasIn (pool : Ledger) (entries : List Entry) (owner : ℕ) (chunks : List Chunk) : Type 0 where
+  was : List Chunk
+  has : Has entries owner was
+  is : chunks ≡ chunks_of pool owner
+
+was_in : (pool : Ledger) (entries : List Entry) (owner : ℕ) (chunks : List Chunk) → Has (refreshed pool entries) owner chunks → WasIn pool entries owner chunks
+was_in pool [] owner chunks here = absurd here
+was_in pool (x ∷ xs) owner chunks (inl is) = record {
+  was = x.1;
+  has = inl (ap (λ (entry : Entry). (entry.0, x.1)) is);
+  is = sym (ap (λ (entry : Entry). entry.1) is) ∙ ap (λ (entry : Entry). chunks_of pool entry.0) is;
+}
+was_in pool (x ∷ xs) owner chunks (inr there) =
+    let rest = was_in pool xs owner chunks there in record { was = rest.was; has = inr rest.has; is = rest.is }
+
+-- Where no number is given out, no owner is new.
+no_fresh : (pool : Ledger) (given : ℕ) (xs : List Entry) (owner : ℕ) (chunks : List Chunk) → pool.given ≡ given
+    → Has (xs ++ fresh pool given (pool.given - given)) owner chunks → Has xs owner chunks
+no_fresh pool given xs owner chunks same here =
+    subst (λ (l : List Entry). Has l owner chunks) (ap (λ (n : ℕ). xs ++ fresh pool given n) none ∙ append-nil xs) here
+  where
+    none : pool.given - given ≡ 0
+    none = omega (arith, same)
+
+-- A call that gives out no number, and no first chunk to any owner but one.
+record IsQuiet (owner : ℕ) (before after : Ledger) : Type 0 where
+  given : after.given ≡ before.given
+  none : (other : ℕ) → other ≢ owner → chunks_of before other ≡ [] → chunks_of after other ≡ []
+
+over_lock_stays : {event : Ledger → Ledger → Type 0} (owner : ℕ) (old new : SeatState) (its : OverLock event old new) → IsQuiet owner its.before its.after
+    → Stays owner old new
+over_lock_stays owner old new its quiet = subst (Stays owner old) (sym its.left) (record { none = none })
+  where
+    none : (other : ℕ) → other ≢ owner → HasNone old.knows other
+        → (chunks : List Chunk) → Has (refreshed its.after old.knows.served ++ fresh its.after its.before.given (its.after.given - its.before.given)) other chunks → chunks ≡ []
+    none other differs has chunks here =
+        let was = was_in its.after old.knows.served other chunks (no_fresh its.after its.before.given (refreshed its.after old.knows.served) other chunks quiet.given here) in
+        let is = has_record its.before old.knows.served other was.was its.known.served was.has in
+        was.is ∙ quiet.none other differs (is.chunks_are ∙ has was.was was.has)
+
+keeps_quiet : (owner : ℕ) (before after : Ledger) → Keeps owner before after → IsQuiet owner before after
+keeps_quiet owner before after keeps = record { given = keeps.given; none = λ other differs none. keeps.others other differs ∙ none }
+
+-- A chunk that grows is nobody's first.
+abbrev chunk_of : Loan → Chunk
+chunk_of loan = loan.chunk
+
+abbrev grown_loan : Chunk → Loan → Loan
+grown_loan greater loan = cond (loan.chunk.start == greater.start) (record loan { chunk = greater }) loan
+
+grown_none : (greater : Chunk) (owner : ℕ) (loans : List Loan) → map chunk_of (filter (is_owned_by owner) loans) ≡ []
+    → map chunk_of (filter (is_owned_by owner) (map (grown_loan greater) loans)) ≡ []
+grown_none greater owner [] none = refl
+grown_none greater owner (loan ∷ loans) none =
+    elim (loan.owner == owner) as (λ b. (loan.owner == owner) ≡ b → map chunk_of (cond b (loan ∷ filter (is_owned_by owner) loans) (filter (is_owned_by owner) loans)) ≡ []
+    → map chunk_of (filter (is_owned_by owner) (grown_loan greater loan ∷ map (grown_loan greater) loans)) ≡ []) [
+      | true ↦ λ mine none. absurd (cc)
+      | false ↦ λ not_mine none. elim (loan.chunk.start == greater.start) as (λ b.
+          map chunk_of (filter (is_owned_by owner) (cond b (record loan { chunk = greater }) loan ∷ map (grown_loan greater) loans)) ≡ []) [
+            | true ↦ rw not_mine (grown_none greater owner loans none)
+            | false ↦ rw not_mine (grown_none greater owner loans none)
+          ]
+    ] refl none
+
+grew_quiet : (owner : ℕ) (before : Ledger) (account : AccountState) (chunk : Chunk) (total : ℕ) (may_enlarge : Bool) (answer : Result Span Refusal) (after : Ledger)
+    → GrewFrom before account chunk total may_enlarge answer after → IsQuiet owner before after
+grew_quiet owner before account chunk total may_enlarge (Ok span) after (greater, answered, at, is) =
+    subst (IsQuiet owner before) (sym is) (record { given = refl; none = λ other differs none. grown_none greater other before.loans none })
+grew_quiet owner before account chunk total may_enlarge (Err refusal) after refused =
+    keeps_quiet owner before after (keeps_where_tallied owner before after (grow_refused_raises before account chunk total may_enlarge refusal after refused))
+
+took_stays : (old new : SeatState) (account : AccountState) (wanted most words : ℕ) (answer : Result Span Refusal) → TookOver old account wanted most words answer new
+    → Stays account.owner old new
+took_stays old new account wanted most words answer its =
+    over_lock_stays account.owner old new its.event
+    (keeps_quiet account.owner its.event.before its.event.after (took_keeps its.event.before account wanted most words answer its.event.after its.event.called))
+
+grew_stays : (old new : SeatState) (account : AccountState) (start total : ℕ) (may : Bool) (answer : Result Span Refusal) → GrewOver old account start total may answer new
+    → Stays account.owner old new
+grew_stays old new account start total may answer its =
+    over_lock_stays account.owner old new its.event
+    (grew_quiet account.owner its.event.before account its.event.called.chunk total may answer its.event.after its.event.called.after)
+
+-- So an arena's allocation, and a loader's.
+module _ (policy : Policy) (was : ArenaView) (n : ℕ) (answer : Result Block Refusal) (is : ArenaView) (after : SeatState) where
+  takes_stays : (before : SeatState) → Takes TookOver policy was n before answer is after → Stays was.owner before after
+  takes_stays before its = took_stays before after (account_of was) (wanted_level was.kind was.space was.books n) (level_that_holds n) n its.lent its.asked
+
+  after_grow_stays : (chunk : Chunk) (grown : Result Span Refusal) (middle : SeatState) → AfterGrow TookOver policy was chunk n grown middle answer is after → Stays was.owner middle after
+  after_grow_stays chunk (Ok span) middle its = stays_same was.owner middle after its.0
+  after_grow_stays chunk (Err refusal) middle its = takes_stays middle its
+
+  grows_stays : (chunk : Chunk) (before : SeatState) → Grows GrewOver TookOver policy was chunk n before answer is after → Stays was.owner before after
+  grows_stays chunk before its = stays_on was.owner before its.middle after
+      (grew_stays before its.middle (account_of was) chunk.start (total_asked was.books n) (may_enlarge was.kind was.space was.books chunk) its.grown its.asked)
+      (after_grow_stays chunk its.grown its.middle its.follows)
+
+  asks_stays : (o : Option Chunk) (b : Bool) (before : SeatState) → AsksChunk GrewOver TookOver policy was n o b before answer is after → Stays was.owner before after
+  asks_stays (Some chunk) true before its = grows_stays chunk before its
+  asks_stays (Some chunk) false before its = takes_stays before its
+  asks_stays None true before its = takes_stays before its
+  asks_stays None false before its = takes_stays before its
+
+  serves_stays : (o : Option (ℕ × ArenaState)) (before : SeatState) → Serves GrewOver TookOver policy was n o before answer is after → Stays was.owner before after
+  serves_stays (Some place) before its = stays_same was.owner before after its.2
+  serves_stays None before its = asks_stays (current was.books) (asks_growth was.kind was.space was.books (current was.books) n) before its
+
+arena_stays : (policy : Policy) (was : ArenaView) (words : ℕ) (before : SeatState) (answer : Result Block Refusal) (is : ArenaView) (after : SeatState)
+    → Allocates GrewOver TookOver policy was words before answer is after → Stays was.owner before after
+arena_stays policy was words before answer is after (inl refused) = stays_same was.owner before after refused.source
+arena_stays policy was words before answer is after (inr its) =
+    serves_stays policy was (block_words words) answer is after (placed was.books (block_words words)) before its.1
+
+pub block_stays : (space : Space) (policy : Policy) (was is : LoaderView) (name words : ℕ) (old new : SeatState) (answer : Result Block Refusal)
+    → AllocatesBlock GrewOver TookOver policy space was name words old answer is new → Stays (by_space space was.owner was.class_owner) old new
+block_stays space policy was is name words old new answer (inl refused) = stays_same (by_space space was.owner was.class_owner) old new refused.source
+block_stays space policy was is name words old new answer (inr asks) =
+    subst (λ (owner : ℕ). Stays owner old new) asks.arena.owner (arena_stays policy asks.was words old answer asks.is new asks.allocates)
+
+-- A loader after its allocation in a space: its owners are the same, and its chunks of the other space.
+record KeepsOther (space : Space) (was is : LoaderView) : Type 0 where
+  owner : is.owner ≡ was.owner
+  class_owner : is.class_owner ≡ was.class_owner
+  elsewhere : (arena_of (other_space space) is.state).chunks ≡ (arena_of (other_space space) was.state).chunks
+
+same_keeps : (space : Space) (was is : LoaderView) → is ≡ was → KeepsOther space was is
+same_keeps space was is same = subst (KeepsOther space was) (sym same) (record { owner = refl; class_owner = refl; elsewhere = refl })
+
+block_keeps : (space : Space) (policy : Policy) (was is : LoaderView) (name words : ℕ) (old new : SeatState) (answer : Result Block Refusal)
+    → AllocatesBlock GrewOver TookOver policy space was name words old answer is new → KeepsOther space was is
+block_keeps space policy was is name words old new answer (inl refused) = same_keeps space was is refused.loader
+block_keeps space policy was is name words old new answer (inr asks) = go answer asks.follows
+  where
+    go : (a : Result Block Refusal) → AfterAlloc space was name asks.is a is → KeepsOther space was is
+    go (Ok block) follows = record {
+      owner = ap (λ (v : LoaderView). v.owner) follows.1;
+      class_owner = ap (λ (v : LoaderView). v.class_owner) follows.1;
+      elsewhere = ap (λ (v : LoaderView). (arena_of (other_space space) v.state).chunks) follows.1
+          ∙ ap (λ (a : ArenaState). a.chunks) (arena_elsewhere space (record was.state { blocks = with_new was.state.blocks name (zeroed block.start block.words) }) asks.is.books);
+    }
+    go (Err refusal) follows = same_keeps space was is follows
+
+-- The accounts of loaders before, at and after a name.
+abbrev accounts_at : LoaderView → List AccountState
+accounts_at loader = account_in NonClass loader ∷ account_in Class loader ∷ []
+
+abbrev owner_of : AccountState → ℕ
+owner_of account = account.owner
+
+accounts_split : (b a : List (ℕ × LoaderView)) (name : ℕ) (v : LoaderView)
+    → accounts_of (b ++ (name, v) ∷ a) ≡ accounts_of b ++ account_in NonClass v ∷ account_in Class v ∷ accounts_of a
+accounts_split b a name v = ap (flat_map accounts_at) (values_split b a name v) ∙ flat_map-append accounts_at (values_of b) (v ∷ values_of a)
+
+owners_split : (b a : List (ℕ × LoaderView)) (name : ℕ) (v : LoaderView) → owners_of (b ++ (name, v) ∷ a) ≡ owners_of b ++ v.owner ∷ v.class_owner ∷ owners_of a
+owners_split b a name v = ap (map owner_of) (accounts_split b a name v) ∙ map-append owner_of (accounts_of b) (account_in NonClass v ∷ account_in Class v ∷ accounts_of a)
+
+-- How often a number stands among the owners.
+abbrev times : ℕ → List ℕ → ℕ
+times number numbers = count_by (λ other. other == number) numbers
+
+abbrev one_if : Bool → ℕ
+one_if b = cond b 1 0
+
+abbrev is_it : ℕ → ℕ → ℕ
+is_it number other = one_if (other == number)
+
+times_split : (number : ℕ) (b a : List ℕ) (x y : ℕ) → times number (b ++ x ∷ y ∷ a) ≡ times number b + is_it number x + is_it number y + times number a
+times_split number b a x y =
+    omega (arith, sum_by-append (is_it number) b (x ∷ y ∷ a), sum_by-cons (is_it number) x (y ∷ a), sum_by-cons (is_it number) y a)
+
+it_is : (number : ℕ) → is_it number number ≡ 1
+it_is number = ap one_if (eq-eqb number number refl)
+
+-- Accounts of other owners are served still.
+served_still : (old new : SeatView) (owner : ℕ) → ((other : AccountState) → other.owner ≢ owner → ServesBy old other → ServesBy new other)
+    → (accounts : List AccountState) → times owner (map owner_of accounts) ≡ 0 → AllByRecursion (ServesBy old) accounts → AllByRecursion (ServesBy new) accounts
+served_still old new owner each [] none all = tt
+served_still old new owner each (account ∷ accounts) none all = (
+  each account (differs account.owner owner (omega (arith, none, sum_by-cons (is_it owner) account.owner (map owner_of accounts)))) all.0,
+  served_still old new owner each accounts (omega (arith, none, sum_by-cons (is_it owner) account.owner (map owner_of accounts))) all.1,
+)
+  where
+    differs : (a b : ℕ) → is_it b a ≡ 0 → a ≢ b
+    differs a b none same = omega (arith, none, it_is b, ap (is_it b) same)
+
+all_parts : (P : AccountState → Type 0) (b a : List AccountState) (x y : AccountState) → AllByRecursion P (b ++ x ∷ y ∷ a) → AllByRecursion P b × P x × P y × AllByRecursion P a
+all_parts P [] a x y all = (tt, all.0, all.1.0, all.1.1)
+all_parts P (z ∷ b) a x y all = let rest = all_parts P b a x y all.1 in ((all.0, rest.0), rest.1, rest.2, rest.3)
+
+all_joined : (P : AccountState → Type 0) (b a : List AccountState) (x y : AccountState) → AllByRecursion P b → P x → P y → AllByRecursion P a → AllByRecursion P (b ++ x ∷ y ∷ a)
+all_joined P [] a x y before first second after = (first, (second, after))
+all_joined P (z ∷ b) a x y before first second after = (before.0, all_joined P b a x y before.1 first second after)
+
+same_account : (one : Space) (was is : LoaderView) → by_space one is.owner is.class_owner ≡ by_space one was.owner was.class_owner
+    → (arena_of one is.state).chunks ≡ (arena_of one was.state).chunks → account_in one was ≡ account_in one is
+same_account one was is owner chunks =
+    ap (λ (n : ℕ). record { owner = n; space = one; chunks = (arena_of one was.state).chunks }) (sym owner)
+    ∙ ap (λ (l : List Chunk). record { owner = by_space one is.owner is.class_owner; space = one; chunks = l }) (sym chunks)
+
+-- Its accounts are served, and those of the loaders round it.
+served_in : (space : Space) (old new : SeatView) (b a : List AccountState) (was is : LoaderView) → KeepsOther space was is
+    → AreDistinct (map owner_of b ++ was.owner ∷ was.class_owner ∷ map owner_of a)
+    → ((other : AccountState) → other.owner ≢ (account_in space was).owner → ServesBy old other → ServesBy new other) → ServesBy new (account_in space is)
+    → AllByRecursion (ServesBy old) (b ++ account_in NonClass was ∷ account_in Class was ∷ a) → AllByRecursion (ServesBy new) (b ++ account_in NonClass is ∷ account_in Class is ∷ a)
+served_in NonClass old new b a was is keeps distinct each own all =
+    let parts = all_parts (ServesBy old) b a (account_in NonClass was) (account_in Class was) all in
+    let count = times_split was.owner (map owner_of b) (map owner_of a) was.owner was.class_owner in
+    all_joined (ServesBy new) b a (account_in NonClass is) (account_in Class is)
+    (served_still old new was.owner each b (omega (arith, distinct was.owner, count, it_is was.owner)) parts.0) own
+    (subst (λ (account : AccountState). ServesBy new account) (same_account Class was is keeps.class_owner keeps.elsewhere)
+    (served_still old new was.owner each (account_in Class was ∷ [])
+    (omega (arith, distinct was.owner, count, it_is was.owner, sum_by-cons (is_it was.owner) was.class_owner [])) (parts.2, tt)).0)
+    (served_still old new was.owner each a (omega (arith, distinct was.owner, count, it_is was.owner)) parts.3)
+served_in Class old new b a was is keeps distinct each own all =
+    let parts = all_parts (ServesBy old) b a (account_in NonClass was) (account_in Class was) all in
+    let count = times_split was.class_owner (map owner_of b) (map owner_of a) was.owner was.class_owner in
+    all_joined (ServesBy new) b a (account_in NonClass is) (account_in Class is)
+    (served_still old new was.class_owner each b (omega (arith, distinct was.class_owner, count, it_is was.class_owner)) parts.0)
+    (subst (λ (account : AccountState). ServesBy new account) (same_account NonClass was is keeps.owner keeps.elsewhere)
+    (served_still old new was.class_owner each (account_in NonClass was ∷ [])
+    (omega (arith, distinct was.class_owner, count, it_is was.class_owner, sum_by-cons (is_it was.class_owner) was.owner [])) (parts.1, tt)).0)
+    own
+    (served_still old new was.class_owner each a (omega (arith, distinct was.class_owner, count, it_is was.class_owner)) parts.3)
+
+own_is_among : (space : Space) (loaders : List (ℕ × LoaderView)) (name : ℕ) (v : LoaderView) → named loaders name ≡ Some v
+    → is_among (owners_of loaders) (by_space space v.owner v.class_owner) ≡ true
+own_is_among space loaders name v found = ap (λ (l : List ℕ). is_among l own) (ap owners_of split.is ∙ owners_split split.before split.after name v) ∙ there space
+  where
+    own : ℕ
+    own = by_space space v.owner v.class_owner
+
+    split : Split loaders name v
+    split = split_at loaders name v found
+
+    either : (b : Bool) {c : Bool} → c ≡ true → (b || c) ≡ true
+    either true e = refl
+    either false e = e
+
+    there : (one : Space) → is_among (owners_of split.before ++ v.owner ∷ v.class_owner ∷ owners_of split.after) (by_space one v.owner v.class_owner) ≡ true
+    there NonClass = list_any-with (λ other. other == v.owner) (owners_of split.before) v.owner (v.class_owner ∷ owners_of split.after)
+        ∙ ap (λ b. b || list_any (λ other. other == v.owner) (owners_of split.before ++ v.class_owner ∷ owners_of split.after)) (eq-eqb v.owner v.owner refl)
+    there Class = list_any-with (λ other. other == v.class_owner) (owners_of split.before) v.owner (v.class_owner ∷ owners_of split.after)
+        ∙ either (v.owner == v.class_owner) (list_any-with (λ other. other == v.class_owner) (owners_of split.before) v.class_owner (owners_of split.after)
+        ∙ ap (λ b. b || list_any (λ other. other == v.class_owner) (owners_of split.before ++ owners_of split.after)) (eq-eqb v.class_owner v.class_owner refl))
+
+length_changed : (entries : List (ℕ × LoaderView)) (name : ℕ) (x : LoaderView) → length (with_changed entries name x) ≡ length entries
+length_changed [] name x = refl
+length_changed (e ∷ es) name x =
+    elim (is_at (nat_cmp name) e.0) as (λ b. length (cond b ((e.0, x) ∷ es) (e ∷ with_changed es name x)) ≡ length (e ∷ es)) [
+      | true ↦ refl
+      | false ↦ ap suc (length_changed es name x)
+    ]
+
+-- The seat serves each loader's accounts.
+pub own_is_served : (space : Space) (seat : SeatView) (loaders : List (ℕ × LoaderView)) (name : ℕ) (v : LoaderView) → named loaders name ≡ Some v → IsManned seat loaders
+    → ServesBy seat (account_in space v)
+own_is_served space seat loaders name v found its = go space
+  where
+    split : Split loaders name v
+    split = split_at loaders name v found
+
+    parts : AllByRecursion (ServesBy seat) (accounts_of split.before)
+        × ServesBy seat (account_in NonClass v) × ServesBy seat (account_in Class v) × AllByRecursion (ServesBy seat) (accounts_of split.after)
+    parts = all_parts (ServesBy seat) (accounts_of split.before) (accounts_of split.after) (account_in NonClass v) (account_in Class v)
+        (rw (ap accounts_of split.is ∙ accounts_split split.before split.after name v) at (recursion_from_All (ServesBy seat) (accounts_of loaders) its.served))
+
+    go : (one : Space) → ServesBy seat (account_in one v)
+    go NonClass = parts.1
+    go Class = parts.2
+
+-- An owner without a chunk, or a loader's: so it stays.
+abbrev IsOurs : List ℕ → ℕ → List Chunk → Type 0
+IsOurs owners owner chunks = (chunks ≡ []) ⊎ (is_among owners owner ≡ true)
+
+no_other_still : (own : ℕ) (owners : List ℕ) (old new : SeatState) → is_among owners own ≡ true → Stays own old new
+    → ((owner : ℕ) (chunks : List Chunk) → Has old.knows.served owner chunks → IsOurs owners owner chunks)
+    → (owner : ℕ) (chunks : List Chunk) → Has new.knows.served owner chunks → IsOurs owners owner chunks
+no_other_still own owners old new among stays each owner chunks here =
+    elim (is_among owners owner) as (λ b. is_among owners owner ≡ b → (chunks ≡ []) ⊎ (b ≡ true)) [
+      | true ↦ λ ours. inr refl
+      | false ↦ λ not_ours. inl (stays.none owner (differs not_ours) (λ was has. nothing not_ours (each owner was has)) chunks here)
+    ] refl
+  where
+    differs : is_among owners owner ≡ false → owner ≢ own
+    differs not_ours same = absurd (let both : true ≡ false = sym among ∙ ap (is_among owners) (sym same) ∙ not_ours in cc)
+
+    nothing : {was : List Chunk} → is_among owners owner ≡ false → IsOurs owners owner was → was ≡ []
+    nothing not_ours (inl none) = none
+    nothing not_ours (inr ours) = absurd (let both : true ≡ false = sym ours ∙ not_ours in cc)
+
+-- So the loaders are manned still.
+pub manned_after : (space : Space) (old new : SeatState) (policy : Policy) (loaders : List (ℕ × LoaderView)) (name block words : ℕ) (was is : LoaderView) (answer : Result Block Refusal)
+    → named loaders name ≡ Some was → AllocatesBlock GrewOver TookOver policy space was block words old answer is new
+    → ServesBy new.knows (account_in space is) → ((other : AccountState) → other.owner ≢ (account_in space was).owner → ServesBy old.knows other → ServesBy new.knows other)
+    → opened_by new.knows ≡ opened_by old.knows → IsManned old.knows loaders → IsManned new.knows (with_changed loaders name is)
+manned_after space old new policy loaders name block words was is answer found allocates own each opened its = record {
+  served = All-from_recursion (ServesBy new.knows) (accounts_of (with_changed loaders name is)) (subst (λ (l : List AccountState). AllByRecursion (ServesBy new.knows) l) (sym now)
+      (served_in space old.knows new.knows (accounts_of split.before) (accounts_of split.after) was is keeps
+      (rw (ap owners_of split.is ∙ owners_split split.before split.after name was) at its.distinct) each own
+      (rw (ap accounts_of split.is ∙ accounts_split split.before split.after name was) at (recursion_from_All (ServesBy old.knows) (accounts_of loaders) its.served))));
+  distinct = subst AreDistinct (sym owners_same) its.distinct;
+  no_other = subst (λ (owners : List ℕ). (owner : ℕ) (chunks : List Chunk) → Has new.knows.served owner chunks → IsOurs owners owner chunks) (sym owners_same)
+      (no_other_still (by_space space was.owner was.class_owner) (owners_of loaders) old new (own_is_among space loaders name was found)
+      (block_stays space policy was is block words old new answer allocates) its.no_other);
+  opened = λ one. ap (λ (f : Space → ℕ). f one) opened ∙ its.opened one ∙ sym (length_changed loaders name is);
+}
+  where
+    split : Split loaders name was
+    split = split_at loaders name was found
+
+    keeps : KeepsOther space was is
+    keeps = block_keeps space policy was is block words old new answer allocates
+
+    now : accounts_of (with_changed loaders name is) ≡ accounts_of split.before ++ account_in NonClass is ∷ account_in Class is ∷ accounts_of split.after
+    now = ap accounts_of (split.changed is) ∙ accounts_split split.before split.after name is
+
+    owners_same : owners_of (with_changed loaders name is) ≡ owners_of loaders
+    owners_same = ap owners_of (split.changed is) ∙ owners_split split.before split.after name is
+        ∙ ap (λ (n : ℕ). owners_of split.before ++ n ∷ is.class_owner ∷ owners_of split.after) keeps.owner
+        ∙ ap (λ (n : ℕ). owners_of split.before ++ was.owner ∷ n ∷ owners_of split.after) keeps.class_owner
+        ∙ sym (ap owners_of split.is ∙ owners_split split.before split.after name was)
+
+-- The other loaders are as they were.
+pub others_stay : (loaders : List (ℕ × LoaderView)) (name : ℕ) (is : LoaderView) (other : ℕ) → other ≢ name
+    → named (with_changed loaders name is) other ≡ named loaders other
+others_stay loaders name is other differ = named_changed_other loaders name is other (λ same. differ (sym same))

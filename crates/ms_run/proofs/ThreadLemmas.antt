@@ -1,0 +1,97 @@
+-- That a share may go to another thread, and that threads may look at the lock; and what the threads'
+-- promises say of all shares.
+use Rattle.std.proofs.Common.{◌≡◌, ◌<◌, ℕ, zero, suc, List, [], ◌∷◌, ◌++◌, length, map, get_or, refl, ap, sym, ◌∙◌, subst, arith}
+use Rattle.std.proofs.lemmas.List.{append-nil}
+use Rattle.std.specs.List.{All}
+use Rattle.ms_shared.specs.SeatView.{LockState}
+use Rattle.ms_run.specs.declared.share.Share.{Share}
+use Rattle.ms_run.specs.Shares.{IsReady, IsWorked, AllWorked}
+use denote.RattleType.{RattleType}
+use denote.Struct.Tuple.{TupleAt, type_at}
+use denote.Struct.Field.{shr_ref_field, row_field}
+use denote.Ref.{NamedLft}
+use denote.Param.{param}
+use Rattle.std.specs.contracts.alloc.Global as heap
+use denote.Param.Send.{IsSend, IsSync, sendable}
+use denote.Param.SendFields.{declared_send, as_row_send}
+use Rattle.std.proofs.Crossing.{crosses}
+use Rattle.std.proofs.MapsCrossing.{BTreeMap-send}
+use Rattle.std.proofs.option.Option.TheSendSync as option
+use Rattle.ms_base.proofs.step.Reply.TheSendSync as reply
+use Rattle.ms_base.proofs.span.Block.TheSendSync as block
+use Rattle.ms_pool.proofs.account.Account.TheSendSync as account
+use Rattle.ms_shared.below.atomic_table.proofs.shared.Seat.TheSendSync as table_seat
+use Rattle.ms_loaders.below.ms_blocks.proofs.tree.Tree.TheLaws.TheKnot.{send-Tree, send-Fork}
+use Rattle.ms_loaders.below.ms_arena.proofs.rows.Rows.TheSendSync as rows
+use Rattle.ms_loaders.below.ms_buddy.proofs.node.Node.TheLaws.TheKnot as node
+use Rattle.ms_loaders.below.ms_commit.proofs.mask.Mask.TheSendSync as mask
+use Rattle.ms_loaders.below.ms_commit.proofs.nodes.Nodes.TheSendSync as nodes
+use Rattle.ms_shared.below.atomic_table.proofs.shared.Shared.TheSendSync as table
+use Rattle.ms_shared.below.atomic_table.proofs.send_lease.SendLease.TheSendSync as lease
+use Rattle.std.proofs.alloc.Global.TheSendSync as global
+use Rattle.ms_loaders.specs.contracts.loaders.Loaders as loaders
+use Rattle.ms_shared.specs.contracts.seat.PoolSeat as seat
+use Rattle.ms_shared.specs.contracts.shared_pool.SharedPool as shared
+use Rattle.ms_pool.specs.contracts.pool.Pool as pool
+use Rattle.ms_run.proofs.share.Task.TheSendSync as task
+use Rattle.ms_run.specs.contracts.share.Share as share
+
+loaders_send : IsSend loaders.the_row
+loaders_send = search (sendable, crosses, BTreeMap-send, send-Tree, send-Fork, rows.the_send, block.the_send, account.the_send) depth 60 fits 30000
+
+seat_send : IsSend seat.the_row
+seat_send = search (sendable, crosses, option.the_send, table_seat.the_send, node.send-Node, mask.the_send, nodes.the_send) depth 60
+
+pub share_send : IsSend share.the_row
+share_send = search (loaders_send, seat_send, sendable, crosses, task.the_send, reply.the_send) depth 20
+
+pool_send : IsSend pool.the_row
+pool_send = search (sendable, crosses, node.send-Node, mask.the_send, nodes.the_send) depth 60 fits 30000
+
+pub shared_sync : IsSync shared.the_row
+shared_sync = search (pool_send, sendable, crosses, option.the_send, table.the_sync, lease.the_sync, global.the_send, global.the_sync) depth 60 fits 30000
+
+-- What a thread is handed may go there: what it looks at, and its share.
+pub handed_send : (name : List ℕ) (l m n : NamedLft) (R G : RattleType) → IsSync (param 0 R) → IsSync (param 1 G)
+    → IsSend (TupleAt name ((shr_ref_field l (param 0 R) tt).row ∷ heap.the_row ∷ (shr_ref_field m shared.the_row tt).row ∷ (shr_ref_field n (param 1 G) tt).row ∷ share.the_row ∷ []))
+handed_send name l m n R G r g =
+    let rows : List RattleType = (shr_ref_field l (param 0 R) tt).row ∷ heap.the_row ∷ (shr_ref_field m shared.the_row tt).row ∷ (shr_ref_field n (param 1 G) tt).row ∷ share.the_row ∷ [] in
+    declared_send (type_at name rows) (
+      as_row_send (row_field (shr_ref_field l (param 0 R) tt).row) (search (r, sendable)),
+      (
+        as_row_send (row_field heap.the_row) global.the_send,
+        (
+          as_row_send (row_field (shr_ref_field m shared.the_row tt).row) (search (shared_sync, sendable)),
+          (as_row_send (row_field (shr_ref_field n (param 1 G) tt).row) (search (g, sendable)), (as_row_send (row_field share.the_row) share_send, tt)),
+        ),
+      ),
+    )
+
+-- A thread more, and a share less.
+added : {H : Type 0} (of : H → Share) (old : List H) (handle : H) (after : List Share) → map of (old ++ handle ∷ []) ++ after ≡ map of old ++ of handle ∷ after
+added of [] handle after = refl
+added of (x ∷ old) handle after = ap (λ shares. of x ∷ shares) (added of old handle after)
+
+pub one_more : {H : Type 0} (of : H → Share) (old new : List H) (handle : H) (share : Share) (before after shares : List Share) → new ≡ old ++ handle ∷ [] → before ≡ share ∷ after
+    → of handle ≡ share → map of old ++ before ≡ shares → map of new ++ after ≡ shares
+one_more of old new handle share before after shares new_is before_is of_is all =
+    ap (λ handles. map of handles ++ after) new_is
+    ∙ (added of old handle after ∙ (ap (λ s. map of old ++ s ∷ after) of_is ∙ (ap (λ others. map of old ++ others) (sym before_is) ∙ all)))
+
+pub fewer_ready : (shared : LockState) (share : Share) (before after : List Share) → before ≡ share ∷ after → All (IsReady shared) before → All (IsReady shared) after
+fewer_ready shared share before after is ready k d below =
+    subst (All (IsReady shared)) is ready (suc k) d (omega arith)
+
+pub only : (shares rest all : List Share) → length rest ≡ 0 → shares ++ rest ≡ all → shares ≡ all
+only shares [] all none is = sym (append-nil shares) ∙ is
+only shares (x ∷ rest) all none is = absurd (omega arith)
+
+-- Each result is its own share's.
+pub all_worked : {H : Type 0} (of : H → Share) (handles : List H) (done : List Share) → length done ≡ length handles
+    → ((i : ℕ) (d : Share) → i < length handles → (h : H) × (h ≡ get_or handles i h) × IsWorked (of h) (get_or done i d)) → AllWorked (map of handles) done
+all_worked of [] [] same each = tt
+all_worked of [] (result ∷ done) same each = absurd (omega arith)
+all_worked of (handle ∷ handles) [] same each = absurd (omega arith)
+all_worked of (handle ∷ handles) (result ∷ done) same each =
+    let first = each zero result (omega arith) in
+    (subst (λ h. IsWorked (of h) result) first.1 first.2, all_worked of handles done (omega arith) (λ i d below. each (suc i) d (omega arith)))

@@ -1,0 +1,71 @@
+use Rattle.std.proofs.Common.{◌+◌, ◌∙◌, sym, ap, arith, vec_len, length, List, inl, inr, refl}
+use Rattle.ms_shared.specs.SeatView.{SeatState}
+use Rattle.ms_run.specs.Turn.{place_in}
+use Rattle.ms_run.proofs.DealLemmas.{dealing_starts, dealing_on, dealing_ends, next_free, beside_none, none_left, left_starts, left_more}
+use Rattle.ms_run.proofs.dealing.deal_to.Goals as goal
+
+pub loop-seat-init : goal.loop-seat-init
+loop-seat-init c = (
+  dealing_starts (place_in c.args.turn.now) c.args.shared.now (vec_len c.args.seats) c.args.lines.now c.args.loaders c.args.seats.items c.remove-seat.result _ _
+      c.requires.seats c.requires.names c.remove-seat.ensures.value (c.into_iter-seat-iterator.ensures.into_iter_gives.0 ∙ c.remove-seat.ensures.items)
+      (sym c.args.seats.ok.0) c.in_ok-shares.ensures.items,
+  omega (arith, c.len.ensures, c.in_ok-shares.ensures.capacity),
+  left_starts (place_in c.args.turn.now) c.args.lines.now _ c.in_ok-lists.lists.items c.in_ok-lists.ensures.listed,
+  c.in_ok-lists.ensures.count ∙ c.len-2.ensures,
+)
+
+pub hand_all-requires-clause-own : goal.hand_all-requires-clause-own
+hand_all-requires-clause-own c = c.loop-seat.invariant.0.own
+
+pub hand_all-requires-clause-to_own : goal.hand_all-requires-clause-to_own
+hand_all-requires-clause-to_own c = (next_free _ _ _ _ _ _ _ _ _ _ _ c.in-Some.ensures.steps.0 c.loop-seat.invariant.0).0
+
+pub hand_all-requires-clause-beside : goal.hand_all-requires-clause-beside
+hand_all-requires-clause-beside c =
+    beside_none _ _ _ _ c.new-loaders.ensures c.loop-seat.invariant.0.manned c.loop-seat.invariant.0.names
+    (next_free _ _ _ _ _ _ _ _ _ _ _ c.in-Some.ensures.steps.0 c.loop-seat.invariant.0).1
+
+pub push_reserved-requires : goal.push_reserved-requires
+push_reserved-requires c =
+    omega (arith, c.loop-seat.invariant.0.count_is, ap (λ (l : List SeatState). length l) c.in-Some.ensures.steps.0, c.loop-seat.invariant.1, c.loop-seat.shares.ok.0)
+
+pub loop-seat-preserved : goal.loop-seat-preserved
+loop-seat-preserved c = (
+  dealing_on (place_in c.args.turn.now) c.args.shared.now (vec_len c.args.seats) c.args.lines.now c.args.loaders c.loop-seat.first.seat c.hand_all.new.from.seat
+      c.loop-seat.first.loaders c.hand_all.new.from.loaders c.hand_all.new.to.seat c.hand_all.new.to.loaders c.in-Some.seat _ c.loop-seat.shares.items _ c.in_ok-share.share (c.len-at.result + 1)
+      (rw c.in-Some.ensures.steps.0 at c.loop-seat.invariant.0) (omega (arith, c.len-at.ensures, c.loop-seat.shares.ok.0))
+      c.hand_all.ensures.own c.hand_all.ensures.to_own c.in_ok-hand_all.ensures.beside c.in_ok-hand_all.ensures.handed
+      (record {
+        seat_is = c.in_ok-share.ensures.seat;
+        loaders_are = c.in_ok-share.ensures.loaders;
+        tasks = c.in_ok-share.ensures.tasks ∙ c.loop-seat.invariant.2 (c.len-at.result + 1) c.take_list-tasks.result (inr (omega (arith, c.len-at.ensures))) c.take_list-tasks.ensures.taken;
+        room = c.in_ok-share.ensures.room;
+        none = c.in_ok-share.ensures.none;
+      }) c.push_reserved.ensures.items,
+  omega (arith, c.push_reserved.ensures.capacity, c.loop-seat.invariant.1),
+  left_more (place_in c.args.turn.now) c.args.lines.now (vec_len c.loop-seat.shares) _ (c.len-at.result + 1) c.loop-seat.lists.items c.take_list-tasks.new.lists.items c.loop-seat.invariant.2
+      c.push_reserved.ensures.len (omega (arith, c.len-at.ensures)) c.take_list-tasks.ensures.others,
+  c.take_list-tasks.ensures.count ∙ c.loop-seat.invariant.3,
+)
+
+pub returns-in-Ok-clause-dealt : goal.returns-in-Ok-clause-dealt
+returns-in-Ok-clause-dealt c =
+    dealing_ends (place_in c.args.turn.now) c.args.shared.now (vec_len c.args.seats) c.args.lines.now c.args.loaders c.loop-seat.first.seat c.loop-seat.first.loaders
+    c.loop-seat.seat-iterator.rest.items c.loop-seat.shares.items _ c.in_ok-share-2.share
+    (none_left c.loop-seat.seat-iterator.rest.items (sym c.loop-seat.seat-iterator.rest.ok.0 ∙ c.in-None.ensures.steps.0))
+    c.loop-seat.invariant.0
+    (record {
+      seat_is = c.in_ok-share-2.ensures.seat;
+      loaders_are = c.in_ok-share-2.ensures.loaders;
+      tasks = c.in_ok-share-2.ensures.tasks ∙ c.loop-seat.invariant.2 0 c.take_list-tasks-2.result (inl refl) c.take_list-tasks-2.ensures.taken;
+      room = c.in_ok-share-2.ensures.room;
+      none = c.in_ok-share-2.ensures.none;
+    }) c.in-Ok.ensures.items
+
+pub take_list-tasks-requires : goal.take_list-tasks-requires
+take_list-tasks-requires c = record {
+  within = omega (arith, c.loop-seat.invariant.0.count_is, ap (λ (l : List SeatState). length l) c.in-Some.ensures.steps.0, c.loop-seat.shares.ok.0, c.len-at.ensures, c.loop-seat.invariant.3);
+}
+
+pub take_list-tasks-requires-2 : goal.take_list-tasks-requires-2
+take_list-tasks-requires-2 c = record { within = omega (arith, c.loop-seat.invariant.0.count_is, c.loop-seat.invariant.3) }

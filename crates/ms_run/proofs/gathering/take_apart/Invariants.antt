@@ -1,0 +1,10 @@
+use Rattle.std.proofs.Common.{◌+◌, ◌≤◌, length, vec_len, vec_capacity}
+use Rattle.ms_run.proofs.GatherLemmas.{AreOthers, AreTaken}
+use Rattle.ms_run.proofs.gathering.take_apart.Given as goal
+
+-- Seats and loaders of the shares so far, room for the seats that are left, and other names there.
+abbrev pub invariant-loop-share : goal.invariant-loop-share
+invariant-loop-share l =
+    AreTaken l.seats.items l.loaders l.share-iterator.rest.items l.fn.shares.items
+    × (vec_len l.seats + length l.share-iterator.rest.items ≤ vec_capacity l.seats)
+    × AreOthers l.loaders l.share-iterator.rest.items

@@ -1,0 +1,65 @@
+use Rattle.std.proofs.Common.{rules, ◌≡◌, List, length, map, ap, ◌∙◌, subst, arith}
+use denote.Param.Send.{sendable, param_send, arg_send}
+use denote.Exit.{no}
+use denote.Ref.{NamedLft}
+use mir.Syntax.{named}
+use Rattle.std.specs.Vec.Iter.{into_iter_items}
+use Rattle.ms_run.specs.declared.share.Share.{Share}
+use Rattle.ms_run.specs.Shares.{AllWorked}
+use Rattle.ms_run.proofs.ThreadLemmas.{share_send, handed_send, one_more, fewer_ready, only, all_worked}
+use Rattle.ms_run.proofs.working.fn.work_all.scope.Goals as goal
+
+pub spawn_with-started-requires-send-F : goal.spawn_with-started-requires-send-F
+spawn_with-started-requires-send-F g c κs w =
+    let here : NamedLft = record { mir = named 6; lft = κs.1.1.1.1.1.1.0 } in
+    let lock : NamedLft = record { mir = named 7; lft = κs.1.1.1.1.1.1.1.0 } in
+    let gate : NamedLft = record { mir = named 8; lft = κs.1.1.1.1.1.1.1.1.0 } in
+    param_send _ _ (arg_send _ no _ (handed_send _ here lock gate g.row.R g.row.G (search rules) (search rules)))
+
+pub spawn_with-started-requires-send-T : goal.spawn_with-started-requires-send-T
+spawn_with-started-requires-send-T g c κs = search (share_send, sendable) depth 20
+
+pub push_reserved-requires : goal.push_reserved-requires
+push_reserved-requires g c =
+    let inv = c.loop-share.invariant in
+    let room = inv.3 in
+    let step = c.in-Some.ensures.steps in
+    let less = step.1 in
+    omega arith
+
+pub loop-share-preserved : goal.loop-share-preserved
+loop-share-preserved g c =
+    let inv = c.loop-share.invariant in
+    let step = c.in-Some.ensures.steps in
+    let items = c.push_reserved.ensures.items in
+    let len = c.push_reserved.ensures.len in
+    let cap = c.push_reserved.ensures.capacity in
+    let less = step.1 in
+    let same = inv.2 in
+    let room = inv.3 in
+    let there = ap length step.0 in (
+      one_more (λ handle. handle.promise.0.value) _ _ c.in-Ok.handle c.in-Some.share _ _ _ items step.0 (ap (λ promise. promise.0.value) c.in-Ok.ensures.ok ∙ c.of.ensures) inv.0,
+      fewer_ready _ c.in-Some.share _ _ step.0 inv.1,
+      omega arith,
+      omega arith,
+    )
+
+pub returns-in-Ok-join_promised : goal.returns-in-Ok-join_promised
+returns-in-Ok-join_promised g c = record {
+  worked =
+      let inv = c.loop-share.invariant in
+      let given = c.into_iter-share-iterator.ensures.into_iter_gives in
+      let ended = c.in-None.ensures.steps in
+      let gone = ended.0 in
+      let len = c.in-Ok-join_promised.ensures.len in
+      let each = c.in-Ok-join_promised.ensures.each in
+      let same = inv.2 in
+      let made = c.in-Ok-join_promised.done.ok in
+      let held = c.loop-share.handles.ok in
+      let none : length (into_iter_items c.loop-share.share-iterator) ≡ 0 = omega arith in
+      let all : map (λ handle. handle.promise.0.value) c.loop-share.handles.items ≡ c.captures.shares.items = only _ _ _ none inv.0 ∙ given.0 in
+      subst (λ (shares : List Share). AllWorked shares c.in-Ok-join_promised.done.items) all
+      (all_worked (λ handle. handle.promise.0.value) c.loop-share.handles.items c.in-Ok-join_promised.done.items (omega arith)
+      (λ i d below. let kept = (each i d (omega arith)).1 in (kept.handle, kept.handle_is, kept.kept)));
+  wanting = tt;
+}

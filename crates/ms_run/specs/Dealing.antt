@@ -1,0 +1,85 @@
+-- Loaders handed on from seat to seat, and the shares that come of it.
+use Rattle.std.specs.Prelude.{◌≡◌, ◌≢◌, ℕ, suc, ◌+◌, ◌<◌, ◌≤◌, ◌==◌, ◌⊎◌, Bool, List, [], ◌∷◌, length, Some, None, Vec, slice_get, ◌++◌}
+use Rattle.std.specs.List.{All, count_by, filter}
+use Rattle.std.specs.declared.alloc.Global.{Global}
+use Rattle.ms_base.specs.Names.{AreNamed, named}
+use Rattle.ms_base.specs.Request.{loader_of}
+use Rattle.ms_trace.specs.declared.trace.Line.{Line}
+use Rattle.ms_loaders.specs.Loader.{LoaderView}
+use Rattle.ms_loaders.specs.System.{owners_of}
+use Rattle.ms_shared.specs.declared.lock_rule.SeatView.{SeatView}
+use Rattle.ms_shared.specs.SeatView.{SeatState, LockState}
+use Rattle.ms_run.specs.Manned.{IsManned}
+use Rattle.ms_run.specs.Shares.{Place, IsReady, tasks_at}
+use Rattle.ms_run.specs.declared.share.Task.{Task}
+use Rattle.ms_run.specs.declared.share.Share.{Share}
+
+-- The loaders of a seat, by their names.
+abbrev pub Loaded : Type 0
+Loaded = List (ℕ × LoaderView)
+
+-- Two seats serve their loaders each, and no owner is of both.
+pub record AreBeside (from : SeatView) (loaders : Loaded) (to : SeatView) (others : Loaded) : Type 0 where
+  pub manned : IsManned from loaders
+  pub to_manned : IsManned to others
+  pub names : AreNamed loaders
+  pub apart : (number : ℕ) → count_by (λ other. other == number) (owners_of loaders) + count_by (λ other. other == number) (owners_of others) ≤ 1
+
+-- The loader of a name went over, where there was one.
+pub record IsHanded (name : ℕ) (loaders others after others_after : Loaded) : Type 0 where
+  pub gone : named after name ≡ None
+  pub there : ((named loaders name ≢ None) × (named others_after name ≡ named loaders name)) ⊎ ((named loaders name ≡ None) × (named others_after name ≡ named others name))
+  pub stay : (other : ℕ) → name ≢ other → (named after other ≡ named loaders other) × (named others_after other ≡ named others other)
+
+-- The name is of the place.
+abbrev pub is_placed : Place → ℕ → ℕ → Bool
+is_placed place at name = place (Some name) == at
+
+-- All loaders of a place went over, to where none was.
+pub record AreHanded (place : Place) (at : ℕ) (loaders after others : Loaded) : Type 0 where
+  pub here : (name : ℕ) → place (Some name) ≡ at → (named others name ≡ named loaders name) × (named after name ≡ None)
+  pub apart : (name : ℕ) → place (Some name) ≢ at → (named others name ≡ None) × (named after name ≡ named loaders name)
+
+-- The first seat serves all loaders, and the others nothing.
+pub record AreSeats (shared : LockState) (seats : List SeatState) (loaders : Loaded) : Type 0 where
+  pub first : SeatState
+  pub others : List SeatState
+  pub are : seats ≡ first ∷ others
+  pub own : first.id ≡ shared.id
+  pub manned : IsManned first.knows loaders
+  pub free : All (λ (seat : SeatState). (seat.id ≡ shared.id) × IsManned seat.knows []) others
+
+-- The share of a place: it has the tasks and the loaders of it.
+pub record IsShareAt (place : Place) (shared : LockState) (lines : List Line) (loaders : Loaded) (at : ℕ) (share : Share) : Type 0 where
+  pub ready : IsReady shared share
+  pub apart : (name : ℕ) → place (Some name) ≢ at → named share.loaders name ≡ None
+  pub here : (name : ℕ) → place (Some name) ≡ at → named share.loaders name ≡ named loaders name
+  pub tasks : share.tasks.items ≡ tasks_at place at lines
+
+-- Shares of the places from one on.
+abbrev pub AreSharesFrom : Place → LockState → List Line → Loaded → ℕ → List Share → Type 0
+AreSharesFrom place shared lines loaders at [] = Unit {0}
+AreSharesFrom place shared lines loaders at (share ∷ shares) =
+    IsShareAt place shared lines loaders at share × AreSharesFrom place shared lines loaders (suc at) shares
+
+-- There are so many shares; where all places are of them, each has what is its own.
+pub record AreDealtTo (place : Place) (shared : LockState) (count : ℕ) (lines : List Line) (loaders : Loaded) (shares : List Share) : Type 0 where
+  pub count_is : length shares ≡ count
+  pub each : ((name : ℕ) → place (Some name) < count) → AreSharesFrom place shared lines loaders 0 shares
+
+-- Lists of tasks by share.
+abbrev pub TaskLists : Type 0
+TaskLists = List (Vec Task Global)
+
+-- Each share's list has the tasks of the lines that go to it.
+abbrev pub AreListed : Place → List Line → TaskLists → Type 0
+AreListed place lines lists = (at : ℕ) (list : Vec Task Global) → slice_get lists at ≡ Some list → list.items ≡ tasks_at place at lines
+
+abbrev pub AreEmpty : TaskLists → Type 0
+AreEmpty lists = (at : ℕ) (list : Vec Task Global) → slice_get lists at ≡ Some list → list.items ≡ []
+
+-- Each share's list has those of some more tasks that go to it.
+abbrev pub AreAdded : List Task → Place → TaskLists → TaskLists → Type 0
+AreAdded tasks place lists new =
+    (at : ℕ) (list : Vec Task Global) → slice_get new at ≡ Some list
+    → (was : Vec Task Global) × (slice_get lists at ≡ Some was) × (list.items ≡ was.items ++ filter (λ (task : Task). place (loader_of task.step) == at) tasks)

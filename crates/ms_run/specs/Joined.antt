@@ -1,0 +1,33 @@
+-- The loaders of several shares put together, one share's after the other's.
+use Rattle.std.specs.Prelude.{◌≡◌, ℕ, ◌⊎◌, ⊤, List, [], ◌∷◌, ◌++◌, None}
+use Rattle.std.specs.List.Sorted.{IsPermutation}
+use Rattle.ms_base.specs.declared.refusal.Refusal.{Refusal}
+use Rattle.ms_base.specs.declared.refusal.Refusal.TheVariants.{OutOfMemory, Unsettled}
+use Rattle.ms_base.specs.Names.{named}
+use Rattle.ms_loaders.specs.Loader.{LoaderView}
+use Rattle.ms_shared.specs.SeatView.{SeatState}
+use Rattle.ms_run.specs.declared.share.Share.{Share}
+
+-- No name is in both.
+abbrev pub HaveOtherNames : List (ℕ × LoaderView) → List (ℕ × LoaderView) → Type 0
+HaveOtherNames whole part = (name : ℕ) → (named whole name ≡ None) ⊎ (named part name ≡ None)
+
+-- A part comes to the loaders: there are those of both, each under its name.
+pub record IsJoined (old part new : List (ℕ × LoaderView)) : Type 0 where
+  pub same : IsPermutation new (old ++ part)
+  pub others : (name : ℕ) → named part name ≡ None → named new name ≡ named old name
+  pub own : (name : ℕ) → named old name ≡ None → named new name ≡ named part name
+
+-- The loaders of each share come, in the order of the shares.
+abbrev pub AreJoined : List (ℕ × LoaderView) → List Share → List (ℕ × LoaderView) → Type 0
+AreJoined old [] new = new ≡ old
+AreJoined old (share ∷ shares) new = (mid : List (ℕ × LoaderView)) × IsJoined old share.loaders mid × AreJoined mid shares new
+
+abbrev pub seat_of : Share → SeatState
+seat_of share = share.seat
+
+-- Why shares aren't gathered: memory is wanting, or not all was given.
+abbrev pub IsWantOrUnsettled : Refusal → Type 0
+IsWantOrUnsettled OutOfMemory = ⊤
+IsWantOrUnsettled (Unsettled opened gathered) = ⊤
+IsWantOrUnsettled _ = ⊥

@@ -1,0 +1,108 @@
+-- A worker's share of a phase, before and after its work.
+use Rattle.std.specs.Prelude.{◌≡◌, ◌≢◌, ℕ, ◌<◌, ◌≤◌, ◌==◌, List, [], ◌∷◌, length, map, Option, Some, None, vec_len, vec_capacity, slice_get}
+use Rattle.std.specs.List.{All, filter, zip}
+use Rattle.ms_base.specs.declared.step.Step.{Step}
+use Rattle.ms_base.specs.declared.step.Reply.{Reply}
+use Rattle.ms_base.specs.Names.{named}
+use Rattle.ms_base.specs.Request.{loader_of}
+use Rattle.ms_base.specs.State.{LoaderState}
+use Rattle.ms_trace.specs.declared.trace.Line.{Line}
+use Rattle.ms_trace.specs.Steps.{step_of}
+use Rattle.ms_loaders.specs.Loader.{LoaderView}
+use Rattle.ms_loaders.specs.System.{states_of}
+use Rattle.ms_shared.specs.SeatView.{LockState}
+use Rattle.ms_run.specs.Own.{Said, own_said, own_in, OwnRun, ArePurged}
+use Rattle.ms_run.specs.Manned.{IsManned}
+use Rattle.ms_run.specs.declared.share.Task.{Task}
+use Rattle.ms_run.specs.declared.share.Share.{Share}
+
+-- What was asked and replied in a share.
+abbrev pub said_in : List Task → List Reply → List Said
+said_in tasks replies = zip (map (λ (task : Task). task.step) tasks) replies
+
+-- A share is ready: its seat is of the lock and serves its loaders, there is room for all replies,
+-- and none is there yet.
+pub record IsReady (shared : LockState) (share : Share) : Type 0 where
+  pub own : share.seat.id ≡ shared.id
+  pub manned : IsManned share.seat.knows share.loaders
+  pub room : vec_len share.tasks ≤ vec_capacity share.replies
+  pub none : share.replies.items ≡ []
+
+-- A share is worked: each task has its reply, and each loader's replies are its own.
+pub record IsWorked (share done : Share) : Type 0 where
+  pub id : done.seat.id ≡ share.seat.id
+  pub manned : IsManned done.seat.knows done.loaders
+  pub tasks : done.tasks.items ≡ share.tasks.items
+  pub replies : vec_len done.replies ≡ vec_len share.tasks
+  pub own : (name : ℕ) → OwnRun (own_in (states_of share.loaders) name) (own_said name (said_in share.tasks.items done.replies.items))
+      (own_in (states_of done.loaders) name)
+  pub purges : ArePurged (said_in share.tasks.items done.replies.items)
+
+-- Each share is worked.
+abbrev pub AllWorked : List Share → List Share → Type 0
+AllWorked [] [] = Unit {0}
+AllWorked (share ∷ shares) (done ∷ others) = IsWorked share done × AllWorked shares others
+AllWorked _ _ = ⊥
+
+-- Where the lines of each loader go in a phase, by the loader's name, and those of a purge: to which
+-- share, by its place.
+abbrev pub Place : Type 0
+Place = Option ℕ → ℕ
+
+-- The tasks that the lines make for one share.
+abbrev pub task_of : Line → Option Step → List Task → List Task
+task_of line None tasks = tasks
+task_of line (Some step) tasks = record { line = line.number; step = step } ∷ tasks
+
+abbrev pub tasks_of : List Line → List Task
+tasks_of [] = []
+tasks_of (line ∷ lines) = task_of line (step_of line.command) (tasks_of lines)
+
+abbrev pub tasks_at : Place → ℕ → List Line → List Task
+tasks_at place at lines = filter (λ (task : Task). place (loader_of task.step) == at) (tasks_of lines)
+
+-- A loader is in no share but the one that its lines go to.
+abbrev pub AreApart : Place → List Share → Type 0
+AreApart place shares =
+    (at : ℕ) (share : Share) (name : ℕ) → slice_get shares at ≡ Some share → place (Some name) ≢ at → named share.loaders name ≡ None
+
+-- Each loader is in the share that its lines go to, and is there as it was.
+abbrev pub AreHere : Place → List Share → List (ℕ × LoaderView) → Type 0
+AreHere place shares loaders =
+    (at : ℕ) (share : Share) (name : ℕ) → slice_get shares at ≡ Some share → place (Some name) ≡ at → named share.loaders name ≡ named loaders name
+
+-- Each share has the tasks of the lines that go to it.
+abbrev pub HaveTasks : Place → List Share → List Line → Type 0
+HaveTasks place shares lines = (at : ℕ) (share : Share) → slice_get shares at ≡ Some share → share.tasks.items ≡ tasks_at place at lines
+
+-- All go to one of so many shares.
+abbrev pub AreWithin : Place → ℕ → Type 0
+AreWithin place count = (name : Option ℕ) → place name < count
+
+-- A phase's lines and loaders are dealt to shares.
+pub record AreDealt (place : Place) (shared : LockState) (shares : List Share) (lines : List Line) (loaders : List (ℕ × LoaderView)) : Type 0 where
+  pub ready : All (IsReady shared) shares
+  pub count : shared.seats ≡ length shares
+  pub within : AreWithin place (length shares)
+  pub apart : AreApart place shares
+  pub here : AreHere place shares loaders
+  pub tasks : HaveTasks place shares lines
+
+-- Each line asks a step.
+abbrev pub AreSteps : List Line → Type 0
+AreSteps lines = All (λ (line : Line). (step : Step) × (step_of line.command ≡ Some step)) lines
+
+-- Each share has a reply to each of its tasks, which are those of the lines that go to it.
+abbrev pub AreAnswered : Place → List Share → List Line → Type 0
+AreAnswered place shares lines =
+    (at : ℕ) (share : Share) → slice_get shares at ≡ Some share → (share.tasks.items ≡ tasks_at place at lines) × (vec_len share.replies ≡ vec_len share.tasks)
+
+-- What was said in a phase is, for each share, what was said in it.
+abbrev pub AreMerged : Place → List Share → List Said → Type 0
+AreMerged place shares said =
+    (at : ℕ) (share : Share) → slice_get shares at ≡ Some share → filter (λ (s : Said). place (loader_of s.0) == at) said ≡ said_in share.tasks.items share.replies.items
+
+-- The loaders of all shares are together, each as it is in its share.
+abbrev pub IsGathered : Place → List Share → List (ℕ × LoaderState) → Type 0
+IsGathered place shares loaders =
+    (at : ℕ) (share : Share) (name : ℕ) → slice_get shares at ≡ Some share → place (Some name) ≡ at → named loaders name ≡ named (states_of share.loaders) name

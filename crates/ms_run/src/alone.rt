@@ -1,0 +1,88 @@
+//! A trace run by one worker: the caller itself, line by line, over one system.
+//!
+//! Kept true: each line has one answer, in the trace's order. Takes memory; nothing waits.
+ghost use Rattle.std.specs.Prelude.{◌≡◌, IfOk, OnOk, None, [], ◌∷◌, ◌++◌};
+ghost use Rattle.ms_base.specs.State.{Machine, empty_machine, limits_of};
+ghost use Rattle.ms_loaders.specs.declared.replies.Answer.{Answer as AnswerOf};
+ghost use Rattle.ms_trace.specs.Steps.{step_of};
+ghost use Rattle.ms_run.specs.Replay.{Answers, IsEnd, Reports};
+
+use crate::gate::Gate;
+use ms_base::{Reply, Settings};
+use ms_loaders::{Answer, Replies, System, Totals};
+use ms_trace::{Command, Line};
+use std::alloc::{AllocError, Global};
+
+/// Answers the lines in their order, from a system without loaders on.
+pub fn answer_all<G: Gate>(
+    alloc: Global,
+    gate: &G,
+    settings: Settings,
+    lines: &[Line],
+) -> Result<Replies, AllocError>
+    ensures { IfOk result (λ replies. (last : Machine) × Answers
+        (empty_machine (limits_of settings)) lines.now replies.answers.items last) }
+{
+    let mut system = System::new(alloc, settings)?;
+    // Room for all answers, so that no push takes memory once a step is done.
+    let mut answers = Vec::with_capacity(alloc, lines.len())?;
+    for line in lines {
+        answer_line(gate, &mut system, line, &mut answers)?;
+    }
+    Ok(Replies { answers })
+}
+
+/// Answers a line: one that asks a step between the gate's two calls.
+fn answer_line<G: Gate>(
+    gate: &G,
+    system: &mut System,
+    line: &Line,
+    answers: &mut Vec<Answer>,
+) -> Result<(), AllocError>
+    ensures { OnOk result ((added : AnswerOf)
+        × (answers.new.items ≡ answers.old.items ++ added ∷ [])
+        × Answers system.old (line.now ∷ []) (added ∷ []) system.new) }
+{
+    let Command::Step(step) = line.command else {
+        return answer_between(system, line, answers);
+    };
+    gate.before(0, line.number);
+    let reply = system.step(step);
+    answers.push(Answer {
+        line: line.number,
+        reply,
+        report: None,
+    })?;
+    gate.after(0, line.number, 0);
+    Ok(())
+}
+
+/// Answers a line that asks no step: a report with the totals as they are.
+pub(crate) fn answer_between(
+    system: &System,
+    line: &Line,
+    answers: &mut Vec<Answer>,
+) -> Result<(), AllocError>
+    requires { step_of line.now.command ≡ None }
+    ensures { OnOk result ((added : AnswerOf)
+        × (answers.new.items ≡ answers.old.items ++ added ∷ [])
+        × IsEnd system.now line.now added) }
+{
+    let report = report_for(system, line.command)?;
+    answers.push(Answer {
+        line: line.number,
+        reply: Reply::Ok,
+        report,
+    })?;
+    Ok(())
+}
+
+/// Gathers the totals where a command asks for them.
+fn report_for(system: &System, command: Command) -> Result<Option<Totals>, AllocError>
+    ensures { IfOk result (λ report. Reports command system.now report) }
+{
+    match command {
+        Command::Report => Ok(Some(system.totals()?)),
+        Command::Step(_) | Command::Sync => Ok(None),
+    }
+}

@@ -1,0 +1,264 @@
+//! Dealing a phase's lines and all loaders to shares, a share for each worker that has lines.
+//!
+//! Kept true: lines and loader of one name are in one share, whose seat serves the loader. The first
+//! share's seat serves all at first, and hands each account on. Takes memory for seats, lists of tasks
+//! and of replies, and places of loaders; nothing waits.
+ghost use Rattle.std.specs.Prelude.{◌≡◌, ◌++◌, ◌∷◌, [], ◌≤◌, IfOk, IfErr, OnOk, vec_len, vec_capacity, ◌<◌, ◌≢◌, ℕ, Some, slice_get};
+ghost use Rattle.std.specs.List.{filter};
+ghost use Rattle.std.specs.Map.{keys_of};
+ghost use Rattle.ms_base.specs.Names.{AreNamed};
+ghost use Rattle.ms_loaders.specs.Settles.{MaySettle, open_accounts, accounts_in};
+ghost use Rattle.ms_run.specs.Replay.{IsWanting};
+ghost use Rattle.ms_run.specs.Turn.{shares_in, place_in};
+ghost use Rattle.ms_run.specs.Shares.{AreDealt, AreSteps, tasks_of};
+ghost use Rattle.ms_run.specs.Dealing.{AreListed, AreEmpty, AreAdded, AreBeside, IsHanded, AreHanded, AreSeats, AreDealtTo, is_placed};
+
+use crate::fault::RunFault;
+use crate::share::{Share, Task};
+use crate::turn::{Turn, loader_named};
+use ms_loaders::Loaders;
+use ms_pool::Pool;
+use ms_shared::{PoolSeat, SharedPool};
+use ms_trace::{Command, Line};
+use std::alloc::{AllocError, Global};
+use std::mem;
+
+/// A seat, and the loaders that it serves.
+#[derive(Drop)]
+struct Crew {
+    seat: PoolSeat,
+    loaders: Loaders,
+}
+
+/// Deals lines and loaders to shares over one lock. An error means that memory was wanting.
+pub fn deal(
+    alloc: Global,
+    turn: &Turn,
+    lines: &[Line],
+    pool: Pool,
+    loaders: Loaders,
+) -> Result<(SharedPool, Vec<Share>), RunFault>
+    requires fits { MaySettle pool loaders }
+    requires all { open_accounts pool ≡ accounts_in loaders }
+    requires names { AreNamed loaders }
+    requires steps { AreSteps lines.now }
+    ensures dealt { IfOk result (λ made. AreDealt (place_in turn.now) made.0 made.1.items lines.now loaders) }
+    ensures count { IfOk result (λ made. vec_len made.1 ≡ shares_in turn.now) }
+    ensures limits { IfOk result (λ made. made.0.limits ≡ pool.limits) }
+    ensures wanting { IfErr result IsWanting }
+{
+    let count = turn.shares();
+    let Ok((shared, seats)) = SharedPool::new(alloc, pool, count) else {
+        return Err(RunFault::OutOfMemory);
+    };
+    let shares = deal_to(alloc, turn, lines, &shared, seats, loaders)?;
+    // That each place is within the shares is learnt here.
+    let _ = turn.place(None);
+    Ok((shared, shares))
+}
+
+/// Deals lines and loaders to a share for each seat, of which the first serves all loaders.
+fn deal_to(
+    alloc: Global,
+    turn: &Turn,
+    lines: &[Line],
+    shared: &SharedPool,
+    mut seats: Vec<PoolSeat>,
+    loaders: Loaders,
+) -> Result<Vec<Share>, RunFault>
+    requires count { vec_len seats ≡ shares_in turn.now }
+    requires seats { AreSeats shared.now seats.items loaders }
+    requires names { AreNamed loaders }
+    ensures dealt { IfOk result (λ shares.
+        AreDealtTo (place_in turn.now) shared.now (vec_len seats) lines.now loaders shares.items) }
+    ensures wanting { IfErr result IsWanting }
+{
+    let mut shares = Vec::with_capacity(alloc, seats.len())?;
+    let mut lists = deal_lines(alloc, turn, lines, seats.len())?;
+    let seat = seats.remove(0);
+    let mut first = Crew { seat, loaders };
+    for seat in seats {
+        let at = shares.len() + 1;
+        let loaders = Loaders::new(alloc);
+        let mut crew = Crew { seat, loaders };
+        hand_all(alloc, turn, shared, at, &mut first, &mut crew)?;
+        let tasks = take_list(alloc, &mut lists, at);
+        let share = make_share(alloc, turn, at, tasks, crew)?;
+        shares.push_reserved(share);
+    }
+    let tasks = take_list(alloc, &mut lists, 0);
+    let share = make_share(alloc, turn, 0, tasks, first)?;
+    match shares.insert(0, share) {
+        Ok(()) => Ok(shares),
+        Err(_) => Err(RunFault::OutOfMemory),
+    }
+}
+
+/// Makes the share of a place, with room for its replies.
+fn make_share(
+    alloc: Global,
+    turn: &Turn,
+    at: usize,
+    tasks: Vec<Task>,
+    crew: Crew,
+) -> Result<Share, RunFault>
+    ensures seat { IfOk result (λ share. share.seat ≡ crew.seat) }
+    ensures loaders { IfOk result (λ share. share.loaders ≡ crew.loaders) }
+    ensures tasks { IfOk result (λ share. share.tasks.items ≡ tasks.items) }
+    ensures room { IfOk result (λ share. vec_len share.tasks ≤ vec_capacity share.replies) }
+    ensures none { IfOk result (λ share. share.replies.items ≡ []) }
+    ensures wanting { IfErr result IsWanting }
+{
+    let replies = Vec::with_capacity(alloc, tasks.len())?;
+    let Crew { seat, loaders } = crew;
+    let worker = turn.worker(at);
+    Ok(Share {
+        worker,
+        seat,
+        loaders,
+        tasks,
+        replies,
+    })
+}
+
+/// Lists the tasks of each share, in the order of the lines.
+fn deal_lines(
+    alloc: Global,
+    turn: &Turn,
+    lines: &[Line],
+    count: usize,
+) -> Result<Vec<Vec<Task>>, AllocError>
+    requires count { count ≡ shares_in turn.now }
+    ensures listed { IfOk result (λ lists. AreListed (place_in turn.now) lines.now lists.items) }
+    ensures count { IfOk result (λ lists. vec_len lists ≡ count) }
+{
+    let mut lists = empty_lists(alloc, count)?;
+    for line in lines {
+        add_task(turn, *line, &mut lists)?;
+    }
+    Ok(lists)
+}
+
+/// Makes so many lists of no task.
+fn empty_lists(alloc: Global, count: usize) -> Result<Vec<Vec<Task>>, AllocError>
+    ensures listed { IfOk result (λ lists. AreEmpty lists.items) }
+    ensures count { IfOk result (λ lists. vec_len lists ≡ count) }
+{
+    let mut lists = Vec::with_capacity(alloc, count)?;
+    for _ in 0..count {
+        lists.push_reserved(Vec::new(alloc));
+    }
+    Ok(lists)
+}
+
+/// Adds the task of a line to the list of the share that it goes to.
+fn add_task(turn: &Turn, line: Line, lists: &mut Vec<Vec<Task>>) -> Result<(), AllocError>
+    requires count { vec_len lists.old ≡ shares_in turn.now }
+    ensures count { vec_len lists.new ≡ vec_len lists.old }
+    ensures added { OnOk result
+        (AreAdded (tasks_of (line ∷ [])) (place_in turn.now) lists.old.items lists.new.items) }
+{
+    let Command::Step(step) = line.command else {
+        return Ok(());
+    };
+    let at = turn.place(loader_named(&step));
+    lists[at].push(Task {
+        line: line.number,
+        step,
+    })?;
+    Ok(())
+}
+
+/// Takes the list of a share out, and leaves an empty one.
+fn take_list(alloc: Global, lists: &mut Vec<Vec<Task>>, at: usize) -> Vec<Task>
+    requires within { at < vec_len lists.old }
+    ensures taken { slice_get lists.old.items at ≡ Some result }
+    ensures count { vec_len lists.new ≡ vec_len lists.old }
+    ensures others { (other : ℕ) → other ≢ at
+        → slice_get lists.new.items other ≡ slice_get lists.old.items other }
+{
+    mem::replace(&mut lists[at], Vec::new(alloc))
+}
+
+/// Hands on all loaders that are of a place, to a crew that has none.
+fn hand_all(
+    alloc: Global,
+    turn: &Turn,
+    shared: &SharedPool,
+    at: usize,
+    from: &mut Crew,
+    to: &mut Crew,
+) -> Result<(), RunFault>
+    requires own { from.old.seat.id ≡ shared.now.id }
+    requires to_own { to.old.seat.id ≡ shared.now.id }
+    requires beside { AreBeside from.old.seat.knows from.old.loaders to.old.seat.knows to.old.loaders }
+    requires none { to.old.loaders ≡ [] }
+    ensures own { from.new.seat.id ≡ shared.now.id }
+    ensures to_own { to.new.seat.id ≡ shared.now.id }
+    ensures beside { OnOk result
+        (AreBeside from.new.seat.knows from.new.loaders to.new.seat.knows to.new.loaders) }
+    ensures handed { OnOk result
+        (AreHanded (place_in turn.now) at from.old.loaders from.new.loaders to.new.loaders) }
+    ensures wanting { IfErr result IsWanting }
+{
+    let names = names_at(alloc, turn, &from.loaders, at)?;
+    for name in names {
+        hand_on(shared, name, from, to)?;
+    }
+    Ok(())
+}
+
+/// Lists the names of the loaders that are of a place.
+fn names_at(
+    alloc: Global,
+    turn: &Turn,
+    loaders: &Loaders,
+    at: usize,
+) -> Result<Vec<u16>, AllocError>
+    ensures { IfOk result
+        (λ names. names.items ≡ filter (is_placed (place_in turn.now) at) (keys_of loaders.now)) }
+{
+    let mut names = Vec::new(alloc);
+    for (name, _) in loaders.iter() {
+        add_name(turn, at, *name, &mut names)?;
+    }
+    Ok(names)
+}
+
+/// Adds a name, where it is of the place.
+fn add_name(turn: &Turn, at: usize, name: u16, names: &mut Vec<u16>) -> Result<(), AllocError>
+    ensures { OnOk result
+        (names.new.items
+        ≡ names.old.items ++ filter (is_placed (place_in turn.now) at) (name ∷ [])) }
+{
+    if turn.place(Some(name)) != at {
+        return Ok(());
+    }
+    names.push(name)?;
+    Ok(())
+}
+
+/// Hands the loader of a name on, where there is one: both of its accounts, then itself.
+fn hand_on(shared: &SharedPool, name: u16, from: &mut Crew, to: &mut Crew) -> Result<(), RunFault>
+    requires own { from.old.seat.id ≡ shared.now.id }
+    requires to_own { to.old.seat.id ≡ shared.now.id }
+    requires beside { AreBeside from.old.seat.knows from.old.loaders to.old.seat.knows to.old.loaders }
+    ensures own { from.new.seat.id ≡ shared.now.id }
+    ensures to_own { to.new.seat.id ≡ shared.now.id }
+    ensures beside { OnOk result
+        (AreBeside from.new.seat.knows from.new.loaders to.new.seat.knows to.new.loaders) }
+    ensures handed { OnOk result
+        (IsHanded name from.old.loaders to.old.loaders from.new.loaders to.new.loaders) }
+    ensures wanting { IfErr result IsWanting }
+{
+    let Some(loader) = from.loaders.remove(name) else {
+        return Ok(());
+    };
+    let (account, class_account) = loader.accounts();
+    shared.hand(&mut from.seat, &mut to.seat, account);
+    shared.hand(&mut from.seat, &mut to.seat, class_account);
+    let Ok(()) = to.loaders.insert(name, loader) else {
+        return Err(RunFault::OutOfMemory);
+    };
+    Ok(())
+}

@@ -1,0 +1,131 @@
+//! Gathering the shares of a phase: the pool comes out of its lock, the loaders come together, and
+//! both are settled.
+//!
+//! Kept true: each seat counts just the accounts of its share's loaders, so settling is never
+//! refused, and no name is in two shares. Takes memory for seats and for places of loaders; nothing
+//! waits.
+ghost use Rattle.std.specs.Prelude.{◌≡◌, ◌≤◌, [], IsOk, IfOk, IfErr, map, vec_len};
+ghost use Rattle.std.specs.List.{All};
+ghost use Rattle.ms_base.specs.declared.refusal.Refusal.TheVariants as Refusal;
+ghost use Rattle.ms_base.specs.Good.{IsGood};
+ghost use Rattle.ms_loaders.specs.Settles.{MaySettle, open_accounts, accounts_in};
+ghost use Rattle.ms_loaders.specs.System.{machine_of};
+ghost use Rattle.ms_shared.specs.SeatView.{SeatState, Gathers};
+ghost use Rattle.ms_run.specs.Joined.{HaveOtherNames, IsJoined, AreJoined, seat_of};
+ghost use Rattle.ms_run.specs.Joined.{IsWantOrUnsettled};
+ghost use Rattle.ms_run.specs.Manned.{IsManned};
+ghost use Rattle.ms_run.specs.Replay.{IsWanting};
+ghost use Rattle.ms_run.specs.Shares.{Place, AreApart, IsGathered};
+ghost use Rattle.ms_run.specs.declared.share.Share.{Share as ShareState};
+
+use crate::fault::RunFault;
+use crate::share::Share;
+use ms_base::Refusal;
+use ms_loaders::{Loaders, System};
+use ms_pool::Pool;
+use ms_shared::{PoolSeat, SharedPool};
+use std::alloc::Global;
+
+/// Gathers the shares that stand over the lock. An error means that memory was wanting.
+pub fn gather(alloc: Global, shared: SharedPool, shares: Vec<Share>) -> Result<System, RunFault>
+    requires own { All (λ (share : ShareState). share.seat.id ≡ shared.id) shares.items }
+    requires manned { All (λ (share : ShareState). IsManned share.seat.knows share.loaders)
+        shares.items }
+    requires count { shared.seats ≡ vec_len shares }
+    requires apart { (place : Place) × AreApart place shares.items }
+    ensures gathered { IfOk result (λ system. (place : Place) → AreApart place shares.items
+        → IsGathered place shares.items system.loaders) }
+    ensures good { IfOk result IsGood }
+    ensures limits { IfOk result (λ system. system.limits ≡ shared.limits) }
+    ensures wanting { IfErr result IsWanting }
+{
+    let (seats, loaders) = take_apart(alloc, shares)?;
+    let pool = open(shared, seats)?;
+    // What holds of every pool is learnt here.
+    let _ = pool.committed();
+    settle(alloc, pool, loaders)
+}
+
+/// Gives the pool out of its lock, to which all seats are given back.
+fn open(shared: SharedPool, seats: Vec<PoolSeat>) -> Result<Pool, RunFault>
+    requires own { All (λ (seat : SeatState). seat.id ≡ shared.id) seats.items }
+    requires count { shared.seats ≡ vec_len seats }
+    ensures opens { IsOk result }
+    ensures gathered { IfOk result (λ pool. Gathers seats.items pool) }
+    ensures limits { IfOk result (λ pool. pool.limits ≡ shared.limits) }
+{
+    match shared.into_pool(seats) {
+        Ok(pool) => Ok(pool),
+        Err((refusal, _shared, _seats)) => Err(fault_of(refusal)),
+    }
+}
+
+/// Settles the pool with all loaders, which have all its accounts.
+fn settle(alloc: Global, pool: Pool, loaders: Loaders) -> Result<System, RunFault>
+    requires fits { MaySettle pool loaders }
+    requires all { open_accounts pool ≤ accounts_in loaders }
+    ensures settles { IsOk result }
+    ensures machine { IfOk result (λ system. system ≡ machine_of pool loaders) }
+    ensures good { IfOk result IsGood }
+{
+    match System::settle(alloc, pool, loaders) {
+        Ok(system) => Ok(system),
+        Err((refusal, _pool, _loaders)) => Err(fault_of(refusal)),
+    }
+}
+
+/// Takes the seats and the loaders out of the shares, and puts the loaders together.
+fn take_apart(alloc: Global, shares: Vec<Share>) -> Result<(Vec<PoolSeat>, Loaders), RunFault>
+    requires { (place : Place) × AreApart place shares.items }
+    ensures seats { IfOk result (λ parts. parts.0.items ≡ map seat_of shares.items) }
+    ensures loaders { IfOk result (λ parts. AreJoined [] shares.items parts.1) }
+    ensures wanting { IfErr result IsWanting }
+{
+    let mut seats = Vec::with_capacity(alloc, shares.len())?;
+    let mut loaders = Loaders::new(alloc);
+    for share in shares {
+        seats.push_reserved(share.seat);
+        loaders = join(loaders, share.loaders)?;
+    }
+    Ok((seats, loaders))
+}
+
+/// Puts two lists of loaders together: the fewer come to the others.
+fn join(whole: Loaders, part: Loaders) -> Result<Loaders, RunFault>
+    requires { HaveOtherNames whole part }
+    ensures joined { IfOk result (λ joined. IsJoined whole part joined) }
+    ensures wanting { IfErr result IsWanting }
+{
+    if whole.len() < part.len() {
+        return insert_all(part, whole);
+    }
+    insert_all(whole, part)
+}
+
+/// Moves the loaders of a part to the others, one by one. Takes memory for each.
+fn insert_all(mut whole: Loaders, mut part: Loaders) -> Result<Loaders, RunFault>
+    requires { HaveOtherNames whole part }
+    ensures joined { IfOk result (λ joined. IsJoined whole part joined) }
+    ensures wanting { IfErr result IsWanting }
+{
+    // That names rise is learnt here.
+    let _ = part.len();
+    while let Some((name, loader)) = part.pop_first() {
+        if let Err((refusal, _loader)) = whole.insert(name, loader) {
+            return Err(fault_of(refusal));
+        }
+    }
+    Ok(whole)
+}
+
+/// Tells the fault that a refusal at the end of a phase is.
+fn fault_of(refusal: Refusal) -> RunFault
+    requires { IsWantOrUnsettled refusal }
+    ensures { refusal ≡ Refusal.OutOfMemory → IsWanting result }
+{
+    match refusal {
+        Refusal::Unsettled { opened, gathered } => RunFault::Unsettled { opened, gathered },
+        Refusal::OutOfMemory => RunFault::OutOfMemory,
+        _ => unreachable!(),
+    }
+}

@@ -1,0 +1,60 @@
+//! Merging the replies of a phase's shares: an answer to each line, in the trace's order.
+//!
+//! Kept true: of each share, as many replies are taken as it had lines so far. Takes memory for the
+//! answers, and for a number for each share; nothing waits.
+ghost use Rattle.std.specs.Prelude.{◌≡◌, ◌<◌, ◌++◌, List, OnOk, Some, vec_len};
+ghost use Rattle.ms_base.specs.declared.step.Step.{Step as Asked};
+ghost use Rattle.ms_base.specs.Request.{loader_of};
+ghost use Rattle.ms_trace.specs.Steps.{step_of};
+ghost use Rattle.ms_loaders.specs.declared.replies.Answer.{Answer};
+ghost use Rattle.ms_run.specs.Replay.{AreSaid};
+ghost use Rattle.ms_run.specs.Own.{Said};
+ghost use Rattle.ms_run.specs.Turn.{shares_in, place_in};
+ghost use Rattle.ms_run.specs.Shares.{AreAnswered, AreMerged, AreSteps};
+
+use crate::share::Share;
+use crate::turn::{Turn, loader_named};
+use ms_loaders::Answer;
+use ms_trace::{Command, Line};
+use std::alloc::AllocError;
+
+/// Appends an answer to each line, with the reply in its share.
+pub fn merge(
+    turn: &Turn,
+    lines: &[Line],
+    shares: &Vec<Share>,
+    answers: &mut Vec<Answer>,
+) -> Result<(), AllocError>
+    requires count { vec_len shares.now ≡ shares_in turn.now }
+    requires answered { AreAnswered (place_in turn.now) shares.now.items lines.now }
+    requires steps { AreSteps lines.now }
+    ensures { OnOk result ((added : List Answer) × (said : List Said)
+        × (answers.new.items ≡ answers.old.items ++ added) × AreSaid lines.now added said
+        × AreMerged (place_in turn.now) shares.now.items said) }
+{
+    let mut taken = vec![in *answers.allocator(); 0; shares.len()]?;
+    for line in lines {
+        let place = place_of(turn, line);
+        let next = taken[place];
+        let reply = shares[place].replies[next];
+        taken[place] = next + 1;
+        answers.push(Answer {
+            line: line.number,
+            reply,
+            report: None,
+        })?;
+    }
+    Ok(())
+}
+
+/// Tells which share has a line's reply; a line that asks no step goes where purges go.
+fn place_of(turn: &Turn, line: &Line) -> usize
+    ensures place { (step : Asked) → step_of line.now.command ≡ Some step
+        → result ≡ place_in turn.now (loader_of step) }
+    ensures within { result < shares_in turn.now }
+{
+    match line.command {
+        Command::Step(step) => turn.place(loader_named(&step)),
+        Command::Sync | Command::Report => turn.place(None),
+    }
+}

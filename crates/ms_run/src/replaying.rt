@@ -1,0 +1,86 @@
+//! Replaying a trace: by the caller alone, or phase by phase on threads.
+ghost use Rattle.std.specs.Prelude.{◌≡◌, ◌≤◌, ℕ, IfOk, IfErr, Some, None, length, take, slice_get};
+ghost use Rattle.ms_base.specs.State.{Machine, empty_machine, limits_of};
+ghost use Rattle.ms_trace.specs.declared.trace.Line.{Line as LineOf};
+ghost use Rattle.ms_trace.specs.Steps.{step_of};
+ghost use Rattle.ms_run.specs.Replay.{IsReplay, Answers, IsWanting};
+ghost use Rattle.ms_run.specs.Shares.{AreSteps};
+
+use crate::alone::{answer_all, answer_between};
+use crate::fault::RunFault;
+use crate::gate::Gate;
+use crate::phase::run_phase;
+use crate::turn::Turn;
+use ms_base::Settings;
+use ms_loaders::{Replies, System};
+use ms_trace::{Command, Line, Trace};
+use std::alloc::Global;
+use std::sync::Wait;
+use std::thread::Threads;
+
+/// Replays a trace with as many workers as the settings say, and answers each of its lines.
+pub fn replay<R: Threads + Wait + Sync, G: Gate + Sync>(
+    rt: &R,
+    alloc: Global,
+    trace: &Trace,
+    settings: Settings,
+    gate: &G,
+) -> Result<Replies, RunFault>
+    ensures own { IfOk result (λ replies. IsReplay (limits_of settings) trace.now.lines
+        replies.answers.items) }
+    ensures run { settings.workers ≡ 1 → IfOk result (λ replies. (last : Machine) × Answers
+        (empty_machine (limits_of settings)) trace.now.lines replies.answers.items last) }
+    ensures wanting { IfErr result IsWanting }
+{
+    let lines = trace.lines.as_slice();
+    if settings.workers != 1 {
+        return run_phases(rt, alloc, gate, settings, lines);
+    }
+    let replies = answer_all(alloc, gate, settings, lines)?;
+    Ok(replies)
+}
+
+/// Runs the lines phase by phase, from a system without loaders on.
+fn run_phases<R: Threads + Wait + Sync, G: Gate + Sync>(
+    rt: &R,
+    alloc: Global,
+    gate: &G,
+    settings: Settings,
+    lines: &[Line],
+) -> Result<Replies, RunFault>
+    ensures own { IfOk result (λ replies. IsReplay (limits_of settings) lines.now
+        replies.answers.items) }
+    ensures wanting { IfErr result IsWanting }
+{
+    let mut turn = Turn::new(alloc, settings, lines)?;
+    let mut system = System::new(alloc, settings)?;
+    let mut answers = Vec::with_capacity(alloc, lines.len())?;
+    let mut at = 0;
+    while at < lines.len() {
+        let count = steps_first(&lines[at..]);
+        let steps = &lines[at..at + count];
+        system = run_phase(rt, alloc, gate, &mut turn, steps, system, &mut answers)?;
+        at += count;
+        if at < lines.len() {
+            answer_between(&system, &lines[at], &mut answers)?;
+            at += 1;
+        }
+        turn.go_on();
+    }
+    Ok(Replies { answers })
+}
+
+/// Tells how many of the first lines ask steps, up to one that asks none.
+fn steps_first(lines: &[Line]) -> usize
+    ensures within { result ≤ length lines.now }
+    ensures steps { AreSteps (take result lines.now) }
+    ensures stops { (line : LineOf) → slice_get lines.now result ≡ Some line
+        → step_of line.command ≡ None }
+{
+    for (count, line) in lines.iter().enumerate() {
+        let Command::Step(_) = line.command else {
+            return count;
+        };
+    }
+    lines.len()
+}

@@ -1,0 +1,129 @@
+//! The work on the shares of a phase, each in a thread of its own, or an only one by the caller.
+//!
+//! Kept true: a share is worked by one thread, in the order of its tasks, and there is room for each
+//! reply before its thread starts. Takes memory for the threads and their results; waits for the lock,
+//! and for the threads to end.
+ghost use Rattle.std.specs.Prelude.{◌≡◌, ◌≤◌, ℕ, IfOk, IfErr, vec_len};
+ghost use Rattle.std.specs.List.{All};
+ghost use Rattle.ms_run.specs.Replay.{IsWanting};
+ghost use Rattle.ms_run.specs.Shares.{IsReady, IsWorked, AllWorked};
+
+use crate::fault::RunFault;
+use crate::gate::Gate;
+use crate::serving::answer;
+use crate::share::Share;
+use ms_shared::SharedPool;
+use std::alloc::Global;
+use std::snapshot::Snapshot;
+use std::sync::Wait;
+use std::thread;
+use std::thread::{Promise, Threads};
+
+/// That a thread works the share that was handed to it.
+#[derive(Drop)]
+struct WorkOf(Snapshot<Share>);
+
+impl Promise<Share> for WorkOf {
+    ghost use Rattle.ms_run.specs.Shares.{IsWorked};
+
+    ghost kept_by = { λ work done. IsWorked work.0.value done };
+}
+
+/// Works all shares: an only one by the caller itself, more by a thread each. An error means that
+/// memory or a thread was wanting; then what was worked is lost. Takes memory.
+pub fn work_all<R: Threads + Wait + Sync, G: Gate + Sync>(
+    rt: &R,
+    alloc: Global,
+    shared: &SharedPool,
+    gate: &G,
+    shares: Vec<Share>,
+) -> Result<Vec<Share>, RunFault>
+    requires { All (IsReady shared.now) shares.items }
+    ensures worked { IfOk result (λ done. AllWorked shares.items done.items) }
+    ensures wanting { IfErr result IsWanting }
+{
+    if shares.len() == 1 {
+        return Ok(work_alone(rt, alloc, shared, gate, shares));
+    }
+    thread::scope(
+        thread::scope_env(),
+        rt,
+        |scope| -> Result<Vec<Share>, RunFault>
+            requires { All (IsReady shared.now) shares.items }
+            ensures worked { IfOk result (λ done. AllWorked shares.items done.items) }
+            ensures wanting { IfErr result IsWanting }
+        {
+            let mut handles = Vec::with_capacity(alloc, shares.len())?;
+            for share in shares {
+                let work_of = WorkOf(Snapshot::of(&share));
+                let started = scope.spawn_with(
+                    work_of,
+                    move || -> Share
+                        requires { IsReady shared.now share }
+                        ensures { IsWorked share result }
+                    { work(rt, alloc, shared, gate, share) },
+                );
+                match started {
+                    Ok(handle) => handles.push_reserved(handle),
+                    Err(_) => return Err(RunFault::NoThread),
+                }
+            }
+            match thread::join_promised(rt, handles) {
+                Ok(done) => Ok(done),
+                Err(_) => Err(RunFault::OutOfMemory),
+            }
+        },
+    )
+}
+
+/// Works the only share, in no other thread.
+fn work_alone<R: Wait, G: Gate>(
+    rt: &R,
+    alloc: Global,
+    shared: &SharedPool,
+    gate: &G,
+    mut shares: Vec<Share>,
+) -> Vec<Share>
+    requires one { vec_len shares ≡ 1 }
+    requires ready { All (IsReady shared.now) shares.items }
+    ensures { AllWorked shares.items result.items }
+{
+    if let Some(share) = shares.pop() {
+        shares.push_reserved(work(rt, alloc, shared, gate, share));
+    }
+    shares
+}
+
+/// Works a share.
+fn work<R: Wait, G: Gate>(
+    rt: &R,
+    alloc: Global,
+    shared: &SharedPool,
+    gate: &G,
+    share: Share,
+) -> Share
+    requires { IsReady shared.now share }
+    ensures { IsWorked share result }
+{
+    let Share {
+        worker,
+        seat,
+        mut loaders,
+        tasks,
+        mut replies,
+    } = share;
+    let mut pool = shared.at(rt, seat);
+    for task in &tasks {
+        gate.before(worker, task.line);
+        let reply = answer(alloc, &mut pool, &mut loaders, task.step);
+        replies.push_reserved(reply);
+        gate.after(worker, task.line, 0);
+    }
+    Share {
+        worker,
+        seat: pool.into_seat(),
+        loaders,
+        tasks,
+        replies,
+    }
+}
