@@ -6,7 +6,8 @@ pub trait Gate {
     /// Is called before a line: by which worker, from 0 on, and the line's number, from 1 on.
     fn before(&self, worker: usize, line: u32);
 
-    /// Is called after it.
+    /// Is called after it, with the words in use as far as the worker can tell without the lock: 0 as
+    /// long as no meter counts them.
     fn after(&self, worker: usize, line: u32, used: u64);
 }
 

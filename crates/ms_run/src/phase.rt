@@ -2,6 +2,9 @@
 //!
 //!     System ── deal ──> shares ── work_all ──> shares ── gather ──> System
 //!                                                   └──── merge ───> answers
+//!
+//! Kept true: the system is good before and after, and nothing of it is lost between. Takes memory;
+//! waits for the lock and for threads. A phase without lines changes nothing.
 ghost use Rattle.std.specs.Prelude.{◌≡◌, ◌++◌, ℕ, List, IfOk, IfErr};
 ghost use Rattle.ms_base.specs.Good.{IsGood};
 ghost use Rattle.ms_loaders.specs.declared.replies.Answer.{Answer as AnswerOf};

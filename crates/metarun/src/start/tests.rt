@@ -44,7 +44,11 @@ impl Read for Untouchable {
 }
 
 /// Expects a command line to be refused with a text that begins so, and nothing to be read.
-fn expect_refused(rt: &(impl Abort + AllocGlobal + Threads + Wait + Sync), words: &[&str], beginning: &str) {
+fn expect_refused(
+    rt: &(impl Abort + AllocGlobal + Threads + Wait + Sync),
+    words: &[&str],
+    beginning: &str,
+) {
     let mut input = Untouchable { touched: false };
     let mut out = Vec::new(rt.alloc());
     let mut err = Vec::new(rt.alloc());
@@ -121,7 +125,11 @@ fn a_bad_command_line_is_refused_before_anything_is_read(rt: HostRuntime) {
 }
 
 /// Compares the options that a command line asks for.
-fn expect_options(rt: &(impl Abort + AllocGlobal + Threads + Wait + Sync), words: &[&str], options: Options) {
+fn expect_options(
+    rt: &(impl Abort + AllocGlobal + Threads + Wait + Sync),
+    words: &[&str],
+    options: Options,
+) {
     let answered = options_of(rt.alloc(), words);
     match answered {
         Ok(asked) => assert!(rt; asked == options),
