@@ -8,7 +8,6 @@ ghost use Rattle.std.specs.List.{filter};
 ghost use Rattle.std.specs.Map.{keys_of};
 ghost use Rattle.ms_base.specs.Names.{AreNamed};
 ghost use Rattle.ms_loaders.specs.Settles.{MaySettle, open_accounts, accounts_in};
-ghost use Rattle.ms_run.specs.Replay.{IsWanting};
 ghost use Rattle.ms_run.specs.Turn.{shares_in, place_in};
 ghost use Rattle.ms_run.specs.Shares.{AreDealt, AreSteps, tasks_of};
 ghost use Rattle.ms_run.specs.Dealing.{AreListed, AreEmpty, AreAdded, AreBeside, IsHanded, AreHanded, AreSeats, AreDealtTo, is_placed};
@@ -45,7 +44,7 @@ pub fn deal(
     ensures dealt { IfOk result (λ made. AreDealt (place_in turn.now) made.0 made.1.items lines.now loaders) }
     ensures count { IfOk result (λ made. vec_len made.1 ≡ shares_in turn.now) }
     ensures limits { IfOk result (λ made. made.0.limits ≡ pool.limits) }
-    ensures wanting { IfErr result IsWanting }
+    ensures wanting { IfErr result (λ fault. fault ≡ RunFault.OutOfMemory) }
 {
     let count = turn.shares();
     let Ok((shared, seats)) = SharedPool::new(alloc, pool, count) else {
@@ -71,7 +70,7 @@ fn deal_to(
     requires names { AreNamed loaders }
     ensures dealt { IfOk result (λ shares.
         AreDealtTo (place_in turn.now) shared.now (vec_len seats) lines.now loaders shares.items) }
-    ensures wanting { IfErr result IsWanting }
+    ensures wanting { IfErr result (λ fault. fault ≡ RunFault.OutOfMemory) }
 {
     let mut shares = Vec::with_capacity(alloc, seats.len())?;
     let mut lists = deal_lines(alloc, turn, lines, seats.len())?;
@@ -107,7 +106,7 @@ fn make_share(
     ensures tasks { IfOk result (λ share. share.tasks.items ≡ tasks.items) }
     ensures room { IfOk result (λ share. vec_len share.tasks ≤ vec_capacity share.replies) }
     ensures none { IfOk result (λ share. share.replies.items ≡ []) }
-    ensures wanting { IfErr result IsWanting }
+    ensures wanting { IfErr result (λ fault. fault ≡ RunFault.OutOfMemory) }
 {
     let replies = Vec::with_capacity(alloc, tasks.len())?;
     let Crew { seat, loaders } = crew;
@@ -199,7 +198,7 @@ fn hand_all(
         (AreBeside from.new.seat.knows from.new.loaders to.new.seat.knows to.new.loaders) }
     ensures handed { OnOk result
         (AreHanded (place_in turn.now) at from.old.loaders from.new.loaders to.new.loaders) }
-    ensures wanting { IfErr result IsWanting }
+    ensures wanting { IfErr result (λ fault. fault ≡ RunFault.OutOfMemory) }
 {
     let names = names_at(alloc, turn, &from.loaders, at)?;
     for name in names {
@@ -249,7 +248,7 @@ fn hand_on(shared: &SharedPool, name: u16, from: &mut Crew, to: &mut Crew) -> Re
         (AreBeside from.new.seat.knows from.new.loaders to.new.seat.knows to.new.loaders) }
     ensures handed { OnOk result
         (IsHanded name from.old.loaders to.old.loaders from.new.loaders to.new.loaders) }
-    ensures wanting { IfErr result IsWanting }
+    ensures wanting { IfErr result (λ fault. fault ≡ RunFault.OutOfMemory) }
 {
     let Some(loader) = from.loaders.remove(name) else {
         return Ok(());

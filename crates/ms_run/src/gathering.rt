@@ -14,7 +14,6 @@ ghost use Rattle.ms_shared.specs.SeatView.{SeatState, Gathers};
 ghost use Rattle.ms_run.specs.Joined.{HaveOtherNames, IsJoined, AreJoined, seat_of};
 ghost use Rattle.ms_run.specs.Joined.{IsWantOrUnsettled};
 ghost use Rattle.ms_run.specs.Manned.{IsManned};
-ghost use Rattle.ms_run.specs.Replay.{IsWanting};
 ghost use Rattle.ms_run.specs.Shares.{Place, AreApart, IsGathered};
 ghost use Rattle.ms_run.specs.declared.share.Share.{Share as ShareState};
 
@@ -37,7 +36,7 @@ pub fn gather(alloc: Global, shared: SharedPool, shares: Vec<Share>) -> Result<S
         → IsGathered place shares.items system.loaders) }
     ensures good { IfOk result IsGood }
     ensures limits { IfOk result (λ system. system.limits ≡ shared.limits) }
-    ensures wanting { IfErr result IsWanting }
+    ensures wanting { IfErr result (λ fault. fault ≡ RunFault.OutOfMemory) }
 {
     let (seats, loaders) = take_apart(alloc, shares)?;
     let pool = open(shared, seats)?;
@@ -79,7 +78,7 @@ fn take_apart(alloc: Global, shares: Vec<Share>) -> Result<(Vec<PoolSeat>, Loade
     requires { (place : Place) × AreApart place shares.items }
     ensures seats { IfOk result (λ parts. parts.0.items ≡ map seat_of shares.items) }
     ensures loaders { IfOk result (λ parts. AreJoined [] shares.items parts.1) }
-    ensures wanting { IfErr result IsWanting }
+    ensures wanting { IfErr result (λ fault. fault ≡ RunFault.OutOfMemory) }
 {
     let mut seats = Vec::with_capacity(alloc, shares.len())?;
     let mut loaders = Loaders::new(alloc);
@@ -94,7 +93,7 @@ fn take_apart(alloc: Global, shares: Vec<Share>) -> Result<(Vec<PoolSeat>, Loade
 fn join(whole: Loaders, part: Loaders) -> Result<Loaders, RunFault>
     requires { HaveOtherNames whole part }
     ensures joined { IfOk result (λ joined. IsJoined whole part joined) }
-    ensures wanting { IfErr result IsWanting }
+    ensures wanting { IfErr result (λ fault. fault ≡ RunFault.OutOfMemory) }
 {
     if whole.len() < part.len() {
         return insert_all(part, whole);
@@ -106,7 +105,7 @@ fn join(whole: Loaders, part: Loaders) -> Result<Loaders, RunFault>
 fn insert_all(mut whole: Loaders, mut part: Loaders) -> Result<Loaders, RunFault>
     requires { HaveOtherNames whole part }
     ensures joined { IfOk result (λ joined. IsJoined whole part joined) }
-    ensures wanting { IfErr result IsWanting }
+    ensures wanting { IfErr result (λ fault. fault ≡ RunFault.OutOfMemory) }
 {
     // That names rise is learnt here.
     let _ = part.len();
@@ -121,7 +120,7 @@ fn insert_all(mut whole: Loaders, mut part: Loaders) -> Result<Loaders, RunFault
 /// Tells the fault that a refusal at the end of a phase is.
 fn fault_of(refusal: Refusal) -> RunFault
     requires { IsWantOrUnsettled refusal }
-    ensures { refusal ≡ Refusal.OutOfMemory → IsWanting result }
+    ensures { refusal ≡ Refusal.OutOfMemory → result ≡ RunFault.OutOfMemory }
 {
     match refusal {
         Refusal::Unsettled { opened, gathered } => RunFault::Unsettled { opened, gathered },

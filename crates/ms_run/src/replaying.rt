@@ -45,6 +45,8 @@ pub fn replay<R: Threads + Wait + Sync, G: Gate + Sync>(
     ensures run { settings.workers ≡ 1 → IfOk result (λ replies. (last : Machine) × Answers
         (empty_machine (limits_of settings)) trace.now.lines replies.answers.items last) }
     ensures wanting { IfErr result IsWanting }
+    ensures no_thread { settings.workers ≡ 1
+        → IfErr result (λ fault. fault ≡ RunFault.OutOfMemory) }
 {
     let lines = trace.lines.as_slice();
     if settings.workers != 1 {
