@@ -4,38 +4,66 @@
 
 It is a copy of the crate's code without its contracts, since a timing loop need not be proved. The numbers are in README.md.
 """
-import pathlib, re, sys
+import pathlib
+import re
+import sys
 
 here = pathlib.Path(__file__).resolve().parent.parent / 'crates/ms_blocks/src'
+
+
+def edited(name, text, old, new):
+    """Puts new for old; stops where the source has no such text any more."""
+    if old not in text:
+        sys.exit(f'{here / name} has no longer:\n{old}')
+    return text.replace(old, new)
+
+
+def without_contracts(text):
+    """Leaves out the imports that contracts alone need, and each clause up to its closing brace."""
+    kept, in_clause = [], False
+    for line in text.split('\n'):
+        if in_clause or re.match(r'\s+(requires|ensures)\b', line):
+            in_clause = not line.rstrip().endswith('}')
+        elif not line.startswith('ghost use'):
+            kept.append(line)
+    return '\n'.join(kept)
+
+
+def tree():
+    text = without_contracts((here / 'tree.rt').read_text())
+    return edited('tree.rt', text, 'use ms_base::Block;', 'use crate::Block;')
+
+
+def free_blocks():
+    name = 'free_blocks.rt'
+    text = without_contracts((here / name).read_text())
+    model = re.search(r'^impl<A: Allocator> Model for FreeBlocks<A> \{\n.*?^\}\n', text, re.M | re.S)
+    if not model:
+        sys.exit(f'{here / name} has no impl of Model that could be left out')
+    text = text.replace(model.group(), '')
+    for old, new in [
+        ('use ms_base::{Block, Refusal};', 'use crate::Block;'),
+        ('use std::marker::Model;\n', ''),
+        ('Result<(), Refusal>', 'Result<(), AllocError>'),
+        ('Err(_) => {\n                self.spare.truncate(room);\n                Err(Refusal::OutOfMemory)',
+         'Err(error) => {\n                self.spare.truncate(room);\n                Err(error)'),
+        ('unreachable!()\n        };', 'return;\n        };'),
+        ('Err(_) => unreachable!(),', 'Err(_) => None,'),
+        ('self.count += 1', 'self.count = self.count.wrapping_add(1)'),
+        ('self.count -= 1', 'self.count = self.count.wrapping_sub(1)'),
+        ('self.total += block.words', 'self.total = self.total.wrapping_add(block.words)'),
+        ('self.total -= block.words', 'self.total = self.total.wrapping_sub(block.words)'),
+        ('spare.reserve(room - spare.len())', 'spare.reserve(room.saturating_sub(spare.len()))'),
+    ]:
+        text = edited(name, text, old, new)
+    return text
+
+
 out = pathlib.Path(sys.argv[1])
 (out / 'crates/bench/src').mkdir(parents=True, exist_ok=True)
 (out / 'crates.txt').write_text('bench:\n')
-src = (here / 'tree.rt').read_text()
-fb = (here / 'free_blocks.rt').read_text()
-def strip(s):
-    out=[];skip=False
-    for l in s.split('\n'):
-        if l.startswith('ghost use'): continue
-        if skip:
-            if l.rstrip().endswith('}'): skip=False
-            continue
-        if re.match(r'\s+(requires|ensures)\b',l):
-            if not l.rstrip().endswith('}'): skip=True
-            continue
-        out.append(l)
-    return '\n'.join(out)
-src=strip(src).replace('use ms_base::Block;','use crate::Block;')
-fb=strip(fb)
-i=fb.index('impl Model'); j=fb.index('impl FreeBlocks')
-fb=fb[:i]+fb[j:]
-fb=fb.replace('use ms_base::{Block, Refusal};','use crate::Block;').replace('use std::marker::Model;\n','')
-fb=fb.replace('Result<(), Refusal>','Result<(), AllocError>').replace('Err(_) => {\n                self.spare.truncate(room);\n                Err(Refusal::OutOfMemory)','Err(e) => {\n                self.spare.truncate(room);\n                Err(e)')
-fb=fb.replace('unreachable!()\n        };','return;\n        };')
-fb=fb.replace('Err(_) => unreachable!(),','Err(_) => None,')
-fb=fb.replace('self.count += 1','self.count = self.count.wrapping_add(1)').replace('self.count -= 1','self.count = self.count.wrapping_sub(1)').replace('self.total += block.words','self.total = self.total.wrapping_add(block.words)').replace('self.total -= block.words','self.total = self.total.wrapping_sub(block.words)')
-fb=fb.replace('spare.reserve(room - spare.len())','spare.reserve(room.saturating_sub(spare.len()))')
-(out / 'crates/bench/src/tree.rt').write_text(src)
-(out / 'crates/bench/src/free_blocks.rt').write_text(fb)
+(out / 'crates/bench/src/tree.rt').write_text(tree())
+(out / 'crates/bench/src/free_blocks.rt').write_text(free_blocks())
 (out / 'crates/bench/src/main.rt').write_text('''#![tactic(auto)]
 mod free_blocks;
 mod tree;

@@ -6,15 +6,19 @@ Its words are how many free parts of level 12 the pool has, each beside a lent o
 chunk of level 10 and closes the account again, and the policy. It stands on the crates as they are, and is proved with them: the
 account that holds the lent parts and the one that gave its parts back are the pool's own. The numbers are in README.md.
 """
-import pathlib, shutil, sys
+import pathlib
+import shutil
+import sys
 
 here = pathlib.Path(__file__).resolve().parent.parent
 out = pathlib.Path(sys.argv[1])
-for name in ['ms_base', 'ms_commit', 'ms_buddy', 'ms_pool']:
+names = ['ms_base', 'ms_commit', 'ms_buddy', 'ms_pool']
+for name in names:
     for part in ['src', 'specs', 'proofs']:
         shutil.copytree(here / 'crates' / name / part, out / 'crates' / name / part, dirs_exist_ok=True)
-lines = [line for line in (here / 'crates.txt').read_text().split('\n')
-         if line.split(':')[0] in ['ms_base', 'ms_commit', 'ms_buddy', 'ms_pool']]
+lines = [line for line in (here / 'crates.txt').read_text().split('\n') if line.split(':')[0].split(' ')[0] in names]
+if len(lines) != len(names):
+    sys.exit(f'{here / "crates.txt"} has no line for each of {", ".join(names)}')
 (out / 'crates.txt').write_text('\n'.join(lines) + '\nbench: ms_base ms_pool\n')
 (out / 'crates/bench/src').mkdir(parents=True, exist_ok=True)
 (out / 'crates/bench/src/main.rt').write_text('''#![tactic(auto)]

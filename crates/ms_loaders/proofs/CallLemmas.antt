@@ -57,16 +57,16 @@ free_is_refused m name block loader NoBlock has lacks = record { loader = loader
 free_is_refused m name block loader _ has lacks = absurd lacks
 
 -- Neither changes a chunk.
-write_keeps : (space : Space) (loader other : LoaderState) (block index value : ℕ) → WritesWord loader block index value other → (arena_of space other).chunks ≡ (arena_of space loader).chunks
+pub write_keeps : (space : Space) (loader other : LoaderState) (block index value : ℕ) → WritesWord loader block index value other → (arena_of space other).chunks ≡ (arena_of space loader).chunks
 write_keeps space loader other block index value writes = ap (λ (l : LoaderState). (arena_of space l).chunks) writes.after
 
-freed_keeps : (one there : Space) (loader : LoaderState) (block : ℕ) (kept : List (ℕ × ℕ)) → (arena_of one (with_freed there loader block kept)).chunks ≡ (arena_of one loader).chunks
+pub freed_keeps : (one there : Space) (loader : LoaderState) (block : ℕ) (kept : List (ℕ × ℕ)) → (arena_of one (with_freed there loader block kept)).chunks ≡ (arena_of one loader).chunks
 freed_keeps NonClass NonClass loader block kept = refl
 freed_keeps NonClass Class loader block kept = refl
 freed_keeps Class NonClass loader block kept = refl
 freed_keeps Class Class loader block kept = refl
 
-free_keeps : (space : Space) (loader other : LoaderState) (block : ℕ) → FreesBlock loader block other → (arena_of space other).chunks ≡ (arena_of space loader).chunks
+pub free_keeps : (space : Space) (loader other : LoaderState) (block : ℕ) → FreesBlock loader block other → (arena_of space other).chunks ≡ (arena_of space loader).chunks
 free_keeps space loader other block frees = ap (λ (l : LoaderState). (arena_of space l).chunks) frees.after
     ∙ freed_keeps space (space_at frees.found.start) loader block (with_new (arena_of (space_at frees.found.start) loader).kept frees.found.start (length frees.found.contents))
 

@@ -96,7 +96,7 @@ put_between : (P : AccountState → Type 0) (b a : List AccountState) (x y : Acc
 put_between P [] a x y first second all = (first, (second, all))
 put_between P (z ∷ b) a x y first second all = (all.0, put_between P b a x y first second all.1)
 
-among_more : (number : ℕ) (b a : List ℕ) (x y : ℕ) → is_among (b ++ a) number ≡ true → is_among (b ++ x ∷ y ∷ a) number ≡ true
+pub among_more : (number : ℕ) (b a : List ℕ) (x y : ℕ) → is_among (b ++ a) number ≡ true → is_among (b ++ x ∷ y ∷ a) number ≡ true
 among_more number b a x y there = list_any-with (λ other. other == number) b x (y ∷ a)
     ∙ ap (λ t. (x == number) || t) (list_any-with (λ other. other == number) b y a) ∙ either (x == number) (y == number) there
   where

@@ -51,7 +51,7 @@ tells_chunks = record {
 }
 
 -- The chunks of loans, and those of one owner.
-abbrev chunk_of : Loan → Chunk
+abbrev pub chunk_of : Loan → Chunk
 chunk_of loan = loan.chunk
 
 abbrev pub owned : ℕ → List Loan → List Chunk

@@ -16,8 +16,8 @@ mod RunLemmas
 pub mod CallLemmas
 pub mod CloseLemmas
 pub mod UnloadLemmas
-mod UsedLemmas
-mod LoaderLemmas
+pub mod UsedLemmas
+pub mod LoaderLemmas
 mod SumsLemmas
 mod CollectLemmas
 mod TotalsLemmas

@@ -150,7 +150,7 @@ outcome_has owners was is words old new (Ok block) its own all = elim its.how [
 outcome_has owners was is words old new (Err refusal) its own all =
     subst (λ (l : List Loan). AllByRecursion (HasOwner owners) l) (ap (λ (l : Ledger). l.loans) (sym its.ledger.is)) all
 
-own_is_among : (space : Space) (loaders : List (ℕ × LoaderView)) (name : ℕ) (v : LoaderView) → named loaders name ≡ Some v
+pub own_is_among : (space : Space) (loaders : List (ℕ × LoaderView)) (name : ℕ) (v : LoaderView) → named loaders name ≡ Some v
     → is_among (owners_of loaders) (by_space space v.owner v.class_owner) ≡ true
 own_is_among space loaders name v found = ap (λ (l : List ℕ). is_among l own) (ap owners_of split.is ∙ owners_split split.before split.after name v) ∙ there space
   where

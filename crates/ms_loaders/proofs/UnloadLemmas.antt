@@ -36,7 +36,7 @@ use Rattle.ms_loaders.proofs.ServedLemmas.{accounts_split, times, is_it, it_is, 
 use Rattle.ms_loaders.proofs.CloseLemmas.{accounts_joined, all_others, fresh_owner, served_with, with_both, first_account, second_account}
 use Rattle.ms_loaders.proofs.StepLemmas.{has_loader}
 
-abbrev state_of : LoaderView → LoaderState
+abbrev pub state_of : LoaderView → LoaderState
 state_of loader = loader.state
 
 -- Loans that are kept have an owner of the others.

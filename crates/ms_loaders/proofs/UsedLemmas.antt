@@ -1,11 +1,13 @@
 -- The words in use and those committed, of both spaces: their sums over loaders, and that they can be
 -- counted.
-use Rattle.std.proofs.Common.{◌≡◌, ◌≤◌, ◌+◌, ◌*◌, ℕ, List, [], ◌∷◌, length, refl, arith}
+use Rattle.std.proofs.Common.{◌≡◌, ◌≤◌, ◌+◌, ◌*◌, ℕ, List, [], ◌∷◌, Some, None, length, refl, sym, ap, ◌∙◌, arith}
 use Rattle.std.specs.List.{sum_by}
 use Rattle.std.specs.Map.{values_of}
+use Rattle.std.specs.Option.{option_map}
 use Rattle.std.proofs.lemmas.List.Sums.{sum_by-cons}
 use Rattle.std.proofs.Math.Nat.{add-mul}
 use Rattle.ms_base.specs.declared.kind.Space.TheVariants.{NonClass, Class}
+use Rattle.ms_base.specs.Names.{named}
 use Rattle.ms_base.specs.Policy.{granule_of}
 use Rattle.ms_base.specs.State.{LoaderState, Machine, pool_of}
 use Rattle.ms_base.specs.Totals.{used_of, used_words}
@@ -13,6 +15,8 @@ use Rattle.ms_base.specs.Good.{IsGood}
 use Rattle.ms_base.proofs.machine.SumLemmas.{used_below, few_slots, committed_within_slots}
 use Rattle.ms_loaders.specs.Loader.{LoaderView}
 use Rattle.ms_loaders.specs.System.{states_of}
+use Rattle.ms_loaders.specs.Used.{used_at, used_if}
+use Rattle.ms_loaders.proofs.MappedLemmas.{named-mapped}
 
 -- A loader's words in use, in both spaces.
 abbrev pub used_in_both : LoaderView → ℕ
@@ -42,3 +46,10 @@ committed_fits m good = omega (
   few_slots NonClass m (good.pools NonClass),
   few_slots Class m (good.pools Class),
 )
+
+-- A machine's loader of a name has in use what the loader of that name has.
+pub used_mapped : (loaders : List (ℕ × LoaderView)) (name : ℕ) → used_at (named loaders name) ≡ used_if (named (states_of loaders) name)
+used_mapped loaders name = elim (named loaders name) as (λ found. used_at found ≡ used_if (option_map (λ (loader : LoaderView). loader.state) found)) [
+    | Some loader ↦ refl
+    | None ↦ refl
+  ] ∙ ap used_if (sym (named-mapped (λ (loader : LoaderView). loader.state) loaders name))

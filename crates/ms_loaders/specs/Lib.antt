@@ -7,3 +7,4 @@ pub mod Settles
 pub mod SystemInside
 pub mod Sums
 pub mod Collecting
+pub mod Used

@@ -10,6 +10,7 @@ ghost use Rattle.std.specs.Borrow.{sem};
 ghost use Rattle.ms_base.specs.Names.{AreNamed, named, with_new, without};
 ghost use Rattle.ms_loaders.specs.Loader.{IsSoundView};
 ghost use Rattle.ms_loaders.specs.Loaders.{LendsLoader, InsertRefused};
+ghost use Rattle.ms_loaders.specs.Used.{used_at};
 
 use crate::loader::Loader;
 use ms_base::Refusal;
@@ -100,6 +101,17 @@ impl Loaders {
         ensures { result ≡ is_some (named self.now name) }
     {
         self.by_name.contains_key(&name)
+    }
+
+    /// Tells the words in use of the loader of a name, in both spaces, and 0 where there is none. Takes
+    /// no memory, and looks at no chunk.
+    pub fn used_by(&self, name: u16) -> u64
+        ensures { result ≡ used_at (named self.now name) }
+    {
+        match self.by_name.get(&name) {
+            Some(loader) => loader.used(),
+            None => 0,
+        }
     }
 
     /// Tells how many loaders there are, whose names rise. Takes no memory.

@@ -11,9 +11,11 @@ ghost use Rattle.ms_base.specs.Totals.{committed_words, used_words, over_spaces,
 ghost use Rattle.ms_base.specs.Good.{IsGood};
 ghost use Rattle.ms_base.specs.Transition.{Transition, LacksLoader};
 ghost use Rattle.ms_base.specs.Run.{Run};
+ghost use Rattle.ms_base.specs.Names.{named};
 ghost use Rattle.ms_base.specs.SumLaws.{HoldsNothing};
 ghost use Rattle.ms_loaders.specs.System.{reply_of};
 ghost use Rattle.ms_loaders.specs.Sums.{sums_in};
+ghost use Rattle.ms_loaders.specs.Used.{used_if};
 
 mod settling;
 
@@ -218,6 +220,14 @@ impl System {
             words += loader.used();
         }
         words
+    }
+
+    /// Tells the words in use of one loader, in both spaces, and 0 where none has the name. Takes no
+    /// memory, and looks at no other loader.
+    pub fn used_by(&self, name: u16) -> u64
+        ensures { result ≡ used_if (named self.now.loaders name) }
+    {
+        self.loaders.used_by(name)
     }
 
     /// Tells the committed words of both spaces, a multiple of a granule's. Takes no memory, and looks

@@ -1,6 +1,6 @@
 -- Loaders put together: one by one, and a share's after another's. For `insert_all`, `join` and
 -- `take_apart`.
-use Rattle.std.proofs.Common.{◌≡◌, ℕ, ◌+◌, ◌<◌, true, zero, suc, Some, None, List, [], ◌∷◌, ◌++◌, map, refl, sym, ap, ◌∙◌, subst, append-nil, inl, inr, ◌⊎◌, option_map, arith}
+use Rattle.std.proofs.Common.{◌≡◌, ℕ, ◌+◌, ◌<◌, true, zero, suc, Some, None, List, [], ◌∷◌, ◌++◌, refl, sym, ap, ◌∙◌, subst, append-nil, inl, inr, ◌⊎◌, option_map, arith}
 use Rattle.std.specs.Prelude.{slice_get}
 use Rattle.std.specs.Ordering.{nat_cmp}
 use Rattle.std.specs.declared.cmp.Ordering.TheVariants.{Less}
@@ -11,7 +11,6 @@ use Rattle.std.specs.BTreeMap.{is_at}
 use Rattle.std.proofs.lemmas.Bool.{cases_eq, false_from_ne_true}
 use Rattle.std.proofs.lemmas.Bool.Decides.{nat_tests}
 use Rattle.std.proofs.lemmas.List.Sums.{sum_by-cons, sum_by-append}
-use Rattle.std.proofs.lemmas.List.{append_assoc}
 use Rattle.std.proofs.lemmas.List.Elements.{All-append}
 use Rattle.std.proofs.lemmas.List.Sorted.{IsPermutation-refl, IsPermutation-sym, IsPermutation-trans, IsPermutation-append_left, IsPermutation-append_comm, IsPermutation-middle}
 use Rattle.std.proofs.lemmas.List.Sorted.{All-permutation, sum_by-IsPermutation}
@@ -28,8 +27,8 @@ use Rattle.ms_loaders.specs.Loaders.{InsertRefused}
 use Rattle.ms_loaders.specs.System.{states_of}
 use Rattle.ms_run.specs.declared.share.Share.{Share}
 use Rattle.ms_run.specs.Shares.{Place, AreApart, IsGathered}
-use Rattle.ms_shared.specs.SeatView.{SeatState}
-use Rattle.ms_run.specs.Joined.{HaveOtherNames, IsJoined, AreJoined, IsWantOrUnsettled, seat_of}
+use Rattle.ms_run.specs.Joined.{HaveOtherNames, IsJoined, AreJoined, IsWantOrUnsettled}
+use Rattle.ms_loaders.proofs.UnloadLemmas.{state_of}
 
 abbrev pub Loaders : Type 0
 Loaders = List (ℕ × LoaderView)
@@ -187,36 +186,6 @@ joined_named name old (share ∷ shares) new zero own joined there apart none =
 joined_named name old (share ∷ shares) new (suc at) own joined there apart none =
     joined_named name joined.0 shares new at own joined.2 there (λ other one here differ. apart (suc other) one here (λ e. differ (omega (arith, e))))
     (joined.1.others name (apart 0 share refl (λ e. omega (arith, e))) ∙ none)
-
--- A walk over the shares: what is taken so far, and the shares that are left.
-pub record AreTaken (seats : List SeatState) (loaders : Loaders) (left all : List Share) : Type 0 where
-  pub seats_are : seats ++ map seat_of left ≡ map seat_of all
-  pub joined : (new : Loaders) → AreJoined loaders left new → AreJoined [] all new
-
-pub taken_none : (seats : List SeatState) (loaders : Loaders) (left all : List Share) → seats ≡ [] → loaders ≡ [] → left ≡ all → AreTaken seats loaders left all
-taken_none seats loaders left all none empty same = record {
-  seats_are = ap (λ (l : List SeatState). l ++ map seat_of left) none ∙ ap (map seat_of) same;
-  joined = λ new its. subst (λ (l : List Share). AreJoined [] l new) same (subst (λ (l : Loaders). AreJoined l left new) empty its);
-}
-
-pub taken_more : (seats seats' : List SeatState) (loaders loaders' : Loaders) (left left' all : List Share) (share : Share) → AreTaken seats loaders left all
-    → left ≡ share ∷ left' → seats' ≡ seats ++ share.seat ∷ [] → IsJoined loaders share.loaders loaders' → AreTaken seats' loaders' left' all
-taken_more seats seats' loaders loaders' left left' all share so_far next pushed joined = record {
-  seats_are = ap (λ (l : List SeatState). l ++ map seat_of left') pushed ∙ append_assoc seats (share.seat ∷ []) (map seat_of left')
-      ∙ ap (λ (l : List Share). seats ++ map seat_of l) (sym next) ∙ so_far.seats_are;
-  joined = λ new its. so_far.joined new (subst (λ (l : List Share). AreJoined loaders l new) (sym next) (loaders', joined, its));
-}
-
-pub all_taken : (seats : List SeatState) (loaders : Loaders) (left all : List Share) → AreTaken seats loaders left all → left ≡ []
-    → (seats ≡ map seat_of all) × AreJoined [] all loaders
-all_taken seats loaders left all so_far none = (
-  sym (append-nil seats) ∙ ap (λ (l : List Share). seats ++ map seat_of l) (sym none) ∙ so_far.seats_are,
-  so_far.joined loaders (subst (λ (l : List Share). AreJoined loaders l loaders) (sym none) refl),
-)
-
--- So each loader is in the whole as it is in its share.
-abbrev state_of : LoaderView → LoaderState
-state_of loader = loader.state
 
 named_state : (loaders : Loaders) (name : ℕ) → named (states_of loaders) name ≡ option_map state_of (named loaders name)
 named_state loaders name = lookup-map_values state_of (is_at (nat_cmp name)) loaders

@@ -48,19 +48,11 @@ use Rattle.ms_loaders.specs.System.{states_of}
 use Rattle.ms_shared.specs.SeatView.{SeatState}
 use Rattle.ms_shared.specs.LockCalls.{TakeTallies, TookOver, GrewOver}
 use Rattle.ms_run.specs.Own.{own_of, own_in}
-
--- What a loader's own lines can know of it.
-abbrev state_of : LoaderView → LoaderState
-state_of loader = loader.state
+use Rattle.ms_loaders.proofs.UnloadLemmas.{state_of}
+use Rattle.ms_run.proofs.TouchLemmas.{own_missing, own_found}
 
 abbrev own_part : LoaderView → OwnLoader
 own_part loader = record { kind = loader.state.kind; blocks = loader.state.blocks }
-
-own_found : (loaders : List (ℕ × LoaderView)) (name : ℕ) (v : LoaderView) → named loaders name ≡ Some v → own_in (states_of loaders) name ≡ Some (own_part v)
-own_found loaders name v found = ap own_of (lookup-map_values state_of (is_at (nat_cmp name)) loaders ∙ ap (option_map state_of) found)
-
-own_missing : (loaders : List (ℕ × LoaderView)) (name : ℕ) → named loaders name ≡ None → own_in (states_of loaders) name ≡ None
-own_missing loaders name none = ap own_of (lookup-map_values state_of (is_at (nat_cmp name)) loaders ∙ ap (option_map state_of) none)
 
 -- What the arena was answered: a block of that many words, or a refusal that is the request's own or for
 -- want.

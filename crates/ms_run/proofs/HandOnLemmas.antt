@@ -4,7 +4,7 @@ use Rattle.std.proofs.Common.{◌≡◌, ◌≢◌, ◌≤◌, ◌+◌, ℕ, Boo
 use Rattle.std.specs.Prelude.{◌==◌, IsTrue}
 use Rattle.std.specs.Ordering.{nat_cmp}
 use Rattle.std.specs.declared.cmp.Ordering.TheVariants.{Less}
-use Rattle.std.specs.List.{All, AllByRecursion, list_any, flat_map, count_by}
+use Rattle.std.specs.List.{AllByRecursion, flat_map, count_by}
 use Rattle.std.specs.List.Sorted.{IsStrictlySortedBy}
 use Rattle.std.specs.Map.{keys_of, values_of}
 use Rattle.std.specs.BTreeMap.{is_at}
@@ -25,15 +25,15 @@ use Rattle.ms_base.proofs.runs.ApartLemmas.{list_any-with}
 use Rattle.ms_pool.specs.Account.{AccountState}
 use Rattle.ms_loaders.specs.Loader.{LoaderView, account_in}
 use Rattle.ms_loaders.specs.System.{accounts_of, owners_of}
+use Rattle.ms_loaders.proofs.MappedLemmas.{without_missing}
 use Rattle.ms_shared.specs.declared.lock_rule.SeatView.{SeatView}
 use Rattle.ms_shared.specs.Entries.{Entry, Has, only, all_but}
 use Rattle.ms_shared.specs.SeatView.{SeatState, ServesBy, opened_by, without_account, with_account}
 use Rattle.ms_shared.proofs.HandLemmas.{handed_serves, left_serves, taker_serves}
 use Rattle.ms_run.specs.Dealing.{Loaded, AreBeside, IsHanded}
-
--- The accounts and owners of loaders before, at and after a name.
-abbrev pub owner_of : AccountState → ℕ
-owner_of account = account.owner
+use Rattle.ms_loaders.proofs.ServedLemmas.{times, one_if, all_joined, is_it, times_split, it_is, all_parts}
+use Rattle.ms_loaders.proofs.FitLemmas.{owner_of}
+use Rattle.ms_loaders.proofs.UnloadLemmas.{both_all}
 
 accounts_split : (b a : Loaded) (name : ℕ) (v : LoaderView)
     → accounts_of (b ++ (name, v) ∷ a) ≡ accounts_of b ++ account_in NonClass v ∷ account_in Class v ∷ accounts_of a
@@ -47,44 +47,6 @@ accounts_joined b a = ap (flat_map (λ (loader : LoaderView). account_in NonClas
 
 owners_split : (b a : Loaded) (name : ℕ) (v : LoaderView) → owners_of (b ++ (name, v) ∷ a) ≡ owners_of b ++ v.owner ∷ v.class_owner ∷ owners_of a
 owners_split b a name v = ap (map owner_of) (accounts_split b a name v) ∙ map-append owner_of (accounts_of b) (account_in NonClass v ∷ account_in Class v ∷ accounts_of a)
-
--- How often a number stands among the owners.
-abbrev pub times : ℕ → List ℕ → ℕ
-times number numbers = count_by (λ other. other == number) numbers
-
-abbrev one_if : Bool → ℕ
-one_if b = cond b 1 0
-
-abbrev pub is_it : ℕ → ℕ → ℕ
-is_it number other = one_if (other == number)
-
-times_split : (number : ℕ) (b a : List ℕ) (x y : ℕ) → times number (b ++ x ∷ y ∷ a) ≡ times number b + is_it number x + is_it number y + times number a
-times_split number b a x y =
-    omega (arith, sum_by-append (is_it number) b (x ∷ y ∷ a), sum_by-cons (is_it number) x (y ∷ a), sum_by-cons (is_it number) y a)
-
-it_is : (number : ℕ) → is_it number number ≡ 1
-it_is number = ap one_if (eq-eqb number number refl)
-
-all_parts : (P : AccountState → Type 0) (b a : List AccountState) (x y : AccountState) → AllByRecursion P (b ++ x ∷ y ∷ a) → AllByRecursion P b × P x × P y × AllByRecursion P a
-all_parts P [] a x y all = (tt, all.0, all.1.0, all.1.1)
-all_parts P (z ∷ b) a x y all = let rest = all_parts P b a x y all.1 in ((all.0, rest.0), rest.1, rest.2, rest.3)
-
-all_joined : (P : AccountState → Type 0) (b a : List AccountState) (x y : AccountState) → AllByRecursion P b → P x → P y → AllByRecursion P a → AllByRecursion P (b ++ x ∷ y ∷ a)
-all_joined P [] a x y before first second after = (first, (second, after))
-all_joined P (z ∷ b) a x y before first second after = (before.0, all_joined P b a x y before.1 first second after)
-
-both_all : (P : AccountState → Type 0) (b a : List AccountState) → AllByRecursion P b → AllByRecursion P a → AllByRecursion P (b ++ a)
-both_all P [] a first last = last
-both_all P (x ∷ b) a first last = (first.0, both_all P b a first.1 last)
-
--- Nothing changes at a name that none has.
-without_missing : {X : Type 0} (entries : List (ℕ × X)) (name : ℕ) → named entries name ≡ None → without entries name ≡ entries
-without_missing [] name none = refl
-without_missing {X} (e ∷ es) name none =
-    elim (is_at (nat_cmp name) e.0) as (λ b. cond b (Some e.1) (named es name) ≡ None → cond b es (e ∷ without es name) ≡ e ∷ es) [
-      | true ↦ λ none. absurd (cc)
-      | false ↦ λ none. ap (λ (l : List (ℕ × X)). e ∷ l) (without_missing es name none)
-    ] none
 
 -- Accounts that a seat serves still.
 still_by : (old new : SeatView) (owner : ℕ) → ((other : AccountState) → other.owner ≢ owner → ServesBy old other → ServesBy new other)

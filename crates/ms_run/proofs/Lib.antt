@@ -17,3 +17,8 @@ mod ReplayLemmas
 mod HandOnLemmas
 mod DealLemmas
 mod ThreadLemmas
+mod DealtUseLemmas
+mod MovedLemmas
+mod UseLemmas
+mod TakenLemmas
+mod MeterSumLemmas

@@ -17,6 +17,7 @@ use Rattle.ms_shared.specs.Entries.{Entry, Has, refreshed, fresh}
 use Rattle.ms_shared.specs.SeatView.{ServesBy, IsKnown, view_after}
 use Rattle.ms_shared.proofs.EntryLemmas.{has_record}
 use Rattle.ms_shared.proofs.CallLemmas.{served_by_pool}
+use Rattle.ms_loaders.proofs.CloseLemmas.{among_more}
 
 -- What stands in two lists together stands in one of them.
 has_either : (xs ys : List Entry) (owner : ℕ) (chunks : List Chunk) → Has (xs ++ ys) owner chunks → Has xs owner chunks ⊎ Has ys owner chunks
@@ -101,16 +102,6 @@ below_given pool view number known above (account ∷ accounts) all =
       ap one_if (ne_eqb account.owner number (λ same. omega (arith, above, its.given, same))),
       below_given pool view number known above accounts all.1,
     )
-
--- Two owners more, and one less.
-pub among_more : (number : ℕ) (b a : List ℕ) (x y : ℕ) → is_among (b ++ a) number ≡ true → is_among (b ++ x ∷ y ∷ a) number ≡ true
-among_more number b a x y there = list_any-with (λ other. other == number) b x (y ∷ a)
-    ∙ ap (λ t. (x == number) || t) (list_any-with (λ other. other == number) b y a) ∙ either (x == number) (y == number) there
-  where
-    either : (c d : Bool) {e : Bool} → e ≡ true → (c || (d || e)) ≡ true
-    either true d e = refl
-    either false true e = refl
-    either false false e = e
 
 pub among_new : (number : ℕ) (b a : List ℕ) (x y : ℕ) → (x ≡ number) ⊎ (y ≡ number) → is_among (b ++ x ∷ y ∷ a) number ≡ true
 among_new number b a x y which = list_any-with (λ other. other == number) b x (y ∷ a)

@@ -24,7 +24,8 @@ use Rattle.ms_loaders.proofs.ServedLemmas.{accounts_split, times, is_it, one_if,
 use Rattle.ms_loaders.proofs.CloseLemmas.{accounts_joined}
 use Rattle.ms_shared.specs.SeatView.{SeatState, ServesBy, OverLock, opened_by, view_after}
 use Rattle.ms_run.specs.Manned.{IsManned}
-use Rattle.ms_run.proofs.LifetimeLemmas.{IsNew, NoOther, no_other_then, all_served, below_given, among_more, among_new}
+use Rattle.ms_run.proofs.LifetimeLemmas.{IsNew, NoOther, no_other_then, all_served, below_given, among_new}
+use Rattle.ms_loaders.proofs.CloseLemmas.{among_more}
 
 -- Both accounts refused: all stays.
 pub manned_refused : (old new : SeatState) (loaders : List (ℕ × LoaderView)) (refusal : Refusal)

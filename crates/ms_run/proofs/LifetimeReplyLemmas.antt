@@ -14,20 +14,11 @@ use Rattle.ms_loaders.specs.Loaders.{InsertRefused}
 use Rattle.ms_loaders.specs.System.{states_of}
 use Rattle.ms_loaders.proofs.MappedLemmas.{found-mapped, missing-mapped}
 use Rattle.ms_run.specs.Own.{own_of, own_in}
-
-abbrev state_of : LoaderView → LoaderState
-state_of loader = loader.state
+use Rattle.ms_loaders.proofs.UnloadLemmas.{state_of}
+use Rattle.ms_run.proofs.TouchLemmas.{own_missing, own_found}
 
 own_loader : LoaderState → OwnLoader
 own_loader state = record { kind = state.kind; blocks = state.blocks }
-
--- What is known of a loader by its name.
-pub own_found : (loaders : List (ℕ × LoaderView)) (name : ℕ) (v : LoaderView) → named loaders name ≡ Some v
-    → own_in (states_of loaders) name ≡ Some (record { kind = v.state.kind; blocks = v.state.blocks })
-own_found loaders name v found = ap own_of (found-mapped state_of loaders name v found)
-
-pub own_missing : (loaders : List (ℕ × LoaderView)) (name : ℕ) → named loaders name ≡ None → own_in (states_of loaders) name ≡ None
-own_missing loaders name none = ap own_of (missing-mapped state_of loaders name none)
 
 -- A name that is used.
 pub exists_reply : (loaders : List (ℕ × LoaderView)) (name : ℕ) (kind : Kind) (v : LoaderView) → named loaders name ≡ Some v

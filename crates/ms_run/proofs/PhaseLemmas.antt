@@ -1,7 +1,7 @@
 -- A phase put together from its parts: how its lines and loaders were dealt to shares, how each share
 -- was worked, and how replies and loaders came together again. Used by `run_phase`.
 use Rattle.std.proofs.Common.{◌≡◌, ◌≢◌, ◌<◌, ◌==◌, ℕ, zero, suc, Bool, true, false, cond, Some, None, Option, List, [], ◌∷◌}
-use Rattle.std.proofs.Common.{map, length, refl, sym, ap, ◌∙◌, subst, arith, slice_get, get_or, option_map, append-nil, ◌++◌, IfOk, Result, Ok, Err}
+use Rattle.std.proofs.Common.{map, length, refl, sym, ap, ◌∙◌, subst, arith, slice_get, get_or, option_map, append-nil, ◌++◌}
 use Rattle.std.specs.List.{All, AllByRecursion, filter}
 use Rattle.std.proofs.lemmas.Bool.{eq-eqb, eqb-true, false_from_ne_true}
 use Rattle.std.proofs.lemmas.Option.{slice_get-get_or, slice_get_within, get_or_from_slice_get}
@@ -253,15 +253,13 @@ abbrev pub Merges : Place → List Share → List Line → List Answer → List 
 Merges place others lines before after =
     (added : List Answer) × (said : List Said) × (after ≡ before ++ added) × AreSaid lines added said × AreMerged place others said
 
-pub ended : {E : Type 0} (result : Result Machine E) (place : Place) (shared : LockState) (shares others : List Share) (lines : List Line)
-    (before after : List Answer) (loaders : List (ℕ × LoaderView)) (old : Machine)
+pub ended : (place : Place) (shared : LockState) (shares others : List Share) (lines : List Line) (before after : List Answer) (loaders : List (ℕ × LoaderView)) (old new : Machine)
     → old.loaders ≡ states_of loaders → AreDealt place shared shares lines loaders → AllWorked shares others → Merges place others lines before after
-    → IfOk result (λ system. (where_to : Place) → AreApart where_to others → IsGathered where_to others system.loaders) → IfOk result IsGood
-    → IfOk result (λ system. system.limits ≡ shared.limits) → shared.limits ≡ old.limits → IfOk result (Adds lines before after old)
-ended (Ok new) place shared shares others lines before after loaders old old_is dealt all merges gathered good limits same = (
+    → ((where_to : Place) → AreApart where_to others → IsGathered where_to others new.loaders) → IsGood new
+    → new.limits ≡ shared.limits → shared.limits ≡ old.limits → Adds lines before after old new
+ended place shared shares others lines before after loaders old new old_is dealt all merges gathered good limits same = (
   merges.0,
   merges.2,
   phase_of place shared shares others lines merges.0 merges.1 loaders old new old_is dealt all merges.3 merges.4
       (gathered place (still_apart place shares others lines dealt.apart dealt.tasks all)) good (limits ∙ same),
 )
-ended (Err fault) place shared shares others lines before after loaders old old_is dealt all merges gathered good limits same = tt

@@ -38,6 +38,7 @@ use Rattle.ms_trace.specs.Steps.{step_of}
 use Rattle.ms_loaders.specs.declared.totals.Totals.{Totals}
 use Rattle.ms_loaders.specs.declared.replies.Answer.{Answer}
 use Rattle.ms_run.specs.Own.{Said, own_said, own_in, OwnRun}
+use Rattle.ms_run.specs.Metering.{used_words_of}
 use Rattle.ms_run.specs.Replay.{Advances, Reports, Answers, IsPhase, IsEnd, IsReplay, Replays, starts, runs, ends}
 use Rattle.ms_run.specs.Shares.{AreSteps}
 use Rattle.ms_run.proofs.OwnStepLemmas.{IsOwn, transition_own, transition_others, transition_limits, transition_good, purge_done}
@@ -202,6 +203,10 @@ stops_past lines at past next found = let both : None ≡ Some next = sym (slice
 -- The first lines are answered phase by phase, and the state is good.
 abbrev pub PhasesFirst : Machine → List Line → ℕ → List Answer → Machine → Type 0
 PhasesFirst first lines at answers state = (at ≤ length lines) × Replays first (take at lines) answers state × IsGood state
+
+-- A system without loaders has no words in use.
+pub used_none : (state : Machine) (settings : Settings) → state ≡ empty_machine (limits_of settings) → 0 ≡ used_words_of state
+used_none state settings is = sym (ap used_words_of is)
 
 pub phases_start : (settings : Settings) (lines : List Line) (answers : List Answer) (state : Machine) → answers ≡ [] → state ≡ empty_machine (limits_of settings)
     → PhasesFirst (empty_machine (limits_of settings)) lines 0 answers state

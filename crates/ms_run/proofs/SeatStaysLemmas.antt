@@ -47,6 +47,8 @@ use Rattle.ms_shared.specs.SeatView.{SeatState, ServesBy, OverLock, opened_by}
 use Rattle.ms_shared.specs.LockCalls.{TookOver, GrewOver}
 use Rattle.ms_shared.proofs.EntryLemmas.{has_record}
 use Rattle.ms_run.specs.Manned.{IsManned}
+use Rattle.ms_loaders.proofs.ServedLemmas.{times, one_if, all_joined, owners_split, is_it, times_split, it_is, all_parts, own_is_among, accounts_split}
+use Rattle.ms_loaders.proofs.FitLemmas.{chunk_of, owner_of}
 
 -- All that the seat knows of an owner is that it holds no chunk.
 abbrev pub HasNone : SeatView → ℕ → Type 0
@@ -106,10 +108,6 @@ over_lock_stays owner old new its quiet = subst (Stays owner old) (sym its.left)
 
 keeps_quiet : (owner : ℕ) (before after : Ledger) → Keeps owner before after → IsQuiet owner before after
 keeps_quiet owner before after keeps = record { given = keeps.given; none = λ other differs none. keeps.others other differs ∙ none }
-
--- A chunk that grows is nobody's first.
-abbrev chunk_of : Loan → Chunk
-chunk_of loan = loan.chunk
 
 abbrev grown_loan : Chunk → Loan → Loan
 grown_loan greater loan = cond (loan.chunk.start == greater.start) (record loan { chunk = greater }) loan
@@ -207,36 +205,6 @@ block_keeps space policy was is name words old new answer (inr asks) = go answer
     go (Err refusal) follows = same_keeps space was is follows
 
 -- The accounts of loaders before, at and after a name.
-abbrev accounts_at : LoaderView → List AccountState
-accounts_at loader = account_in NonClass loader ∷ account_in Class loader ∷ []
-
-abbrev owner_of : AccountState → ℕ
-owner_of account = account.owner
-
-accounts_split : (b a : List (ℕ × LoaderView)) (name : ℕ) (v : LoaderView)
-    → accounts_of (b ++ (name, v) ∷ a) ≡ accounts_of b ++ account_in NonClass v ∷ account_in Class v ∷ accounts_of a
-accounts_split b a name v = ap (flat_map accounts_at) (values_split b a name v) ∙ flat_map-append accounts_at (values_of b) (v ∷ values_of a)
-
-owners_split : (b a : List (ℕ × LoaderView)) (name : ℕ) (v : LoaderView) → owners_of (b ++ (name, v) ∷ a) ≡ owners_of b ++ v.owner ∷ v.class_owner ∷ owners_of a
-owners_split b a name v = ap (map owner_of) (accounts_split b a name v) ∙ map-append owner_of (accounts_of b) (account_in NonClass v ∷ account_in Class v ∷ accounts_of a)
-
--- How often a number stands among the owners.
-abbrev times : ℕ → List ℕ → ℕ
-times number numbers = count_by (λ other. other == number) numbers
-
-abbrev one_if : Bool → ℕ
-one_if b = cond b 1 0
-
-abbrev is_it : ℕ → ℕ → ℕ
-is_it number other = one_if (other == number)
-
-times_split : (number : ℕ) (b a : List ℕ) (x y : ℕ) → times number (b ++ x ∷ y ∷ a) ≡ times number b + is_it number x + is_it number y + times number a
-times_split number b a x y =
-    omega (arith, sum_by-append (is_it number) b (x ∷ y ∷ a), sum_by-cons (is_it number) x (y ∷ a), sum_by-cons (is_it number) y a)
-
-it_is : (number : ℕ) → is_it number number ≡ 1
-it_is number = ap one_if (eq-eqb number number refl)
-
 -- Accounts of other owners are served still.
 served_still : (old new : SeatView) (owner : ℕ) → ((other : AccountState) → other.owner ≢ owner → ServesBy old other → ServesBy new other)
     → (accounts : List AccountState) → times owner (map owner_of accounts) ≡ 0 → AllByRecursion (ServesBy old) accounts → AllByRecursion (ServesBy new) accounts
@@ -248,14 +216,6 @@ served_still old new owner each (account ∷ accounts) none all = (
   where
     differs : (a b : ℕ) → is_it b a ≡ 0 → a ≢ b
     differs a b none same = omega (arith, none, it_is b, ap (is_it b) same)
-
-all_parts : (P : AccountState → Type 0) (b a : List AccountState) (x y : AccountState) → AllByRecursion P (b ++ x ∷ y ∷ a) → AllByRecursion P b × P x × P y × AllByRecursion P a
-all_parts P [] a x y all = (tt, all.0, all.1.0, all.1.1)
-all_parts P (z ∷ b) a x y all = let rest = all_parts P b a x y all.1 in ((all.0, rest.0), rest.1, rest.2, rest.3)
-
-all_joined : (P : AccountState → Type 0) (b a : List AccountState) (x y : AccountState) → AllByRecursion P b → P x → P y → AllByRecursion P a → AllByRecursion P (b ++ x ∷ y ∷ a)
-all_joined P [] a x y before first second after = (first, (second, after))
-all_joined P (z ∷ b) a x y before first second after = (before.0, all_joined P b a x y before.1 first second after)
 
 same_account : (one : Space) (was is : LoaderView) → by_space one is.owner is.class_owner ≡ by_space one was.owner was.class_owner
     → (arena_of one is.state).chunks ≡ (arena_of one was.state).chunks → account_in one was ≡ account_in one is
@@ -287,27 +247,6 @@ served_in Class old new b a was is keeps distinct each own all =
     (omega (arith, distinct was.class_owner, count, it_is was.class_owner, sum_by-cons (is_it was.class_owner) was.owner [])) (parts.1, tt)).0)
     own
     (served_still old new was.class_owner each a (omega (arith, distinct was.class_owner, count, it_is was.class_owner)) parts.3)
-
-own_is_among : (space : Space) (loaders : List (ℕ × LoaderView)) (name : ℕ) (v : LoaderView) → named loaders name ≡ Some v
-    → is_among (owners_of loaders) (by_space space v.owner v.class_owner) ≡ true
-own_is_among space loaders name v found = ap (λ (l : List ℕ). is_among l own) (ap owners_of split.is ∙ owners_split split.before split.after name v) ∙ there space
-  where
-    own : ℕ
-    own = by_space space v.owner v.class_owner
-
-    split : Split loaders name v
-    split = split_at loaders name v found
-
-    either : (b : Bool) {c : Bool} → c ≡ true → (b || c) ≡ true
-    either true e = refl
-    either false e = e
-
-    there : (one : Space) → is_among (owners_of split.before ++ v.owner ∷ v.class_owner ∷ owners_of split.after) (by_space one v.owner v.class_owner) ≡ true
-    there NonClass = list_any-with (λ other. other == v.owner) (owners_of split.before) v.owner (v.class_owner ∷ owners_of split.after)
-        ∙ ap (λ b. b || list_any (λ other. other == v.owner) (owners_of split.before ++ v.class_owner ∷ owners_of split.after)) (eq-eqb v.owner v.owner refl)
-    there Class = list_any-with (λ other. other == v.class_owner) (owners_of split.before) v.owner (v.class_owner ∷ owners_of split.after)
-        ∙ either (v.owner == v.class_owner) (list_any-with (λ other. other == v.class_owner) (owners_of split.before) v.class_owner (owners_of split.after)
-        ∙ ap (λ b. b || list_any (λ other. other == v.class_owner) (owners_of split.before ++ owners_of split.after)) (eq-eqb v.class_owner v.class_owner refl))
 
 length_changed : (entries : List (ℕ × LoaderView)) (name : ℕ) (x : LoaderView) → length (with_changed entries name x) ≡ length entries
 length_changed [] name x = refl

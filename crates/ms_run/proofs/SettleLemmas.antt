@@ -25,19 +25,8 @@ use Rattle.ms_run.specs.declared.share.Share.{Share}
 use Rattle.ms_run.specs.Manned.{IsManned}
 use Rattle.ms_run.specs.Joined.{AreJoined, seat_of}
 use Rattle.ms_run.proofs.GatherLemmas.{Loaders, joined_sum, joined_all}
-
--- How often a number stands among others.
-abbrev one_if : Bool → ℕ
-one_if b = cond b 1 0
-
-abbrev is_it : ℕ → ℕ → ℕ
-is_it number other = one_if (other == number)
-
-abbrev times : ℕ → List ℕ → ℕ
-times number numbers = count_by (λ other. other == number) numbers
-
-abbrev owner_of : AccountState → ℕ
-owner_of account = account.owner
+use Rattle.ms_loaders.proofs.ServedLemmas.{times, one_if, is_it}
+use Rattle.ms_loaders.proofs.FitLemmas.{chunk_of, owner_of}
 
 -- Of loaders, how many accounts are an owner's; and what is true of both accounts of one.
 abbrev owned : ℕ → ℕ × LoaderView → ℕ
@@ -186,10 +175,6 @@ holder_there pool owner holds (share ∷ shares) all some = elim (cases_lt (entr
   | inl none ↦ omega (arith, sum_by-cons (owners_in owner) share shares, holder_there pool owner holds shares all.1 (omega (arith, some, none, sum_by-cons (entries_in owner) share shares)))
   | inr here ↦ omega (arith, sum_by-cons (owners_in owner) share shares, holder_here pool owner share all.0 holds here)
 ]
-
--- Each loan's owner holds a chunk.
-abbrev chunk_of : Loan → Chunk
-chunk_of loan = loan.chunk
 
 owner_holds : (owner : ℕ) (before after : List Loan) (loan : Loan) → loan.owner ≡ owner
     → map chunk_of (filter (is_owned_by owner) (before ++ loan ∷ after)) ≡ [] → ⊥

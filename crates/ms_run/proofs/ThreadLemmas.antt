@@ -1,14 +1,15 @@
--- That a share may go to another thread, and that threads may look at the lock; and what the threads'
--- promises say of all shares.
+-- That a share may go to another thread, and that threads may look at the lock and the meter; and what
+-- the threads' promises say of all shares.
 use Rattle.std.proofs.Common.{◌≡◌, ◌<◌, ℕ, zero, suc, List, [], ◌∷◌, ◌++◌, length, map, get_or, refl, ap, sym, ◌∙◌, subst, arith}
 use Rattle.std.proofs.lemmas.List.{append-nil}
 use Rattle.std.specs.List.{All}
 use Rattle.ms_shared.specs.SeatView.{LockState}
+use Rattle.ms_shared.specs.MeterRule.{MeterState}
 use Rattle.ms_run.specs.declared.share.Share.{Share}
-use Rattle.ms_run.specs.Shares.{IsReady, IsWorked, AllWorked}
+use Rattle.ms_run.specs.Shares.{IsReadyFor, IsWorked, AllWorked}
 use denote.RattleType.{RattleType}
 use denote.Struct.Tuple.{TupleAt, type_at}
-use denote.Struct.Field.{shr_ref_field, row_field}
+use denote.Struct.Field.{shr_ref_field, row_field, u64-field}
 use denote.Ref.{NamedLft}
 use denote.Param.{param}
 use Rattle.std.specs.contracts.alloc.Global as heap
@@ -32,6 +33,8 @@ use Rattle.std.proofs.alloc.Global.TheSendSync as global
 use Rattle.ms_loaders.specs.contracts.loaders.Loaders as loaders
 use Rattle.ms_shared.specs.contracts.seat.PoolSeat as seat
 use Rattle.ms_shared.specs.contracts.shared_pool.SharedPool as shared
+use Rattle.ms_shared.specs.contracts.used_meter.MeterSeat as meter_seat
+use Rattle.ms_shared.specs.contracts.used_meter.UsedMeter as meter
 use Rattle.ms_pool.specs.contracts.pool.Pool as pool
 use Rattle.ms_run.proofs.share.Task.TheSendSync as task
 use Rattle.ms_run.specs.contracts.share.Share as share
@@ -42,8 +45,11 @@ loaders_send = search (sendable, crosses, BTreeMap-send, send-Tree, send-Fork, r
 seat_send : IsSend seat.the_row
 seat_send = search (sendable, crosses, option.the_send, table_seat.the_send, node.send-Node, mask.the_send, nodes.the_send) depth 60
 
+meter_seat_send : IsSend meter_seat.the_row
+meter_seat_send = search (sendable, crosses, table_seat.the_send) depth 20
+
 pub share_send : IsSend share.the_row
-share_send = search (loaders_send, seat_send, sendable, crosses, task.the_send, reply.the_send) depth 20
+share_send = search (loaders_send, seat_send, meter_seat_send, sendable, crosses, task.the_send, reply.the_send) depth 20
 
 pool_send : IsSend pool.the_row
 pool_send = search (sendable, crosses, node.send-Node, mask.the_send, nodes.the_send) depth 60 fits 30000
@@ -51,21 +57,39 @@ pool_send = search (sendable, crosses, node.send-Node, mask.the_send, nodes.the_
 pub shared_sync : IsSync shared.the_row
 shared_sync = search (pool_send, sendable, crosses, option.the_send, table.the_sync, lease.the_sync, global.the_send, global.the_sync) depth 60 fits 30000
 
--- What a thread is handed may go there: what it looks at, and its share.
-pub handed_send : (name : List ℕ) (l m n : NamedLft) (R G : RattleType) → IsSync (param 0 R) → IsSync (param 1 G)
-    → IsSend (TupleAt name ((shr_ref_field l (param 0 R) tt).row ∷ heap.the_row ∷ (shr_ref_field m shared.the_row tt).row ∷ (shr_ref_field n (param 1 G) tt).row ∷ share.the_row ∷ []))
-handed_send name l m n R G r g =
-    let rows : List RattleType = (shr_ref_field l (param 0 R) tt).row ∷ heap.the_row ∷ (shr_ref_field m shared.the_row tt).row ∷ (shr_ref_field n (param 1 G) tt).row ∷ share.the_row ∷ [] in
-    declared_send (type_at name rows) (
-      as_row_send (row_field (shr_ref_field l (param 0 R) tt).row) (search (r, sendable)),
+meter_sync : IsSync meter.the_row
+meter_sync = search (sendable, crosses, table.the_sync, lease.the_sync, global.the_send, global.the_sync) depth 20
+
+-- What a thread is handed: what it looks at, the words in use before, and its share.
+abbrev handed : (l m k n : NamedLft) (R G : RattleType) → List RattleType
+handed l m k n R G =
+    (shr_ref_field l (param 0 R) tt).row
+    ∷ heap.the_row
+    ∷ (shr_ref_field m shared.the_row tt).row
+    ∷ (shr_ref_field k meter.the_row tt).row
+    ∷ u64-field.row
+    ∷ (shr_ref_field n (param 1 G) tt).row
+    ∷ share.the_row
+    ∷ []
+
+-- That may go there.
+pub handed_send : (name : List ℕ) (l m k n : NamedLft) (R G : RattleType) → IsSync (param 0 R) → IsSync (param 1 G) → IsSend (TupleAt name (handed l m k n R G))
+handed_send name l m k n R G r g = declared_send (type_at name (handed l m k n R G)) (
+  as_row_send (row_field (shr_ref_field l (param 0 R) tt).row) (search (r, sendable)),
+  (
+    as_row_send (row_field heap.the_row) global.the_send,
+    (
+      as_row_send (row_field (shr_ref_field m shared.the_row tt).row) (search (shared_sync, sendable)),
       (
-        as_row_send (row_field heap.the_row) global.the_send,
+        as_row_send (row_field (shr_ref_field k meter.the_row tt).row) (search (meter_sync, sendable)),
         (
-          as_row_send (row_field (shr_ref_field m shared.the_row tt).row) (search (shared_sync, sendable)),
+          as_row_send (row_field u64-field.row) (search sendable),
           (as_row_send (row_field (shr_ref_field n (param 1 G) tt).row) (search (g, sendable)), (as_row_send (row_field share.the_row) share_send, tt)),
         ),
       ),
-    )
+    ),
+  ),
+)
 
 -- A thread more, and a share less.
 added : {H : Type 0} (of : H → Share) (old : List H) (handle : H) (after : List Share) → map of (old ++ handle ∷ []) ++ after ≡ map of old ++ of handle ∷ after
@@ -78,9 +102,10 @@ one_more of old new handle share before after shares new_is before_is of_is all 
     ap (λ handles. map of handles ++ after) new_is
     ∙ (added of old handle after ∙ (ap (λ s. map of old ++ s ∷ after) of_is ∙ (ap (λ others. map of old ++ others) (sym before_is) ∙ all)))
 
-pub fewer_ready : (shared : LockState) (share : Share) (before after : List Share) → before ≡ share ∷ after → All (IsReady shared) before → All (IsReady shared) after
-fewer_ready shared share before after is ready k d below =
-    subst (All (IsReady shared)) is ready (suc k) d (omega arith)
+pub fewer_ready : (shared : LockState) (meter : MeterState) (share : Share) (before after : List Share) → before ≡ share ∷ after
+    → All (IsReadyFor shared meter) before → All (IsReadyFor shared meter) after
+fewer_ready shared meter share before after is ready k d below =
+    subst (All (IsReadyFor shared meter)) is ready (suc k) d (omega arith)
 
 pub only : (shares rest all : List Share) → length rest ≡ 0 → shares ++ rest ≡ all → shares ≡ all
 only shares [] all none is = sym (append-nil shares) ∙ is

@@ -1,5 +1,5 @@
 -- A write, a read or a free of a block tells what its loader's own requests know of it, and leaves the
--- loader's accounts; for blocks.rt.
+-- loader's accounts and words in use; for blocks.rt.
 use Rattle.std.proofs.Common.{◌≡◌, ◌≢◌, ℕ, suc, true, false, cond, inl, inr, Some, None, Ok, Err, Result, IfOk, IfErr, List, [], ◌∷◌, ◌++◌, map, length, option_map, refl, sym, ap, ◌∙◌, subst}
 use Rattle.std.specs.Prelude.{IsTrue}
 use Rattle.std.specs.Ordering.{nat_cmp}
@@ -27,12 +27,14 @@ use Rattle.ms_base.proofs.entries.LookupLemmas.{named_changed_same, named_change
 use Rattle.ms_pool.specs.Account.{AccountState}
 use Rattle.ms_loaders.specs.Loader.{LoaderView, with_state, account_in, HasWord, WritesWord, FreesBlock, LacksWord, LacksName}
 use Rattle.ms_loaders.specs.System.{states_of, accounts_of, AreDistinct}
+use Rattle.ms_loaders.specs.Used.{used_by, used_at}
 use Rattle.ms_shared.specs.SeatView.{ServesBy}
 use Rattle.ms_run.specs.Own.{own_of, own_in}
 use Rattle.ms_run.specs.Manned.{IsManned, KeepsSeats}
-
-abbrev pub state_of : LoaderView → LoaderState
-state_of loader = loader.state
+use Rattle.ms_loaders.proofs.CallLemmas.{write_keeps, freed_keeps, free_keeps, same_loaders}
+use Rattle.ms_loaders.proofs.UnloadLemmas.{state_of}
+use Rattle.ms_loaders.proofs.ServedLemmas.{accounts_split, length_changed}
+use Rattle.ms_loaders.proofs.LoaderLemmas.{ok_then, err_then}
 
 abbrev own_state : LoaderState → OwnLoader
 own_state loader = record { kind = loader.kind; blocks = loader.blocks }
@@ -55,10 +57,6 @@ own_changed loaders name was is found = own_found (with_changed loaders name is)
 -- The other loaders stay.
 pub others_stay : (loaders : List (ℕ × LoaderView)) (name : ℕ) (is : LoaderView) (other : ℕ) → other ≢ name → named (with_changed loaders name is) other ≡ named loaders other
 others_stay loaders name is other differs = named_changed_other loaders name is other (λ e. differs (sym e))
-
--- A loader that is as it was.
-pub same_loaders : (loaders : List (ℕ × LoaderView)) (name : ℕ) (was is : LoaderView) → named loaders name ≡ Some was → is ≡ was → with_changed loaders name is ≡ loaders
-same_loaders loaders name was is found same = ap (with_changed loaders name) same ∙ set_value_same (is_at (nat_cmp name)) loaders was found
 
 -- The answers where there is a loader.
 written : (name block index value : ℕ) (was is : LoaderState) → WritesWord was block index value is
@@ -123,15 +121,6 @@ pub own_not_read : (loaders : List (ℕ × LoaderView)) (name block index : ℕ)
     → OwnReply (own_in (states_of loaders) name) (Read name block index) false (Refused refusal) (own_in (states_of loaders) name)
 own_not_read loaders name block index refusal was found lacks = rw (own_found loaders name was found) (read_refused name block index was.state refusal lacks)
 
--- What follows from each answer, and from each error.
-pub ok_then : {A E : Type 0} (P Q : A → Type 0) (answer : Result A E) → ((a : A) → P a → Q a) → IfOk answer P → IfOk answer Q
-ok_then P Q (Ok a) then holds = then a holds
-ok_then P Q (Err e) then holds = tt
-
-pub err_then : {A E : Type 0} (P Q : E → Type 0) (answer : Result A E) → ((e : E) → P e → Q e) → IfErr answer P → IfErr answer Q
-err_then P Q (Ok a) then holds = tt
-err_then P Q (Err e) then holds = then e holds
-
 -- Loaders with the same accounts have the same seats.
 keeps_seats : (old new : List (ℕ × LoaderView)) → accounts_of new ≡ accounts_of old → length new ≡ length old → KeepsSeats old new
 keeps_seats old new same count seat manned = record {
@@ -147,34 +136,10 @@ keeps_seats old new same count seat manned = record {
     owner_of : AccountState → ℕ
     owner_of account = account.owner
 
--- Neither a write nor a free changes a chunk.
-write_keeps : (space : Space) (loader other : LoaderState) (block index value : ℕ) → WritesWord loader block index value other → (arena_of space other).chunks ≡ (arena_of space loader).chunks
-write_keeps space loader other block index value writes = ap (λ (l : LoaderState). (arena_of space l).chunks) writes.after
-
-freed_keeps : (one there : Space) (loader : LoaderState) (block : ℕ) (kept : List (ℕ × ℕ)) → (arena_of one (with_freed there loader block kept)).chunks ≡ (arena_of one loader).chunks
-freed_keeps NonClass NonClass loader block kept = refl
-freed_keeps NonClass Class loader block kept = refl
-freed_keeps Class NonClass loader block kept = refl
-freed_keeps Class Class loader block kept = refl
-
-free_keeps : (space : Space) (loader other : LoaderState) (block : ℕ) → FreesBlock loader block other → (arena_of space other).chunks ≡ (arena_of space loader).chunks
-free_keeps space loader other block frees = ap (λ (l : LoaderState). (arena_of space l).chunks) frees.after
-    ∙ freed_keeps space (space_at frees.found.start) loader block (with_new (arena_of (space_at frees.found.start) loader).kept frees.found.start (length frees.found.contents))
-
--- The accounts of loaders before, at and after a name.
-pub accounts_split : (b a : List (ℕ × LoaderView)) (name : ℕ) (v : LoaderView)
-    → accounts_of (b ++ (name, v) ∷ a) ≡ accounts_of b ++ account_in NonClass v ∷ account_in Class v ∷ accounts_of a
-accounts_split b a name v =
-    ap (flat_map (λ (loader : LoaderView). account_in NonClass loader ∷ account_in Class loader ∷ [])) (values_split b a name v)
-    ∙ flat_map-append (λ (loader : LoaderView). account_in NonClass loader ∷ account_in Class loader ∷ []) (values_of b) (v ∷ values_of a)
-
-pub length_changed : {X : Type 0} (entries : List (ℕ × X)) (name : ℕ) (x : X) → length (with_changed entries name x) ≡ length entries
-length_changed [] name x = refl
-length_changed {X} (e ∷ es) name x =
-    elim (is_at (nat_cmp name) e.0) as (λ b. length (cond b ((e.0, x) ∷ es) (e ∷ with_changed es name x)) ≡ length (e ∷ es)) [
-      | true ↦ refl
-      | false ↦ ap suc (length_changed es name x)
-    ]
+-- Nor does either move a top.
+freed_used : (space : Space) (loader : LoaderState) (block : ℕ) (kept : List (ℕ × ℕ)) → used_by (with_freed space loader block kept) ≡ used_by loader
+freed_used NonClass loader block kept = refl
+freed_used Class loader block kept = refl
 
 -- So each seat serves the loaders as before.
 module _ (loaders : List (ℕ × LoaderView)) (name : ℕ) (was is : LoaderView) (found : named loaders name ≡ Some was) where
@@ -202,3 +167,17 @@ module _ (loaders : List (ℕ × LoaderView)) (name : ℕ) (was is : LoaderView)
 
   pub same_keeps : is ≡ was → KeepsSeats loaders (with_changed loaders name is)
   same_keeps same seat manned = subst (IsManned seat) (sym (same_loaders loaders name was is found same)) manned
+
+  -- And the words in use stay.
+  used_with : used_by is.state ≡ used_by was.state → used_at (named (with_changed loaders name is) name) ≡ used_at (named loaders name)
+  used_with same = ap used_at (named_changed_same loaders name was is found) ∙ same ∙ sym (ap used_at found)
+
+  pub written_uses : (block index value : ℕ) → WritesWord was.state block index value is.state → used_at (named (with_changed loaders name is) name) ≡ used_at (named loaders name)
+  written_uses block index value writes = used_with (ap used_by writes.after)
+
+  pub freed_uses : (block : ℕ) → FreesBlock was.state block is.state → used_at (named (with_changed loaders name is) name) ≡ used_at (named loaders name)
+  freed_uses block frees = used_with (ap used_by frees.after
+      ∙ freed_used (space_at frees.found.start) was.state block (with_new (arena_of (space_at frees.found.start) was.state).kept frees.found.start (length frees.found.contents)))
+
+  pub same_uses : is ≡ was → used_at (named (with_changed loaders name is) name) ≡ used_at (named loaders name)
+  same_uses same = used_with (ap (λ (loader : LoaderView). used_by loader.state) same)

@@ -14,9 +14,15 @@ use Rattle.ms_base.specs.Names.{named}
 use Rattle.ms_base.specs.Request.{loader_of, is_name}
 use Rattle.ms_loaders.specs.Loader.{LoaderView}
 use Rattle.ms_loaders.specs.System.{states_of}
-use Rattle.ms_run.proofs.TouchLemmas.{state_of, named_states}
+use Rattle.ms_loaders.specs.Used.{used_in}
+use Rattle.ms_run.proofs.MovedLemmas.{moved_none, moved_then}
+use Rattle.ms_run.proofs.TouchLemmas.{named_states}
+use Rattle.ms_loaders.proofs.UnloadLemmas.{state_of}
+use Rattle.ms_shared.specs.MeterRule.{MeterSeatState}
 use Rattle.ms_shared.specs.SeatView.{SeatState}
+use Rattle.ms_run.specs.Answering.{IsAnswered}
 use Rattle.ms_run.specs.Manned.{IsManned}
+use Rattle.ms_run.specs.Moved.{IsMoved}
 use Rattle.ms_run.specs.Own.{Said, own_said, own_of, own_in, OwnRun, ArePurged}
 use Rattle.ms_run.specs.Shares.{said_in, IsWorked}
 use Rattle.ms_run.specs.declared.share.Task.{Task}
@@ -98,18 +104,19 @@ purged_more said step reply all one = All-append IsDone said ((step, reply) ∷ 
     IsDone : Said → Type 0
     IsDone s = s.0 ≡ Purge → s.1 ≡ Done
 
--- The share is worked so far: the seat serves the loaders, so many tasks have their reply, and each
--- loader's replies are its own.
-pub record IsWorkedTo (share : Share) (pool : SeatState) (loaders : List (ℕ × LoaderView)) (tasks : List Task) (index : ℕ) (replies : Vec Reply Global) : Type 0 where
+-- The share is worked so far: the seat serves the loaders, so many tasks have their reply, each
+-- loader's replies are its own, and the meter's seat moved as the words in use did.
+pub record IsWorkedTo (share : Share) (pool : SeatState) (counted : MeterSeatState) (loaders : List (ℕ × LoaderView)) (tasks : List Task) (index : ℕ) (replies : Vec Reply Global) : Type 0 where
   pub manned : IsManned pool.knows loaders
   pub id : pool.id ≡ share.seat.id
   pub count : vec_len replies ≡ index
   pub room : length tasks ≤ vec_capacity replies
   pub own : AreOwn share.loaders (said_in tasks replies.items) loaders
   pub purges : ArePurged (said_in tasks replies.items)
+  pub moved : IsMoved share.meter (used_in share.loaders) counted (used_in loaders)
 
 pub work_begins : (share : Share) (pool : SeatState) (tasks : List Task) → IsManned share.seat.knows share.loaders → vec_len share.tasks ≤ vec_capacity share.replies → share.replies.items ≡ []
-    → pool ≡ share.seat → length tasks ≡ vec_len share.tasks → IsWorkedTo share pool share.loaders tasks 0 share.replies
+    → pool ≡ share.seat → length tasks ≡ vec_len share.tasks → IsWorkedTo share pool share.meter share.loaders tasks 0 share.replies
 work_begins share pool tasks manned room none seat count = record {
   manned = subst (λ (s : SeatState). IsManned s.knows share.loaders) (sym seat) manned;
   id = ap (λ (s : SeatState). s.id) seat;
@@ -117,6 +124,7 @@ work_begins share pool tasks manned room none seat count = record {
   room = omega arith;
   own = subst (λ (l : List Said). AreOwn share.loaders l share.loaders) (sym said) (none_said share.loaders);
   purges = subst ArePurged (sym said) none_purged;
+  moved = moved_none share.meter (used_in share.loaders);
 }
   where
     none_in : (tasks : List Task) → said_in tasks [] ≡ []
@@ -129,20 +137,23 @@ work_begins share pool tasks manned room none seat count = record {
     none_purged : ArePurged []
     none_purged = All-from_recursion (λ (s : Said). s.0 ≡ Purge → s.1 ≡ Done) [] tt
 
-pub work_goes_on : (share : Share) (pool new_pool : SeatState) (loaders new_loaders : List (ℕ × LoaderView)) (tasks : List Task) (index : ℕ)
+pub work_goes_on : (share : Share) (pool new_pool : SeatState) (counted mid_counted new_counted : MeterSeatState) (loaders new_loaders : List (ℕ × LoaderView)) (tasks : List Task) (index : ℕ)
     (replies new_replies : Vec Reply Global) (d : Task) (reply : Reply)
-    → IsWorkedTo share pool loaders tasks index replies → index < length tasks → new_pool.id ≡ pool.id → IsManned new_pool.knows new_loaders
-    → TellsOwn loaders (get_or tasks index d).step reply new_loaders → LeavesOthers loaders (get_or tasks index d).step new_loaders → ((get_or tasks index d).step ≡ Purge → reply ≡ Done)
+    → IsWorkedTo share pool counted loaders tasks index replies → index < length tasks → new_pool.id ≡ pool.id
+    → IsAnswered loaders (get_or tasks index d).step reply new_pool.knows new_loaders
+    → IsMoved counted (used_in loaders) mid_counted (used_in new_loaders) → new_counted ≡ mid_counted
     → new_replies.items ≡ replies.items ++ reply ∷ [] → vec_len new_replies ≡ vec_len replies + 1 → vec_capacity new_replies ≡ vec_capacity replies
-    → IsWorkedTo share new_pool new_loaders tasks (index + 1) new_replies
-work_goes_on share pool new_pool loaders new_loaders tasks index replies new_replies d reply its within id manned own others purge items count capacity = record {
-  manned = manned;
+    → IsWorkedTo share new_pool new_counted new_loaders tasks (index + 1) new_replies
+work_goes_on share pool new_pool counted mid_counted new_counted loaders new_loaders tasks index replies new_replies d reply its within id answered moved looked items count capacity = record {
+  manned = answered.manned;
   id = id ∙ its.id;
   count = let before = its.count in omega arith;
   room = let before = its.room in omega arith;
   own = subst (λ (l : List Said). AreOwn share.loaders l new_loaders) (sym said)
-      (own_more share.loaders loaders new_loaders (said_in tasks replies.items) (get_or tasks index d).step reply its.own own others);
-  purges = subst ArePurged (sym said) (purged_more (said_in tasks replies.items) (get_or tasks index d).step reply its.purges purge);
+      (own_more share.loaders loaders new_loaders (said_in tasks replies.items) (get_or tasks index d).step reply its.own answered.own answered.others);
+  purges = subst ArePurged (sym said) (purged_more (said_in tasks replies.items) (get_or tasks index d).step reply its.purges answered.purge);
+  moved = moved_then share.meter counted new_counted (used_in share.loaders) (used_in loaders) (used_in new_loaders) its.moved
+      (subst (λ (s : MeterSeatState). IsMoved counted (used_in loaders) s (used_in new_loaders)) (sym looked) moved);
 }
   where
     at_it : length replies.items ≡ index
@@ -152,14 +163,16 @@ work_goes_on share pool new_pool loaders new_loaders tasks index replies new_rep
     said = ap (said_in tasks) items ∙ said_more tasks replies.items d reply (omega (arith, at_it))
         ∙ ap (λ (n : ℕ). said_in tasks replies.items ++ ((get_or tasks n d).step, reply) ∷ []) at_it
 
-pub work_ends : (share : Share) (pool seat : SeatState) (loaders : List (ℕ × LoaderView)) (tasks : List Task) (index : ℕ) (replies : Vec Reply Global)
-    → IsWorkedTo share pool loaders tasks index replies
-    → seat ≡ pool → tasks ≡ share.tasks.items → index ≡ vec_len share.tasks → IsWorked share (record { worker = share.worker; seat = seat; loaders = loaders; tasks = share.tasks; replies = replies })
-work_ends share pool seat loaders tasks index replies its seat_is tasks_are all = record {
+pub work_ends : (share : Share) (pool seat : SeatState) (counted : MeterSeatState) (loaders : List (ℕ × LoaderView)) (tasks : List Task) (index : ℕ) (replies : Vec Reply Global)
+    → IsWorkedTo share pool counted loaders tasks index replies
+    → seat ≡ pool → tasks ≡ share.tasks.items → index ≡ vec_len share.tasks
+    → IsWorked share (record { worker = share.worker; seat = seat; meter = counted; loaders = loaders; tasks = share.tasks; replies = replies })
+work_ends share pool seat counted loaders tasks index replies its seat_is tasks_are all = record {
   id = ap (λ (s : SeatState). s.id) seat_is ∙ its.id;
   manned = subst (λ (s : SeatState). IsManned s.knows loaders) (sym seat_is) its.manned;
   tasks = refl;
   replies = its.count ∙ all;
   own = subst (λ (l : List Task). AreOwn share.loaders (said_in l replies.items) loaders) tasks_are its.own;
   purges = subst (λ (l : List Task). ArePurged (said_in l replies.items)) tasks_are its.purges;
+  moved = its.moved;
 }

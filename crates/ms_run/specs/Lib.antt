@@ -5,3 +5,6 @@ pub mod Shares
 pub mod Joined
 pub mod Turn
 pub mod Dealing
+pub mod Metering
+pub mod Answering
+pub mod Moved

@@ -10,9 +10,12 @@ use Rattle.ms_trace.specs.declared.trace.Line.{Line}
 use Rattle.ms_trace.specs.Steps.{step_of}
 use Rattle.ms_loaders.specs.Loader.{LoaderView}
 use Rattle.ms_loaders.specs.System.{states_of}
+use Rattle.ms_loaders.specs.Used.{used_in}
 use Rattle.ms_shared.specs.SeatView.{LockState}
+use Rattle.ms_shared.specs.MeterRule.{MeterState}
 use Rattle.ms_run.specs.Own.{Said, own_said, own_in, OwnRun, ArePurged}
 use Rattle.ms_run.specs.Manned.{IsManned}
+use Rattle.ms_run.specs.Moved.{IsMoved}
 use Rattle.ms_run.specs.declared.share.Task.{Task}
 use Rattle.ms_run.specs.declared.share.Share.{Share}
 
@@ -28,7 +31,12 @@ pub record IsReady (shared : LockState) (share : Share) : Type 0 where
   pub room : vec_len share.tasks ≤ vec_capacity share.replies
   pub none : share.replies.items ≡ []
 
--- A share is worked: each task has its reply, and each loader's replies are its own.
+-- The same, and its seat of the meter is of this one.
+abbrev pub IsReadyFor : LockState → MeterState → Share → Type 0
+IsReadyFor shared meter share = IsReady shared share × (share.meter.id ≡ meter.id)
+
+-- A share is worked: each task has its reply, each loader's replies are its own, and the meter's seat
+-- moved as the words in use did.
 pub record IsWorked (share done : Share) : Type 0 where
   pub id : done.seat.id ≡ share.seat.id
   pub manned : IsManned done.seat.knows done.loaders
@@ -37,6 +45,7 @@ pub record IsWorked (share done : Share) : Type 0 where
   pub own : (name : ℕ) → OwnRun (own_in (states_of share.loaders) name) (own_said name (said_in share.tasks.items done.replies.items))
       (own_in (states_of done.loaders) name)
   pub purges : ArePurged (said_in share.tasks.items done.replies.items)
+  pub moved : IsMoved share.meter (used_in share.loaders) done.meter (used_in done.loaders)
 
 -- Each share is worked.
 abbrev pub AllWorked : List Share → List Share → Type 0

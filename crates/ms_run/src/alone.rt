@@ -8,7 +8,7 @@ ghost use Rattle.ms_trace.specs.Steps.{step_of};
 ghost use Rattle.ms_run.specs.Replay.{Answers, IsEnd, Reports};
 
 use crate::gate::Gate;
-use ms_base::{Reply, Settings};
+use ms_base::{Reply, Settings, Step};
 use ms_loaders::{Answer, Replies, System, Totals};
 use ms_trace::{Command, Line};
 use std::alloc::{AllocError, Global};
@@ -26,16 +26,19 @@ pub fn answer_all<G: Gate>(
     let mut system = System::new(alloc, settings)?;
     // Room for all answers, so that no push takes memory once a step is done.
     let mut answers = Vec::with_capacity(alloc, lines.len())?;
+    let mut used = 0;
     for line in lines {
-        answer_line(gate, &mut system, line, &mut answers)?;
+        answer_line(gate, &mut system, &mut used, line, &mut answers)?;
     }
     Ok(Replies { answers })
 }
 
-/// Answers a line: one that asks a step between the gate's two calls.
+/// Answers a line: one that asks a step between the gate's two calls. The words in use are counted on
+/// for the gate.
 fn answer_line<G: Gate>(
     gate: &G,
     system: &mut System,
+    used: &mut u64,
     line: &Line,
     answers: &mut Vec<Answer>,
 ) -> Result<(), AllocError>
@@ -47,22 +50,32 @@ fn answer_line<G: Gate>(
         return answer_between(system, line, answers);
     };
     gate.before(0, line.number);
+    let before = used_by(system, &step);
     let reply = system.step(step);
     answers.push(Answer {
         line: line.number,
         reply,
         report: None,
     })?;
-    gate.after(0, line.number, 0);
+    *used = used
+        .wrapping_add(used_by(system, &step))
+        .wrapping_sub(before);
+    gate.after(0, line.number, *used);
     Ok(())
 }
 
+/// Tells the words in use of the loader whose tops a step may move, and 0 where it moves none.
+fn used_by(system: &System, step: &Step) -> u64 {
+    match *step {
+        Step::Alloc { loader, .. } => system.used_by(loader),
+        Step::Calloc { loader, .. } => system.used_by(loader),
+        Step::Unload { loader } => system.used_by(loader),
+        _ => 0,
+    }
+}
+
 /// Answers a line that asks no step: a report with the totals as they are.
-pub(crate) fn answer_between(
-    system: &System,
-    line: &Line,
-    answers: &mut Vec<Answer>,
-) -> Result<(), AllocError>
+fn answer_between(system: &System, line: &Line, answers: &mut Vec<Answer>) -> Result<(), AllocError>
     requires { step_of line.now.command ≡ None }
     ensures { OnOk result ((added : AnswerOf)
         × (answers.new.items ≡ answers.old.items ++ added ∷ [])

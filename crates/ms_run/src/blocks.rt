@@ -4,6 +4,7 @@ ghost use Rattle.std.specs.Prelude.{◌≡◌, ◌≢◌, IfOk, OnOk, IfErr, ℕ
 ghost use Rattle.ms_base.specs.Names.{named};
 ghost use Rattle.ms_base.specs.Alone.{OwnReply};
 ghost use Rattle.ms_loaders.specs.System.{states_of};
+ghost use Rattle.ms_loaders.specs.Used.{used_at};
 ghost use Rattle.ms_run.specs.Own.{own_in};
 ghost use Rattle.ms_run.specs.Manned.{IsManned, KeepsSeats};
 
@@ -75,6 +76,7 @@ pub fn write(
     value: u64,
 ) -> Result<(), Refusal>
     ensures manned { KeepsSeats loaders.old loaders.new }
+    ensures used { used_at (named loaders.new name) ≡ used_at (named loaders.old name) }
     ensures served { OnOk result (OwnReply (own_in (states_of loaders.old) name)
         (Step.Write name block index value) false Reply.Ok (own_in (states_of loaders.new) name)) }
     ensures refused { IfErr result (λ refusal. OwnReply (own_in (states_of loaders.old) name)
@@ -108,6 +110,7 @@ pub fn read(loaders: &Loaders, name: u16, block: u32, index: u64) -> Result<u64,
 /// Frees a block.
 pub fn free(loaders: &mut Loaders, name: u16, block: u32) -> Result<(), Refusal>
     ensures manned { KeepsSeats loaders.old loaders.new }
+    ensures used { used_at (named loaders.new name) ≡ used_at (named loaders.old name) }
     ensures served { OnOk result (OwnReply (own_in (states_of loaders.old) name)
         (Step.Free name block) false Reply.Ok (own_in (states_of loaders.new) name)) }
     ensures refused { IfErr result (λ refusal. OwnReply (own_in (states_of loaders.old) name)

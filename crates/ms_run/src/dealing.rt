@@ -1,14 +1,17 @@
 //! Dealing a phase's lines and all loaders to shares, a share for each worker that has lines.
 //!
 //! Kept true: lines and loader of one name are in one share, whose seat serves the loader. The first
-//! share's seat serves all at first, and hands each account on. Takes memory for seats, lists of tasks
-//! and of replies, and places of loaders; nothing waits.
-ghost use Rattle.std.specs.Prelude.{◌≡◌, ◌++◌, ◌∷◌, [], ◌≤◌, IfOk, IfErr, OnOk, vec_len, vec_capacity, ◌<◌, ◌≢◌, ℕ, Some, slice_get};
+//! share's seat serves all at first, and hands each account on. Each share has a seat of the phase's
+//! meter, with nothing counted yet. Takes memory for seats, lists of tasks and of replies, and places
+//! of loaders; nothing waits.
+ghost use Rattle.std.specs.Prelude.{◌≡◌, ◌+◌, ◌++◌, ◌∷◌, [], ◌≤◌, map, replicate, IfOk, IfErr, OnOk, vec_len, vec_capacity, ◌<◌, ◌≢◌, ℕ, Some, slice_get};
 ghost use Rattle.std.specs.List.{filter};
 ghost use Rattle.std.specs.Map.{keys_of};
 ghost use Rattle.ms_base.specs.Names.{AreNamed};
 ghost use Rattle.ms_loaders.specs.Settles.{MaySettle, open_accounts, accounts_in};
 ghost use Rattle.ms_run.specs.Turn.{shares_in, place_in};
+ghost use Rattle.ms_loaders.specs.Used.{used_in};
+ghost use Rattle.ms_run.specs.Metering.{used_over, meter_of, unmoved};
 ghost use Rattle.ms_run.specs.Shares.{AreDealt, AreSteps, tasks_of};
 ghost use Rattle.ms_run.specs.Dealing.{AreListed, AreEmpty, AreAdded, AreBeside, IsHanded, AreHanded, AreSeats, AreDealtTo, is_placed};
 
@@ -17,7 +20,7 @@ use crate::share::{Share, Task};
 use crate::turn::{Turn, loader_named};
 use ms_loaders::Loaders;
 use ms_pool::Pool;
-use ms_shared::{PoolSeat, SharedPool};
+use ms_shared::{MeterSeat, PoolSeat, SharedPool, UsedMeter};
 use ms_trace::{Command, Line};
 use std::alloc::{AllocError, Global};
 use std::mem;
@@ -29,14 +32,15 @@ struct Crew {
     loaders: Loaders,
 }
 
-/// Deals lines and loaders to shares over one lock. An error means that memory was wanting.
+/// Deals lines and loaders to shares over one lock and one meter. An error means that memory was
+/// wanting.
 pub fn deal(
     alloc: Global,
     turn: &Turn,
     lines: &[Line],
     pool: Pool,
     loaders: Loaders,
-) -> Result<(SharedPool, Vec<Share>), RunFault>
+) -> Result<(SharedPool, Vec<Share>, UsedMeter), RunFault>
     requires fits { MaySettle pool loaders }
     requires all { open_accounts pool ≡ accounts_in loaders }
     requires names { AreNamed loaders }
@@ -44,37 +48,48 @@ pub fn deal(
     ensures dealt { IfOk result (λ made. AreDealt (place_in turn.now) made.0 made.1.items lines.now loaders) }
     ensures count { IfOk result (λ made. vec_len made.1 ≡ shares_in turn.now) }
     ensures limits { IfOk result (λ made. made.0.limits ≡ pool.limits) }
+    ensures meters { IfOk result
+        (λ made. map meter_of made.1.items ≡ replicate (vec_len made.1) (unmoved made.2)) }
+    ensures meter { IfOk result (λ made. made.2.seats ≡ vec_len made.1) }
+    ensures used { IfOk result (λ made. used_over made.1.items ≡ used_in loaders) }
     ensures wanting { IfErr result (λ fault. fault ≡ RunFault.OutOfMemory) }
 {
     let count = turn.shares();
     let Ok((shared, seats)) = SharedPool::new(alloc, pool, count) else {
         return Err(RunFault::OutOfMemory);
     };
-    let shares = deal_to(alloc, turn, lines, &shared, seats, loaders)?;
+    let (meter, meters) = UsedMeter::new(alloc, count)?;
+    let shares = deal_to(alloc, turn, lines, &shared, seats, meters, loaders)?;
     // That each place is within the shares is learnt here.
     let _ = turn.place(None);
-    Ok((shared, shares))
+    Ok((shared, shares, meter))
 }
 
-/// Deals lines and loaders to a share for each seat, of which the first serves all loaders.
+/// Deals lines and loaders to a share for each seat, of which the first serves all loaders, and gives
+/// each a seat of the meter.
 fn deal_to(
     alloc: Global,
     turn: &Turn,
     lines: &[Line],
     shared: &SharedPool,
     mut seats: Vec<PoolSeat>,
+    mut meters: Vec<MeterSeat>,
     loaders: Loaders,
 ) -> Result<Vec<Share>, RunFault>
     requires count { vec_len seats ≡ shares_in turn.now }
     requires seats { AreSeats shared.now seats.items loaders }
+    requires meters { vec_len meters ≡ vec_len seats }
     requires names { AreNamed loaders }
     ensures dealt { IfOk result (λ shares.
         AreDealtTo (place_in turn.now) shared.now (vec_len seats) lines.now loaders shares.items) }
+    ensures meters { IfOk result (λ shares. map meter_of shares.items ≡ meters.items) }
+    ensures used { IfOk result (λ shares. used_over shares.items ≡ used_in loaders) }
     ensures wanting { IfErr result (λ fault. fault ≡ RunFault.OutOfMemory) }
 {
     let mut shares = Vec::with_capacity(alloc, seats.len())?;
     let mut lists = deal_lines(alloc, turn, lines, seats.len())?;
     let seat = seats.remove(0);
+    let first_meter = meters.remove(0);
     let mut first = Crew { seat, loaders };
     for seat in seats {
         let at = shares.len() + 1;
@@ -82,11 +97,12 @@ fn deal_to(
         let mut crew = Crew { seat, loaders };
         hand_all(alloc, turn, shared, at, &mut first, &mut crew)?;
         let tasks = take_list(alloc, &mut lists, at);
-        let share = make_share(alloc, turn, at, tasks, crew)?;
+        let meter = meters.remove(0);
+        let share = make_share(alloc, turn, at, tasks, crew, meter)?;
         shares.push_reserved(share);
     }
     let tasks = take_list(alloc, &mut lists, 0);
-    let share = make_share(alloc, turn, 0, tasks, first)?;
+    let share = make_share(alloc, turn, 0, tasks, first, first_meter)?;
     match shares.insert(0, share) {
         Ok(()) => Ok(shares),
         Err(_) => Err(RunFault::OutOfMemory),
@@ -100,8 +116,10 @@ fn make_share(
     at: usize,
     tasks: Vec<Task>,
     crew: Crew,
+    meter: MeterSeat,
 ) -> Result<Share, RunFault>
     ensures seat { IfOk result (λ share. share.seat ≡ crew.seat) }
+    ensures meter { IfOk result (λ share. share.meter ≡ meter) }
     ensures loaders { IfOk result (λ share. share.loaders ≡ crew.loaders) }
     ensures tasks { IfOk result (λ share. share.tasks.items ≡ tasks.items) }
     ensures room { IfOk result (λ share. vec_len share.tasks ≤ vec_capacity share.replies) }
@@ -114,6 +132,7 @@ fn make_share(
     Ok(Share {
         worker,
         seat,
+        meter,
         loaders,
         tasks,
         replies,
@@ -198,6 +217,9 @@ fn hand_all(
         (AreBeside from.new.seat.knows from.new.loaders to.new.seat.knows to.new.loaders) }
     ensures handed { OnOk result
         (AreHanded (place_in turn.now) at from.old.loaders from.new.loaders to.new.loaders) }
+    ensures used { OnOk result
+        (used_in from.new.loaders + used_in to.new.loaders
+        ≡ used_in from.old.loaders + used_in to.old.loaders) }
     ensures wanting { IfErr result (λ fault. fault ≡ RunFault.OutOfMemory) }
 {
     let names = names_at(alloc, turn, &from.loaders, at)?;
@@ -248,6 +270,9 @@ fn hand_on(shared: &SharedPool, name: u16, from: &mut Crew, to: &mut Crew) -> Re
         (AreBeside from.new.seat.knows from.new.loaders to.new.seat.knows to.new.loaders) }
     ensures handed { OnOk result
         (IsHanded name from.old.loaders to.old.loaders from.new.loaders to.new.loaders) }
+    ensures used { OnOk result
+        (used_in from.new.loaders + used_in to.new.loaders
+        ≡ used_in from.old.loaders + used_in to.old.loaders) }
     ensures wanting { IfErr result (λ fault. fault ≡ RunFault.OutOfMemory) }
 {
     let Some(loader) = from.loaders.remove(name) else {

@@ -6,8 +6,9 @@ pub trait Gate {
     /// Is called before a line: by which worker, from 0 on, and the line's number, from 1 on.
     fn before(&self, worker: usize, line: u32);
 
-    /// Is called after it, with the words in use as far as the worker can tell without the lock: 0 as
-    /// long as no meter counts them.
+    /// Is called after it, with the words in use as the worker reads them, without the lock: those
+    /// before the phase, and what all workers got in use since less what they gave back, modulo 2^64.
+    /// With one worker they are the system's.
     fn after(&self, worker: usize, line: u32, used: u64);
 }
 

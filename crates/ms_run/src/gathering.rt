@@ -2,8 +2,8 @@
 //! both are settled.
 //!
 //! Kept true: each seat counts just the accounts of its share's loaders, so settling is never
-//! refused, and no name is in two shares. Takes memory for seats and for places of loaders; nothing
-//! waits.
+//! refused, and no name is in two shares. The seats of the meter come out as they are. Takes memory
+//! for seats and for places of loaders; nothing waits.
 ghost use Rattle.std.specs.Prelude.{◌≡◌, ◌≤◌, [], IsOk, IfOk, IfErr, map, vec_len};
 ghost use Rattle.std.specs.List.{All};
 ghost use Rattle.ms_base.specs.declared.refusal.Refusal.TheVariants as Refusal;
@@ -14,6 +14,7 @@ ghost use Rattle.ms_shared.specs.SeatView.{SeatState, Gathers};
 ghost use Rattle.ms_run.specs.Joined.{HaveOtherNames, IsJoined, AreJoined, seat_of};
 ghost use Rattle.ms_run.specs.Joined.{IsWantOrUnsettled};
 ghost use Rattle.ms_run.specs.Manned.{IsManned};
+ghost use Rattle.ms_run.specs.Metering.{used_words_of, used_over, meter_of};
 ghost use Rattle.ms_run.specs.Shares.{Place, AreApart, IsGathered};
 ghost use Rattle.ms_run.specs.declared.share.Share.{Share as ShareState};
 
@@ -22,27 +23,35 @@ use crate::share::Share;
 use ms_base::Refusal;
 use ms_loaders::{Loaders, System};
 use ms_pool::Pool;
-use ms_shared::{PoolSeat, SharedPool};
+use ms_shared::{MeterSeat, PoolSeat, SharedPool};
 use std::alloc::Global;
 
-/// Gathers the shares that stand over the lock. An error means that memory was wanting.
-pub fn gather(alloc: Global, shared: SharedPool, shares: Vec<Share>) -> Result<System, RunFault>
+/// Gathers the shares that stand over the lock, and gives their seats of the meter out. An error means
+/// that memory was wanting.
+pub fn gather(
+    alloc: Global,
+    shared: SharedPool,
+    shares: Vec<Share>,
+) -> Result<(System, Vec<MeterSeat>), RunFault>
     requires own { All (λ (share : ShareState). share.seat.id ≡ shared.id) shares.items }
     requires manned { All (λ (share : ShareState). IsManned share.seat.knows share.loaders)
         shares.items }
     requires count { shared.seats ≡ vec_len shares }
     requires apart { (place : Place) × AreApart place shares.items }
-    ensures gathered { IfOk result (λ system. (place : Place) → AreApart place shares.items
-        → IsGathered place shares.items system.loaders) }
-    ensures good { IfOk result IsGood }
-    ensures limits { IfOk result (λ system. system.limits ≡ shared.limits) }
+    ensures gathered { IfOk result (λ ended. (place : Place) → AreApart place shares.items
+        → IsGathered place shares.items ended.0.loaders) }
+    ensures good { IfOk result (λ ended. IsGood ended.0) }
+    ensures limits { IfOk result (λ ended. ended.0.limits ≡ shared.limits) }
+    ensures used { IfOk result (λ ended. used_words_of ended.0 ≡ used_over shares.items) }
+    ensures meters { IfOk result (λ ended. ended.1.items ≡ map meter_of shares.items) }
     ensures wanting { IfErr result (λ fault. fault ≡ RunFault.OutOfMemory) }
 {
-    let (seats, loaders) = take_apart(alloc, shares)?;
+    let (seats, loaders, meters) = take_apart(alloc, shares)?;
     let pool = open(shared, seats)?;
     // What holds of every pool is learnt here.
     let _ = pool.committed();
-    settle(alloc, pool, loaders)
+    let system = settle(alloc, pool, loaders)?;
+    Ok((system, meters))
 }
 
 /// Gives the pool out of its lock, to which all seats are given back.
@@ -73,20 +82,26 @@ fn settle(alloc: Global, pool: Pool, loaders: Loaders) -> Result<System, RunFaul
     }
 }
 
-/// Takes the seats and the loaders out of the shares, and puts the loaders together.
-fn take_apart(alloc: Global, shares: Vec<Share>) -> Result<(Vec<PoolSeat>, Loaders), RunFault>
+/// Takes both seats and the loaders out of the shares, and puts the loaders together.
+fn take_apart(
+    alloc: Global,
+    shares: Vec<Share>,
+) -> Result<(Vec<PoolSeat>, Loaders, Vec<MeterSeat>), RunFault>
     requires { (place : Place) × AreApart place shares.items }
     ensures seats { IfOk result (λ parts. parts.0.items ≡ map seat_of shares.items) }
     ensures loaders { IfOk result (λ parts. AreJoined [] shares.items parts.1) }
+    ensures meters { IfOk result (λ parts. parts.2.items ≡ map meter_of shares.items) }
     ensures wanting { IfErr result (λ fault. fault ≡ RunFault.OutOfMemory) }
 {
     let mut seats = Vec::with_capacity(alloc, shares.len())?;
+    let mut meters = Vec::with_capacity(alloc, shares.len())?;
     let mut loaders = Loaders::new(alloc);
     for share in shares {
         seats.push_reserved(share.seat);
+        meters.push_reserved(share.meter);
         loaders = join(loaders, share.loaders)?;
     }
-    Ok((seats, loaders))
+    Ok((seats, loaders, meters))
 }
 
 /// Puts two lists of loaders together: the fewer come to the others.
@@ -118,7 +133,7 @@ fn insert_all(mut whole: Loaders, mut part: Loaders) -> Result<Loaders, RunFault
 }
 
 /// Tells the fault that a refusal at the end of a phase is.
-fn fault_of(refusal: Refusal) -> RunFault
+pub fn fault_of(refusal: Refusal) -> RunFault
     requires { IsWantOrUnsettled refusal }
     ensures { refusal ≡ Refusal.OutOfMemory → result ≡ RunFault.OutOfMemory }
 {

@@ -19,6 +19,8 @@ mod gate;
 mod gathering;
 mod lifetimes;
 mod merging;
+mod metered;
+mod metering;
 mod phase;
 mod replaying;
 mod serving;

@@ -4,6 +4,7 @@ ghost use Rattle.std.specs.Prelude.{◌≡◌, ◌≢◌, IfOk, OnOk, IfErr, ℕ
 ghost use Rattle.ms_base.specs.Names.{named};
 ghost use Rattle.ms_base.specs.Alone.{OwnReply};
 ghost use Rattle.ms_loaders.specs.System.{states_of};
+ghost use Rattle.ms_loaders.specs.Used.{used_at};
 ghost use Rattle.ms_run.specs.Own.{own_in};
 ghost use Rattle.ms_run.specs.Manned.{IsManned};
 
@@ -30,6 +31,7 @@ pub fn new_loader<R: Wait>(
     ensures refused { IfErr result (λ refusal. (want : Bool) × OwnReply
         (own_in (states_of loaders.old) name) (Step.New name kind) want (Reply.Refused refusal)
         (own_in (states_of loaders.new) name)) }
+    ensures used { used_at (named loaders.new name) ≡ used_at (named loaders.old name) }
     ensures others { (other : ℕ) → other ≢ name → named loaders.new other ≡ named loaders.old other }
 {
     if loaders.contains(name) {

@@ -3,22 +3,28 @@
 //!     System ── deal ──> shares ── work_all ──> shares ── gather ──> System
 //!                                                   └──── merge ───> answers
 //!
-//! Kept true: the system is good before and after, and nothing of it is lost between. Takes memory;
-//! waits for the lock and for threads. A phase without lines changes nothing.
-ghost use Rattle.std.specs.Prelude.{◌≡◌, ◌++◌, ℕ, List, IfOk, IfErr};
+//! Kept true: the system is good before and after, and nothing of it is lost between; the phase's
+//! meter moved as its words in use did. Takes memory; waits for the lock and for threads. A phase
+//! without lines changes nothing.
+ghost use Rattle.std.specs.Prelude.{◌≡◌, ◌++◌, ℕ, List, IsOk, IfOk, IfErr, vec_len};
+ghost use Rattle.std.specs.List.{All};
 ghost use Rattle.ms_base.specs.Good.{IsGood};
 ghost use Rattle.ms_loaders.specs.declared.replies.Answer.{Answer as AnswerOf};
 ghost use Rattle.ms_run.specs.Replay.{IsPhase, IsWanting};
+ghost use Rattle.ms_shared.specs.MeterRule.{MeterSeatState};
 ghost use Rattle.ms_run.specs.Shares.{AreSteps};
+ghost use Rattle.ms_run.specs.Metering.{used_words_of, amount_of};
 
 use crate::dealing::deal;
 use crate::fault::RunFault;
 use crate::gate::Gate;
-use crate::gathering::gather;
+use crate::gathering::{fault_of, gather};
 use crate::merging::merge;
+use crate::metered::Metered;
 use crate::turn::Turn;
 use crate::working::work_all;
-use ms_loaders::{Answer, System};
+use ms_loaders::Answer;
+use ms_shared::{MeterSeat, UsedMeter};
 use ms_trace::Line;
 use std::alloc::Global;
 use std::sync::Wait;
@@ -31,22 +37,42 @@ pub fn run_phase<R: Threads + Wait + Sync, G: Gate + Sync>(
     gate: &G,
     turn: &mut Turn,
     lines: &[Line],
-    system: System,
+    run: Metered,
     answers: &mut Vec<Answer>,
-) -> Result<System, RunFault>
-    requires good { IsGood system }
+) -> Result<Metered, RunFault>
+    requires good { IsGood run.system }
+    requires used { run.used ≡ used_words_of run.system }
     requires steps { AreSteps lines.now }
     ensures phase { IfOk result (λ after. (added : List AnswerOf)
-        × (answers.new.items ≡ answers.old.items ++ added) × IsPhase system lines.now added after) }
+        × (answers.new.items ≡ answers.old.items ++ added)
+        × IsPhase run.system lines.now added after.system) }
+    ensures used { IfOk result (λ after. after.used ≡ used_words_of after.system) }
     ensures wanting { IfErr result IsWanting }
 {
     if lines.is_empty() {
-        return Ok(system);
+        return Ok(run);
     }
     turn.activate(lines);
+    let Metered { system, used } = run;
     let (pool, loaders) = system.into_parts();
-    let (shared, shares) = deal(alloc, turn, lines, pool, loaders)?;
-    let shares = work_all(rt, alloc, &shared, gate, shares)?;
+    let (shared, shares, meter) = deal(alloc, turn, lines, pool, loaders)?;
+    let shares = work_all(rt, alloc, &shared, &meter, used, gate, shares)?;
     merge(turn, lines, &shares, answers)?;
-    gather(alloc, shared, shares)
+    let (system, meters) = gather(alloc, shared, shares)?;
+    let amount = close(meter, meters)?;
+    let used = used.wrapping_add(amount);
+    Ok(Metered { system, used })
+}
+
+/// Ends the phase's meter, to which all seats are given back, and tells what they sum to.
+fn close(meter: UsedMeter, seats: Vec<MeterSeat>) -> Result<u64, RunFault>
+    requires own { All (λ (seat : MeterSeatState). seat.id ≡ meter.id) seats.items }
+    requires count { meter.seats ≡ vec_len seats }
+    ensures closes { IsOk result }
+    ensures amount { IfOk result (λ amount. amount ≡ amount_of seats.items) }
+{
+    match meter.close(seats) {
+        Ok(amount) => Ok(amount),
+        Err((refusal, _meter, _seats)) => Err(fault_of(refusal)),
+    }
 }

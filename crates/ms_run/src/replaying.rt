@@ -12,9 +12,10 @@ ghost use Rattle.ms_trace.specs.Steps.{step_of};
 ghost use Rattle.ms_run.specs.Replay.{IsReplay, Answers, IsWanting};
 ghost use Rattle.ms_run.specs.Shares.{AreSteps};
 
-use crate::alone::{answer_all, answer_between};
+use crate::alone::answer_all;
 use crate::fault::RunFault;
 use crate::gate::Gate;
+use crate::metered::Metered;
 use crate::phase::run_phase;
 use crate::turn::Turn;
 use ms_base::Settings;
@@ -69,16 +70,17 @@ fn run_phases<R: Threads + Wait + Sync, G: Gate + Sync>(
     ensures wanting { IfErr result IsWanting }
 {
     let mut turn = Turn::new(alloc, settings, lines)?;
-    let mut system = System::new(alloc, settings)?;
+    let system = System::new(alloc, settings)?;
+    let mut run = Metered { system, used: 0 };
     let mut answers = Vec::with_capacity(alloc, lines.len())?;
     let mut at = 0;
     while at < lines.len() {
         let count = steps_first(&lines[at..]);
         let steps = &lines[at..at + count];
-        system = run_phase(rt, alloc, gate, &mut turn, steps, system, &mut answers)?;
+        run = run_phase(rt, alloc, gate, &mut turn, steps, run, &mut answers)?;
         at += count;
         if at < lines.len() {
-            answer_between(&system, &lines[at], &mut answers)?;
+            run.answer_between(&lines[at], &mut answers)?;
             at += 1;
         }
         turn.go_on();

@@ -11,6 +11,8 @@ ghost use Rattle.ms_base.specs.Alone.{OwnReply};
 ghost use Rattle.ms_loaders.specs.System.{states_of, reply_of};
 ghost use Rattle.ms_run.specs.Own.{own_in};
 ghost use Rattle.ms_run.specs.Manned.{IsManned};
+ghost use Rattle.ms_loaders.specs.Used.{used_at};
+ghost use Rattle.ms_run.specs.Metering.{MovesNoTop};
 
 use crate::blocks::{allocate, allocate_class, free, read, write};
 use crate::lifetimes::{new_loader, unload};
@@ -36,6 +38,8 @@ pub fn answer<R: Wait>(
     ensures others { (name : ℕ) → loader_of step ≢ Some name
         → named loaders.new name ≡ named loaders.old name }
     ensures purge { step ≡ Step.Purge → result ≡ Reply.Ok }
+    ensures used { MovesNoTop step → (name : ℕ)
+        → used_at (named loaders.new name) ≡ used_at (named loaders.old name) }
 {
     match serve(alloc, pool, loaders, step) {
         Ok(reply) => reply,
@@ -59,6 +63,8 @@ fn serve<R: Wait>(
     ensures others { (name : ℕ) → loader_of step ≢ Some name
         → named loaders.new name ≡ named loaders.old name }
     ensures purge { step ≡ Step.Purge → reply_of result ≡ Reply.Ok }
+    ensures used { MovesNoTop step → (name : ℕ)
+        → used_at (named loaders.new name) ≡ used_at (named loaders.old name) }
 {
     match step {
         Step::New { loader, kind } => {

@@ -1,7 +1,7 @@
 //! A worker's share of a phase.
 use ms_base::{Reply, Step};
 use ms_loaders::Loaders;
-use ms_shared::PoolSeat;
+use ms_shared::{MeterSeat, PoolSeat};
 
 /// A step, and the number of its line.
 #[derive(Clone, Copy, Debug, PartialEq, Eq)]
@@ -13,13 +13,16 @@ pub struct Task {
 }
 
 /// A worker's share of a phase: its loaders with a seat that serves them, its tasks in the trace's
-/// order, and the replies to them so far.
+/// order, and the replies to them so far. Its seat of the meter has counted what its loaders got and
+/// gave back.
 #[derive(Drop)]
 pub struct Share {
     /// The worker's number, from 0 on.
     pub worker: usize,
     /// The seat of the lock.
     pub seat: PoolSeat,
+    /// The seat of the meter.
+    pub meter: MeterSeat,
     /// The loaders by name.
     pub loaders: Loaders,
     /// The tasks.

@@ -3,9 +3,16 @@
 ghost use Rattle.std.specs.Prelude.{◌≤◌};
 
 use super::*;
+use crate::dealing::deal;
+use crate::gathering::gather;
+use crate::metered::Metered;
+use crate::phase::run_phase;
+use crate::turn::Turn;
+use crate::working::work_all;
 use ms_base::{Kind, Policy, Refusal, Reply, Settings, Step};
-use ms_loaders::Replies;
+use ms_loaders::{Replies, System};
 use ms_trace::{Command, Line, Lines, Trace, parse};
+use std::alloc::Global;
 use std::process::Abort;
 use std::sync::Wait;
 use std::sync::atomic::{AtomicU64, Ordering};
@@ -301,5 +308,159 @@ fn each_loader_is_told_the_same_by_any_schedule(rt: HostRuntime) -> Result<(), F
             assert_eq!(rt; told(answer.reply), told(expected.reply));
         }
     }
+    Ok(())
+}
+
+/// Keeps the words in use that it was told after the last line, and the most that it was told.
+#[derive(Drop)]
+struct Watching {
+    last: AtomicU64,
+    most: AtomicU64,
+}
+
+impl Gate for Watching {
+    fn before(&self, _worker: usize, _line: u32) {}
+
+    fn after(&self, _worker: usize, _line: u32, used: u64) {
+        self.last.store(used, Ordering::SeqCst);
+        self.most.fetch_max(used, Ordering::SeqCst);
+    }
+}
+
+/// Replays a text with a gate that watches the words in use: the last and the most that it was told.
+fn watched(
+    rt: &(impl Abort + AllocGlobal + Threads + Wait + Sync),
+    settings: Settings,
+    text: &str,
+) -> Result<(u64, u64), Fail> {
+    let trace = parse(rt.alloc(), text.as_bytes()).ok().ok_or("no trace")?;
+    let gate = Watching {
+        last: AtomicU64::new(0),
+        most: AtomicU64::new(0),
+    };
+    let replies = replay(rt, rt.alloc(), &trace, settings, &gate);
+    let _ = replies.ok().ok_or("no replies")?;
+    let last = gate.last.load(Ordering::SeqCst);
+    Ok((last, gate.most.load(Ordering::SeqCst)))
+}
+
+#[test]
+fn who_reads_last_reads_what_all_have_in_use(rt: HostRuntime) -> Result<(), Fail> {
+    let text = "new 1 standard\nnew 2 standard\nalloc 1 1 5\nalloc 2 1 7\n";
+    for workers in [1, 2, 4, 8] {
+        for _ in 0..20 {
+            let (_, most) = watched(&rt, settings(workers, 64, 8192, 0), text)?;
+            assert_eq!(rt; most, 12);
+        }
+    }
+    Ok(())
+}
+
+#[test]
+fn words_in_use_are_counted_on_from_phase_to_phase(rt: HostRuntime) -> Result<(), Fail> {
+    let text = "new 1 standard\nnew 2 standard\nalloc 1 1 5\ncalloc 2 1 7\nsync
+unload 1\nsync\nalloc 2 2 4\nwrite 2 2 0 9\nfree 2 2\nread 2 1 0\n";
+    for workers in [1, 2, 4, 8] {
+        let (last, most) = watched(&rt, settings(workers, 64, 8192, 1), text)?;
+        assert_eq!(rt; last, 11);
+        assert_eq!(rt; most, 12);
+    }
+    Ok(())
+}
+
+/// The words in use that each report tells, of both spaces.
+fn reported(alloc: Global, replies: &Replies) -> Result<Vec<(u64, u64)>, Fail> {
+    let mut used = Vec::new(alloc);
+    for answer in &replies.answers {
+        if let Some(totals) = &answer.report {
+            used.push((totals.space.used, totals.class_space.used))?;
+        }
+    }
+    Ok(used)
+}
+
+#[test]
+fn reports_tell_the_words_in_use(rt: HostRuntime) -> Result<(), Fail> {
+    let text = "new 1 standard\nalloc 1 1 10\nreport\nunload 1\nreport\n";
+    let classes = "new 1 standard\nnew 2 standard\nalloc 1 1 10\ncalloc 2 1 7\nreport
+unload 1\ncalloc 2 2 3\nreport\nunload 2\nreport\n";
+    for workers in [1, 2, 4, 8] {
+        let replies = replayed(&rt, settings(workers, 64, 8192, 0), text)?;
+        let used = reported(rt.alloc(), &replies)?;
+        assert_eq!(rt; used.as_slice(), [(10, 0), (0, 0)].as_slice());
+        let replies = replayed(&rt, settings(workers, 64, 8192, 1), classes)?;
+        let used = reported(rt.alloc(), &replies)?;
+        assert_eq!(rt; used.as_slice(), [(10, 7), (0, 10), (0, 0)].as_slice());
+    }
+    Ok(())
+}
+
+#[test]
+fn a_report_after_a_purge_tells_of_no_node(rt: HostRuntime) -> Result<(), Fail> {
+    let text = "new 1 standard\nalloc 1 1 10\nreport\nunload 1\nreport\npurge\nreport\n";
+    for workers in [1, 2, 4, 8] {
+        let replies = replayed(&rt, settings(workers, 64, 8192, 0), text)?;
+        let mut nodes = Vec::new(rt.alloc());
+        for answer in &replies.answers {
+            if let Some(totals) = &answer.report {
+                nodes.push(totals.space.nodes)?;
+            }
+        }
+        assert_eq!(rt; nodes.as_slice(), [1, 1, 0].as_slice());
+    }
+    Ok(())
+}
+
+#[test]
+fn a_phase_that_gives_back_more_than_it_gets_sums_below_zero(rt: HostRuntime) -> Result<(), Fail> {
+    let alloc = rt.alloc();
+    let lines = [
+        Line {
+            number: 1,
+            command: Command::Step(Step::New {
+                loader: 1,
+                kind: Kind::Standard,
+            }),
+        },
+        Line {
+            number: 2,
+            command: Command::Step(Step::Alloc {
+                loader: 1,
+                block: 1,
+                words: 10,
+            }),
+        },
+    ];
+    let chosen = settings(2, 64, 8192, 0);
+    let mut turn = Turn::new(alloc, chosen, lines.as_slice())?;
+    let system = System::new(alloc, chosen)?;
+    let run = Metered { system, used: 0 };
+    let mut answers = Vec::new(alloc);
+    let run = run_phase(
+        &rt,
+        alloc,
+        &NoGate,
+        &mut turn,
+        lines.as_slice(),
+        run,
+        &mut answers,
+    );
+    let run = run.ok().ok_or("no first phase")?;
+    assert_eq!(rt; run.used, 10);
+    let ends = [Line {
+        number: 3,
+        command: Command::Step(Step::Unload { loader: 1 }),
+    }];
+    turn.go_on();
+    turn.activate(ends.as_slice());
+    let (pool, loaders) = run.system.into_parts();
+    let dealt = deal(alloc, &turn, ends.as_slice(), pool, loaders);
+    let (shared, shares, meter) = dealt.ok().ok_or("no shares")?;
+    let done = work_all(&rt, alloc, &shared, &meter, 10, &NoGate, shares);
+    let gathered = gather(alloc, shared, done.ok().ok_or("no work")?);
+    let (system, meters) = gathered.ok().ok_or("no end")?;
+    assert_eq!(rt; system.used(), 0);
+    let sum = meter.close(meters).ok().ok_or("a seat is wanting")?;
+    assert_eq!(rt; sum, 18_446_744_073_709_551_606);
     Ok(())
 }

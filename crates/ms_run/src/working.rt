@@ -1,18 +1,18 @@
 //! The work on the shares of a phase, each in a thread of its own, or an only one by the caller.
 //!
 //! Kept true: a share is worked by one thread, in the order of its tasks, and there is room for each
-//! reply before its thread starts. Takes memory for the threads and their results; waits for the lock,
-//! and for the threads to end.
+//! reply before its thread starts; the share's seat of the meter counts what its loaders get and give
+//! back. Takes memory for the threads and their results; waits for the lock, and for the threads to end.
 ghost use Rattle.std.specs.Prelude.{◌≡◌, ◌≤◌, ℕ, IfOk, IfErr, vec_len};
 ghost use Rattle.std.specs.List.{All};
 ghost use Rattle.ms_run.specs.Replay.{IsWanting};
-ghost use Rattle.ms_run.specs.Shares.{IsReady, IsWorked, AllWorked};
+ghost use Rattle.ms_run.specs.Shares.{IsReadyFor, IsWorked, AllWorked};
 
 use crate::fault::RunFault;
 use crate::gate::Gate;
-use crate::serving::answer;
+use crate::metering::answer_metered;
 use crate::share::Share;
-use ms_shared::SharedPool;
+use ms_shared::{SharedPool, UsedMeter};
 use std::alloc::Global;
 use std::snapshot::Snapshot;
 use std::sync::Wait;
@@ -30,26 +30,29 @@ impl Promise<Share> for WorkOf {
 }
 
 /// Works all shares: an only one by the caller itself, more by a thread each. An error means that
-/// memory or a thread was wanting; then what was worked is lost. Takes memory.
+/// memory or a thread was wanting; then what was worked is lost. So many words were in use before, of
+/// which the gate is told. Takes memory.
 pub fn work_all<R: Threads + Wait + Sync, G: Gate + Sync>(
     rt: &R,
     alloc: Global,
     shared: &SharedPool,
+    meter: &UsedMeter,
+    before: u64,
     gate: &G,
     shares: Vec<Share>,
 ) -> Result<Vec<Share>, RunFault>
-    requires { All (IsReady shared.now) shares.items }
+    requires { All (IsReadyFor shared.now meter.now) shares.items }
     ensures worked { IfOk result (λ done. AllWorked shares.items done.items) }
     ensures wanting { IfErr result IsWanting }
 {
     if shares.len() == 1 {
-        return Ok(work_alone(rt, alloc, shared, gate, shares));
+        return Ok(work_alone(rt, alloc, shared, meter, before, gate, shares));
     }
     thread::scope(
         thread::scope_env(),
         rt,
         |scope| -> Result<Vec<Share>, RunFault>
-            requires { All (IsReady shared.now) shares.items }
+            requires { All (IsReadyFor shared.now meter.now) shares.items }
             ensures worked { IfOk result (λ done. AllWorked shares.items done.items) }
             ensures wanting { IfErr result IsWanting }
         {
@@ -59,9 +62,9 @@ pub fn work_all<R: Threads + Wait + Sync, G: Gate + Sync>(
                 let started = scope.spawn_with(
                     work_of,
                     move || -> Share
-                        requires { IsReady shared.now share }
+                        requires { IsReadyFor shared.now meter.now share }
                         ensures { IsWorked share result }
-                    { work(rt, alloc, shared, gate, share) },
+                    { work(rt, alloc, shared, meter, before, gate, share) },
                 );
                 match started {
                     Ok(handle) => handles.push_reserved(handle),
@@ -81,15 +84,17 @@ fn work_alone<R: Wait, G: Gate>(
     rt: &R,
     alloc: Global,
     shared: &SharedPool,
+    meter: &UsedMeter,
+    before: u64,
     gate: &G,
     mut shares: Vec<Share>,
 ) -> Vec<Share>
     requires one { vec_len shares ≡ 1 }
-    requires ready { All (IsReady shared.now) shares.items }
+    requires ready { All (IsReadyFor shared.now meter.now) shares.items }
     ensures { AllWorked shares.items result.items }
 {
     if let Some(share) = shares.pop() {
-        shares.push_reserved(work(rt, alloc, shared, gate, share));
+        shares.push_reserved(work(rt, alloc, shared, meter, before, gate, share));
     }
     shares
 }
@@ -99,15 +104,18 @@ fn work<R: Wait, G: Gate>(
     rt: &R,
     alloc: Global,
     shared: &SharedPool,
+    meter: &UsedMeter,
+    before: u64,
     gate: &G,
     share: Share,
 ) -> Share
-    requires { IsReady shared.now share }
+    requires { IsReadyFor shared.now meter.now share }
     ensures { IsWorked share result }
 {
     let Share {
         worker,
         seat,
+        meter: mut counted,
         mut loaders,
         tasks,
         mut replies,
@@ -115,13 +123,16 @@ fn work<R: Wait, G: Gate>(
     let mut pool = shared.at(rt, seat);
     for task in &tasks {
         gate.before(worker, task.line);
-        let reply = answer(alloc, &mut pool, &mut loaders, task.step);
+        let step = task.step;
+        let reply = answer_metered(alloc, &mut pool, &mut loaders, meter, &mut counted, step);
         replies.push_reserved(reply);
-        gate.after(worker, task.line, 0);
+        let used = meter.now(&mut counted).wrapping_add(before);
+        gate.after(worker, task.line, used);
     }
     Share {
         worker,
         seat: pool.into_seat(),
+        meter: counted,
         loaders,
         tasks,
         replies,

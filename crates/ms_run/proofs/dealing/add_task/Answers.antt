@@ -1,4 +1,4 @@
-use Rattle.std.proofs.Common.{◌∙◌, ap, refl, slice_get, Some, sym, arith, Vec, Global}
+use Rattle.std.proofs.Common.{◌∙◌, ap, refl, Some, sym, arith, Vec, Global}
 use Rattle.std.proofs.lemmas.Option.{slice_get-get_or}
 use Rattle.ms_run.specs.declared.share.Task.{Task}
 use Rattle.ms_run.specs.Turn.{place_in}

@@ -1,7 +1,10 @@
 use Rattle.std.proofs.Common.{◌+◌, ◌∙◌, sym, ap, arith, vec_len, length, List, inl, inr, refl}
 use Rattle.ms_shared.specs.SeatView.{SeatState}
+use Rattle.ms_loaders.specs.Used.{used_in}
 use Rattle.ms_run.specs.Turn.{place_in}
+use Rattle.ms_run.specs.Dealing.{Loaded}
 use Rattle.ms_run.proofs.DealLemmas.{dealing_starts, dealing_on, dealing_ends, next_free, beside_none, none_left, left_starts, left_more}
+use Rattle.ms_run.proofs.DealtUseLemmas.{shared_starts, shared_on, used_ends, meters_end}
 use Rattle.ms_run.proofs.dealing.deal_to.Goals as goal
 
 pub loop-seat-init : goal.loop-seat-init
@@ -12,6 +15,8 @@ loop-seat-init c = (
   omega (arith, c.len.ensures, c.in_ok-shares.ensures.capacity),
   left_starts (place_in c.args.turn.now) c.args.lines.now _ c.in_ok-lists.lists.items c.in_ok-lists.ensures.listed,
   c.in_ok-lists.ensures.count ∙ c.len-2.ensures,
+  shared_starts c.args.loaders _ _ _ _ c.in_ok-shares.ensures.items c.remove-first_meter.ensures.items
+      (omega (arith, c.requires.meters, c.remove-first_meter.ensures.len, c.remove-first_meter.new.self.ok.0, c.remove-seat.ensures.len, c.remove-seat.new.self.ok.0, ap (λ (l : List SeatState). length l) c.into_iter-seat-iterator.ensures.into_iter_gives.0)),
 )
 
 pub hand_all-requires-clause-own : goal.hand_all-requires-clause-own
@@ -46,6 +51,10 @@ loop-seat-preserved c = (
   left_more (place_in c.args.turn.now) c.args.lines.now (vec_len c.loop-seat.shares) _ (c.len-at.result + 1) c.loop-seat.lists.items c.take_list-tasks.new.lists.items c.loop-seat.invariant.2
       c.push_reserved.ensures.len (omega (arith, c.len-at.ensures)) c.take_list-tasks.ensures.others,
   c.take_list-tasks.ensures.count ∙ c.loop-seat.invariant.3,
+  shared_on c.args.loaders c.loop-seat.first.loaders c.hand_all.new.from.loaders c.hand_all.new.to.loaders _ c.loop-seat.meters.items _ c.remove-meter.result c.in-Some.seat _
+      c.loop-seat.shares.items _ c.in_ok-share.share (rw c.in-Some.ensures.steps.0 at c.loop-seat.invariant.4)
+      (omega (arith, c.in_ok-hand_all.ensures.used, ap (λ (l : Loaded). used_in l) c.new-loaders.ensures))
+      c.remove-meter.ensures.value c.remove-meter.ensures.items c.in_ok-share.ensures.loaders c.in_ok-share.ensures.meter c.push_reserved.ensures.items,
 )
 
 pub returns-in-Ok-clause-dealt : goal.returns-in-Ok-clause-dealt
@@ -69,3 +78,19 @@ take_list-tasks-requires c = record {
 
 pub take_list-tasks-requires-2 : goal.take_list-tasks-requires-2
 take_list-tasks-requires-2 c = record { within = omega (arith, c.loop-seat.invariant.0.count_is, c.loop-seat.invariant.3) }
+
+pub remove-meter-requires : goal.remove-meter-requires
+remove-meter-requires c =
+    omega (arith, c.loop-seat.meters.ok.0, c.loop-seat.invariant.4.count, ap (λ (l : List SeatState). length l) c.in-Some.ensures.steps.0)
+
+pub returns-in-Ok-clause-meters : goal.returns-in-Ok-clause-meters
+returns-in-Ok-clause-meters c =
+    meters_end c.args.loaders c.loop-seat.first.loaders c.args.meters.items _ c.remove-first_meter.result c.loop-seat.seat-iterator.rest.items c.loop-seat.shares.items _ c.in_ok-share-2.share
+    c.loop-seat.invariant.4 (none_left c.loop-seat.seat-iterator.rest.items (sym c.loop-seat.seat-iterator.rest.ok.0 ∙ c.in-None.ensures.steps.0))
+    (omega (arith, c.args.meters.ok.0, c.requires.meters, c.args.seats.ok.0, ap (λ (l : List SeatState). length l) c.requires.seats.are))
+    c.remove-first_meter.ensures.value c.in_ok-share-2.ensures.meter c.in-Ok.ensures.items
+
+pub returns-in-Ok-clause-used : goal.returns-in-Ok-clause-used
+returns-in-Ok-clause-used c =
+    used_ends c.args.loaders c.loop-seat.first.loaders _ _ c.loop-seat.seat-iterator.rest.items c.loop-seat.shares.items _ c.in_ok-share-2.share
+    c.loop-seat.invariant.4 c.in_ok-share-2.ensures.loaders c.in-Ok.ensures.items

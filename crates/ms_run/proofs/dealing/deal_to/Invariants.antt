@@ -1,6 +1,7 @@
-use Rattle.std.proofs.Common.{◌≡◌, ◌≤◌, vec_len, vec_capacity}
+use Rattle.std.proofs.Common.{◌≡◌, ◌≤◌, drop, vec_len, vec_capacity}
 use Rattle.ms_run.specs.Turn.{place_in}
 use Rattle.ms_run.proofs.DealLemmas.{IsDealing, AreLeft}
+use Rattle.ms_run.proofs.DealtUseLemmas.{IsShared}
 use Rattle.ms_run.proofs.dealing.deal_to.Given as goal
 
 abbrev pub invariant-loop-seat : goal.invariant-loop-seat
@@ -9,3 +10,4 @@ invariant-loop-seat l =
     × (vec_len l.fn.seats ≤ vec_capacity l.shares)
     × AreLeft (place_in l.turn) l.lines (vec_len l.shares) l.lists.items
     × (vec_len l.lists ≡ vec_len l.fn.seats)
+    × IsShared l.fn.loaders (drop 1 l.fn.meters.items) l.first.loaders l.meters.items l.seat-iterator.rest.items l.shares.items

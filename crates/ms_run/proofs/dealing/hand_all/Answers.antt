@@ -1,4 +1,4 @@
-use Rattle.std.proofs.Common.{◌∙◌, sym, subst}
+use Rattle.std.proofs.Common.{◌∙◌, sym, subst, refl}
 use Rattle.ms_run.specs.Turn.{place_in}
 use Rattle.ms_run.proofs.DealLemmas.{IsHanding, handing_starts, handing_on, handing_ends, none_left}
 use Rattle.ms_run.proofs.dealing.hand_all.Goals as goal
@@ -10,6 +10,7 @@ loop-name-init c = (
   c.requires.beside,
   handing_starts (place_in c.args.turn.now) c.args.at c.args.from.now.loaders c.args.to.now.loaders _ c.requires.none
       (c.into_iter-name-iterator.ensures.into_iter_gives.0 ∙ c.in_ok-names.ensures),
+  refl,
 )
 
 pub hand_on-requires-clause-own : goal.hand_on-requires-clause-own
@@ -30,6 +31,7 @@ loop-name-preserved c =
       c.in_ok-hand_on.ensures.beside,
       handing_on (place_in c.args.turn.now) c.args.at c.args.from.now.loaders c.loop-name.from.loaders c.loop-name.to.loaders _ _ c.in-Some.name _
           (rw c.in-Some.ensures.steps.0 at so_far) c.in_ok-hand_on.ensures.handed,
+      c.in_ok-hand_on.ensures.used ∙ c.loop-name.invariant.4,
     )
 
 pub returns-clause-own : goal.returns-clause-own
@@ -46,3 +48,6 @@ returns-clause-handed c =
     handing_ends (place_in c.args.turn.now) c.args.at c.args.from.now.loaders c.loop-name.from.loaders c.loop-name.to.loaders
     (subst (IsHanding (place_in c.args.turn.now) c.args.at c.args.from.now.loaders c.loop-name.from.loaders c.loop-name.to.loaders)
     (none_left c.loop-name.name-iterator.rest.items (sym c.loop-name.name-iterator.rest.ok.0 ∙ c.in-None.ensures.steps.0)) c.loop-name.invariant.3)
+
+pub returns-clause-used : goal.returns-clause-used
+returns-clause-used c = c.loop-name.invariant.4

@@ -1,4 +1,5 @@
-use Rattle.std.proofs.Common.{◌≡◌}
+use Rattle.std.proofs.Common.{◌≡◌, ◌+◌}
+use Rattle.ms_loaders.specs.Used.{used_in}
 use Rattle.ms_run.specs.Turn.{place_in}
 use Rattle.ms_run.specs.Dealing.{AreBeside}
 use Rattle.ms_run.proofs.DealLemmas.{IsHanding}
@@ -10,3 +11,4 @@ invariant-loop-name l =
     × (l.to.seat.id ≡ l.shared.id)
     × AreBeside l.from.seat.knows l.from.loaders l.to.seat.knows l.to.loaders
     × IsHanding (place_in l.turn) l.at l.fn.from.loaders l.from.loaders l.to.loaders l.name-iterator.rest.items
+    × (used_in l.from.loaders + used_in l.to.loaders ≡ used_in l.fn.from.loaders + used_in l.fn.to.loaders)

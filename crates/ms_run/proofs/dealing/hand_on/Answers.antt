@@ -1,5 +1,6 @@
 use Rattle.std.proofs.Common.{◌∙◌, sym}
 use Rattle.ms_run.proofs.HandOnLemmas.{beside_after, first_served, second_served, handed_names, none_handed, beside_still}
+use Rattle.ms_run.proofs.DealtUseLemmas.{used_handed, used_still}
 use Rattle.ms_run.proofs.dealing.hand_on.Goals as goal
 
 pub returns-in_default-clause-beside : goal.returns-in_default-clause-beside
@@ -26,3 +27,10 @@ returns-clause-beside c =
 pub returns-clause-handed : goal.returns-clause-handed
 returns-clause-handed c =
     handed_names _ c.in-Some.loader _ _ _ _ c.requires.beside.names (sym c.remove.ensures.found ∙ c.in-Some.is) c.remove.ensures.rest c.in-Ok.ensures.inserted
+
+pub returns-in_default-clause-used : goal.returns-in_default-clause-used
+returns-in_default-clause-used c = used_still c.args.from.now.loaders c.args.to.now.loaders _ c.args.name (sym c.remove.ensures.found ∙ c.in_default.is) c.remove.ensures.rest
+
+pub returns-clause-used : goal.returns-clause-used
+returns-clause-used c =
+    used_handed c.args.from.now.loaders c.args.to.now.loaders _ _ c.args.name c.in-Some.loader (sym c.remove.ensures.found ∙ c.in-Some.is) c.remove.ensures.rest c.in-Ok.ensures.fresh c.in-Ok.ensures.inserted

@@ -1,10 +1,12 @@
 use Rattle.std.proofs.Common.{◌+◌, ◌≤◌, length, vec_len, vec_capacity}
-use Rattle.ms_run.proofs.GatherLemmas.{AreOthers, AreTaken}
+use Rattle.ms_run.proofs.GatherLemmas.{AreOthers}
+use Rattle.ms_run.proofs.TakenLemmas.{AreTaken}
 use Rattle.ms_run.proofs.gathering.take_apart.Given as goal
 
--- Seats and loaders of the shares so far, room for the seats that are left, and other names there.
+-- Both seats and loaders of the shares so far, room for the seats that are left, and other names there.
 abbrev pub invariant-loop-share : goal.invariant-loop-share
 invariant-loop-share l =
-    AreTaken l.seats.items l.loaders l.share-iterator.rest.items l.fn.shares.items
+    AreTaken l.seats.items l.meters.items l.loaders l.share-iterator.rest.items l.fn.shares.items
     × (vec_len l.seats + length l.share-iterator.rest.items ≤ vec_capacity l.seats)
+    × (vec_len l.meters + length l.share-iterator.rest.items ≤ vec_capacity l.meters)
     × AreOthers l.loaders l.share-iterator.rest.items

@@ -9,11 +9,14 @@ use Rattle.ms_base.specs.declared.kind.Space.TheVariants.{NonClass, Class}
 use Rattle.ms_loaders.specs.System.{states_of}
 use Rattle.ms_loaders.proofs.MappedLemmas.{new_then_without}
 use Rattle.ms_loaders.proofs.CallLemmas.{found, unused_name}
+use Rattle.ms_loaders.specs.Used.{used_at}
 use Rattle.ms_run.specs.Own.{own_in}
 use Rattle.ms_run.specs.Manned.{IsManned}
 use Rattle.ms_run.proofs.LifetimeOpenLemmas.{manned_refused, manned_opened}
 use Rattle.ms_run.proofs.LifetimeCloseLemmas.{closes_loader, manned_closed}
-use Rattle.ms_run.proofs.LifetimeReplyLemmas.{own_found, own_missing, exists_reply, numbers_reply, insert_reply, made_reply}
+use Rattle.ms_run.proofs.LifetimeReplyLemmas.{exists_reply, numbers_reply, insert_reply, made_reply}
+use Rattle.ms_run.proofs.TouchLemmas.{own_found}
+use Rattle.ms_run.proofs.TouchLemmas.{own_missing}
 use Rattle.ms_run.proofs.lifetimes.new_loader.Goals as goal
 
 pub returns-then-contains-clause-refused : goal.returns-then-contains-clause-refused
@@ -46,6 +49,12 @@ returns-in-Ok-insert-clause-served g c =
     (own_missing c.args.loaders.now c.args.name unused)
     (own_found c.insert.new.self c.args.name (new_loader c.in-Ok.accounts.0 c.in-Ok.accounts.1 c.args.kind)
     (ap (λ l. named l c.args.name) c.in-Ok-insert.ensures.inserted ∙ named_new_same c.args.loaders.now c.args.name c.new-loader.result ∙ ap Some c.new-loader.ensures.made))
+
+pub returns-in-Ok-insert-clause-used : goal.returns-in-Ok-insert-clause-used
+returns-in-Ok-insert-clause-used g c =
+    let unused = unused_name c.args.loaders.now c.args.name c.contains.result c.contains.ensures c.if-contains.false in
+    ap used_at (ap (λ l. named l c.args.name) c.in-Ok-insert.ensures.inserted ∙ named_new_same c.args.loaders.now c.args.name c.new-loader.result ∙ ap Some c.new-loader.ensures.made)
+    ∙ sym (ap used_at unused)
 
 pub returns-in-Ok-insert-clause-others : goal.returns-in-Ok-insert-clause-others
 returns-in-Ok-insert-clause-others g c =

@@ -1,12 +1,15 @@
-use Rattle.std.proofs.Common.{sym, ap, ◌∙◌}
+use Rattle.std.proofs.Common.{sym, ap, ◌∙◌, length}
+use Rattle.std.proofs.lemmas.List.{length-map}
 use Rattle.ms_base.specs.State.{Machine}
+use Rattle.ms_run.specs.Metering.{used_words_of, meter_of}
 use Rattle.ms_run.specs.Turn.{place_in}
 use Rattle.ms_run.proofs.PhaseLemmas.{ended_empty, own_seats, all_manned, same_count, all_answered, still_apart, ended}
+use Rattle.ms_run.proofs.MeterSumLemmas.{ready_for, own_meters, used_machine, used_after}
 use Rattle.ms_run.proofs.phase.run_phase.Goals as goal
 
 pub returns-then-is_empty-clause-phase : goal.returns-then-is_empty-clause-phase
 returns-then-is_empty-clause-phase g c =
-    ended_empty c.args.lines.now c.args.answers.now.items c.args.system (sym c.is_empty.ensures ∙ c.if-is_empty.true) c.requires.good
+    ended_empty c.args.lines.now c.args.answers.now.items c.args.run.system (sym c.is_empty.ensures ∙ c.if-is_empty.true) c.requires.good
 
 pub merge-requires-clause-count : goal.merge-requires-clause-count
 merge-requires-clause-count g c =
@@ -35,11 +38,33 @@ gather-requires-clause-apart g c = (
       c.in_ok-shared.ensures.dealt.apart c.in_ok-shared.ensures.dealt.tasks c.in_ok-shares.ensures.worked,
 )
 
+pub work_all-requires-after_bounds : goal.work_all-requires-after_bounds
+work_all-requires-after_bounds g c κs within =
+    ready_for c.in_ok-shared.shared c.in_ok-shared.meter _ c.in_ok-shared.shares.items c.in_ok-shared.ensures.dealt.ready c.in_ok-shared.ensures.meters
+
+pub close-requires-clause-own : goal.close-requires-clause-own
+close-requires-clause-own g c =
+    own_meters c.in_ok-shared.meter _ c.in_ok-shared.shares.items c.in_ok-shares.shares.items c.in_ok-system.meters.items
+    c.in_ok-shared.ensures.meters c.in_ok-shares.ensures.worked c.in_ok-system.ensures.meters
+
+pub close-requires-clause-count : goal.close-requires-clause-count
+close-requires-clause-count g c =
+    c.in_ok-shared.ensures.meter ∙ c.in_ok-shared.shares.ok.0 ∙ sym (same_count _ _ c.in_ok-shares.ensures.worked)
+    ∙ sym (length-map c.in_ok-shares.shares.items meter_of) ∙ ap length (sym c.in_ok-system.ensures.meters) ∙ sym c.in_ok-system.meters.ok.0
+
 pub returns-clause-phase : goal.returns-clause-phase
 returns-clause-phase g c =
-    ended c.gather.result (place_in c.activate.new.self) c.in_ok-shared.shared c.in_ok-shared.shares.items c.in_ok-shares.shares.items c.args.lines.now
-    _ _ c.into_parts-pool.result.1 c.args.system
+    ended (place_in c.activate.new.self) c.in_ok-shared.shared c.in_ok-shared.shares.items c.in_ok-shares.shares.items c.args.lines.now
+    _ _ c.into_parts-pool.result.1 c.args.run.system _
     (ap (λ (m : Machine). m.loaders) (sym c.into_parts-pool.ensures.machine))
     c.in_ok-shared.ensures.dealt c.in_ok-shares.ensures.worked c.in_ok-merge.ensures
-    c.gather.ensures.gathered c.gather.ensures.good c.gather.ensures.limits
+    c.in_ok-system.ensures.gathered c.in_ok-system.ensures.good c.in_ok-system.ensures.limits
     (c.in_ok-shared.ensures.limits ∙ ap (λ (m : Machine). m.limits) c.into_parts-pool.ensures.machine)
+
+pub returns-clause-used : goal.returns-clause-used
+returns-clause-used g c =
+    used_after c.in_ok-shared.meter _ c.in_ok-shared.shares.items c.in_ok-shares.shares.items c.in_ok-system.meters.items _ _ c.in_ok-system.system
+    c.in_ok-shared.ensures.meters c.in_ok-shares.ensures.worked c.in_ok-system.ensures.meters
+    (c.requires.used ∙ ap used_words_of (sym c.into_parts-pool.ensures.machine)
+    ∙ used_machine c.into_parts-pool.result.0 c.into_parts-pool.result.1 ∙ sym c.in_ok-shared.ensures.used)
+    c.in_ok-amount.ensures.amount c.in_ok-system.ensures.used c.in_ok-system.ensures.good

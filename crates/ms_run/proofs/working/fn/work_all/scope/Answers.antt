@@ -13,8 +13,9 @@ pub spawn_with-started-requires-send-F : goal.spawn_with-started-requires-send-F
 spawn_with-started-requires-send-F g c κs w =
     let here : NamedLft = record { mir = named 6; lft = κs.1.1.1.1.1.1.0 } in
     let lock : NamedLft = record { mir = named 7; lft = κs.1.1.1.1.1.1.1.0 } in
-    let gate : NamedLft = record { mir = named 8; lft = κs.1.1.1.1.1.1.1.1.0 } in
-    param_send _ _ (arg_send _ no _ (handed_send _ here lock gate g.row.R g.row.G (search rules) (search rules)))
+    let count : NamedLft = record { mir = named 8; lft = κs.1.1.1.1.1.1.1.1.0 } in
+    let gate : NamedLft = record { mir = named 9; lft = κs.1.1.1.1.1.1.1.1.1.0 } in
+    param_send _ _ (arg_send _ no _ (handed_send _ here lock count gate g.row.R g.row.G (search rules) (search rules)))
 
 pub spawn_with-started-requires-send-T : goal.spawn_with-started-requires-send-T
 spawn_with-started-requires-send-T g c κs = search (share_send, sendable) depth 20
@@ -39,7 +40,7 @@ loop-share-preserved g c =
     let room = inv.3 in
     let there = ap length step.0 in (
       one_more (λ handle. handle.promise.0.value) _ _ c.in-Ok.handle c.in-Some.share _ _ _ items step.0 (ap (λ promise. promise.0.value) c.in-Ok.ensures.ok ∙ c.of.ensures) inv.0,
-      fewer_ready _ c.in-Some.share _ _ step.0 inv.1,
+      fewer_ready _ c.captures.meter.now c.in-Some.share _ _ step.0 inv.1,
       omega arith,
       omega arith,
     )

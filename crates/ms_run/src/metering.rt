@@ -1,0 +1,124 @@
+//! A step by a worker that keeps the meter: its seat's amount moves as the words in use do.
+//!
+//! Kept true: what a loader gets in use is added once it has it, and what an unloaded one had is taken
+//! off before it is closed. One atomic step a line at most, and no lock beside that of the line itself.
+ghost use Rattle.std.specs.Prelude.{◌≡◌, ◌+◌, Some};
+ghost use Rattle.ms_base.specs.Names.{AreNamed, named};
+ghost use Rattle.ms_base.specs.Request.{loader_of};
+ghost use Rattle.ms_loaders.specs.Used.{used_at, used_in};
+ghost use Rattle.ms_run.specs.Answering.{IsAnswered};
+ghost use Rattle.ms_run.specs.Manned.{IsManned};
+ghost use Rattle.ms_run.specs.Metering.{MovesNoTop};
+ghost use Rattle.ms_run.specs.Moved.{IsMoved};
+
+use crate::serving::answer;
+use ms_base::{Reply, Step};
+use ms_loaders::Loaders;
+use ms_shared::{LockedPool, MeterSeat, UsedMeter};
+use std::alloc::Global;
+use std::sync::Wait;
+
+/// Answers a step, and keeps the meter.
+pub fn answer_metered<R: Wait>(
+    alloc: Global,
+    pool: &mut LockedPool<'_, R>,
+    loaders: &mut Loaders,
+    meter: &UsedMeter,
+    seat: &mut MeterSeat,
+    step: Step,
+) -> Reply
+    requires manned { IsManned pool.old.knows loaders.old }
+    requires meter { seat.old.id ≡ meter.now.id }
+    ensures lock { pool.new.id ≡ pool.old.id }
+    ensures answered { IsAnswered loaders.old step result pool.new.knows loaders.new }
+    ensures moved { IsMoved seat.old (used_in loaders.old) seat.new (used_in loaders.new) }
+{
+    match step {
+        Step::Unload { loader } => {
+            meter.sub(seat, used_by(loaders, loader));
+            return answer_unload(alloc, pool, loaders, loader);
+        }
+        Step::Alloc { loader, .. } => {
+            return answer_rise(alloc, pool, loaders, meter, seat, loader, step);
+        }
+        Step::Calloc { loader, .. } => {
+            return answer_rise(alloc, pool, loaders, meter, seat, loader, step);
+        }
+        _ => {}
+    }
+    answer_still(alloc, pool, loaders, step)
+}
+
+/// Answers a step that may raise the words in use of the loader that it names, and adds the rise.
+fn answer_rise<R: Wait>(
+    alloc: Global,
+    pool: &mut LockedPool<'_, R>,
+    loaders: &mut Loaders,
+    meter: &UsedMeter,
+    seat: &mut MeterSeat,
+    name: u16,
+    step: Step,
+) -> Reply
+    requires manned { IsManned pool.old.knows loaders.old }
+    requires meter { seat.old.id ≡ meter.now.id }
+    requires names { loader_of step ≡ Some name }
+    ensures lock { pool.new.id ≡ pool.old.id }
+    ensures answered { IsAnswered loaders.old step result pool.new.knows loaders.new }
+    ensures moved { IsMoved seat.old (used_in loaders.old) seat.new (used_in loaders.new) }
+{
+    let before = used_by(loaders, name);
+    let reply = answer(alloc, pool, loaders, step);
+    // A difference modulo 2^64, as the meter counts.
+    let rise = used_by(loaders, name).wrapping_sub(before);
+    meter.add(seat, rise);
+    reply
+}
+
+/// Answers the unloading of a loader, with which all its words in use go.
+fn answer_unload<R: Wait>(
+    alloc: Global,
+    pool: &mut LockedPool<'_, R>,
+    loaders: &mut Loaders,
+    name: u16,
+) -> Reply
+    requires { IsManned pool.old.knows loaders.old }
+    ensures lock { pool.new.id ≡ pool.old.id }
+    ensures answered { IsAnswered loaders.old (Step.Unload name) result pool.new.knows loaders.new }
+    ensures used { used_in loaders.new + used_at (named loaders.old name) ≡ used_in loaders.old }
+{
+    // That names rise is learnt here, of the loaders before and after.
+    let _ = loaders.len();
+    let reply = answer(alloc, pool, loaders, Step::Unload { loader: name });
+    let _ = loaders.len();
+    reply
+}
+
+/// Answers a step that leaves the words in use as they are.
+fn answer_still<R: Wait>(
+    alloc: Global,
+    pool: &mut LockedPool<'_, R>,
+    loaders: &mut Loaders,
+    step: Step,
+) -> Reply
+    requires manned { IsManned pool.old.knows loaders.old }
+    requires still { MovesNoTop step }
+    ensures lock { pool.new.id ≡ pool.old.id }
+    ensures answered { IsAnswered loaders.old step result pool.new.knows loaders.new }
+    ensures used { used_in loaders.new ≡ used_in loaders.old }
+{
+    // That names rise is learnt here, of the loaders before and after.
+    let _ = loaders.len();
+    let reply = answer(alloc, pool, loaders, step);
+    let _ = loaders.len();
+    reply
+}
+
+/// Tells the words in use of the loader of a name, 0 where there is none.
+fn used_by(loaders: &Loaders, name: u16) -> u64
+    ensures used { result ≡ used_at (named loaders.now name) }
+    ensures names { AreNamed loaders.now }
+{
+    // That names rise is learnt here.
+    let _ = loaders.len();
+    loaders.used_by(name)
+}
