@@ -3,14 +3,8 @@
 ghost use Rattle.std.specs.Prelude.{◌≤◌};
 
 use super::*;
-use crate::dealing::deal;
-use crate::gathering::gather;
-use crate::metered::Metered;
-use crate::phase::run_phase;
-use crate::turn::Turn;
-use crate::working::work_all;
 use ms_base::{Kind, Policy, Refusal, Reply, Settings, Step};
-use ms_loaders::{Replies, System};
+use ms_loaders::Replies;
 use ms_trace::{Command, Line, Lines, Trace, parse};
 use std::alloc::Global;
 use std::process::Abort;
@@ -408,59 +402,5 @@ fn a_report_after_a_purge_tells_of_no_node(rt: HostRuntime) -> Result<(), Fail> 
         }
         assert_eq!(rt; nodes.as_slice(), [1, 1, 0].as_slice());
     }
-    Ok(())
-}
-
-#[test]
-fn a_phase_that_gives_back_more_than_it_gets_sums_below_zero(rt: HostRuntime) -> Result<(), Fail> {
-    let alloc = rt.alloc();
-    let lines = [
-        Line {
-            number: 1,
-            command: Command::Step(Step::New {
-                loader: 1,
-                kind: Kind::Standard,
-            }),
-        },
-        Line {
-            number: 2,
-            command: Command::Step(Step::Alloc {
-                loader: 1,
-                block: 1,
-                words: 10,
-            }),
-        },
-    ];
-    let chosen = settings(2, 64, 8192, 0);
-    let mut turn = Turn::new(alloc, chosen, lines.as_slice())?;
-    let system = System::new(alloc, chosen)?;
-    let run = Metered { system, used: 0 };
-    let mut answers = Vec::new(alloc);
-    let run = run_phase(
-        &rt,
-        alloc,
-        &NoGate,
-        &mut turn,
-        lines.as_slice(),
-        run,
-        &mut answers,
-    );
-    let run = run.ok().ok_or("no first phase")?;
-    assert_eq!(rt; run.used, 10);
-    let ends = [Line {
-        number: 3,
-        command: Command::Step(Step::Unload { loader: 1 }),
-    }];
-    turn.go_on();
-    turn.activate(ends.as_slice());
-    let (pool, loaders) = run.system.into_parts();
-    let dealt = deal(alloc, &turn, ends.as_slice(), pool, loaders);
-    let (shared, shares, meter) = dealt.ok().ok_or("no shares")?;
-    let done = work_all(&rt, alloc, &shared, &meter, 10, &NoGate, shares);
-    let gathered = gather(alloc, shared, done.ok().ok_or("no work")?);
-    let (system, meters) = gathered.ok().ok_or("no end")?;
-    assert_eq!(rt; system.used(), 0);
-    let sum = meter.close(meters).ok().ok_or("a seat is wanting")?;
-    assert_eq!(rt; sum, 18_446_744_073_709_551_606);
     Ok(())
 }

@@ -47,6 +47,22 @@ fn a_meter_that_lacks_a_seat_is_not_closed(rt: HostRuntime) -> Result<(), Fail> 
     Ok(())
 }
 
+#[test]
+fn a_meter_that_gives_back_more_than_it_got_ends_below_zero(rt: HostRuntime) -> Result<(), Fail> {
+    let (meter, mut seats) = UsedMeter::new(rt.alloc(), 1)?;
+    let Some(mut seat) = seats.pop() else {
+        panic!(rt; "a seat was made")
+    };
+    meter.sub(&mut seat, 10);
+    seats.push(seat)?;
+    assert!(rt;
+        meter
+            .close(seats)
+            .is_ok_and(|words| words == 18_446_744_073_709_551_606)
+    );
+    Ok(())
+}
+
 /// Adds 10,000 times and takes off 10,000 times, 3 words more than it took off in all.
 fn add_and_take_off(meter: &UsedMeter, mut seat: MeterSeat) -> MeterSeat
     requires { seat.id ≡ meter.now.id }
