@@ -1,6 +1,6 @@
 pub mod DeviceLemmas
 pub mod SessionLemmas
 pub mod LengthLemmas
-pub mod ReadingLemmas
+pub mod InputLemmas
 pub mod FaultLemmas
 pub mod OptionLemmas

@@ -31,7 +31,8 @@ with_current books chunk = record books { chunks = slice_set books.chunks (last_
 abbrev pub with_grown : Policy → ArenaView → Chunk → ℕ → ArenaView
 with_grown policy arena chunk n =
     with_zeros
-    (with_books arena (with_top (with_current arena.books (reaching policy chunk (total_asked arena.books n))) (total_asked arena.books n)))
+    (with_books arena (with_top (with_current arena.books (reaching policy chunk (total_asked arena.books n)))
+    (total_asked arena.books n)))
     (chunk.start + current_top arena.books) n
 
 -- The arena with a block at the start of a new chunk; the former current chunk retires.
@@ -45,38 +46,51 @@ AfterTake policy old n (Ok span) answer new =
 AfterTake policy old n (Err refusal) answer new = (answer ≡ Err refusal) × (new ≡ old)
 
 -- The source is asked for a chunk.
-pub record Takes {S : Type 0} (took : TakeRelation S) (policy : Policy) (old : ArenaView) (n : ℕ) (before : S) (answer : Result Block Refusal) (new : ArenaView) (after : S) : Type 0 where
+pub record Takes {S : Type 0} (took : TakeRelation S) (policy : Policy) (old : ArenaView) (n : ℕ)
+    (before : S) (answer : Result Block Refusal) (new : ArenaView) (after : S) : Type 0 where
   pub lent : Result Span Refusal
-  pub asked : took before (account_of old) (wanted_level old.kind old.space old.books n) (level_that_holds n) n lent after
+  pub asked : took before (account_of old) (wanted_level old.kind old.space old.books n) (level_that_holds n)
+      n lent after
   pub follows : AfterTake policy old n lent answer new
 
 -- What follows from the answer to `grow`: the block lies at the top, or a chunk is asked for.
-abbrev pub AfterGrow : {S : Type 0} → TakeRelation S → Policy → ArenaView → Chunk → ℕ → Result Span Refusal → S → Result Block Refusal → ArenaView → S → Type 0
+abbrev pub AfterGrow : {S : Type 0} → TakeRelation S → Policy → ArenaView → Chunk → ℕ → Result Span Refusal
+    → S → Result Block Refusal → ArenaView → S → Type 0
 AfterGrow took policy old chunk n (Ok span) middle answer new after =
-    (after ≡ middle) × (answer ≡ Ok (block_at (chunk.start + current_top old.books) n)) × (new ≡ with_grown policy old chunk n)
-AfterGrow took policy old chunk n (Err refusal) middle answer new after = Takes took policy old n middle answer new after
+    (after ≡ middle) × (answer ≡ Ok (block_at (chunk.start + current_top old.books) n))
+    × (new ≡ with_grown policy old chunk n)
+AfterGrow took policy old chunk n (Err refusal) middle answer new after =
+    Takes took policy old n middle answer new after
 
 -- The source is asked to grow the current chunk.
-pub record Grows {S : Type 0} (grew : GrowRelation S) (took : TakeRelation S) (policy : Policy) (old : ArenaView) (chunk : Chunk) (n : ℕ) (before : S) (answer : Result Block Refusal) (new : ArenaView) (after : S) : Type 0 where
+pub record Grows {S : Type 0} (grew : GrowRelation S) (took : TakeRelation S) (policy : Policy)
+    (old : ArenaView) (chunk : Chunk) (n : ℕ) (before : S) (answer : Result Block Refusal) (new : ArenaView)
+    (after : S) : Type 0 where
   pub middle : S
   pub grown : Result Span Refusal
-  pub asked : grew before (account_of old) chunk.start (total_asked old.books n) (may_enlarge old.kind old.space old.books chunk) grown middle
+  pub asked : grew before (account_of old) chunk.start (total_asked old.books n)
+      (may_enlarge old.kind old.space old.books chunk) grown middle
   pub follows : AfterGrow took policy old chunk n grown middle answer new after
 
 -- Whether the source is asked to grow the current chunk, or for a new one.
-abbrev pub AsksChunk : {S : Type 0} → GrowRelation S → TakeRelation S → Policy → ArenaView → ℕ → Option Chunk → Bool → S → Result Block Refusal → ArenaView → S → Type 0
-AsksChunk grew took policy old n (Some chunk) true before answer new after = Grows grew took policy old chunk n before answer new after
+abbrev pub AsksChunk : {S : Type 0} → GrowRelation S → TakeRelation S → Policy → ArenaView → ℕ → Option Chunk
+    → Bool → S → Result Block Refusal → ArenaView → S → Type 0
+AsksChunk grew took policy old n (Some chunk) true before answer new after =
+    Grows grew took policy old chunk n before answer new after
 AsksChunk grew took policy old n _ _ before answer new after = Takes took policy old n before answer new after
 
 -- Whether the block has a place without a chunk: then the source is not asked.
-abbrev pub Serves : {S : Type 0} → GrowRelation S → TakeRelation S → Policy → ArenaView → ℕ → Option (ℕ × ArenaState) → S → Result Block Refusal → ArenaView → S → Type 0
+abbrev pub Serves : {S : Type 0} → GrowRelation S → TakeRelation S → Policy → ArenaView → ℕ
+    → Option (ℕ × ArenaState) → S → Result Block Refusal → ArenaView → S → Type 0
 Serves grew took policy old n (Some place) before answer new after =
     (answer ≡ Ok (block_at place.0 n)) × (new ≡ with_zeros (with_books old place.1) place.0 n) × (after ≡ before)
 Serves grew took policy old n None before answer new after =
-    AsksChunk grew took policy old n (current old.books) (asks_growth old.kind old.space old.books (current old.books) n) before answer new after
+    AsksChunk grew took policy old n (current old.books)
+    (asks_growth old.kind old.space old.books (current old.books) n) before answer new after
 
 -- No place is looked for, or memory is wanting for the arena itself: nothing changes.
-pub record IsRefused {S : Type 0} (old : ArenaView) (words : ℕ) (before : S) (answer : Result Block Refusal) (new : ArenaView) (after : S) : Type 0 where
+pub record IsRefused {S : Type 0} (old : ArenaView) (words : ℕ) (before : S) (answer : Result Block Refusal)
+    (new : ArenaView) (after : S) : Type 0 where
   pub refusal : Refusal
   pub answer_is : answer ≡ Err refusal
   pub cause : PlaceRefused words refusal
@@ -84,7 +98,9 @@ pub record IsRefused {S : Type 0} (old : ArenaView) (words : ℕ) (before : S) (
   pub source : after ≡ before
 
 -- An allocation of so many words.
-abbrev pub Allocates : {S : Type 0} → GrowRelation S → TakeRelation S → Policy → ArenaView → ℕ → S → Result Block Refusal → ArenaView → S → Type 0
+abbrev pub Allocates : {S : Type 0} → GrowRelation S → TakeRelation S → Policy → ArenaView → ℕ → S
+    → Result Block Refusal → ArenaView → S → Type 0
 Allocates grew took policy old words before answer new after =
     IsRefused old words before answer new after
-    ⊎ (IsAskable words × Serves grew took policy old (block_words words) (placed old.books (block_words words)) before answer new after)
+    ⊎ (IsAskable words × Serves grew took policy old (block_words words) (placed old.books (block_words words))
+    before answer new after)

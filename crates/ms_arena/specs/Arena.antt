@@ -29,7 +29,13 @@ account_of arena = record { owner = arena.owner; space = arena.space; chunks = a
 -- An arena that has nothing yet.
 abbrev pub new_arena : AccountState → Kind → ArenaView
 new_arena account kind =
-    record { owner = account.owner; space = account.space; kind = kind; books = record empty_arena { chunks = account.chunks }; live = [] }
+    record {
+      owner = account.owner;
+      space = account.space;
+      kind = kind;
+      books = record empty_arena { chunks = account.chunks };
+      live = [];
+    }
 
 -- The words where the live blocks lie.
 abbrev pub live_run : ℕ × List ℕ → ℕ × ℕ

@@ -1,6 +1,6 @@
 -- The books of an arena as the code keeps them: its account, a top for each chunk, and its free
 -- blocks, beside the room for more.
-use Rattle.std.specs.Prelude.{◌≡◌, ℕ, ◌+◌, ◌-◌, ◌^◌, ◌≤◌, ◌<◌, Bool, sum, List, [], ◌++◌, length, slice_index, Option, Some, None, Result, Ok, Err, IsTrue, IsFalse}
+use Rattle.std.specs.Prelude.{◌≡◌, ℕ, ◌+◌, ◌-◌, ◌^◌, ◌≤◌, ◌<◌, Bool, sum, List, [], ◌++◌, length, slice_index, Option, Some, None, Result, Ok, Err, IfOk, OnErr, IsTrue, IsFalse}
 use Rattle.ms_base.specs.declared.policy.Policy.{Policy}
 use Rattle.ms_base.specs.declared.kind.Kind.{Kind}
 use Rattle.ms_base.specs.declared.kind.Space.{Space}
@@ -13,7 +13,7 @@ use Rattle.ms_base.specs.Level.{size_of}
 use Rattle.ms_base.specs.State.{ArenaState}
 use Rattle.ms_base.specs.Good.{IsSound, is_in_use}
 use Rattle.ms_base.specs.Names.{named, without}
-use Rattle.ms_base.specs.Place.{best_fit, current, tops_with, with_rest, with_top, with_taken}
+use Rattle.ms_base.specs.Place.{best_fit, current, current_top, tops_with, with_rest, with_top, with_taken}
 use Rattle.ms_base.specs.Asks.{asks_growth, may_enlarge, total_asked}
 use Rattle.ms_blocks.specs.FreeBlocks.{MayBeKept}
 use Rattle.ms_pool.specs.Account.{AccountState, AreChunks}
@@ -36,7 +36,8 @@ account_in books = record { owner = books.owner; space = books.space; chunks = b
 
 -- An arena over the books, of a kind and with live blocks.
 abbrev pub arena_over : BooksView → Kind → List (ℕ × List ℕ) → ArenaView
-arena_over books kind live = record { owner = books.owner; space = books.space; kind = kind; books = books.state; live = live }
+arena_over books kind live =
+    record { owner = books.owner; space = books.space; kind = kind; books = books.state; live = live }
 
 -- What is kept true of books: the chunks are an account's, each has its top, the words in use are
 -- the sum of the tops, and they are sound with no live block.
@@ -58,14 +59,38 @@ pub record Awaits (state : ArenaState) (live : List (ℕ × ℕ)) (run : ℕ × 
 abbrev pub AwaitsBlock : ArenaState → ArenaState → ℕ → ℕ → Type 0
 AwaitsBlock old new start n = (live : List (ℕ × ℕ)) → IsSound old live → Awaits new live (start, n)
 
+-- A block of n words may be placed, in room that there is: one that a chunk of the level holds.
+pub record MayPlace (books : BooksView) (level n : ℕ) : Type 0 where
+  pub some : 2 ≤ n
+  pub fits : n ≤ size_of level
+  pub room : 0 < books.room
+  pub places : 0 < books.places
+
+-- What that leaves: the block's words await it, and at most one more free block is kept; a refusal
+-- changes nothing.
+pub record Leaves (old : BooksView) (n : ℕ) (result : Result ℕ Refusal) (new : BooksView) : Type 0 where
+  pub awaits : IfOk result (λ start. AwaitsBlock old.state new.state start n)
+  pub room : old.room ≤ new.room + 1
+  pub owner : new.owner ≡ old.owner
+  pub space : new.space ≡ old.space
+  pub unchanged : OnErr result (new ≡ old)
+
+-- The current chunk may be asked to grow: so that its top rises by a block at least, and not too far.
+pub record MayGrow (state : ArenaState) (chunk : Chunk) (total : ℕ) : Type 0 where
+  pub current_is : current state ≡ Some chunk
+  pub more : current_top state + 2 ≤ total
+  pub small : total ≤ 2 ^ 40
+
 -- The current chunk grew to reach so many words, and its top is there now.
-pub record HasGrown {S : Type 0} (grew : GrowRelation S) (policy : Policy) (old : BooksView) (chunk : Chunk) (total : ℕ) (may : Bool) (before : S) (new : BooksView) (after : S) : Type 0 where
+pub record HasGrown {S : Type 0} (grew : GrowRelation S) (policy : Policy) (old : BooksView) (chunk : Chunk)
+    (total : ℕ) (may : Bool) (before : S) (new : BooksView) (after : S) : Type 0 where
   pub span : Span
   pub asked : grew before (account_in old) chunk.start total may (Ok span) after
   pub state : new ≡ record old { state = with_top (with_current old.state (reaching policy chunk total)) total }
 
 -- A chunk was taken, and the block lies at its start.
-pub record HasTaken {S : Type 0} (took : TakeRelation S) (policy : Policy) (old : BooksView) (wanted most n : ℕ) (before : S) (start : ℕ) (new : ArenaState) (after : S) : Type 0 where
+pub record HasTaken {S : Type 0} (took : TakeRelation S) (policy : Policy) (old : BooksView)
+    (wanted most n : ℕ) (before : S) (start : ℕ) (new : ArenaState) (after : S) : Type 0 where
   pub span : Span
   pub asked : took before (account_in old) wanted most n (Ok span) after
   pub starts : start ≡ span.start
@@ -118,7 +143,8 @@ kept_retired kept None = kept
 kept_retired kept (Some at) = with_rest kept (at.0.start + at.1) (at.0.front - at.1)
 
 -- The source is asked to grow the current chunk so far, and whether it may become its parent.
-pub record AsksFor (state : ArenaState) (kind : Kind) (space : Space) (n : ℕ) (chunk : Chunk) (total : ℕ) (may : Bool) : Type 0 where
+pub record AsksFor (state : ArenaState) (kind : Kind) (space : Space) (n : ℕ) (chunk : Chunk) (total : ℕ)
+    (may : Bool) : Type 0 where
   pub found : current state ≡ Some chunk
   pub total_is : total ≡ total_asked state n
   pub may_is : may ≡ may_enlarge kind space state chunk

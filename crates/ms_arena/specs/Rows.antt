@@ -35,7 +35,8 @@ pub record ReadsRow (blocks : List (ℕ × List ℕ)) (block : Block) (index val
   pub row : HasRow blocks block contents
   pub word : slice_get contents index ≡ Some value
 
-pub record WritesRow (old : List (ℕ × List ℕ)) (block : Block) (index value : ℕ) (new : List (ℕ × List ℕ)) : Type 0 where
+pub record WritesRow (old : List (ℕ × List ℕ)) (block : Block) (index value : ℕ)
+    (new : List (ℕ × List ℕ)) : Type 0 where
   pub contents : List ℕ
   pub row : HasRow old block contents
   pub within : index < length contents
@@ -70,5 +71,7 @@ pub record IsRowAt (rows : List LiveBlock) (place : ℕ) (block : Block) : Type 
   pub contents : List ℕ
   pub at : slice_get rows place ≡ Some (record { start = block.start; contents = contents })
   pub row : HasRow (entries_of rows) block contents
-  pub changed : (other : List ℕ) → entries_of (slice_set rows place (record { start = block.start; contents = other })) ≡ with_changed (entries_of rows) block.start other
+  pub changed : (other : List ℕ)
+      → entries_of (slice_set rows place (record { start = block.start; contents = other }))
+      ≡ with_changed (entries_of rows) block.start other
   pub gone : entries_of (remove rows place) ≡ without (entries_of rows) block.start

@@ -24,12 +24,12 @@ ghost use Rattle.ms_pool.specs.Account.{AccountState};
 ghost use Rattle.ms_arena.specs.Arena.{IsSoundArena, IsNotLive, IsAskable, Places, PlaceRefused, ReadsWord, WritesWord, WordRefused, FreesBlock, account_of, new_arena};
 ghost use Rattle.ms_arena.specs.Alloc.{Allocates, Serves, AsksChunk, Takes, Grows};
 ghost use Rattle.ms_arena.specs.ArenaSums.{AreSums};
-ghost use Rattle.ms_arena.specs.Books.{AwaitsBlock, AsksFor, account_in, arena_over, answer_at, arena_then};
+ghost use Rattle.ms_arena.specs.Books.{AsksFor, Leaves, MayPlace, account_in, arena_over, answer_at, arena_then};
 
 use crate::books::Books;
 use crate::rows::Rows;
 use crate::totals::{ArenaTotals, sums_of};
-use ms_base::{Block, Chunk, Kind, Refusal, Words, level_for};
+use ms_base::{Block, Chunk, Kind, ROOT_WORDS, Refusal, Words, level_for};
 use ms_pool::{Account, ChunkSource};
 use std::alloc::Global;
 use std::marker::Model;
@@ -37,9 +37,13 @@ use std::marker::Model;
 /// The arena of one class loader in one space. After HotSpot's metaspaceArena.hpp.
 #[derive(Drop)]
 pub struct Arena {
+    /// Where the words of live blocks come from.
     alloc: Global,
+    /// The kind of the arena's loader, by which it grows.
     kind: Kind,
+    /// Chunks, tops and free blocks, with room for as many free blocks more as blocks are live.
     books: Books,
+    /// The live blocks, each with its words.
     live: Rows,
 }
 
@@ -82,6 +86,7 @@ impl Arena {
         match self.books.place(n) {
             None => Ok(None),
             Some(start) => {
+                // That the account's chunks are chunks of its space is learnt here.
                 let _ = self.books.account();
                 self.live.insert(start, contents);
                 Ok(Some(Block { start, words: n }))
@@ -102,12 +107,14 @@ impl Arena {
         ensures counted { S.opened source.new ≡ S.opened source.old }
         ensures limits { S.limits source.new ≡ S.limits source.old }
         ensures fresh { IfOk result (λ block. named self.old.live block.start ≡ None) }
-        ensures allocates { Allocates S.grew S.took (S.limits source.old).policy self.old words source.old result self.new source.new }
+        ensures allocates { Allocates S.grew S.took (S.limits source.old).policy self.old words
+            source.old result self.new source.new }
         ensures unchanged { OnErr result (self.new ≡ self.old) }
     {
         let n = asked(words)?;
         let contents = made_room(&mut self.books, &mut self.live, self.alloc, n)?;
         let start = start_of(&mut self.books, source, self.kind, n)?;
+        // That the account's chunks are chunks of its space is learnt here.
         let _ = self.books.account();
         self.live.insert(start, contents);
         Ok(Block { start, words: n })
@@ -208,7 +215,7 @@ fn asked(words: u64) -> Result<u64, Refusal>
 {
     match words {
         0 => Err(Refusal::ZeroWords),
-        1..=524288 => Ok(words.max(2)),
+        1..=ROOT_WORDS => Ok(words.max(2)),
         _ => Err(Refusal::TooLarge),
     }
 }
@@ -245,10 +252,7 @@ fn start_of<S: ChunkSource>(
     n: u64,
 ) -> Result<u64, Refusal>
     requires served { S.serves source.old (account_in books.old) }
-    requires some { 2 ≤ n }
-    requires fits { n ≤ size_of 0 }
-    requires room { 0 < books.old.room }
-    requires places { 0 < books.old.places }
+    requires may { MayPlace books.old 0 n }
     ensures served { S.serves source.new (account_in books.new) }
     ensures others { (other : AccountState) → other.owner ≢ books.old.owner
         → S.serves source.old other → S.serves source.new other }
@@ -257,10 +261,7 @@ fn start_of<S: ChunkSource>(
     ensures serves { (live : List (ℕ × List ℕ)) → let arena = arena_over books.old kind live in
         Serves S.grew S.took (S.limits source.old).policy arena n (placed books.old.state n)
         source.old (answer_at result n) (arena_then arena books.new.state result n) source.new }
-    ensures awaits { IfOk result (λ start. AwaitsBlock books.old.state books.new.state start n) }
-    ensures room { books.old.room ≤ books.new.room + 1 }
-    ensures same { (books.new.owner ≡ books.old.owner) × (books.new.space ≡ books.old.space) }
-    ensures unchanged { OnErr result (books.new ≡ books.old) }
+    ensures leaves { Leaves books.old n result books.new }
 {
     match books.place(n) {
         Some(start) => Ok(start),
@@ -276,10 +277,7 @@ fn start_in_chunk<S: ChunkSource>(
     n: u64,
 ) -> Result<u64, Refusal>
     requires served { S.serves source.old (account_in books.old) }
-    requires some { 2 ≤ n }
-    requires fits { n ≤ size_of 0 }
-    requires room { 0 < books.old.room }
-    requires places { 0 < books.old.places }
+    requires may { MayPlace books.old 0 n }
     ensures served { S.serves source.new (account_in books.new) }
     ensures others { (other : AccountState) → other.owner ≢ books.old.owner
         → S.serves source.old other → S.serves source.new other }
@@ -289,10 +287,7 @@ fn start_in_chunk<S: ChunkSource>(
         AsksChunk S.grew S.took (S.limits source.old).policy arena n (current arena.books)
         (asks_growth kind arena.space arena.books (current arena.books) n)
         source.old (answer_at result n) (arena_then arena books.new.state result n) source.new }
-    ensures awaits { IfOk result (λ start. AwaitsBlock books.old.state books.new.state start n) }
-    ensures room { books.old.room ≤ books.new.room + 1 }
-    ensures same { (books.new.owner ≡ books.old.owner) × (books.new.space ≡ books.old.space) }
-    ensures unchanged { OnErr result (books.new ≡ books.old) }
+    ensures leaves { Leaves books.old n result books.new }
 {
     match growth_asked(books, kind, n) {
         Some((chunk, total, may_enlarge)) => {
@@ -313,10 +308,7 @@ fn start_in_grown<S: ChunkSource>(
     may_enlarge: bool,
 ) -> Result<u64, Refusal>
     requires served { S.serves source.old (account_in books.old) }
-    requires some { 2 ≤ n }
-    requires fits { n ≤ size_of 0 }
-    requires room { 0 < books.old.room }
-    requires places { 0 < books.old.places }
+    requires may { MayPlace books.old 0 n }
     requires asks { AsksFor books.old.state kind books.old.space n chunk total may_enlarge }
     ensures served { S.serves source.new (account_in books.new) }
     ensures others { (other : AccountState) → other.owner ≢ books.old.owner
@@ -326,10 +318,7 @@ fn start_in_grown<S: ChunkSource>(
     ensures grows { (live : List (ℕ × List ℕ)) → let arena = arena_over books.old kind live in
         Grows S.grew S.took (S.limits source.old).policy arena chunk n
         source.old (answer_at result n) (arena_then arena books.new.state result n) source.new }
-    ensures awaits { IfOk result (λ start. AwaitsBlock books.old.state books.new.state start n) }
-    ensures room { books.old.room ≤ books.new.room + 1 }
-    ensures same { (books.new.owner ≡ books.old.owner) × (books.new.space ≡ books.old.space) }
-    ensures unchanged { OnErr result (books.new ≡ books.old) }
+    ensures leaves { Leaves books.old n result books.new }
 {
     let start = chunk.start + (total - n);
     match books.grow(source, chunk, total, may_enlarge) {
@@ -346,10 +335,7 @@ fn start_in_taken<S: ChunkSource>(
     n: u64,
 ) -> Result<u64, Refusal>
     requires served { S.serves source.old (account_in books.old) }
-    requires some { 2 ≤ n }
-    requires fits { n ≤ size_of 0 }
-    requires room { 0 < books.old.room }
-    requires places { 0 < books.old.places }
+    requires may { MayPlace books.old 0 n }
     ensures served { S.serves source.new (account_in books.new) }
     ensures others { (other : AccountState) → other.owner ≢ books.old.owner
         → S.serves source.old other → S.serves source.new other }
@@ -358,10 +344,7 @@ fn start_in_taken<S: ChunkSource>(
     ensures takes { (live : List (ℕ × List ℕ)) → let arena = arena_over books.old kind live in
         Takes S.took (S.limits source.old).policy arena n
         source.old (answer_at result n) (arena_then arena books.new.state result n) source.new }
-    ensures awaits { IfOk result (λ start. AwaitsBlock books.old.state books.new.state start n) }
-    ensures room { books.old.room ≤ books.new.room + 1 }
-    ensures same { (books.new.owner ≡ books.old.owner) × (books.new.space ≡ books.old.space) }
-    ensures unchanged { OnErr result (books.new ≡ books.old) }
+    ensures leaves { Leaves books.old n result books.new }
 {
     let Some(most) = level_for(n) else {
         return Err(Refusal::TooLarge);

@@ -17,7 +17,7 @@ ghost use Rattle.ms_base.specs.Place.{placed, current, current_top, with_rest, t
 ghost use Rattle.ms_base.specs.Totals.{used_of, kept_of};
 ghost use Rattle.ms_blocks.specs.FreeBlocks.{MayBeKept, run_of};
 ghost use Rattle.ms_pool.specs.Account.{AccountState, AreChunks};
-ghost use Rattle.ms_arena.specs.Books.{BooksView, Awaits, AwaitsBlock, HasGrown, HasTaken, IsCurrent, PlacesFree, MayRetire, tops_retired, kept_retired, account_in};
+ghost use Rattle.ms_arena.specs.Books.{BooksView, Awaits, AwaitsBlock, HasGrown, HasTaken, Leaves, MayGrow, MayPlace, IsCurrent, PlacesFree, MayRetire, tops_retired, kept_retired, account_in};
 
 use ms_base::{Block, Chunk, Kind, Level, Refusal, growth};
 use ms_blocks::FreeBlocks;
@@ -28,9 +28,13 @@ use std::marker::Model;
 /// The account, tops and free blocks of one arena. Starts are word numbers.
 #[derive(Drop)]
 pub struct Books {
+    /// The chunks, in the order taken.
     account: Account,
+    /// The words in use of each chunk, at most those of its front.
     tops: Vec<u64>,
+    /// The sum of the tops, in words; below 2^52.
     used: u64,
+    /// The free blocks, of two words at least.
     kept: FreeBlocks,
 }
 
@@ -49,7 +53,8 @@ impl Model for Books {
     } };
 
     ghost invariant = { λ b.
-        AreBooks b.account.space (record { chunks = b.account.chunks; tops = b.tops.items; kept = b.kept.kept }) b.used };
+        AreBooks b.account.space
+        (record { chunks = b.account.chunks; tops = b.tops.items; kept = b.kept.kept }) b.used };
 }
 
 impl Books {
@@ -61,6 +66,7 @@ impl Books {
         ensures state { result.state ≡ empty_arena }
         ensures chunks { AreChunks result.space result.state.chunks }
     {
+        // What holds of the chunks of every account is learnt here.
         let _ = account.held();
         Books {
             account,
@@ -82,6 +88,7 @@ impl Books {
         ensures account { result.now ≡ account_in self.now }
         ensures chunks { AreChunks self.now.space self.now.state.chunks }
     {
+        // What holds of the chunks of every account is learnt here.
         let _ = self.account.held();
         &self.account
     }
@@ -179,9 +186,7 @@ impl Books {
         may_enlarge: bool,
     ) -> Result<(), Refusal>
         requires served { S.serves source.old (account_in self.old) }
-        requires current { current self.old.state ≡ Some chunk }
-        requires total { current_top self.old.state + 2 ≤ total }
-        requires small { total ≤ 2 ^ 40 }
+        requires may { MayGrow self.old.state chunk total }
         ensures served { S.serves source.new (account_in self.new) }
         ensures others { (other : AccountState) → other.owner ≢ self.old.owner
             → S.serves source.old other → S.serves source.new other }
@@ -199,6 +204,7 @@ impl Books {
     {
         let last = self.account.held() as usize - 1;
         source.grow(&mut self.account, chunk.start, total, may_enlarge)?;
+        // What holds of the account's chunks now is learnt here.
         let _ = self.account.held();
         raise(&mut self.tops, &mut self.used, last, total);
         Ok(())
@@ -215,10 +221,7 @@ impl Books {
     ) -> Result<u64, Refusal>
         requires served { S.serves source.old (account_in self.old) }
         requires levels { wanted ≤ most }
-        requires some { 2 ≤ n }
-        requires fits { n ≤ size_of most }
-        requires room { 0 < self.old.room }
-        requires places { 0 < self.old.places }
+        requires may { MayPlace self.old most n }
         ensures served { S.serves source.new (account_in self.new) }
         ensures others { (other : AccountState) → other.owner ≢ self.old.owner
             → S.serves source.old other → S.serves source.new other }
@@ -226,16 +229,13 @@ impl Books {
         ensures limits { S.limits source.new ≡ S.limits source.old }
         ensures taken { IfOk result (λ start. HasTaken S.took (S.limits source.old).policy self.old
             wanted most n source.old start self.new.state source.new) }
-        ensures awaits { IfOk result
-            (λ start. AwaitsBlock self.old.state self.new.state start n) }
-        ensures room { self.old.room ≤ self.new.room + 1 }
-        ensures same { (self.new.owner ≡ self.old.owner) × (self.new.space ≡ self.old.space) }
+        ensures leaves { Leaves self.old n result self.new }
         ensures refused { IfErr result (λ refusal. S.took source.old (account_in self.old)
             wanted most n (Err refusal) source.new) }
-        ensures unchanged { OnErr result (self.new ≡ self.old) }
     {
         let former = self.current();
         let span = source.take(&mut self.account, wanted, most, n)?;
+        // What holds of the account's chunks now is learnt here.
         let _ = self.account.held();
         retire(&mut self.tops, &mut self.used, &mut self.kept, former);
         self.used += n;

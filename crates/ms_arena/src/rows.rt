@@ -17,6 +17,7 @@ use std::marker::Model;
 /// The live blocks of one arena, and room for more of them. A start is a word number.
 #[derive(Drop)]
 pub struct Rows {
+    /// A row for each live block; their starts rise.
     rows: Vec<LiveBlock>,
 }
 

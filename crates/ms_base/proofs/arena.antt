@@ -4,5 +4,4 @@ pub mod KeptLemmas
 pub mod FreeBlockLemmas
 pub mod TopLemmas
 pub mod RaisedLemmas
-pub mod PlacedLemmas
 pub mod GrownLemmas

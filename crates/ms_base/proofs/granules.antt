@@ -3,12 +3,12 @@ pub mod PolicyLemmas
 pub mod GranuleLemmas
 pub mod FreeGranuleLemmas
 pub mod CommittedLemmas
-pub mod KeepingLemmas
+pub mod GranuleKeepingLemmas
 pub mod CommittedRoomLemmas
 pub mod FrontLemmas
 pub mod FrontSumLemmas
-pub mod CountLemmas
+pub mod GranuleCountLemmas
 pub mod NeedLemmas
 pub mod MissingLemmas
-pub mod GrowingLemmas
+pub mod GranuleGrowingLemmas
 pub mod CoverLemmas

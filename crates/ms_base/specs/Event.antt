@@ -66,15 +66,18 @@ pub record Takes (old : Machine) (space : Space) (name p m words : ℕ) (chunk :
   pub answer : taken (pool_of space old) p m words ≡ Ok chunk
   pub inside : IsTrue (is_in space chunk.start)
   pub after : new
-      ≡ recommitted (with_slots space (with_loader old name (with_arena space loader (with_chunk (arena_of space loader) chunk)))
+      ≡ recommitted (with_slots space (with_loader old name
+      (with_arena space loader (with_chunk (arena_of space loader) chunk)))
       (slots_with (slots_in space old) chunk.start))
 
 -- Why no chunk is taken: a limit is met, or, where none is, memory is wanting.
 abbrev pub LendsNone : PoolState → ℕ → ℕ → ℕ → Refusal → Type 0
-LendsNone pool p m words refusal = (taken pool p m words ≡ Err refusal) ⊎ (IsOk (taken pool p m words) × (refusal ≡ OutOfMemory))
+LendsNone pool p m words refusal =
+    (taken pool p m words ≡ Err refusal) ⊎ (IsOk (taken pool p m words) × (refusal ≡ OutOfMemory))
 
 -- No chunk is taken, and nothing changes.
-pub record TakesNone (old : Machine) (space : Space) (name p m words : ℕ) (refusal : Refusal) (new : Machine) : Type 0 where
+pub record TakesNone (old : Machine) (space : Space) (name p m words : ℕ) (refusal : Refusal)
+    (new : Machine) : Type 0 where
   pub loader : LoaderState
   pub has : HasLoader old name loader
   pub askable : IsAskable p m words
@@ -86,22 +89,26 @@ abbrev pub with_chunk_at : ArenaState → ℕ → Chunk → ArenaState
 with_chunk_at arena place chunk = record arena { chunks = slice_set arena.chunks place chunk }
 
 -- A chunk of a loader's is asked to reach further.
-pub record IsAsked (old : Machine) (space : Space) (name start : ℕ) (loader : LoaderState) (place : ℕ) (chunk : Chunk) : Type 0 where
+pub record IsAsked (old : Machine) (space : Space) (name start : ℕ) (loader : LoaderState) (place : ℕ)
+    (chunk : Chunk) : Type 0 where
   pub has : HasLoader old name loader
   pub found : slice_get (arena_of space loader).chunks place ≡ Some chunk
   pub starts : chunk.start ≡ start
 
 -- It does, as the rule for growing says, and the committed granules follow.
-pub record Grows (old : Machine) (space : Space) (name start total : ℕ) (may_enlarge : Bool) (chunk : Chunk) (new : Machine) : Type 0 where
+pub record Grows (old : Machine) (space : Space) (name start total : ℕ) (may_enlarge : Bool) (chunk : Chunk)
+    (new : Machine) : Type 0 where
   pub loader : LoaderState
   pub place : ℕ
   pub was : Chunk
   pub asked : IsAsked old space name start loader place was
   pub answer : grown (pool_of space old) was total may_enlarge ≡ Ok chunk
-  pub after : new ≡ recommitted (with_loader old name (with_arena space loader (with_chunk_at (arena_of space loader) place chunk)))
+  pub after : new ≡ recommitted (with_loader old name
+      (with_arena space loader (with_chunk_at (arena_of space loader) place chunk)))
 
 -- It doesn't, and nothing changes.
-pub record GrowsNone (old : Machine) (space : Space) (name start total : ℕ) (may_enlarge : Bool) (refusal : Refusal) (new : Machine) : Type 0 where
+pub record GrowsNone (old : Machine) (space : Space) (name start total : ℕ) (may_enlarge : Bool) (refusal : Refusal)
+    (new : Machine) : Type 0 where
   pub loader : LoaderState
   pub place : ℕ
   pub was : Chunk
@@ -149,8 +156,11 @@ pub record Adds (old : Machine) (space : Space) (name block words start : ℕ) (
 
 -- The loader without live and free blocks; its chunks and their tops stay until it is closed.
 abbrev pub emptied : LoaderState → LoaderState
-emptied loader =
-    record loader { arena = record loader.arena { kept = [] }; class_arena = record loader.class_arena { kept = [] }; blocks = [] }
+emptied loader = record loader {
+  arena = record loader.arena { kept = [] };
+  class_arena = record loader.class_arena { kept = [] };
+  blocks = [];
+}
 
 -- The local event of an unload.
 pub record Empties (old : Machine) (name : ℕ) (new : Machine) : Type 0 where
@@ -180,7 +190,8 @@ ActsNotCause m step refusal = Cause m step refusal
 
 -- The loader that the request names is sound.
 abbrev pub IsSoundAfter : Machine → Step → Type 0
-IsSoundAfter m step = (name : ℕ) (loader : LoaderState) → loader_of step ≡ Some name → HasLoader m name loader → IsSoundLoader loader
+IsSoundAfter m step =
+    (name : ℕ) (loader : LoaderState) → loader_of step ≡ Some name → HasLoader m name loader → IsSoundLoader loader
 
 -- From old, the event may happen with this answer, and leave new.
 abbrev pub Happens : Machine → Event → Answer → Machine → Type 0
@@ -188,8 +199,10 @@ Happens old (opening name kind) accepted new = Opens old name kind new
 Happens old (opening name kind) (refused IdsUsedUp) new = NewCause old name IdsUsedUp × (new ≡ old)
 Happens old (taking space name p m words) (lent chunk) new = Takes old space name p m words chunk new
 Happens old (taking space name p m words) (refused refusal) new = TakesNone old space name p m words refusal new
-Happens old (growing space name start total may_enlarge) (lent chunk) new = Grows old space name start total may_enlarge chunk new
-Happens old (growing space name start total may_enlarge) (refused refusal) new = GrowsNone old space name start total may_enlarge refusal new
+Happens old (growing space name start total may_enlarge) (lent chunk) new =
+    Grows old space name start total may_enlarge chunk new
+Happens old (growing space name start total may_enlarge) (refused refusal) new =
+    GrowsNone old space name start total may_enlarge refusal new
 Happens old (closing name) accepted new = Closes old name new
 Happens old purging (counted nodes) new = Purges old nodes new
 Happens old (telling space) (told sums) new = Tells old space sums new

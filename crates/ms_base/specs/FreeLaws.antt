@@ -59,7 +59,8 @@ pub record HasRoomWhereClear (pool : PoolState) (m : ℕ) : Type 0 where
   pub room : (start : ℕ) → IsClearIn pool start m → IsTrue (has_room pool m)
   pub clear : IsTrue (has_room pool m) → (start : ℕ) × IsClearIn pool start m
   pub full :
-      ((start : ℕ) → IsPart start m → IsTrue (is_reserved pool.slots (slot_of start)) → IsTrue (meets_chunk pool.held start m))
+      ((start : ℕ) → IsPart start m → IsTrue (is_reserved pool.slots (slot_of start))
+      → IsTrue (meets_chunk pool.held start m))
       → IsFalse (has_room pool m)
 
 abbrev pub RoomIsClear : Type 0
@@ -93,18 +94,21 @@ NoFreeBuddies =
 -- is not, none is under the policies balanced and aggressive.
 pub record IsCommittedBySize (pool : PoolState) (part : Span) (number : ℕ) : Type 0 where
   pub small : size_of part.level < granule_in pool → IsTrue (has_committed pool number)
-  pub large : IsFalse (keeps pool.limits.policy) → granule_in pool ≤ size_of part.level → IsFalse (has_committed pool number)
+  pub large : IsFalse (keeps pool.limits.policy) → granule_in pool ≤ size_of part.level
+      → IsFalse (has_committed pool number)
 
 abbrev pub FreePartsAreCommittedBySize : Type 0
 FreePartsAreCommittedBySize =
     (pool : PoolState) (part : Span) (number : ℕ) → IsSoundPool pool → Contains (free_parts pool.held pool.slots) part
-    → IsTrue (meet part.start (size_of part.level) (number * granule_in pool) (granule_in pool)) → IsCommittedBySize pool part number
+    → IsTrue (meet part.start (size_of part.level) (number * granule_in pool) (granule_in pool))
+    → IsCommittedBySize pool part number
 
 -- A free part is committed enough for words that it can hold where it is smaller than a granule;
 -- where it is not, it isn't under the policies balanced and aggressive.
 pub record IsEnoughBySize (pool : PoolState) (part : Span) (words : ℕ) : Type 0 where
   pub small : size_of part.level < granule_in pool → IsTrue (is_committed_enough pool words part)
-  pub large : IsFalse (keeps pool.limits.policy) → granule_in pool ≤ size_of part.level → IsFalse (is_committed_enough pool words part)
+  pub large : IsFalse (keeps pool.limits.policy) → granule_in pool ≤ size_of part.level
+      → IsFalse (is_committed_enough pool words part)
 
 abbrev pub EnoughIsBySize : Type 0
 EnoughIsBySize =
@@ -120,14 +124,18 @@ is_enough_at pool start level words = is_committed_enough pool words (part_at st
 -- the free part around it may not be committed from its start on.
 pub record HasCommittedRoomWhereClear (pool : PoolState) (m words : ℕ) : Type 0 where
   pub room :
-      IsFalse (keeps pool.limits.policy) → (start : ℕ) → IsClearIn pool start m → IsTrue (is_enough_at pool start m words)
+      IsFalse (keeps pool.limits.policy) → (start : ℕ) → IsClearIn pool start m
+      → IsTrue (is_enough_at pool start m words)
       → IsTrue (has_committed_room pool m words)
-  pub clear : IsTrue (has_committed_room pool m words) → (start : ℕ) × IsClearIn pool start m × IsTrue (is_enough_at pool start m words)
-  pub full : ((start : ℕ) → IsClearIn pool start m → IsFalse (is_enough_at pool start m words)) → IsFalse (has_committed_room pool m words)
+  pub clear : IsTrue (has_committed_room pool m words)
+      → (start : ℕ) × IsClearIn pool start m × IsTrue (is_enough_at pool start m words)
+  pub full : ((start : ℕ) → IsClearIn pool start m → IsFalse (is_enough_at pool start m words))
+      → IsFalse (has_committed_room pool m words)
 
 abbrev pub CommittedRoomIsClear : Type 0
 CommittedRoomIsClear =
-    (pool : PoolState) (m words : ℕ) → m ≤ 12 → 1 ≤ words → words ≤ size_of m → IsSoundPool pool → HasCommittedRoomWhereClear pool m words
+    (pool : PoolState) (m words : ℕ) → m ≤ 12 → 1 ≤ words → words ≤ size_of m → IsSoundPool pool
+    → HasCommittedRoomWhereClear pool m words
 
 -- The words of a part.
 abbrev pub words_of_part : Span → ℕ × ℕ
@@ -141,7 +149,8 @@ runs_in_roots held slots = map words_of held ++ map words_of_part (free_parts he
 -- none.
 abbrev pub RootsAreCoveredOnce : Type 0
 RootsAreCoveredOnce =
-    (policy : Policy) (word : ℕ) (held : List Chunk) (slots : List ℕ) → AreHeld policy slots held → IsStrictlyIncreasing slots
+    (policy : Policy) (word : ℕ) (held : List Chunk) (slots : List ℕ) → AreHeld policy slots held
+    → IsStrictlyIncreasing slots
     → count_by (λ run. lies_in (word, 1) run) (runs_in_roots held slots) ≡ cond (is_reserved slots (slot_of word)) 1 0
 
 -- Two lists of chunks are alike where each test that some chunk of the one passes, some chunk of
@@ -156,7 +165,8 @@ pub record LeavesTheSame (policy : Policy) (before slots : List ℕ) (held other
 
 abbrev pub AlikeChunksLeaveTheSame : Type 0
 AlikeChunksLeaveTheSame =
-    (policy : Policy) (before slots : List ℕ) (held other : List Chunk) → AreAlike held other → LeavesTheSame policy before slots held other
+    (policy : Policy) (before slots : List ℕ) (held other : List Chunk) → AreAlike held other
+    → LeavesTheSame policy before slots held other
 
 -- The pool with other held chunks.
 abbrev pub with_held : PoolState → List Chunk → PoolState
@@ -165,7 +175,9 @@ with_held pool other = record pool { held = other }
 -- The pool answers the same with the other chunks, want of memory aside.
 pub record AnswersTheSame (pool : PoolState) (other : List Chunk) : Type 0 where
   pub taking : (p m words : ℕ) → taken (with_held pool other) p m words ≡ taken pool p m words
-  pub growing : (chunk : Chunk) (total : ℕ) (may_enlarge : Bool) → grown (with_held pool other) chunk total may_enlarge ≡ grown pool chunk total may_enlarge
+  pub growing : (chunk : Chunk) (total : ℕ) (may_enlarge : Bool)
+      → grown (with_held pool other) chunk total may_enlarge ≡ grown pool chunk total may_enlarge
 
 abbrev pub AlikeChunksAnswerTheSame : Type 0
-AlikeChunksAnswerTheSame = (pool : PoolState) (other : List Chunk) → AreAlike pool.held other → AnswersTheSame pool other
+AlikeChunksAnswerTheSame =
+    (pool : PoolState) (other : List Chunk) → AreAlike pool.held other → AnswersTheSame pool other

@@ -58,11 +58,13 @@ abbrev pub SpreadsNew : ℕ → Kind → Reply → List (Event × Answer) → Ty
 SpreadsNew name kind Done events = events ≡ (opening name kind, accepted) ∷ []
 SpreadsNew name kind (Refused IdsUsedUp) events = events ≡ (opening name kind, refused IdsUsedUp) ∷ []
 SpreadsNew name kind (Refused OutOfMemory) events =
-    (events ≡ (opening name kind, accepted) ∷ (closing name, accepted) ∷ []) ⊎ IsAlone (New name kind) (Refused OutOfMemory) events
+    (events ≡ (opening name kind, accepted) ∷ (closing name, accepted) ∷ [])
+    ⊎ IsAlone (New name kind) (Refused OutOfMemory) events
 SpreadsNew name kind reply events = IsAlone (New name kind) reply events
 
 -- A growth that an allocation asks for is answered by a chunk, and its local event adds the block.
-pub record GrowsFirst (space : Space) (name : ℕ) (step : Step) (reply : Reply) (events : List (Event × Answer)) : Type 0 where
+pub record GrowsFirst (space : Space) (name : ℕ) (step : Step) (reply : Reply)
+    (events : List (Event × Answer)) : Type 0 where
   pub start : ℕ
   pub total : ℕ
   pub enlarges : Bool
@@ -72,7 +74,8 @@ pub record GrowsFirst (space : Space) (name : ℕ) (step : Step) (reply : Reply)
   pub events_are : events ≡ (growing space name start total enlarges, lent chunk) ∷ (acting step, replied (At at)) ∷ []
 
 -- A chunk that it asks for is answered, and its local event adds the block.
-pub record TakesFirst (space : Space) (name : ℕ) (step : Step) (reply : Reply) (events : List (Event × Answer)) : Type 0 where
+pub record TakesFirst (space : Space) (name : ℕ) (step : Step) (reply : Reply)
+    (events : List (Event × Answer)) : Type 0 where
   pub p : ℕ
   pub m : ℕ
   pub words : ℕ
@@ -82,26 +85,31 @@ pub record TakesFirst (space : Space) (name : ℕ) (step : Step) (reply : Reply)
   pub events_are : events ≡ (taking space name p m words, lent chunk) ∷ (acting step, replied (At at)) ∷ []
 
 -- A chunk that it asks for is refused, and its local event passes the refusal on.
-pub record PassesOn (space : Space) (name : ℕ) (step : Step) (reply : Reply) (events : List (Event × Answer)) : Type 0 where
+pub record PassesOn (space : Space) (name : ℕ) (step : Step) (reply : Reply)
+    (events : List (Event × Answer)) : Type 0 where
   pub p : ℕ
   pub m : ℕ
   pub words : ℕ
   pub refusal : Refusal
   pub passed : reply ≡ Refused refusal
-  pub events_are : events ≡ (taking space name p m words, refused refusal) ∷ (acting step, replied (Refused refusal)) ∷ []
+  pub events_are : events
+      ≡ (taking space name p m words, refused refusal) ∷ (acting step, replied (Refused refusal)) ∷ []
 
 -- No growth was asked for, or one that was refused.
 pub data HasNoSpan (space : Space) (name : ℕ) : List (Event × Answer) → Type 0 where
   not_asked : HasNoSpan space name []
-  not_had : (start total : ℕ) (enlarges : Bool) (refusal : Refusal) → HasNoSpan space name ((growing space name start total enlarges, refused refusal) ∷ [])
+  not_had : (start total : ℕ) (enlarges : Bool) (refusal : Refusal)
+      → HasNoSpan space name ((growing space name start total enlarges, refused refusal) ∷ [])
 
 -- What comes of an allocation where no growth was had: a chunk is asked for, or none is, and its
 -- local event serves or refuses it.
 abbrev pub GoesOn : Space → ℕ → Step → Reply → List (Event × Answer) → Type 0
-GoesOn space name step reply events = TakesFirst space name step reply events ⊎ PassesOn space name step reply events ⊎ IsAlone step reply events
+GoesOn space name step reply events =
+    TakesFirst space name step reply events ⊎ PassesOn space name step reply events ⊎ IsAlone step reply events
 
 -- Where no growth was had, what comes after.
-pub record GoesOnAfter (space : Space) (name : ℕ) (step : Step) (reply : Reply) (events : List (Event × Answer)) : Type 0 where
+pub record GoesOnAfter (space : Space) (name : ℕ) (step : Step) (reply : Reply)
+    (events : List (Event × Answer)) : Type 0 where
   pub asked : List (Event × Answer)
   pub rest : List (Event × Answer)
   pub no_span : HasNoSpan space name asked
@@ -111,7 +119,8 @@ pub record GoesOnAfter (space : Space) (name : ℕ) (step : Step) (reply : Reply
 -- An allocation is at most one growth, at most one chunk taken where no growth was had, and then its
 -- local event.
 abbrev pub SpreadsAlloc : Space → ℕ → Step → Reply → List (Event × Answer) → Type 0
-SpreadsAlloc space name step reply events = GrowsFirst space name step reply events ⊎ GoesOnAfter space name step reply events
+SpreadsAlloc space name step reply events =
+    GrowsFirst space name step reply events ⊎ GoesOnAfter space name step reply events
 
 -- An Unload is a local event that empties the loader, and then a closing.
 abbrev pub SpreadsUnload : ℕ → Reply → List (Event × Answer) → Type 0
@@ -201,5 +210,6 @@ IsAskedFor m _ n = ⊤
 -- one after the other; each other event is by itself; and the pool is asked as arenas do.
 pub record IsSpread (moments : List Moment) : Type 0 where
   pub each : (name : ℕ) → AreWhole (parts_by name moments)
-  pub others : All (λ (moment : Moment). IsByItself (moment.event, moment.answer) (loader_of_event moment.event) moment.of) moments
+  pub others : All (λ (moment : Moment).
+      IsByItself (moment.event, moment.answer) (loader_of_event moment.event) moment.of) moments
   pub asked : All (λ (moment : Moment). IsAskedFor moment.before moment.event (words_asked moment.of)) moments

@@ -34,4 +34,5 @@ pub record IsSerial (old : Machine) (moments : List Moment) (new : Machine) : Ty
 -- of whole steps, one after another.
 abbrev pub SpreadsAreSerial : Type 0
 SpreadsAreSerial =
-    (old new : Machine) (moments : List Moment) → IsGood old → Follow old moments new → IsSpread moments → IsSerial old moments new
+    (old new : Machine) (moments : List Moment) → IsGood old → Follow old moments new → IsSpread moments
+    → IsSerial old moments new

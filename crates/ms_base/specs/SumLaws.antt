@@ -34,7 +34,8 @@ words_in runs = sum_by (λ run. run.1) runs
 -- Runs that are apart have no more words than areas that have each of their words.
 abbrev pub PackingHolds : Type 0
 PackingHolds =
-    (runs areas : List (ℕ × ℕ)) → IsTrue (are_apart runs) → ((word : ℕ) → IsTrue (has_word runs word) → IsTrue (has_word areas word))
+    (runs areas : List (ℕ × ℕ)) → IsTrue (are_apart runs)
+    → ((word : ℕ) → IsTrue (has_word runs word) → IsTrue (has_word areas word))
     → words_in runs ≤ words_in areas
 
 -- The sums of a space of a machine, each within the next: live and free blocks are in use, words in
@@ -80,7 +81,8 @@ with_lent pool chunk = record pool { held = pool.held ++ chunk ∷ []; slots = s
 -- A chunk that is lent commits the granules of its front that were missing, and no other.
 abbrev pub LendingCommitsTheMissing : Type 0
 LendingCommitsTheMissing =
-    (pool : PoolState) (chunk : Chunk) → IsSoundPool pool → IsPart chunk.start chunk.level → 1 ≤ chunk.front → chunk.front ≤ size_of chunk.level
+    (pool : PoolState) (chunk : Chunk) → IsSoundPool pool → IsPart chunk.start chunk.level → 1 ≤ chunk.front
+    → chunk.front ≤ size_of chunk.level
     → length (committed_now (with_lent pool chunk)) ≡ length pool.committed + granules_missing pool chunk
 
 -- The pool with the held chunk at a place grown into another.
@@ -91,7 +93,8 @@ with_grown pool place chunk = record pool { held = slice_set pool.held place chu
 -- other.
 abbrev pub GrowingCommitsTheMissing : Type 0
 GrowingCommitsTheMissing =
-    (pool : PoolState) (place : ℕ) (was chunk : Chunk) → IsSoundPool pool → slice_get pool.held place ≡ Some was → IsGrown was chunk
+    (pool : PoolState) (place : ℕ) (was chunk : Chunk) → IsSoundPool pool → slice_get pool.held place ≡ Some was
+    → IsGrown was chunk
     → IsPart chunk.start chunk.level → chunk.front ≤ size_of chunk.level
     → length (committed_now (with_grown pool place chunk)) ≡ length pool.committed + granules_missing pool chunk
 
@@ -113,15 +116,18 @@ GrowingKeepsTheLimit =
 -- A request that is answered by a chunk keeps the limit of granules, whatever the policy.
 abbrev pub TakingKeepsTheLimit : Type 0
 TakingKeepsTheLimit =
-    (pool : PoolState) (p m words : ℕ) (chunk : Chunk) → IsSoundPool pool → p ≤ m → m ≤ 12 → 1 ≤ words → words ≤ size_of m
+    (pool : PoolState) (p m words : ℕ) (chunk : Chunk) → IsSoundPool pool → p ≤ m → m ≤ 12 → 1 ≤ words
+    → words ≤ size_of m
     → taken pool p m words ≡ Ok chunk → committed_count pool + granules_missing pool chunk ≤ pool.limits.granules
 
 -- One rule for all policies: where the reserve limit is not met, the commit limit is met exactly where
 -- the missing granules of the chunk that would be lent pass it; and where it is met these are the
 -- granules needed.
 pub record IsByMissing (pool : PoolState) (p m words : ℕ) : Type 0 where
-  pub met : meets_commit_limit pool p m words ≡ nat_lt pool.limits.granules (committed_count pool + granules_missing pool (chunk_picked pool p m words))
-  pub need : IsTrue (meets_commit_limit pool p m words) → granules_needed pool p m words ≡ granules_missing pool (chunk_picked pool p m words)
+  pub met : meets_commit_limit pool p m words
+      ≡ nat_lt pool.limits.granules (committed_count pool + granules_missing pool (chunk_picked pool p m words))
+  pub need : IsTrue (meets_commit_limit pool p m words)
+      → granules_needed pool p m words ≡ granules_missing pool (chunk_picked pool p m words)
 
 abbrev pub CommitLimitIsByMissing : Type 0
 CommitLimitIsByMissing =

@@ -90,7 +90,8 @@ MayChange policy n old new = (new ≡ old) ⊎ GrowsOne old new ⊎ AddsOne poli
 
 -- The loader with a new block of zeros, and another arena in a space.
 abbrev pub with_allocated : Space → LoaderState → ArenaState → ℕ → LiveBlock → LoaderState
-with_allocated space loader arena name block = with_arena space (record loader { blocks = with_new loader.blocks name block }) arena
+with_allocated space loader arena name block =
+    with_arena space (record loader { blocks = with_new loader.blocks name block }) arena
 
 -- An allocation that is served in a space: the loader has one block more, new zeros in that space,
 -- and its arena there may change as above; the committed granules follow. Where the block lies,
@@ -105,9 +106,11 @@ pub record Allocates (old : Machine) (space : Space) (name block words start : �
   pub unused : named before.blocks block ≡ None
   pub inside : IsTrue (is_in space start)
   pub changes : MayChange old.limits.policy (block_words words)
-      (record { chunks = (arena_of space before).chunks; slots = slots_in space old }) (record { chunks = arena.chunks; slots = slots })
+      (record { chunks = (arena_of space before).chunks; slots = slots_in space old })
+      (record { chunks = arena.chunks; slots = slots })
   pub after : new
-      ≡ recommitted (with_slots space (with_loader old name (with_allocated space before arena block (zeroed start (block_words words)))) slots)
+      ≡ recommitted (with_slots space (with_loader old name
+      (with_allocated space before arena block (zeroed start (block_words words)))) slots)
 
 -- A word of a block is written.
 pub record Writes (old : Machine) (name block index value : ℕ) (new : Machine) : Type 0 where
@@ -115,7 +118,8 @@ pub record Writes (old : Machine) (name block index value : ℕ) (new : Machine)
   pub found : LiveBlock
   pub has : HasBlock old name block loader found
   pub within : index < length found.contents
-  pub after : new ≡ with_loader old name (with_block loader block (record found { contents = slice_set found.contents index value }))
+  pub after : new ≡ with_loader old name
+      (with_block loader block (record found { contents = slice_set found.contents index value }))
 
 -- A word of a block is read.
 pub record Reads (old : Machine) (name block index value : ℕ) (new : Machine) : Type 0 where
@@ -128,7 +132,8 @@ pub record Reads (old : Machine) (name block index value : ℕ) (new : Machine) 
 -- The loader without a block, and with other free blocks in a space.
 abbrev pub with_freed : Space → LoaderState → ℕ → List (ℕ × ℕ) → LoaderState
 with_freed space loader name kept =
-    with_arena space (record loader { blocks = without loader.blocks name }) (record (arena_of space loader) { kept = kept })
+    with_arena space (record loader { blocks = without loader.blocks name })
+    (record (arena_of space loader) { kept = kept })
 
 -- A block is freed: it is live no more, and what the arena of its space keeps may change.
 pub record Frees (old : Machine) (name block : ℕ) (new : Machine) : Type 0 where
@@ -206,7 +211,8 @@ NewCause m name _ = ⊥
 pub record CommitsTooMuch (m : Machine) (space : Space) (name words committed limit need : ℕ) : Type 0 where
   pub loader : LoaderState
   pub has : HasLoader m name loader
-  pub cause : CommitCause (pool_of space m) (wanted_level loader.kind space (arena_of space loader) words) (level_that_holds words) words committed limit need
+  pub cause : CommitCause (pool_of space m) (wanted_level loader.kind space (arena_of space loader) words)
+      (level_that_holds words) words committed limit need
 
 -- Why a block is not allocated in a space, in the order of the checks.
 abbrev pub AllocCause : Machine → Space → ℕ → ℕ → ℕ → Refusal → Type 0

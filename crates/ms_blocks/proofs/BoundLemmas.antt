@@ -5,7 +5,7 @@ use Rattle.std.specs.List.{AllByRecursion}
 use Rattle.std.proofs.lemmas.Bool.Decides.{nat_tests}
 use Rattle.ms_base.specs.Interval.{meet, meets_any}
 use Rattle.ms_base.specs.Names.{named, with_new}
-use Rattle.ms_blocks.proofs.EntryLemmas.{all-with_new}
+use Rattle.ms_blocks.proofs.KeptEntryLemmas.{all-with_new}
 
 -- The runs start and end below the word, or start at it or behind it.
 abbrev pub LieBelow : ℕ → List (ℕ × ℕ) → Type 0

@@ -11,7 +11,7 @@ use Rattle.std.proofs.lemmas.Map.Keys.{IsStrictlyIncreasing-from_sorted}
 use Rattle.ms_base.specs.Interval.{meet, meets_any, are_apart}
 use Rattle.ms_base.specs.Names.{named, with_new, without}
 use Rattle.ms_blocks.specs.FreeBlocks.{LieFrom, AreKept, MayBeKept, words_in}
-use Rattle.ms_blocks.proofs.EntryLemmas.{words_in-cons, named-with_new}
+use Rattle.ms_blocks.proofs.KeptEntryLemmas.{words_in-cons, named-with_new}
 
 -- What a comparison says of two starts.
 compared_less : (a b : ℕ) → nat_cmp a b ≡ Less → a < b

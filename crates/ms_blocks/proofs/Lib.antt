@@ -1,5 +1,5 @@
 pub mod RankLemmas
-pub mod EntryLemmas
+pub mod KeptEntryLemmas
 pub mod StartLemmas
 pub mod LaidLemmas
 pub mod BestFitLemmas

@@ -10,7 +10,7 @@ use Rattle.ms_blocks.specs.Tended.{AreTended, IsTended}
 use Rattle.ms_blocks.specs.declared.tree.Tree.{Tree}
 use Rattle.ms_blocks.specs.declared.free_blocks.FreeBlocks.TheInside.{Inside}
 use Rattle.ms_blocks.proofs.RankLemmas.{ranked_with, ranked_without, without_fit-none}
-use Rattle.ms_blocks.proofs.EntryLemmas.{length-with_new, sum-with_new}
+use Rattle.ms_blocks.proofs.KeptEntryLemmas.{length-with_new, sum-with_new}
 use Rattle.ms_blocks.proofs.StartLemmas.{by_start-with_ranked, starts_differ_with, by_start-without_fit, starts_differ_without, fit_splits, new_is_other}
 use Rattle.ms_blocks.proofs.LaidLemmas.{added_may_be_kept, apart_is_new, laid_with, laid_without, words_fit}
 use Rattle.ms_blocks.proofs.BestFitLemmas.{fit_is_best, none_fits}
@@ -51,7 +51,7 @@ total_fits blocks room places count total block tended may =
       words_fit 0 (by_start (with_ranked blocks block)) (laid_runs_with blocks block tended.laid may),
     )
 
--- One block more, and one spare node less.
+-- One block more, and one spare fork less.
 pub tended_with : (blocks grown : List Block) (room left places count total : ℕ) (block : Block)
     → AreTended blocks room places count total → MayBeKept (by_start blocks) (run_of block)
     → grown ≡ with_ranked blocks block → left + 1 ≡ room → AreTended grown left places (count + 1) (total + block.words)
@@ -103,7 +103,7 @@ some_summed blocks n found room places count total tended e = omega (
   words_without blocks n found room places count total tended e,
 )
 
--- One block less, and one spare node more.
+-- One block less, and one spare fork more.
 pub tended_without : (blocks rest : List Block) (n : ℕ) (found : Block) (room places after count total : ℕ)
     → AreTended blocks room places count total → first_fit blocks n ≡ Some found
     → rest ≡ without_fit blocks n → places ≤ after → AreTended rest (room + 1) after (count - 1) (total - found.words)

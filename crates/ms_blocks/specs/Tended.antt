@@ -6,12 +6,12 @@ use Rattle.ms_blocks.specs.FreeBlocks.{KeptBlocks, by_start, StartsDiffer, LieFr
 use Rattle.ms_blocks.specs.Rank.{IsRanked}
 use Rattle.ms_blocks.specs.Tree.{blocks_of}
 
--- The tree's blocks as runs, and as much room as there are spare nodes.
+-- The tree's blocks as runs, and as much room as there are spare forks.
 abbrev pub kept_blocks : {A : Type 0} → Inside A → KeptBlocks
 kept_blocks f = record { kept = by_start (blocks_of f.tree); room = vec_len f.spare }
 
--- The blocks are in rank, their runs lie apart, they are counted and summed, and the spare nodes
--- have places for theirs.
+-- The blocks are in rank, their runs lie apart, they are counted and summed, and where the spare
+-- forks stand there are places for theirs too.
 pub record AreTended (blocks : List Block) (room places count total : ℕ) : Type 0 where
   pub ranked : IsRanked blocks
   pub differ : StartsDiffer blocks

@@ -23,9 +23,13 @@ use std::marker::Model;
 /// Adding and removing take time that grows like the logarithm of the blocks kept.
 #[derive(Drop)]
 pub struct FreeBlocks<A: Allocator = Global> {
+    /// The kept blocks by rank, one a fork.
     tree: Tree<A>,
+    /// The room: a fork for each block that may be added yet.
     spare: Vec<Box<Fork<A>, A>, A>,
+    /// How many blocks the tree has.
     count: usize,
+    /// How many words they have together, below 2 ^ 64.
     total: u64,
 }
 

@@ -11,7 +11,7 @@
 //! as their ranks rise make it deep.
 //! Forks come from outside and go back whole. Each operation says which list of blocks the tree
 //! holds then, from left to right.
-ghost use Rattle.std.specs.Prelude.{◌≡◌, ◌<◌, ◌≤◌, ◌∷◌, ◌++◌};
+ghost use Rattle.std.specs.Prelude.{◌≡◌, ◌<◌, ◌∷◌, ◌++◌};
 ghost use Rattle.std.specs.Option.{option_map};
 ghost use Rattle.ms_blocks.specs.Rank.{IsRanked, ranks_before, with_ranked, first_fit, without_fit};
 ghost use Rattle.ms_blocks.specs.Tree.{blocks_of};

@@ -14,8 +14,8 @@ use Rattle.ms_base.specs.Part.{IsPart}
 use Rattle.ms_base.proofs.free.PartLemmas.{parts_are_nested_or_apart}
 use Rattle.ms_buddy.specs.declared.node.Node.{Node}
 use Rattle.ms_buddy.specs.Leaves.{LentLeaf, IsCarveRefusal, is_same, fits_in, words_of, with_leaf}
-use Rattle.ms_buddy.specs.Tree.{IsInside, IsPlace, IsTree, lent_in, free_in, lent_in_halves, free_in_halves}
-use Rattle.ms_buddy.proofs.HalvesLemmas.{size_of-some, size_of-halves, lower_place}
+use Rattle.ms_buddy.specs.Tree.{IsInside, IsPlace, MayBeLent, IsTree, lent_in, free_in, lent_in_halves, free_in_halves}
+use Rattle.ms_buddy.proofs.TreeHalvesLemmas.{size_of-some, size_of-halves, lower_place, upper_place}
 use Rattle.ms_buddy.proofs.WalkLemmas.{LiesIn, LeafIn, lent_lies_in, free_lies_in, all_weaker, any-none, none_free_above, none_free_below}
 use Rattle.ms_buddy.proofs.SplitLemmas.{AtHalves}
 
@@ -34,7 +34,8 @@ ends_in part level start small large h from below = elim (parts_are_nested_or_ap
     overlap a s b t h k l e = grind (arith, nat_tests)
 
 -- A part of a greater level lies in the half where it starts.
-pub lower_inside : (part : Span) (level start half : ℕ) → IsPlace level start → level < part.level → IsPart part.start part.level → IsInside level start part
+lower_inside : (part : Span) (level start half : ℕ) → IsPlace level start → level < part.level
+    → IsPart part.start part.level → IsInside level start part
     → half ≡ size_of (level + 1) → part.start < start + half → IsInside (level + 1) start part
 lower_inside part level start half place h is_part inside size below = record {
   low = omega arith;
@@ -45,7 +46,8 @@ lower_inside part level start half place h is_part inside size below = record {
     half_place : IsPlace (level + 1) start
     half_place = lower_place level start place (omega (arith, is_part.0))
 
-pub upper_inside : (part : Span) (level start half : ℕ) → level < part.level → part.level ≤ 12 → IsInside level start part
+upper_inside : (part : Span) (level start half : ℕ) → level < part.level → part.level ≤ 12
+    → IsInside level start part
     → half ≡ size_of (level + 1) → start + half ≤ part.start → IsInside (level + 1) (start + half) part
 upper_inside part level start half h k inside size above = record {
   low = omega arith;
@@ -53,26 +55,51 @@ upper_inside part level start half h k inside size above = record {
   to = omega (arith, size, size_of-halves level (omega arith), inside.to);
 }
 
+-- A part that may be lent below a split may be in the half where it starts.
+pub lower_may : (part : Span) (level start half front : ℕ) → MayBeLent level start part front → level < part.level
+    → half ≡ size_of (level + 1) → part.start < start + half → MayBeLent (level + 1) start part front
+lower_may part level start half front may h size below = record {
+  place = lower_place level start may.place (omega (arith, may.is_part.0));
+  is_part = may.is_part;
+  inside = lower_inside part level start half may.place h may.is_part may.inside size below;
+  some = may.some;
+  within = may.within;
+}
+
+pub upper_may : (part : Span) (level start half front : ℕ) → MayBeLent level start part front → level < part.level
+    → half ≡ size_of (level + 1) → start + half ≤ part.start → MayBeLent (level + 1) (start + half) part front
+upper_may part level start half front may h size above = record {
+  place = upper_place level start (start + half) may.place (omega (arith, may.is_part.0)) (omega (arith, size));
+  is_part = may.is_part;
+  inside = upper_inside part level start half h may.is_part.0 may.inside size above;
+  some = may.some;
+  within = may.within;
+}
+
 -- A part lies in no part past its start, and in none that ends before it does.
-fits_not_above : (part other : Span) (middle high : ℕ) → part.start < middle → LiesIn middle high other → lies_in (words_of part) (words_of other) ≡ false
+fits_not_above : (part other : Span) (middle high : ℕ) → part.start < middle → LiesIn middle high other
+    → lies_in (words_of part) (words_of other) ≡ false
 fits_not_above part other middle high h lies = apart other.start part.start (nat_le (part.start + size_of part.level) (other.start + size_of other.level)) (omega (arith, lies.from))
   where
     apart : (a b : ℕ) (c : Bool) → b < a → (nat_le a b && c) ≡ false
     apart a b c h = grind (arith, nat_tests)
 
-fits_not_below : (part other : Span) (low middle : ℕ) → middle < part.start + size_of part.level → LiesIn low middle other → lies_in (words_of part) (words_of other) ≡ false
+fits_not_below : (part other : Span) (low middle : ℕ) → middle < part.start + size_of part.level
+    → LiesIn low middle other → lies_in (words_of part) (words_of other) ≡ false
 fits_not_below part other low middle h lies = apart (nat_le other.start part.start) (part.start + size_of part.level) (other.start + size_of other.level) (omega (arith, lies.to))
   where
     apart : (c : Bool) (a b : ℕ) → b < a → (c && nat_le a b) ≡ false
     apart c a b h = grind (arith, nat_tests)
 
-none_fit_above : {A : Type 0} (part : Span) (level middle : ℕ) (upper : Node A) → IsTree level upper → part.start < middle → fits_in part (free_in level middle upper) ≡ false
+none_fit_above : {A : Type 0} (part : Span) (level middle : ℕ) (upper : Node A) → IsTree level upper
+    → part.start < middle → fits_in part (free_in level middle upper) ≡ false
 none_fit_above part level middle upper tree h =
     any-none (λ other. lies_in (words_of part) (words_of other)) (free_in level middle upper)
     (all_weaker (LiesIn middle (middle + size_of level)) (λ other. lies_in (words_of part) (words_of other) ≡ false)
     (λ other lies. fits_not_above part other middle (middle + size_of level) h lies) (free_in level middle upper) (free_lies_in level middle upper tree))
 
-none_fit_below : {A : Type 0} (part : Span) (level start : ℕ) (lower : Node A) → IsTree level lower → start + size_of level < part.start + size_of part.level
+none_fit_below : {A : Type 0} (part : Span) (level start : ℕ) (lower : Node A) → IsTree level lower
+    → start + size_of level < part.start + size_of part.level
     → fits_in part (free_in level start lower) ≡ false
 none_fit_below part level start lower tree h =
     any-none (λ other. lies_in (words_of part) (words_of other)) (free_in level start lower)
@@ -84,7 +111,8 @@ or_false true y e = refl
 or_false false y e = e
 
 -- The whole of two halves lies in no free leaf of theirs.
-pub whole_fits_not : {A : Type 0} (part : Span) (level start half : ℕ) (lower upper : Node A) → AtHalves level start half lower upper → level < 12 → IsInside level start part
+pub whole_fits_not : {A : Type 0} (part : Span) (level start half : ℕ) (lower upper : Node A)
+    → AtHalves level start half lower upper → level < 12 → IsInside level start part
     → part.level ≡ level → fits_in part (free_in_halves level start lower upper) ≡ false
 whole_fits_not part level start half lower upper s low inside e =
     list_any-append (λ (other : Span). lies_in (words_of part) (words_of other)) (free_in (level + 1) start lower) (free_in (level + 1) (start + size_of (level + 1)) upper)
@@ -94,14 +122,16 @@ whole_fits_not part level start half lower upper s low inside e =
     ) refl
 
 -- What lies in a half fits in two halves where it fits in the half.
-pub lower_fits : {A : Type 0} (part : Span) (level start half : ℕ) (lower upper : Node A) → AtHalves level start half lower upper → part.start < start + half
+pub lower_fits : {A : Type 0} (part : Span) (level start half : ℕ) (lower upper : Node A)
+    → AtHalves level start half lower upper → part.start < start + half
     → fits_in part (free_in_halves level start lower upper) ≡ fits_in part (free_in (level + 1) start lower)
 lower_fits part level start half lower upper s h =
     list_any-append (λ (other : Span). lies_in (words_of part) (words_of other)) (free_in (level + 1) start lower) (free_in (level + 1) (start + size_of (level + 1)) upper)
     ∙ or_false (fits_in part (free_in (level + 1) start lower)) (fits_in part (free_in (level + 1) (start + size_of (level + 1)) upper))
     (none_fit_above part (level + 1) (start + size_of (level + 1)) upper s.high_tree (omega (arith, s.size)))
 
-pub upper_fits : {A : Type 0} (part : Span) (level start half : ℕ) (lower upper : Node A) → AtHalves level start half lower upper → start + half ≤ part.start
+pub upper_fits : {A : Type 0} (part : Span) (level start half : ℕ) (lower upper : Node A)
+    → AtHalves level start half lower upper → start + half ≤ part.start
     → fits_in part (free_in_halves level start lower upper) ≡ fits_in part (free_in (level + 1) (start + half) upper)
 upper_fits part level start half lower upper s h =
     list_any-append (λ (other : Span). lies_in (words_of part) (words_of other)) (free_in (level + 1) start lower) (free_in (level + 1) (start + size_of (level + 1)) upper)
@@ -109,37 +139,44 @@ upper_fits part level start half lower upper s h =
     (ap (λ (n : ℕ). fits_in part (free_in (level + 1) (start + n) upper)) (sym s.size))
 
 -- It is one of their free leaves where it is one of the half's.
-pub lower_is_free : {A : Type 0} (part : Span) (level start half : ℕ) (lower upper : Node A) → AtHalves level start half lower upper → part.start < start + half
-    → list_any (is_same part) (free_in_halves level start lower upper) ≡ list_any (is_same part) (free_in (level + 1) start lower)
+pub lower_is_free : {A : Type 0} (part : Span) (level start half : ℕ) (lower upper : Node A)
+    → AtHalves level start half lower upper → part.start < start + half
+    → list_any (is_same part) (free_in_halves level start lower upper)
+    ≡ list_any (is_same part) (free_in (level + 1) start lower)
 lower_is_free part level start half lower upper s h =
     list_any-append (is_same part) (free_in (level + 1) start lower) (free_in (level + 1) (start + size_of (level + 1)) upper)
     ∙ or_false (list_any (is_same part) (free_in (level + 1) start lower)) (list_any (is_same part) (free_in (level + 1) (start + size_of (level + 1)) upper))
     (any-none (is_same part) (free_in (level + 1) (start + size_of (level + 1)) upper)
     (none_free_above part (level + 1) (start + size_of (level + 1)) upper s.high_tree (omega (arith, s.size))))
 
-pub upper_is_free : {A : Type 0} (part : Span) (level start half : ℕ) (lower upper : Node A) → AtHalves level start half lower upper → start + half ≤ part.start
-    → list_any (is_same part) (free_in_halves level start lower upper) ≡ list_any (is_same part) (free_in (level + 1) (start + half) upper)
+pub upper_is_free : {A : Type 0} (part : Span) (level start half : ℕ) (lower upper : Node A)
+    → AtHalves level start half lower upper → start + half ≤ part.start
+    → list_any (is_same part) (free_in_halves level start lower upper)
+    ≡ list_any (is_same part) (free_in (level + 1) (start + half) upper)
 upper_is_free part level start half lower upper s h =
     list_any-append (is_same part) (free_in (level + 1) start lower) (free_in (level + 1) (start + size_of (level + 1)) upper)
     ∙ rw (any-none (is_same part) (free_in (level + 1) start lower) (none_free_below part (level + 1) start lower s.low_tree (omega (arith, s.size))))
     (ap (λ (n : ℕ). list_any (is_same part) (free_in (level + 1) (start + n) upper)) (sym s.size))
 
 -- Free leaves among which a part fits alike refuse it alike.
-pub same_refusal : (part : Span) (free other : List Span) → fits_in part other ≡ fits_in part free → list_any (is_same part) other ≡ list_any (is_same part) free
+pub same_refusal : (part : Span) (free other : List Span) → fits_in part other ≡ fits_in part free
+    → list_any (is_same part) other ≡ list_any (is_same part) free
     → (refusal : Refusal) → IsCarveRefusal part free refusal → IsCarveRefusal part other refusal
 same_refusal part free other e f (NoRoom level) h = (h.0, e ∙ h.1)
 same_refusal part free other e f OutOfMemory h = (e ∙ h.0, f ∙ h.1)
 same_refusal part free other e f _ h = absurd h
 
 -- A leaf takes its place before all that start past it, and after all that start before it.
-leaf_before : (added : LentLeaf) (middle high : ℕ) (ys : List LentLeaf) → added.start < middle → AllByRecursion (LeafIn middle high) ys → with_leaf added ys ≡ added ∷ ys
+leaf_before : (added : LentLeaf) (middle high : ℕ) (ys : List LentLeaf) → added.start < middle
+    → AllByRecursion (LeafIn middle high) ys → with_leaf added ys ≡ added ∷ ys
 leaf_before added middle high [] h all = refl
 leaf_before added middle high (y ∷ ys) h all = rw (not_below y.start added.start (omega (arith, all.0.from))) refl
   where
     not_below : (a b : ℕ) → b < a → nat_lt a b ≡ false
     not_below a b h = grind (arith, nat_tests)
 
-leaf_in_lower : (added : LentLeaf) (middle high : ℕ) (xs ys : List LentLeaf) → added.start < middle → AllByRecursion (LeafIn middle high) ys
+leaf_in_lower : (added : LentLeaf) (middle high : ℕ) (xs ys : List LentLeaf) → added.start < middle
+    → AllByRecursion (LeafIn middle high) ys
     → with_leaf added (xs ++ ys) ≡ with_leaf added xs ++ ys
 leaf_in_lower added middle high [] ys h all = leaf_before added middle high ys h all
 leaf_in_lower added middle high (x ∷ xs) ys h all =
@@ -148,7 +185,8 @@ leaf_in_lower added middle high (x ∷ xs) ys h all =
       | false ↦ refl
     ]
 
-leaf_in_upper : (added : LentLeaf) (low middle : ℕ) (xs ys : List LentLeaf) → middle ≤ added.start → AllByRecursion (LeafIn low middle) xs
+leaf_in_upper : (added : LentLeaf) (low middle : ℕ) (xs ys : List LentLeaf) → middle ≤ added.start
+    → AllByRecursion (LeafIn low middle) xs
     → with_leaf added (xs ++ ys) ≡ xs ++ with_leaf added ys
 leaf_in_upper added low middle [] ys h all = refl
 leaf_in_upper added low middle (x ∷ xs) ys h all =
@@ -157,7 +195,8 @@ leaf_in_upper added low middle (x ∷ xs) ys h all =
     below : (a b : ℕ) → a < b → nat_lt a b ≡ true
     below a b h = grind (arith, nat_tests)
 
-pub lower_added : {A : Type 0} (added : LentLeaf) (level start half : ℕ) (lower upper now : Node A) → AtHalves level start half lower upper → added.start < start + half
+pub lower_added : {A : Type 0} (added : LentLeaf) (level start half : ℕ) (lower upper now : Node A)
+    → AtHalves level start half lower upper → added.start < start + half
     → lent_in (level + 1) start now ≡ with_leaf added (lent_in (level + 1) start lower)
     → lent_in_halves level start now upper ≡ with_leaf added (lent_in_halves level start lower upper)
 lower_added added level start half lower upper now s h e =
@@ -165,7 +204,8 @@ lower_added added level start half lower upper now s h e =
     ∙ sym (leaf_in_lower added (start + size_of (level + 1)) (start + size_of (level + 1) + size_of (level + 1)) (lent_in (level + 1) start lower)
     (lent_in (level + 1) (start + size_of (level + 1)) upper) (omega (arith, s.size)) (lent_lies_in (level + 1) (start + size_of (level + 1)) upper s.high_tree))
 
-pub upper_added : {A : Type 0} (added : LentLeaf) (level start half : ℕ) (lower upper now : Node A) → AtHalves level start half lower upper → start + half ≤ added.start
+pub upper_added : {A : Type 0} (added : LentLeaf) (level start half : ℕ) (lower upper now : Node A)
+    → AtHalves level start half lower upper → start + half ≤ added.start
     → lent_in (level + 1) (start + half) now ≡ with_leaf added (lent_in (level + 1) (start + half) upper)
     → lent_in_halves level start lower now ≡ with_leaf added (lent_in_halves level start lower upper)
 upper_added added level start half lower upper now s h e =

@@ -13,27 +13,26 @@ use Rattle.ms_buddy.specs.declared.node.Node.{Node}
 use Rattle.ms_buddy.specs.declared.node.Node.TheVariants.{Free, Lent, Split'}
 use Rattle.ms_buddy.specs.Leaves.{LentLeaf, span_of, is_same, is_lent, can_enlarge}
 use Rattle.ms_buddy.specs.Tree.{IsPlace, is_free, lent_in, free_in, lent_in_halves, free_in_halves}
-use Rattle.ms_buddy.proofs.HalvesLemmas.{size_of-some, size_of-halves, lower_place}
+use Rattle.ms_buddy.proofs.TreeHalvesLemmas.{size_of-some, size_of-halves, lower_place}
 use Rattle.ms_buddy.proofs.WalkLemmas.{LiesIn, all_joined, all_weaker, lent_levels, free_levels}
 use Rattle.ms_buddy.proofs.SplitLemmas.{AtHalves, lent_part_lies_in, lower_lent, upper_lent}
 use Rattle.ms_buddy.proofs.CarveLemmas.{ends_in, lower_is_free, upper_is_free}
 
+zero_test : (n : ℕ) → (n == 0) ≡ true → n ≡ 0
+zero_test n e = grind (arith, nat_tests)
+
 -- The buddy of a leader starts where the leader ends.
-buddy_of_leader : (part : Span) → is_leader part.start part.level ≡ true → buddy_start part.start part.level ≡ part.start + size_of part.level
+buddy_of_leader : (part : Span) → is_leader part.start part.level ≡ true
+    → buddy_start part.start part.level ≡ part.start + size_of part.level
 buddy_of_leader part e = ends part.start (size_of part.level) (part.start % size_of (part.level - 1)) (zero_test (part.start % size_of (part.level - 1)) e)
   where
-    zero_test : (n : ℕ) → (n == 0) ≡ true → n ≡ 0
-    zero_test n e = grind (arith, nat_tests)
-
     ends : (a s r : ℕ) → r ≡ 0 → 2 * (a - r) + s - a ≡ a + s
     ends a s r e = omega (arith, e)
 
 -- A leader's parent is a part that starts where it does.
-leader_parent : (part : Span) → part.level ≤ 12 → is_leader part.start part.level ≡ true → IsPart part.start (part.level - 1)
+leader_parent : (part : Span) → part.level ≤ 12 → is_leader part.start part.level ≡ true
+    → IsPart part.start (part.level - 1)
 leader_parent part h e = (omega arith, zero_test (part.start % size_of (part.level - 1)) e)
-  where
-    zero_test : (n : ℕ) → (n == 0) ≡ true → n ≡ 0
-    zero_test n e = grind (arith, nat_tests)
 
 -- Where the free leaves have the buddy alike, the part can become its parent alike.
 alike : (part : Span) (free other : List Span)
@@ -50,7 +49,8 @@ alike part free other e = by_leader (nat_lt 0 part.level) (is_leader part.start 
     by_leader true false x y e = refl
     by_leader false b x y e = refl
 
-deep_lower_can : {A : Type 0} (part : Span) (level start half : ℕ) (lower upper : Node A) → AtHalves level start half lower upper → IsPlace level start → level + 1 < part.level → part.level ≤ 12
+deep_lower_can : {A : Type 0} (part : Span) (level start half : ℕ) (lower upper : Node A)
+    → AtHalves level start half lower upper → IsPlace level start → level + 1 < part.level → part.level ≤ 12
     → start ≤ part.start → part.start < start + half
     → can_enlarge part (free_in_halves level start lower upper) ≡ can_enlarge part (free_in (level + 1) start lower)
 deep_lower_can part level start half lower upper s place h k from below =
@@ -77,21 +77,25 @@ deep_lower_can part level start half lower upper s place h k from below =
             back l h = omega arith
 
 -- A part that is lent in a node is of its level or of a greater one.
-lent_part_level : {A : Type 0} (part : Span) (level start : ℕ) (node : Node A) → IsTrue (is_lent (lent_in level start node) part) → level ≤ part.level
+lent_part_level : {A : Type 0} (part : Span) (level start : ℕ) (node : Node A)
+    → IsTrue (is_lent (lent_in level start node) part) → level ≤ part.level
 lent_part_level part level start node e = of_list (lent_in level start node) (lent_levels level start node) e
   where
     equal : (c : Bool) (a b : ℕ) → (c && (a == b)) ≡ true → a ≡ b
     equal c a b e = grind (arith, nat_tests)
 
-    of_list : (leaves : List LentLeaf) → AllByRecursion (λ leaf. level ≤ leaf.level) leaves → is_lent leaves part ≡ true → level ≤ part.level
+    of_list : (leaves : List LentLeaf) → AllByRecursion (λ leaf. level ≤ leaf.level) leaves → is_lent leaves part ≡ true
+        → level ≤ part.level
     of_list [] all e = absurd (cc)
     of_list (leaf ∷ leaves) all e = elim (is_same part (span_of leaf)) as (λ b. is_same part (span_of leaf) ≡ b → (b || is_lent leaves part) ≡ true → level ≤ part.level) [
       | true ↦ λ f e. omega (arith, all.0, equal (leaf.start == part.start) leaf.level part.level f)
       | false ↦ λ f e. of_list leaves all.1 e
     ] refl e
 
-pub lower_can : {A : Type 0} (part : Span) (level start half : ℕ) (lower upper : Node A) → AtHalves level start half lower upper → IsPlace level start
-    → IsTrue (is_lent (lent_in_halves level start lower upper) part) → (part.level ≡ level + 1 → ⊥) → part.level ≤ 12 → part.start < start + half
+pub lower_can : {A : Type 0} (part : Span) (level start half : ℕ) (lower upper : Node A)
+    → AtHalves level start half lower upper → IsPlace level start
+    → IsTrue (is_lent (lent_in_halves level start lower upper) part) → (part.level ≡ level + 1 → ⊥) → part.level ≤ 12
+    → part.start < start + half
     → can_enlarge part (free_in_halves level start lower upper) ≡ can_enlarge part (free_in (level + 1) start lower)
 lower_can part level start half lower upper s place lent deeper k below =
     deep_lower_can part level start half lower upper s place (past (level + 1) part.level (lent_part_level part (level + 1) start lower here) deeper) k
@@ -103,8 +107,10 @@ lower_can part level start half lower upper s place lent deeper k below =
     past : (a b : ℕ) → a ≤ b → (b ≡ a → ⊥) → a < b
     past a b h n = omega (arith, n)
 
-pub upper_can : {A : Type 0} (part : Span) (level start half : ℕ) (lower upper : Node A) → AtHalves level start half lower upper → start + half ≤ part.start
-    → can_enlarge part (free_in_halves level start lower upper) ≡ can_enlarge part (free_in (level + 1) (start + half) upper)
+pub upper_can : {A : Type 0} (part : Span) (level start half : ℕ) (lower upper : Node A)
+    → AtHalves level start half lower upper → start + half ≤ part.start
+    → can_enlarge part (free_in_halves level start lower upper)
+    ≡ can_enlarge part (free_in (level + 1) (start + half) upper)
 upper_can part level start half lower upper s above =
     alike part (free_in_halves level start lower upper) (free_in (level + 1) (start + half) upper)
     (λ e. upper_is_free (record { start = buddy_start part.start part.level; level = part.level }) level start half lower upper s
@@ -116,12 +122,13 @@ ok_some P (Ok None) h = tt
 ok_some P (Err e) h = tt
 
 -- Parts of greater levels are not the part.
-deeper_differ : (part : Span) (others : List Span) → AllByRecursion (λ other. part.level < other.level) others → list_any (is_same part) others ≡ false
+differ : (c : Bool) (a b : ℕ) → b < a → (c && (a == b)) ≡ false
+differ c a b h = grind (arith, nat_tests)
+
+deeper_differ : (part : Span) (others : List Span) → AllByRecursion (λ other. part.level < other.level) others
+    → list_any (is_same part) others ≡ false
 deeper_differ part [] all = refl
 deeper_differ part (other ∷ others) all = rw (differ (other.start == part.start) other.level part.level all.0) (deeper_differ part others all.1)
-  where
-    differ : (c : Bool) (a b : ℕ) → b < a → (c && (a == b)) ≡ false
-    differ c a b h = grind (arith, nat_tests)
 
 -- A node that isn't free is none of its free leaves.
 not_free_whole : {A : Type 0} (level middle : ℕ) (node : Node A) → is_free node ≡ false → list_any (is_same (record { start = middle; level = level })) (free_in level middle node) ≡ false
@@ -143,16 +150,16 @@ split_not_lent part level start node levels p lower q upper e f =
     (all_weaker (λ leaf. level + 1 ≤ leaf.level) (λ leaf. part.level < leaf.level) (λ leaf h. omega (arith, f)) (lent_in (level + 1) start lower) (lent_levels (level + 1) start lower))
     (all_weaker (λ leaf. level + 1 ≤ leaf.level) (λ leaf. part.level < leaf.level) (λ leaf h. omega (arith, f)) (lent_in (level + 1) (start + size_of (level + 1)) upper) (lent_levels (level + 1) (start + size_of (level + 1)) upper))))
   where
-    differ : (c : Bool) (a b : ℕ) → b < a → (c && (a == b)) ≡ false
-    differ c a b h = grind (arith, nat_tests)
-
-    deeper : (leaves : List LentLeaf) → AllByRecursion (λ leaf. part.level < leaf.level) leaves → is_lent leaves part ≡ false
+    deeper : (leaves : List LentLeaf) → AllByRecursion (λ leaf. part.level < leaf.level) leaves
+        → is_lent leaves part ≡ false
     deeper [] all = refl
     deeper (leaf ∷ leaves) all = rw (differ (leaf.start == part.start) leaf.level part.level all.0) (deeper leaves all.1)
 
 -- The upper half can't become its parent.
-pub follower_cannot : {A : Type 0} (part : Span) (level start half : ℕ) (lower upper : Node A) (free : List Span) → AtHalves level start half lower upper → IsPlace level start → level < 12
-    → IsTrue (is_lent (lent_in_halves level start lower upper) part) → part.level ≡ level + 1 → start < part.start → can_enlarge part free ≡ false
+pub follower_cannot : {A : Type 0} (part : Span) (level start half : ℕ) (lower upper : Node A) (free : List Span)
+    → AtHalves level start half lower upper → IsPlace level start → level < 12
+    → IsTrue (is_lent (lent_in_halves level start lower upper) part) → part.level ≡ level + 1 → start < part.start
+    → can_enlarge part free ≡ false
 follower_cannot part level start half lower upper free s place low lent child above =
     not_leader (nat_lt 0 part.level) (part.start % size_of (part.level - 1)) (list_any (is_same (record { start = buddy_start part.start part.level; level = part.level })) free) remainder
   where
@@ -189,7 +196,8 @@ follower_cannot part level start half lower upper free s place low lent child ab
     not_leader x r y h = grind (arith, nat_tests)
 
 -- The lower half can't while the upper one isn't free.
-pub leader_cannot : {A : Type 0} (part : Span) (level start half : ℕ) (lower upper : Node A) → AtHalves level start half lower upper → part.level ≡ level + 1 → part.start ≡ start
+pub leader_cannot : {A : Type 0} (part : Span) (level start half : ℕ) (lower upper : Node A)
+    → AtHalves level start half lower upper → part.level ≡ level + 1 → part.start ≡ start
     → is_free upper ≡ false → can_enlarge part (free_in_halves level start lower upper) ≡ false
 leader_cannot part level start half lower upper s child e f =
     alike part (free_in_halves level start lower upper) [] (λ leads. upper_is_free (record { start = buddy_start part.start part.level; level = part.level }) level start half lower upper s (omega (arith, buddy leads))
@@ -210,18 +218,21 @@ leader_cannot part level start half lower upper s child e f =
 pub refused : (can : Bool) → can ≡ false → (false ≡ true → can ≡ true) × (can ≡ true → false ≡ true)
 refused can e = (λ h. absurd (cc), λ h. sym e ∙ h)
 
-pub refused_too : (can other : Bool) → can ≡ other → (false ≡ true → other ≡ true) × (other ≡ true → false ≡ true) → (false ≡ true → can ≡ true) × (can ≡ true → false ≡ true)
+pub refused_too : (can other : Bool) → can ≡ other → (false ≡ true → other ≡ true) × (other ≡ true → false ≡ true)
+    → (false ≡ true → can ≡ true) × (can ≡ true → false ≡ true)
 refused_too can other e h = (λ f. absurd (cc), λ f. h.1 (sym e ∙ f))
 
 -- A lent part of two halves that starts no later than they do starts where they do.
-pub starts_here : {A : Type 0} (part : Span) (level start half : ℕ) (lower upper : Node A) → AtHalves level start half lower upper
+pub starts_here : {A : Type 0} (part : Span) (level start half : ℕ) (lower upper : Node A)
+    → AtHalves level start half lower upper
     → IsTrue (is_lent (lent_in_halves level start lower upper) part) → part.start ≤ start → part.start ≡ start
 starts_here part level start half lower upper s lent h =
     omega (arith, (lent_part_lies_in part (level + 1) start lower s.low_tree (lower_lent part level start half lower upper s (omega (arith, s.size, size_of-some (level + 1))) lent)).from)
 
 -- A lent part of two halves with that start and a half's level is not in a split.
 pub split_not_leader : {A : Type 0} (part : Span) (level start half : ℕ) (lower upper : Node A) (levels : ℕ) (p : _) (low : Node A) (q : _) (high : Node A) → AtHalves level start half lower upper
-    → IsTrue (is_lent (lent_in_halves level start lower upper) part) → part.start ≤ start → part.level ≡ level + 1 → lower ≡ Split' levels p low q high → ⊥
+    → IsTrue (is_lent (lent_in_halves level start lower upper) part) → part.start ≤ start → part.level ≡ level + 1
+    → lower ≡ Split' levels p low q high → ⊥
 split_not_leader part level start half lower upper levels p low q high s lent h child e =
     differ (is_lent (lent_in (level + 1) start lower) part)
     (lower_lent part level start half lower upper s (omega (arith, s.size, size_of-some (level + 1))) lent)

@@ -1,9 +1,9 @@
-pub mod HalvesLemmas
+pub mod TreeHalvesLemmas
 pub mod WalkLemmas
-pub mod FreeLemmas
+pub mod FreeLeafLemmas
 pub mod SplitLemmas
 pub mod CarveLemmas
 pub mod EnlargeLemmas
 pub mod StackLemmas
-pub mod KeptLemmas
-pub mod LevelLemmas
+pub mod KeptTreeLemmas
+pub mod LeafLevelLemmas

@@ -14,8 +14,8 @@ use Rattle.ms_buddy.specs.declared.node.Node.TheVariants.{Split'}
 use Rattle.ms_buddy.specs.declared.node.Leaf.{Leaf}
 use Rattle.ms_buddy.specs.declared.node.Leaf.TheVariants.{Free as FreeLeaf, Lent as LentTo}
 use Rattle.ms_buddy.specs.Leaves.{LentLeaf, IsLeafAt, leaf_of, span_of, is_same, is_lent, covers, with_front, with_parent, without_leaf}
-use Rattle.ms_buddy.specs.Tree.{is_free, IsTree, lent_in, free_in, lent_in_halves, free_in_halves}
-use Rattle.ms_buddy.proofs.HalvesLemmas.{size_of-some}
+use Rattle.ms_buddy.specs.Tree.{AreHalves, MayHaveFront, is_free, IsTree, lent_in, free_in, lent_in_halves, free_in_halves}
+use Rattle.ms_buddy.proofs.TreeHalvesLemmas.{size_of-some, lower_place, upper_place}
 use Rattle.ms_buddy.proofs.WalkLemmas.{NonePass, any-none, filter-none, map-none, find-none, none_above, none_below, none_covers_below, none_lent_covers_below, LiesIn, LeafIn, lent_lies_in}
 
 -- What is known of two halves of a part, which have that many words each.
@@ -32,12 +32,20 @@ pub record AtSplit {A : Type 0} (level start half : ℕ) (node lower upper : Nod
   pub lent : lent_in level start node ≡ lent_in_halves level start lower upper
   pub free : free_in level start node ≡ free_in_halves level start lower upper
 
+-- The halves that a function over both is told.
+pub halves_at : {A : Type 0} (level start half levels : ℕ) (lower upper : Node A) → AreHalves level levels lower upper
+    → half ≡ size_of (level + 1) → AtHalves level start half lower upper
+halves_at level start half levels lower upper halves size =
+    record { low_tree = halves.lower_tree; high_tree = halves.upper_tree; size = size }
+
 pub at_split : {A : Type 0} (level start half : ℕ) (node : Node A) (levels : ℕ) (p : _) (lower : Node A) (q : _) (upper : Node A)
-    → node ≡ Split' levels p lower q upper → IsTree level node → half ≡ size_of (level + 1) → AtSplit level start half node lower upper
+    → node ≡ Split' levels p lower q upper → IsTree level node → half ≡ size_of (level + 1)
+    → AtSplit level start half node lower upper
 at_split level start half node levels p lower q upper e tree size =
     subst (λ (other : Node _). AtSplit level start half other lower upper) (sym e) (here (subst (λ (other : Node _). IsTree level other) e tree))
   where
-    here : IsTree level (Split' levels p lower q upper) → AtSplit level start half (Split' levels p lower q upper) lower upper
+    here : IsTree level (Split' levels p lower q upper)
+        → AtSplit level start half (Split' levels p lower q upper) lower upper
     here tree = record {
       low = tree.0;
       one = tree.1;
@@ -47,20 +55,23 @@ at_split level start half node levels p lower q upper e tree size =
     }
 
 -- A part that is lent in a node lies in it.
-pub lent_part_lies_in : {A : Type 0} (part : Span) (level start : ℕ) (node : Node A) → IsTree level node → IsTrue (is_lent (lent_in level start node) part)
+pub lent_part_lies_in : {A : Type 0} (part : Span) (level start : ℕ) (node : Node A) → IsTree level node
+    → IsTrue (is_lent (lent_in level start node) part)
     → LiesIn start (start + size_of level) part
 lent_part_lies_in part level start node tree e = of_list (lent_in level start node) (lent_lies_in level start node tree) e
   where
     same : (a b c d : ℕ) → ((a == b) && (c == d)) ≡ true → (a ≡ b) × (c ≡ d)
     same a b c d e = (grind (arith, nat_tests), grind (arith, nat_tests))
 
-    moved : (leaf : LentLeaf) → is_same part (span_of leaf) ≡ true → LeafIn start (start + size_of level) leaf → LiesIn start (start + size_of level) part
+    moved : (leaf : LentLeaf) → is_same part (span_of leaf) ≡ true → LeafIn start (start + size_of level) leaf
+        → LiesIn start (start + size_of level) part
     moved leaf e lies = let both = same leaf.start part.start leaf.level part.level e in record {
       from = rw (← both.0) lies.from;
       to = rw (← both.0, ← both.1) lies.to;
     }
 
-    of_list : (xs : List LentLeaf) → AllByRecursion (LeafIn start (start + size_of level)) xs → is_lent xs part ≡ true → LiesIn start (start + size_of level) part
+    of_list : (xs : List LentLeaf) → AllByRecursion (LeafIn start (start + size_of level)) xs → is_lent xs part ≡ true
+        → LiesIn start (start + size_of level) part
     of_list [] all e = absurd (cc)
     of_list (leaf ∷ xs) all e = elim (is_same part (span_of leaf)) as (λ b. is_same part (span_of leaf) ≡ b → (b || is_lent xs part) ≡ true → LiesIn start (start + size_of level) part) [
       | true ↦ λ f e. moved leaf f all.0
@@ -68,8 +79,10 @@ lent_part_lies_in part level start node tree e = of_list (lent_in level start no
     ] refl e
 
 -- A part that is lent in two halves is lent in the half where it starts.
-pub lower_lent : {A : Type 0} (part : Span) (level start half : ℕ) (lower upper : Node A) → AtHalves level start half lower upper → part.start < start + half
-    → IsTrue (is_lent (lent_in_halves level start lower upper) part) → IsTrue (is_lent (lent_in (level + 1) start lower) part)
+pub lower_lent : {A : Type 0} (part : Span) (level start half : ℕ) (lower upper : Node A)
+    → AtHalves level start half lower upper → part.start < start + half
+    → IsTrue (is_lent (lent_in_halves level start lower upper) part)
+    → IsTrue (is_lent (lent_in (level + 1) start lower) part)
 lower_lent part level start half lower upper s h e =
     or_left (is_lent (lent_in (level + 1) start lower) part) (is_lent (lent_in (level + 1) (start + size_of (level + 1)) upper) part)
     (any-none (λ leaf. is_same part (span_of leaf)) (lent_in (level + 1) (start + size_of (level + 1)) upper)
@@ -80,8 +93,10 @@ lower_lent part level start half lower upper s h e =
     or_left true y e f = refl
     or_left false y e f = absurd (cc)
 
-pub upper_lent : {A : Type 0} (part : Span) (level start half : ℕ) (lower upper : Node A) → AtHalves level start half lower upper → start + half ≤ part.start
-    → IsTrue (is_lent (lent_in_halves level start lower upper) part) → IsTrue (is_lent (lent_in (level + 1) (start + half) upper) part)
+pub upper_lent : {A : Type 0} (part : Span) (level start half : ℕ) (lower upper : Node A)
+    → AtHalves level start half lower upper → start + half ≤ part.start
+    → IsTrue (is_lent (lent_in_halves level start lower upper) part)
+    → IsTrue (is_lent (lent_in (level + 1) (start + half) upper) part)
 upper_lent part level start half lower upper s h e =
     or_right (is_lent (lent_in (level + 1) start lower) part) (is_lent (lent_in (level + 1) (start + half) upper) part)
     (any-none (λ leaf. is_same part (span_of leaf)) (lent_in (level + 1) start lower) (none_below part (level + 1) start lower s.low_tree (omega (arith, s.size))))
@@ -91,6 +106,29 @@ upper_lent part level start half lower upper s h e =
     or_right : (x y : Bool) → x ≡ false → (x || y) ≡ true → y ≡ true
     or_right true y e f = absurd (cc)
     or_right false y e f = f
+
+-- A leaf that may have a front may have it in the half where it is.
+pub lower_front : {A : Type 0} (part : Span) (level start half front most : ℕ) (lower upper : Node A)
+    → AtHalves level start half lower upper → level < 12 → part.start < start + half
+    → MayHaveFront level start (lent_in_halves level start lower upper) part front most
+    → MayHaveFront (level + 1) start (lent_in (level + 1) start lower) part front most
+lower_front part level start half front most lower upper s low h may = record {
+  place = lower_place level start may.place low;
+  lent = lower_lent part level start half lower upper s h may.lent;
+  some = may.some;
+  within = may.within;
+}
+
+pub upper_front : {A : Type 0} (part : Span) (level start half front most : ℕ) (lower upper : Node A)
+    → AtHalves level start half lower upper → level < 12 → start + half ≤ part.start
+    → MayHaveFront level start (lent_in_halves level start lower upper) part front most
+    → MayHaveFront (level + 1) (start + half) (lent_in (level + 1) (start + half) upper) part front most
+upper_front part level start half front most lower upper s low h may = record {
+  place = upper_place level start (start + half) may.place low (omega (arith, s.size));
+  lent = upper_lent part level start half lower upper s h may.lent;
+  some = may.some;
+  within = may.within;
+}
 
 -- A change of one leaf: it acts on each part of a list apart, and leaves those without the leaf.
 pub record ActsAt (part : Span) (change : List LentLeaf → List LentLeaf) : Type 0 where
@@ -117,7 +155,8 @@ without_acts part = record {
 
 -- What changes the half where the leaf is changes the two halves.
 pub lower_changed : {A : Type 0} (level start half : ℕ) (lower upper now : Node A) (part : Span) (change : List LentLeaf → List LentLeaf) → ActsAt part change
-    → AtHalves level start half lower upper → part.start < start + half → lent_in (level + 1) start now ≡ change (lent_in (level + 1) start lower)
+    → AtHalves level start half lower upper → part.start < start + half
+    → lent_in (level + 1) start now ≡ change (lent_in (level + 1) start lower)
     → lent_in_halves level start now upper ≡ change (lent_in_halves level start lower upper)
 lower_changed level start half lower upper now part change acts s h e = sym
     (acts.joined (lent_in (level + 1) start lower) (lent_in (level + 1) (start + size_of (level + 1)) upper)
@@ -127,7 +166,8 @@ lower_changed level start half lower upper now part change acts s h e = sym
     ∙ ap (λ (xs : List LentLeaf). xs ++ lent_in (level + 1) (start + size_of (level + 1)) upper) (sym e))
 
 pub upper_changed : {A : Type 0} (level start half : ℕ) (lower upper now : Node A) (part : Span) (change : List LentLeaf → List LentLeaf) → ActsAt part change
-    → AtHalves level start half lower upper → start + half ≤ part.start → lent_in (level + 1) (start + half) now ≡ change (lent_in (level + 1) (start + half) upper)
+    → AtHalves level start half lower upper → start + half ≤ part.start
+    → lent_in (level + 1) (start + half) now ≡ change (lent_in (level + 1) (start + half) upper)
     → lent_in_halves level start lower now ≡ change (lent_in_halves level start lower upper)
 upper_changed level start half lower upper now part change acts s h e = sym
     (acts.joined (lent_in (level + 1) start lower) (lent_in (level + 1) (start + size_of (level + 1)) upper)
@@ -137,12 +177,14 @@ upper_changed level start half lower upper now part change acts s h e = sym
     (sym (subst (λ (n : ℕ). lent_in (level + 1) (start + n) now ≡ change (lent_in (level + 1) (start + n) upper)) s.size e)))
 
 -- A free leaf that covers an offset in a half is found in the two halves.
-pub lower_found : {A : Type 0} (offset level start : ℕ) (lower upper : Node A) (part : Span) → find (covers offset) (free_in (level + 1) start lower) ≡ Some part
+pub lower_found : {A : Type 0} (offset level start : ℕ) (lower upper : Node A) (part : Span)
+    → find (covers offset) (free_in (level + 1) start lower) ≡ Some part
     → find (covers offset) (free_in_halves level start lower upper) ≡ Some part
 lower_found offset level start lower upper part e =
     find-append (covers offset) (free_in (level + 1) start lower) (free_in (level + 1) (start + size_of (level + 1)) upper) ∙ rw e refl
 
-pub upper_found : {A : Type 0} (offset level start half : ℕ) (lower upper : Node A) (part : Span) → IsTree (level + 1) lower → half ≡ size_of (level + 1)
+pub upper_found : {A : Type 0} (offset level start half : ℕ) (lower upper : Node A) (part : Span)
+    → IsTree (level + 1) lower → half ≡ size_of (level + 1)
     → start + half ≤ offset → find (covers offset) (free_in (level + 1) (start + half) upper) ≡ Some part
     → find (covers offset) (free_in_halves level start lower upper) ≡ Some part
 upper_found offset level start half lower upper part tree size h e =
@@ -160,7 +202,8 @@ lower_leaf offset level start lower upper part FreeLeaf e = lower_found offset l
 lower_leaf offset level start lower upper part (LentTo owner front) e =
     find-append (λ (leaf : LentLeaf). covers offset (span_of leaf)) (lent_in (level + 1) start lower) (lent_in (level + 1) (start + size_of (level + 1)) upper) ∙ rw e refl
 
-pub upper_leaf : {A : Type 0} (offset level start half : ℕ) (lower upper : Node A) (part : Span) (leaf : Leaf) → IsTree (level + 1) lower → half ≡ size_of (level + 1) → start + half ≤ offset
+pub upper_leaf : {A : Type 0} (offset level start half : ℕ) (lower upper : Node A) (part : Span) (leaf : Leaf)
+    → IsTree (level + 1) lower → half ≡ size_of (level + 1) → start + half ≤ offset
     → IsLeafAt offset part leaf (lent_in (level + 1) (start + half) upper) (free_in (level + 1) (start + half) upper)
     → IsLeafAt offset part leaf (lent_in_halves level start lower upper) (free_in_halves level start lower upper)
 upper_leaf offset level start half lower upper part FreeLeaf tree size h e = upper_found offset level start half lower upper part tree size h e
@@ -172,8 +215,10 @@ upper_leaf offset level start half lower upper part (LentTo owner front) tree si
     ) refl
 
 -- A node that is merged whole is the free leaf that covers the part that was lent in it.
-pub whole_found : {A : Type 0} (part : Span) (level start : ℕ) (node : Node A) (result : Span) → IsTree level node → IsTrue (is_lent (lent_in level start node) part)
-    → result.start ≡ start → result.level ≡ level → find (covers part.start) (record { start = start; level = level } ∷ []) ≡ Some result
+pub whole_found : {A : Type 0} (part : Span) (level start : ℕ) (node : Node A) (result : Span) → IsTree level node
+    → IsTrue (is_lent (lent_in level start node) part)
+    → result.start ≡ start → result.level ≡ level
+    → find (covers part.start) (record { start = start; level = level } ∷ []) ≡ Some result
 whole_found part level start node result tree lent e f =
     rw (covered start part.start (size_of level) lies.from (omega (arith, lies.to, size_of-some part.level))) (rw (← e, ← f) refl)
   where
@@ -184,6 +229,7 @@ whole_found part level start node result tree lent e f =
     covered a b s h k = grind (arith, nat_tests)
 
 -- What holds of a value holds of it where it is passed on.
-pub passed_on : (result : Option Span) (span : Span) (P : Span → Type 0) → IfSome result (λ other. other ≡ span) → P span → IfSome result P
+pub passed_on : (result : Option Span) (span : Span) (P : Span → Type 0) → IfSome result (λ other. other ≡ span)
+    → P span → IfSome result P
 passed_on (Some other) span P e h = subst P (sym e) h
 passed_on None span P e h = tt

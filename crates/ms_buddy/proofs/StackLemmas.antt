@@ -8,7 +8,7 @@ use Rattle.ms_buddy.specs.declared.node.Node.TheVariants.{Free, Lent, Split'}
 use Rattle.ms_buddy.specs.declared.leaves.Visit.{Visit}
 use Rattle.ms_buddy.specs.Tree.{IsPlace, IsTree, free_in, free_in_halves}
 use Rattle.ms_buddy.specs.Walk.{IsStack, left_of}
-use Rattle.ms_buddy.proofs.HalvesLemmas.{lower_place, upper_place}
+use Rattle.ms_buddy.proofs.TreeHalvesLemmas.{lower_place, upper_place}
 use Rattle.ms_buddy.proofs.SplitLemmas.{AtSplit}
 
 -- How many nodes a node has, itself among them.
@@ -28,12 +28,14 @@ nodes_in-some Free = omega arith
 nodes_in-some (Lent owner front) = omega arith
 nodes_in-some (Split' levels p lower q upper) = omega arith
 
-pub nodes_left-push : {A : Type 0} (visits : List (Option (Visit A))) (visit : Visit A) → nodes_left (visits ++ Some visit ∷ []) ≡ nodes_left visits + nodes_in visit.node.now
+pub nodes_left-push : {A : Type 0} (visits : List (Option (Visit A))) (visit : Visit A)
+    → nodes_left (visits ++ Some visit ∷ []) ≡ nodes_left visits + nodes_in visit.node.now
 nodes_left-push [] visit = refl
 nodes_left-push (None ∷ visits) visit = nodes_left-push visits visit
 nodes_left-push (Some other ∷ visits) visit = omega (arith, nodes_left-push visits visit)
 
-pub left_of-push : {A : Type 0} (visits : List (Option (Visit A))) (visit : Visit A) → left_of (visits ++ Some visit ∷ []) ≡ free_in visit.level visit.start visit.node.now ++ left_of visits
+pub left_of-push : {A : Type 0} (visits : List (Option (Visit A))) (visit : Visit A)
+    → left_of (visits ++ Some visit ∷ []) ≡ free_in visit.level visit.start visit.node.now ++ left_of visits
 left_of-push [] visit = sym (append-nil (free_in visit.level visit.start visit.node.now))
 left_of-push (None ∷ visits) visit = left_of-push visits visit
 left_of-push (Some other ∷ visits) visit =
@@ -47,14 +49,16 @@ pub record IsTop {A : Type 0} (number : ℕ) (visits : List (Option (Visit A))) 
   pub place : IsPlace visit.level visit.start
   pub tree : IsTree visit.level visit.node.now
 
-pub popped : {A : Type 0} (number : ℕ) (visits : List (Option (Visit A))) (visit : Visit A) → IsStack number (visits ++ Some visit ∷ []) → IsTop number visits visit
+pub popped : {A : Type 0} (number : ℕ) (visits : List (Option (Visit A))) (visit : Visit A)
+    → IsStack number (visits ++ Some visit ∷ []) → IsTop number visits visit
 popped number [] visit stack = record { below = tt; low = omega (arith, stack.0); place = stack.1; tree = stack.2 }
 popped number (None ∷ visits) visit stack = absurd stack
 popped number (Some other ∷ visits) visit stack =
     let rest = popped (number + 1) visits visit stack.3 in
     record { below = (stack.0, stack.1, stack.2, rest.below); low = omega (arith, rest.low); place = rest.place; tree = rest.tree }
 
-pub pushed : {A : Type 0} (number : ℕ) (visits : List (Option (Visit A))) (visit : Visit A) → IsStack number visits → number + length visits ≤ visit.level
+pub pushed : {A : Type 0} (number : ℕ) (visits : List (Option (Visit A))) (visit : Visit A) → IsStack number visits
+    → number + length visits ≤ visit.level
     → IsPlace visit.level visit.start → IsTree visit.level visit.node.now → IsStack number (visits ++ Some visit ∷ [])
 pushed number [] visit stack low place tree = (omega arith, place, tree, tt)
 pushed number (None ∷ visits) visit stack low place tree = absurd stack
@@ -72,7 +76,8 @@ pub record IsTurn {A : Type 0} (visits rest : List (Option (Visit A))) (visit : 
   pub left : left_of visits ≡ free_in visit.level visit.start visit.node.now ++ left_of rest
   pub nodes : nodes_left visits ≡ nodes_left rest + nodes_in visit.node.now
 
-pub at_turn : {A : Type 0} (visits rest : List (Option (Visit A))) (taken : Option (Visit A)) (visit : Visit A) → visits ≡ rest ++ taken ∷ [] → taken ≡ Some visit
+pub at_turn : {A : Type 0} (visits rest : List (Option (Visit A))) (taken : Option (Visit A)) (visit : Visit A)
+    → visits ≡ rest ++ taken ∷ [] → taken ≡ Some visit
     → IsStack 0 visits → IsTurn visits rest visit
 at_turn visits rest taken visit e f stack = record {
   top = popped 0 rest visit (subst (λ (xs : List (Option (Visit _))). IsStack 0 xs) whole stack);
@@ -90,7 +95,8 @@ pub record IsOneOn {A : Type 0} (visits now : List (Option (Visit A))) : Type 0 
   pub fewer : nodes_left now < nodes_left visits
 
 -- A lent leaf is passed over.
-pub past_lent : {A : Type 0} (visits rest : List (Option (Visit A))) (visit : Visit A) (owner front : ℕ) → IsTurn visits rest visit → visit.node.now ≡ Lent owner front → IsOneOn visits rest
+pub past_lent : {A : Type 0} (visits rest : List (Option (Visit A))) (visit : Visit A) (owner front : ℕ)
+    → IsTurn visits rest visit → visit.node.now ≡ Lent owner front → IsOneOn visits rest
 past_lent visits rest visit owner front turn e = record {
   stack = turn.top.below;
   left = sym (turn.left ∙ ap (λ (node : Node _). free_in visit.level visit.start node ++ left_of rest) e);
@@ -98,9 +104,12 @@ past_lent visits rest visit owner front turn e = record {
 }
 
 -- The halves of a split are put aside, the lower one on top.
-pub past_split : {A : Type 0} (visits rest one now : List (Option (Visit A))) (visit low high : Visit A) (half : ℕ) → IsTurn visits rest visit
-    → AtSplit visit.level visit.start half visit.node.now low.node.now high.node.now → nodes_in visit.node.now ≡ nodes_in low.node.now + nodes_in high.node.now + 1
-    → low.level ≡ visit.level + 1 → low.start ≡ visit.start → high.level ≡ visit.level + 1 → high.start ≡ visit.start + half
+pub past_split : {A : Type 0} (visits rest one now : List (Option (Visit A))) (visit low high : Visit A) (half : ℕ)
+    → IsTurn visits rest visit
+    → AtSplit visit.level visit.start half visit.node.now low.node.now high.node.now
+    → nodes_in visit.node.now ≡ nodes_in low.node.now + nodes_in high.node.now + 1
+    → low.level ≡ visit.level + 1 → low.start ≡ visit.start → high.level ≡ visit.level + 1
+    → high.start ≡ visit.start + half
     → one ≡ rest ++ Some high ∷ [] → now ≡ one ++ Some low ∷ [] → IsOneOn visits now
 past_split visits rest one now visit low high half turn s nodes low_level low_start high_level high_start e f = record {
   stack = subst (λ (xs : List (Option (Visit _))). IsStack 0 xs) (sym whole)
@@ -120,22 +129,26 @@ past_split visits rest one now visit low high half turn s nodes low_level low_st
     whole : now ≡ (rest ++ Some high ∷ []) ++ Some low ∷ []
     whole = f ∙ ap (λ (xs : List (Option (Visit _))). xs ++ Some low ∷ []) e
 
-    halves : free_in low.level low.start low.node.now ++ free_in high.level high.start high.node.now ≡ free_in_halves visit.level visit.start low.node.now high.node.now
+    halves : free_in low.level low.start low.node.now ++ free_in high.level high.start high.node.now
+        ≡ free_in_halves visit.level visit.start low.node.now high.node.now
     halves = rw (low_level, low_start, high_level, high_start, s.halves.size) refl
 
 -- A place that is in use has a visit.
-pub gap_absurd : {A : Type 0} (visits rest : List (Option (Visit A))) (taken : Option (Visit A)) → visits ≡ rest ++ taken ∷ [] → taken ≡ None → IsStack 0 visits → ⊥
+pub gap_absurd : {A : Type 0} (visits rest : List (Option (Visit A))) (taken : Option (Visit A))
+    → visits ≡ rest ++ taken ∷ [] → taken ≡ None → IsStack 0 visits → ⊥
 gap_absurd visits rest taken e f stack =
     no_gap 0 rest (subst (λ (xs : List (Option (Visit _))). IsStack 0 xs) (e ∙ ap (λ (x : Option (Visit _)). rest ++ x ∷ []) f) stack)
 
 -- With no visit left no free leaf is left.
-pub at_end : {A : Type 0} (visits rest : List (Option (Visit A))) → (0 < length visits → false ≡ true) → visits ≡ rest ++ [] → (left_of visits ≡ []) × (left_of rest ≡ [])
+pub at_end : {A : Type 0} (visits rest : List (Option (Visit A))) → (0 < length visits → false ≡ true)
+    → visits ≡ rest ++ [] → (left_of visits ≡ []) × (left_of rest ≡ [])
 at_end [] [] h e = (refl, refl)
 at_end [] (visit ∷ rest) h e = absurd (cc)
 at_end (visit ∷ visits) rest h e = absurd (false≢true (h (omega arith)))
 
 -- A free leaf on top is the next one.
-pub whole_next : {A : Type 0} (visits rest : List (Option (Visit A))) (visit : Visit A) (part : Span) → IsTurn visits rest visit → visit.node.now ≡ Free
+pub whole_next : {A : Type 0} (visits rest : List (Option (Visit A))) (visit : Visit A) (part : Span)
+    → IsTurn visits rest visit → visit.node.now ≡ Free
     → part.start ≡ visit.start → part.level ≡ visit.level → left_of visits ≡ part ∷ left_of rest
 whole_next visits rest visit part turn e f h =
     turn.left ∙ ap (λ (node : Node _). free_in visit.level visit.start node ++ left_of rest) e ∙ rw (← f, ← h) refl

@@ -114,12 +114,14 @@ with_parent part front lent =
 -- The leaf that covers an offset: the free leaf that does, or the lent one.
 abbrev pub IsLeafAt : ℕ → Span → Leaf → List LentLeaf → List Span → Type 0
 IsLeafAt offset part Free lent free = find (covers offset) free ≡ Some part
-IsLeafAt offset part (Lent owner front) lent free = find (λ leaf. covers offset (span_of leaf)) lent ≡ Some (leaf_of part owner front)
+IsLeafAt offset part (Lent owner front) lent free =
+    find (λ leaf. covers offset (span_of leaf)) lent ≡ Some (leaf_of part owner front)
 
 -- A leaf ends before each later one starts.
 abbrev pub AreInOrder : List LentLeaf → Type 0
 AreInOrder [] = Unit {0}
-AreInOrder (leaf ∷ lent) = AllByRecursion (λ later. leaf.start + size_of leaf.level ≤ later.start) lent × AreInOrder lent
+AreInOrder (leaf ∷ lent) =
+    AllByRecursion (λ later. leaf.start + size_of leaf.level ≤ later.start) lent × AreInOrder lent
 
 -- What is true of the lent leaves of each tree: they are parts of the root, each front has a word
 -- and fits, and they stand in order of address and share no word.

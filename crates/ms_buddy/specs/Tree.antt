@@ -1,8 +1,9 @@
 -- What a node of the split tree stands for, given its level and where it starts.
-use Rattle.std.specs.Prelude.{◌≡◌, ℕ, ◌+◌, ◌^◌, ◌<◌, ◌≤◌, ◌%◌, bit_or, Bool, true, false, ◌&&◌, List, [], ◌∷◌, ◌++◌, Option, Some, None, IsFalse}
+use Rattle.std.specs.Prelude.{◌≡◌, ℕ, ◌+◌, ◌^◌, ◌<◌, ◌≤◌, ◌%◌, bit_or, Bool, true, false, ◌&&◌, List, [], ◌∷◌, ◌++◌, Option, Some, None, IsTrue, IsFalse}
 use Rattle.ms_base.specs.declared.span.Span.{Span}
 use Rattle.ms_base.specs.Level.{root_words, size_of}
-use Rattle.ms_buddy.specs.Leaves.{LentLeaf}
+use Rattle.ms_base.specs.Part.{IsPart}
+use Rattle.ms_buddy.specs.Leaves.{LentLeaf, is_lent}
 use Rattle.ms_buddy.specs.declared.node.Node.{Node}
 use Rattle.ms_buddy.specs.declared.node.Node.TheVariants.{Free, Lent, Split'}
 
@@ -49,10 +50,19 @@ free_in level start (Split' levels p lower q upper) =
 
 -- The lent leaves of two halves of a part of that level, and their free leaves.
 abbrev pub lent_in_halves : {A : Type 0} → ℕ → ℕ → Node A → Node A → List LentLeaf
-lent_in_halves level start lower upper = lent_in (level + 1) start lower ++ lent_in (level + 1) (start + size_of (level + 1)) upper
+lent_in_halves level start lower upper =
+    lent_in (level + 1) start lower ++ lent_in (level + 1) (start + size_of (level + 1)) upper
 
 abbrev pub free_in_halves : {A : Type 0} → ℕ → ℕ → Node A → Node A → List Span
-free_in_halves level start lower upper = free_in (level + 1) start lower ++ free_in (level + 1) (start + size_of (level + 1)) upper
+free_in_halves level start lower upper =
+    free_in (level + 1) start lower ++ free_in (level + 1) (start + size_of (level + 1)) upper
+
+-- Two trees are the halves of a part of that level, and these bits the levels of both.
+pub record AreHalves {A : Type 0} (level levels : ℕ) (lower upper : Node A) : Type 0 where
+  pub low : level < 12
+  pub lower_tree : IsTree (level + 1) lower
+  pub upper_tree : IsTree (level + 1) upper
+  pub levels_are : levels ≡ bit_or (levels_of (level + 1) lower) (levels_of (level + 1) upper)
 
 -- The part lies in that part of a lower or the same level.
 pub record IsInside (level start : ℕ) (part : Span) : Type 0 where
@@ -63,4 +73,20 @@ pub record IsInside (level start : ℕ) (part : Span) : Type 0 where
 -- The leaves are those of the two halves, or, where someone holds the whole, its one leaf.
 abbrev pub IsEnlarged : {A : Type 0} → ℕ → ℕ → Option ℕ → ℕ → Node A → Node A → List LentLeaf → Type 0
 IsEnlarged level start None front lower upper lent = lent_in_halves level start lower upper ≡ lent
-IsEnlarged level start (Some owner) front lower upper lent = record { start = start; level = level; owner = owner; front = front } ∷ [] ≡ lent
+IsEnlarged level start (Some owner) front lower upper lent =
+    record { start = start; level = level; owner = owner; front = front } ∷ [] ≡ lent
+
+-- In a tree at that place the part may be lent with that front.
+pub record MayBeLent (level start : ℕ) (part : Span) (front : ℕ) : Type 0 where
+  pub place : IsPlace level start
+  pub is_part : IsPart part.start part.level
+  pub inside : IsInside level start part
+  pub some : 0 < front
+  pub within : front ≤ size_of part.level
+
+-- Of a tree at that place the part is a lent leaf, which may have a front of at most so many words.
+pub record MayHaveFront (level start : ℕ) (leaves : List LentLeaf) (part : Span) (front most : ℕ) : Type 0 where
+  pub place : IsPlace level start
+  pub lent : IsTrue (is_lent leaves part)
+  pub some : 0 < front
+  pub within : front ≤ most

@@ -15,4 +15,5 @@ abbrev pub IsStack : {A : Type 0} → ℕ → List (Option (Visit A)) → Type 0
 IsStack number [] = Unit {0}
 IsStack number (None ∷ visits) = ⊥
 IsStack number (Some visit ∷ visits) =
-    (number ≤ visit.level) × IsPlace visit.level visit.start × IsTree visit.level visit.node.now × IsStack (number + 1) visits
+    (number ≤ visit.level) × IsPlace visit.level visit.start × IsTree visit.level visit.node.now
+    × IsStack (number + 1) visits

@@ -9,9 +9,8 @@ ghost use Rattle.std.specs.Prelude.{◌≡◌, ℕ, ◌+◌, ◌*◌, ◌<◌, �
 ghost use Rattle.std.specs.List.{find};
 ghost use Rattle.ms_base.specs.declared.sizes.TheConstants.{ROOT_WORDS};
 ghost use Rattle.ms_base.specs.Level.{size_of};
-ghost use Rattle.ms_base.specs.Part.{IsPart};
 ghost use Rattle.ms_buddy.specs.Leaves.{IsCarveRefusal, IsLeafAt, can_enlarge, covers, fits_in, has_level, is_lent, is_of_from, leaf_of, with_front, with_leaf, with_parent, without_leaf};
-ghost use Rattle.ms_buddy.specs.Tree.{IsEnlarged, IsInside, IsPlace, is_free, IsTree, lent_in, free_in, levels_of, lent_in_halves, free_in_halves};
+ghost use Rattle.ms_buddy.specs.Tree.{AreHalves, IsEnlarged, IsPlace, MayBeLent, MayHaveFront, is_free, IsTree, lent_in, free_in, levels_of, lent_in_halves, free_in_halves};
 
 use crate::levels::{bit_of, has_level};
 use ms_base::{Level, Refusal, Span};
@@ -30,7 +29,7 @@ pub enum Leaf {
 pub(crate) enum Node<A: Allocator> {
     Free,
     Lent { owner: u32, front: u64 },
-    /// The levels of the free leaves below, and the halves.
+    /// The levels of the free leaves below, as bits, and the halves: the lower one, the upper one.
     Split(u16, Box<Node<A>, A>, Box<Node<A>, A>),
 }
 
@@ -134,10 +133,8 @@ impl<A: Allocator> Node<A> {
     /// Changes the front of the leaf of that span.
     pub(crate) fn set_front(&mut self, level: u8, start: u64, span: Span, front: u64)
         requires tree { IsTree level self.old }
-        requires place { IsPlace level start }
-        requires lent { IsTrue (is_lent (lent_in level start self.old) span) }
-        requires some { 0 < front }
-        requires within { front ≤ size_of span.level }
+        requires leaf { MayHaveFront level start (lent_in level start self.old)
+            span front (size_of span.level) }
         ensures tree { IsTree level self.new }
         ensures free { is_free self.new ≡ is_free self.old }
         ensures levels { levels_of level self.new ≡ levels_of level self.old }
@@ -196,10 +193,8 @@ impl<A: Allocator> Node<A> {
         front: u64,
     ) -> Result<(), Refusal>
         requires tree { IsTree level self.old }
-        requires place { IsPlace level start }
-        requires lent { IsTrue (is_lent (lent_in level start self.old) span) }
-        requires some { 0 < front }
-        requires within { front ≤ 2 * size_of span.level }
+        requires leaf { MayHaveFront level start (lent_in level start self.old)
+            span front (2 * size_of span.level) }
         ensures tree { IsTree level self.new }
         ensures split { is_free self.new ≡ is_free self.old }
         ensures lent { OnOk result (lent_in level start self.new
@@ -234,11 +229,7 @@ impl<A: Allocator + Clone> Node<A> {
         owner: u32,
         front: u64,
     ) -> Result<Node<A>, AllocError>
-        requires place { IsPlace level start }
-        requires part { IsPart span.start span.level }
-        requires inside { IsInside level start span }
-        requires some { 0 < front }
-        requires within { front ≤ size_of span.level }
+        requires { MayBeLent level start span front }
         ensures tree { IfOk result (λ node. IsTree level node) }
         ensures split { IfOk result (λ node. is_free node ≡ false) }
         ensures lent { IfOk result
@@ -274,11 +265,7 @@ impl<A: Allocator + Clone> Node<A> {
         front: u64,
     ) -> Result<(), Refusal>
         requires tree { IsTree level self.old }
-        requires place { IsPlace level start }
-        requires part { IsPart span.start span.level }
-        requires inside { IsInside level start span }
-        requires some { 0 < front }
-        requires within { front ≤ size_of span.level }
+        requires part { MayBeLent level start span front }
         ensures tree { IsTree level self.new }
         ensures split { OnOk result (is_free self.new ≡ false) }
         ensures lent { OnOk result (lent_in level start self.new
@@ -330,17 +317,10 @@ fn enlarge_in_half<A: Allocator>(
     span: Span,
     front: u64,
 ) -> Result<Option<u32>, Refusal>
-    requires low { level < 12 }
-    requires place { IsPlace level start }
-    requires trees { IsTree (level + 1) lower.old × IsTree (level + 1) upper.old }
-    requires levels { levels.old
-        ≡ bit_or (levels_of (level + 1) lower.old) (levels_of (level + 1) upper.old) }
-    requires lent { IsTrue (is_lent (lent_in_halves level start lower.old upper.old) span) }
-    requires some { 0 < front }
-    requires within { front ≤ 2 * size_of span.level }
-    ensures trees { IsTree (level + 1) lower.new × IsTree (level + 1) upper.new }
-    ensures levels { levels.new
-        ≡ bit_or (levels_of (level + 1) lower.new) (levels_of (level + 1) upper.new) }
+    requires halves { AreHalves level levels.old lower.old upper.old }
+    requires leaf { MayHaveFront level start (lent_in_halves level start lower.old upper.old)
+        span front (2 * size_of span.level) }
+    ensures halves { AreHalves level levels.new lower.new upper.new }
     ensures split { (is_free lower.new
         ≡ is_free lower.old) × (is_free upper.new ≡ is_free upper.old) }
     ensures lent { IfOk result
@@ -424,18 +404,10 @@ fn carve_in_half<A: Allocator + Clone>(
     owner: u32,
     front: u64,
 ) -> Result<(), Refusal>
+    requires halves { AreHalves level levels.old lower.old upper.old }
+    requires part { MayBeLent level start span front }
     requires low { level < span.level }
-    requires place { IsPlace level start }
-    requires trees { IsTree (level + 1) lower.old × IsTree (level + 1) upper.old }
-    requires levels { levels.old
-        ≡ bit_or (levels_of (level + 1) lower.old) (levels_of (level + 1) upper.old) }
-    requires part { IsPart span.start span.level }
-    requires inside { IsInside level start span }
-    requires some { 0 < front }
-    requires within { front ≤ size_of span.level }
-    ensures trees { IsTree (level + 1) lower.new × IsTree (level + 1) upper.new }
-    ensures levels { levels.new
-        ≡ bit_or (levels_of (level + 1) lower.new) (levels_of (level + 1) upper.new) }
+    ensures halves { AreHalves level levels.new lower.new upper.new }
     ensures split { OnOk result (IsFalse (is_free lower.new && is_free upper.new)) }
     ensures lent { OnOk result (lent_in_halves level start lower.new upper.new
         ≡ with_leaf (leaf_of span owner front) (lent_in_halves level start lower.old upper.old)) }
@@ -502,15 +474,10 @@ fn release_in_half<A: Allocator>(
     start: u64,
     span: Span,
 ) -> Option<Span>
-    requires low { level < 12 }
+    requires halves { AreHalves level levels.old lower.old upper.old }
     requires place { IsPlace level start }
-    requires trees { IsTree (level + 1) lower.old × IsTree (level + 1) upper.old }
-    requires levels { levels.old
-        ≡ bit_or (levels_of (level + 1) lower.old) (levels_of (level + 1) upper.old) }
     requires lent { IsTrue (is_lent (lent_in_halves level start lower.old upper.old) span) }
-    ensures trees { IsTree (level + 1) lower.new × IsTree (level + 1) upper.new }
-    ensures levels { levels.new
-        ≡ bit_or (levels_of (level + 1) lower.new) (levels_of (level + 1) upper.new) }
+    ensures halves { AreHalves level levels.new lower.new upper.new }
     ensures lent { lent_in_halves level start lower.new upper.new
         ≡ without_leaf span (lent_in_halves level start lower.old upper.old) }
     ensures free { IfSome result

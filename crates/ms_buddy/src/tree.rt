@@ -36,6 +36,7 @@ use std::marker::Model;
 /// list of its lent leaves, in order of address. After JEP 387.
 #[derive(Drop)]
 pub struct SplitTree<A: Allocator> {
+    /// The root's node: level 0, from word 0 on.
     node: Node<A>,
 }
 
@@ -184,6 +185,7 @@ impl<A: Allocator + Clone> SplitTree<A> {
             (λ refusal. IsCarveRefusal (span_at at level) (free_of self.old) refusal) }
         ensures unchanged { OnErr result (self.new ≡ self.old) }
     {
+        // Learnt here: the level is at most 12, so its words are those of a part.
         let _ = level.number();
         self.node
             .carve(alloc, 0, 0, Span { start: at, level }, owner, front)

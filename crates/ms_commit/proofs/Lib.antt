@@ -2,7 +2,7 @@ pub mod RangeLemmas
 pub mod MaskLemmas
 pub mod LowestLemmas
 pub mod CountLemmas
-pub mod OrderLemmas
+pub mod MemberOrderLemmas
 pub mod SetLemmas
 pub mod MemberLemmas
 pub mod NodesLemmas

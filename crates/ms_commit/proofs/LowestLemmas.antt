@@ -1,12 +1,13 @@
 -- The lowest number of a range whose bit is set, a word at a time: a word has none in the range, or
 -- its lowest place that it has there is the answer.
-use Rattle.std.proofs.Common.{◌≡◌, ◌<◌, ◌≤◌, ℕ, ◌+◌, ◌-◌, ◌*◌, ◌^◌, Bool, true, false, ◌&&◌, List, get_or, refl, sym, ap, ◌∙◌, inl, inr, arith, bit_and, w64}
+use Rattle.std.proofs.Common.{◌≡◌, ◌<◌, ◌≤◌, ℕ, ◌+◌, ◌-◌, ◌*◌, ◌^◌, Bool, true, false, ◌&&◌, List, get_or, sym, ap, ◌∙◌, inl, inr, arith, bit_and, w64}
 use Rattle.std.specs.Prelude.{◌==◌, nat_lt, nat_le, Option, Some, None, IfNone}
 use Rattle.std.specs.Int.{bit_at, trailing_zeros}
 use Rattle.std.proofs.lemmas.Bool.{cases_lt}
 use Rattle.std.proofs.lemmas.Bool.Decides.{nat_tests}
 use Rattle.std.proofs.lemmas.Nat.Bits.{bit_at-zero, bit_at-trailing_zeros}
 use Rattle.ms_commit.specs.Mask.{is_one, is_set}
+use Rattle.ms_commit.proofs.RangeLemmas.{and_true}
 use Rattle.ms_commit.proofs.MaskLemmas.{is_one-and, is_set-place}
 
 -- The bits of a word in a range, and the range's bits of the word.
@@ -17,22 +18,20 @@ HasRange first end base between = (place : ℕ) → place < 64 → is_one betwee
 abbrev pub NoneBelow : List ℕ → ℕ → ℕ → ℕ → Type 0
 NoneBelow words first end index = (k : ℕ) → first ≤ k → k < end → k < 64 * index → is_set words k ≡ false
 
-in_range : (words : List ℕ) (first end index between place : ℕ) → HasRange first end (64 * index) between → place < 64 → first ≤ 64 * index + place → 64 * index + place < end
+in_range : (words : List ℕ) (first end index between place : ℕ) → HasRange first end (64 * index) between → place < 64
+    → first ≤ 64 * index + place → 64 * index + place < end
     → is_set words (64 * index + place) ≡ is_one (bit_and (get_or words index 0) between) place
 in_range words first end index between place range within from below =
     is_set-place words index place within
-    ∙ sym (is_one-and (get_or words index 0) between place ∙ kept (is_one (get_or words index 0) place) (is_one between place)
+    ∙ sym (is_one-and (get_or words index 0) between place ∙ and_true (is_one (get_or words index 0) place) (is_one between place)
     (range place within ∙ inside first (64 * index + place) end from below))
   where
-    kept : (a b : Bool) → b ≡ true → (a && b) ≡ a
-    kept true b e = e
-    kept false b e = refl
-
     inside : (a k b : ℕ) → a ≤ k → k < b → (nat_le a k && nat_lt k b) ≡ true
     inside a k b h l = grind (arith, nat_tests)
 
 -- A word without bits in the range.
-pub none_more : (words : List ℕ) (first end index between : ℕ) → HasRange first end (64 * index) between → bit_and (get_or words index 0) between ≡ 0
+pub none_more : (words : List ℕ) (first end index between : ℕ) → HasRange first end (64 * index) between
+    → bit_and (get_or words index 0) between ≡ 0
     → NoneBelow words first end index → NoneBelow words first end (index + 1)
 none_more words first end index between range none before k from below under = elim (cases_lt k (64 * index)) [
   | inl earlier ↦ before k from below earlier
@@ -50,7 +49,8 @@ pub record IsLowestIn (words : List ℕ) (first end number : ℕ) : Type 0 where
   pub below : number < end
   pub lowest : (k : ℕ) → first ≤ k → k < number → is_set words k ≡ false
 
-pub lowest_here : (words : List ℕ) (first end index between : ℕ) → HasRange first end (64 * index) between → 0 < bit_and (get_or words index 0) between
+pub lowest_here : (words : List ℕ) (first end index between : ℕ) → HasRange first end (64 * index) between
+    → 0 < bit_and (get_or words index 0) between
     → bit_and (get_or words index 0) between < 2 ^ 64 → NoneBelow words first end index
     → IsLowestIn words first end (64 * index + trailing_zeros w64 (bit_and (get_or words index 0) between))
 lowest_here words first end index between range some fits before = record {

@@ -11,7 +11,7 @@ use Rattle.std.proofs.lemmas.Nat.Bits.{bit_at_and, bit_at_or, bit_at_not, bit_at
 use Rattle.ms_base.specs.Committed.{is_among}
 use Rattle.ms_commit.specs.NumberSet.{is_in_range}
 use Rattle.ms_commit.specs.Mask.{is_one, is_set, members_of, IsLowestClear}
-use Rattle.ms_commit.proofs.RangeLemmas.{is_among-filter, is_among-range}
+use Rattle.ms_commit.proofs.RangeLemmas.{and_true, and_false, is_among-filter, is_among-range}
 
 -- The bits of two words together.
 pub is_one-and : (a b place : ℕ) → is_one (bit_and a b) place ≡ (is_one a place && is_one b place)
@@ -94,7 +94,7 @@ changed_more op p old new index word stays within places so_far k inside = elim 
       is_set-here new index word k within here
       ∙ places (k % 64) (omega arith)
       ∙ ap₂ op (ap (λ at. is_one (get_or new at 0) (k % 64)) (sym here) ∙ so_far k unchanged
-      ∙ ap (op (is_set old k)) (fails (p k) (nat_lt k (64 * index)) (grind (arith, nat_tests)))
+      ∙ ap (op (is_set old k)) (and_false (p k) (nat_lt k (64 * index)) (grind (arith, nat_tests)))
       ∙ stays (is_set old k)) (let e : 64 * index + k % 64 ≡ k = omega arith in ap p e)
       ∙ ap (op (is_set old k)) (passes (p k) (nat_lt k (64 * (index + 1))) (grind (arith, nat_tests)))
   | inr elsewhere ↦
@@ -105,10 +105,6 @@ changed_more op p old new index word stays within places so_far k inside = elim 
   where
     unchanged : k < 64 * length new
     unchanged = let e : length (slice_set new index word) ≡ length new = length-set new index word in omega arith
-
-    fails : (a b : Bool) → b ≡ false → (a && b) ≡ false
-    fails true b e = e
-    fails false b e = refl
 
     passes : (a b : Bool) → b ≡ true → a ≡ (a && b)
     passes true b e = sym e
@@ -129,13 +125,9 @@ is_among-members words k =
     is_among-filter (is_set words) (range_with_len 0 (64 * length words)) k
     ∙ ap (λ b. is_set words k && b) (is_among-range 0 (64 * length words) k)
     ∙ elim (cases_lt k (64 * length words)) [
-      | inl under ↦ kept (is_set words k) (is_in_range 0 (64 * length words) k) (grind (arith, nat_tests))
+      | inl under ↦ and_true (is_set words k) (is_in_range 0 (64 * length words) k) (grind (arith, nat_tests))
       | inr past ↦ rw (is_set-past words k past) refl
     ]
-  where
-    kept : (a b : Bool) → b ≡ true → (a && b) ≡ a
-    kept true b e = e
-    kept false b e = refl
 
 -- The words below an index have no clear bit, and the word there has none, or one.
 pub full_more : (words : List ℕ) (index : ℕ) → get_or words index 0 ≡ 2 ^ 64 - 1

@@ -13,7 +13,7 @@ use Rattle.ms_base.specs.Pick.{lowest_unreserved}
 use Rattle.ms_commit.specs.Mask.{is_set, members_of, IsLowestClear}
 use Rattle.ms_commit.proofs.RangeLemmas.{filter_agree_in, filter_all_in, filter-filter}
 use Rattle.ms_commit.proofs.MaskLemmas.{is_among-members}
-use Rattle.ms_commit.proofs.OrderLemmas.{insert_key-filter, lowest_unreserved-is, length_from_full}
+use Rattle.ms_commit.proofs.MemberOrderLemmas.{insert_key-filter, lowest_unreserved-is, length_from_full}
 use Rattle.ms_commit.proofs.SetLemmas.{IsSetBelow-filter, with_range-filter, length-with_range, length-without_range, count_within-filter}
 
 -- The bits of a mask pass a test.

@@ -27,6 +27,9 @@ use Rattle.ms_commit.specs.Laws.{AreOfTwoSpaces, ChangeTheirSpace, LeavesWithIts
 use Rattle.ms_commit.proofs.RangeLemmas.{filter-filter, filter_agree_in, filter_all_in, filter_none_in, is_among-filter, is_among-range}
 use Rattle.ms_commit.proofs.NodesLemmas.{member_below, reserved_either, reserved_low, next_slot}
 
+not_past : (at k : ℕ) → k < at → nat_le at k ≡ false
+not_past at k h = grind (arith, nat_tests)
+
 -- Of numbers above one that is not below a bound, none is below it.
 none_below : (at x : ℕ) (later : List ℕ) → at ≤ x → AllByRecursion (λ y. nat_cmp x y ≡ Less) later
     → filter (λ k. nat_lt k at) later ≡ []
@@ -72,9 +75,6 @@ cut_at at (x ∷ members) rise = elim (cases_lt x at) [
 
     is_below : (at x : ℕ) → x < at → nat_lt x at ≡ true
     is_below at x h = grind (arith, nat_tests)
-
-    not_past : (at x : ℕ) → x < at → nat_le at x ≡ false
-    not_past at x h = grind (arith, nat_tests)
 
     not_below : (at x : ℕ) → at ≤ x → nat_lt x at ≡ false
     not_below at x h = grind (arith, nat_tests)
@@ -172,7 +172,8 @@ some_granules nodes sound = elim sound.size [
 -- A granule's slot is reserved where it is among those of the granule's space.
 pub reserved_in : (nodes : NodesState) (space : Space) (k : ℕ) → AreSound nodes
     → is_granule_of space (node_granules nodes) k ≡ true
-    → is_reserved (all_slots nodes) (k / node_granules nodes) ≡ is_reserved (slots_of space nodes) (k / node_granules nodes)
+    → is_reserved (all_slots nodes) (k / node_granules nodes)
+    ≡ is_reserved (slots_of space nodes) (k / node_granules nodes)
 reserved_in nodes NonClass k sound inside =
     reserved_low nodes (k / node_granules nodes)
     ((div-lt_iff_lt-mul (some_granules nodes sound)).1 (lower k (first_class_slot * node_granules nodes) inside))
@@ -191,7 +192,8 @@ reserved_in nodes Class k sound inside =
     from a b e = grind (arith, nat_tests)
 
     not_low : (b : Bool) → is_reserved nodes.slots slot ≡ b
-        → (b || is_in_range first_class_slot nodes.class_slots slot) ≡ is_in_range first_class_slot nodes.class_slots slot
+        → (b || is_in_range first_class_slot nodes.class_slots slot)
+        ≡ is_in_range first_class_slot nodes.class_slots slot
     not_low false e = refl
     not_low true e = absurd (omega (
       arith,
@@ -231,7 +233,8 @@ change_their_space nodes space first count sound inside = record {
       ∙ ap (λ b. b && is_among nodes.granules k) (inside k low high)))));
 }
   where
-    outside : (k : ℕ) → first ≤ k → k < first + count → is_granule_of (other_space space) (node_granules nodes) k ≡ false
+    outside : (k : ℕ) → first ≤ k → k < first + count
+        → is_granule_of (other_space space) (node_granules nodes) k ≡ false
     outside k low high = opposite (node_granules nodes) space k ∙ ap not (inside k low high)
 
 -- A slot below those of the class space goes with its granules.
@@ -244,9 +247,6 @@ leaves_with_its_granules nodes slot low = record {
   where
     n : ℕ
     n = node_granules nodes
-
-    not_past : (at k : ℕ) → k < at → nat_le at k ≡ false
-    not_past at k h = grind (arith, nat_tests)
 
     outside : (k : ℕ) → slot * n ≤ k → k < slot * n + n → nat_le (first_class_slot * n) k ≡ false
     outside k from under = not_past (first_class_slot * n) k (omega (arith, next_slot slot first_class_slot n low))

@@ -52,7 +52,8 @@ pub record AreOfTwoSpaces (nodes : NodesState) : Type 0 where
   pub joined : nodes.granules ≡ granules_in NonClass nodes ++ granules_in Class nodes
   pub rising : (space : Space) → IsStrictlyIncreasing (granules_in space nodes)
   pub members : (space : Space) (k : ℕ)
-      → is_among (granules_in space nodes) k ≡ (is_granule_of space (node_granules nodes) k && is_among nodes.granules k)
+      → is_among (granules_in space nodes) k
+      ≡ (is_granule_of space (node_granules nodes) k && is_among nodes.granules k)
   pub reserved : (space : Space) (k : ℕ) → IsTrue (is_among (granules_in space nodes) k)
       → IsTrue (is_reserved (slots_of space nodes) (k / node_granules nodes))
   pub counted : (space : Space)

@@ -9,11 +9,14 @@
 //! A range is counted, set and cleared a word at a time: `bits_between` gives the bits of a word
 //! that stand for its numbers, and `&`, `|` and `!` do the rest. Nothing here takes memory.
 //! HotSpot's commitMask.hpp has such a mask for a node, as a BitMap.
-ghost use Rattle.std.specs.Prelude.{◌≡◌, ℕ, ◌+◌, ◌-◌, ◌*◌, ◌/◌, ◌^◌, ◌<◌, ◌≤◌, Bool, true, false, ◌&&◌, ◌||◌, not, nat_le, nat_lt, List, [], length, IfSome, IfNone};
+ghost use Rattle.std.specs.Prelude.{◌≡◌, ℕ, ◌+◌, ◌-◌, ◌*◌, ◌/◌, ◌^◌, ◌<◌, ◌≤◌, true, false, ◌&&◌, ◌||◌, not, nat_le, nat_lt, List, [], length, IfSome, IfNone};
 ghost use Rattle.std.specs.List.{filter, range_with_len};
 ghost use Rattle.ms_commit.specs.Mask.{is_one, is_set, IsLowestClear};
 
 use std::marker::Model;
+
+/// Bits of a word of the mask.
+pub(crate) const BITS: usize = 64;
 
 /// A set of the numbers below 64 * WORDS.
 #[derive(Drop)]
@@ -31,7 +34,7 @@ impl<const WORDS: usize> Model for Mask<WORDS> {
 }
 
 impl<const WORDS: usize> Mask<WORDS> {
-    ghost use Rattle.std.specs.Prelude.{◌≡◌, ℕ, ◌+◌, ◌*◌, ◌^◌, ◌<◌, ◌≤◌, false, true, [], length, IfSome, OnSome, IfNone};
+    ghost use Rattle.std.specs.Prelude.{◌≡◌, ℕ, ◌+◌, ◌*◌, ◌^◌, ◌<◌, ◌≤◌, false, true, [], length, IfSome, IfNone};
     ghost use Rattle.std.specs.Ordering.{nat_cmp};
     ghost use Rattle.std.specs.BTreeSet.{insert_key};
     ghost use Rattle.ms_base.specs.Pick.{lowest_unreserved};
@@ -49,8 +52,8 @@ impl<const WORDS: usize> Mask<WORDS> {
     pub fn contains(&self, number: usize) -> bool
         ensures { result ≡ is_among self.now number }
     {
-        let index = number / 64;
-        index < WORDS && self.words[index] >> (number % 64) & 1 == 1
+        let index = number / BITS;
+        index < WORDS && self.words[index] >> (number % BITS) & 1 == 1
     }
 
     /// Counts the members in a range.
@@ -138,10 +141,10 @@ fn bits_between(first: usize, end: usize, base: usize) -> u64
     ensures { (place : ℕ) → place < 64
         → is_one result place ≡ (nat_le first (base + place) && nat_lt (base + place) end) }
 {
-    let low = first.saturating_sub(base).min(64);
-    let high = end.saturating_sub(base).min(64);
+    let low = first.saturating_sub(base).min(BITS);
+    let high = end.saturating_sub(base).min(BITS);
     if low < high {
-        (u64::MAX << low) & (u64::MAX >> (64 - high))
+        (u64::MAX << low) & (u64::MAX >> (BITS - high))
     } else {
         0
     }
@@ -152,8 +155,8 @@ fn count_bits(words: &[u64], first: usize, end: usize) -> usize
     ensures { result ≡ length (filter (is_set words.now) (range_with_len first (end - first))) }
 {
     let mut count = 0;
-    for index in first / 64..end.div_ceil(64).min(words.len()) {
-        count += (words[index] & bits_between(first, end, 64 * index)).count_ones() as usize;
+    for index in first / BITS..end.div_ceil(BITS).min(words.len()) {
+        count += (words[index] & bits_between(first, end, BITS * index)).count_ones() as usize;
     }
     count
 }
@@ -163,8 +166,8 @@ fn set_bits(words: &mut [u64], first: usize, end: usize)
     ensures { (k : ℕ) → k < 64 * length words.old
         → is_set words.new k ≡ (is_set words.old k || (nat_le first k && nat_lt k end)) }
 {
-    for index in first / 64..end.div_ceil(64).min(words.len()) {
-        words[index] |= bits_between(first, end, 64 * index);
+    for index in first / BITS..end.div_ceil(BITS).min(words.len()) {
+        words[index] |= bits_between(first, end, BITS * index);
     }
 }
 
@@ -173,8 +176,8 @@ fn clear_bits(words: &mut [u64], first: usize, end: usize)
     ensures { (k : ℕ) → k < 64 * length words.old
         → is_set words.new k ≡ (is_set words.old k && not (nat_le first k && nat_lt k end)) }
 {
-    for index in first / 64..end.div_ceil(64).min(words.len()) {
-        words[index] &= !bits_between(first, end, 64 * index);
+    for index in first / BITS..end.div_ceil(BITS).min(words.len()) {
+        words[index] &= !bits_between(first, end, BITS * index);
     }
 }
 
@@ -186,7 +189,7 @@ fn lowest_clear(words: &[u64]) -> Option<usize>
 {
     for (index, word) in words.iter().enumerate() {
         if *word != u64::MAX {
-            return Some(64 * index + word.trailing_ones() as usize);
+            return Some(BITS * index + word.trailing_ones() as usize);
         }
     }
     None
@@ -201,10 +204,10 @@ fn lowest_set(words: &[u64], first: usize, end: usize) -> Option<usize>
         (λ number. (k : ℕ) → first ≤ k → k < number → is_set words.now k ≡ false) }
     ensures none { IfNone result ((k : ℕ) → first ≤ k → k < end → is_set words.now k ≡ false) }
 {
-    for index in first / 64..end.div_ceil(64).min(words.len()) {
-        let bits = words[index] & bits_between(first, end, 64 * index);
+    for index in first / BITS..end.div_ceil(BITS).min(words.len()) {
+        let bits = words[index] & bits_between(first, end, BITS * index);
         if bits != 0 {
-            return Some(64 * index + bits.trailing_zeros() as usize);
+            return Some(BITS * index + bits.trailing_zeros() as usize);
         }
     }
     None

@@ -17,27 +17,38 @@
 //! own, and here one mask has all slots. The class space's slots are this project's choice.
 ghost use Rattle.std.specs.Prelude.{◌≡◌, ◌≤◌};
 
-use crate::mask::Mask;
+use crate::mask::{BITS, Mask};
 use ms_base::{CLASS_SLOTS, NODE_WORDS, Refusal, SLOTS};
 use std::marker::Model;
 
 /// Words of the mask of the slots below those of the class space.
-const SLOT_MASK: usize = SLOTS as usize / 64;
-/// Words of the mask of granules: 80 slots of 512 granules, as many as there are of 2048 words.
-const GRANULE_MASK: usize = (SLOTS + CLASS_SLOTS) as usize * 8;
+const SLOT_MASK: usize = SLOTS as usize / BITS;
+/// Granules of a slot at most: as many of 2048 words as fit into a node.
+const MOST_GRANULES: usize = 512;
+/// Words of the mask of the granules of all slots.
+const GRANULE_MASK: usize = (SLOTS + CLASS_SLOTS) as usize * MOST_GRANULES / BITS;
 
 /// Which node slots are reserved and which granules are committed, each within its limit. The
 /// limits are this project's choice; HotSpot has them in CommitLimiter and as reserved sizes.
 #[derive(Drop)]
 pub struct Nodes {
+    /// The slots below 64 that are reserved.
     slots: Mask<SLOT_MASK>,
+    /// The granules that are committed, of both spaces, by number from slot 0 on.
     granules: Mask<GRANULE_MASK>,
+    /// How many slots below 64 are reserved, 0 to `node_limit`.
     reserved: u32,
+    /// How many granules are committed, 0 to `granule_limit`.
     committed: u64,
+    /// The limit of reserved slots below 64, 1 to 64.
     node_limit: u32,
+    /// The limit of committed granules of both spaces, any number.
     granule_limit: u64,
+    /// The words of a granule, 8192 or 2048.
     granule: u64,
+    /// The granules of a slot, 128 or 512.
     slot_granules: u64,
+    /// How many slots the class space has, 0 to 16.
     class_slots: u32,
 }
 

@@ -13,9 +13,9 @@ use Rattle.ms_base.specs.State.{Machine, pool_of}
 use Rattle.ms_base.specs.Good.{IsGood}
 use Rattle.ms_base.proofs.machine.SlotLemmas.{length_with}
 use Rattle.ms_base.proofs.machine.AddedLemmas.{MayReserve}
-use Rattle.ms_base.proofs.events.KeptLemmas.{TakingIsAddable}
+use Rattle.ms_base.proofs.events.KeptEventLemmas.{TakingIsAddable}
 use Rattle.ms_pool.proofs.ledger.TakenLemmas.{HasSlot, IsLendable, taken_is_lendable}
-use Rattle.ms_pool.proofs.ledger.SlotLemmas.{same_with}
+use Rattle.ms_pool.proofs.ledger.LedgerSlotLemmas.{same_with}
 
 -- The slot of a chunk of a space may be reserved there.
 may_reserve : (space : Space) (m : Machine) (start : ℕ) → IsGood m → is_in space start ≡ true

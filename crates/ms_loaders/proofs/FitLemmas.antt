@@ -26,9 +26,9 @@ use Rattle.ms_pool.specs.Account.{AccountState}
 use Rattle.ms_pool.specs.Ledger.{Loan, Ledger, Serves, held_in, is_owned_by, state_in, recommitted}
 use Rattle.ms_loaders.specs.Loader.{LoaderView, IsSoundView}
 use Rattle.ms_loaders.specs.System.{states_of, accounts_of, owners_of, machine_of, AreDistinct, AreServed, AreTogether}
-use Rattle.ms_loaders.proofs.CountLemmas.{Tells, kept-permuted}
+use Rattle.ms_loaders.proofs.TimesLemmas.{Tells, kept-permuted}
 use Rattle.ms_loaders.proofs.MappedLemmas.{rises-mapped}
-use Rattle.ms_loaders.proofs.SpaceLemmas.{chunk_in_space}
+use Rattle.ms_loaders.proofs.LoaderSpaceLemmas.{chunk_in_space}
 
 -- The test that tells chunks.
 abbrev same_chunk : Chunk → Chunk → Bool

@@ -1,11 +1,11 @@
-mod CountLemmas
+mod TimesLemmas
 pub mod MappedLemmas
 mod MatchLemmas
-mod ChangeLemmas
+mod LoaderChangeLemmas
 mod ViewLemmas
 mod MadeLemmas
-mod SpaceLemmas
-mod AllocLemmas
+mod LoaderSpaceLemmas
+mod LoaderAllocLemmas
 mod OutcomeLemmas
 mod AskedLemmas
 pub mod FitLemmas

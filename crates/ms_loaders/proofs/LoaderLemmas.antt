@@ -21,7 +21,7 @@ use Rattle.ms_loaders.specs.LoaderInside.{Contents, live_at, blocks_of, contents
 use Rattle.ms_loaders.specs.declared.loader.Loader.TheInside.{Inside}
 use Rattle.ms_loaders.proofs.MappedLemmas.{found-mapped}
 use Rattle.ms_loaders.proofs.MatchLemmas.{Matches, IsAt, where_is, here, run_of_block, block_is_at, live_at_is}
-use Rattle.ms_loaders.proofs.ChangeLemmas.{ChangesIn, freed_matches, freed_blocks, written_matches, written_blocks}
+use Rattle.ms_loaders.proofs.LoaderChangeLemmas.{ChangesIn, freed_matches, freed_blocks, written_matches, written_blocks}
 use Rattle.ms_loaders.proofs.ViewLemmas.{arena_in, matches_of, books_of}
 
 -- What follows from an answer.

@@ -24,7 +24,7 @@ use Rattle.ms_base.proofs.entries.EntryLemmas.{same_name}
 use Rattle.ms_base.proofs.arena.BlockLemmas.{in_its_space, not_in_other}
 use Rattle.ms_arena.specs.Arena.{live_run}
 use Rattle.ms_loaders.specs.LoaderInside.{Contents, live_at, blocks_of, named_runs}
-use Rattle.ms_loaders.proofs.CountLemmas.{Tells}
+use Rattle.ms_loaders.proofs.TimesLemmas.{Tells}
 use Rattle.ms_loaders.proofs.MappedLemmas.{mapped-agree}
 
 -- A word lies in a space or in the other, and there alone.

@@ -26,7 +26,7 @@ use Rattle.ms_base.proofs.entries.EntryLemmas.{split_at}
 use Rattle.ms_base.proofs.runs.ApartLemmas.{All-middle_of}
 use Rattle.ms_base.proofs.machine.GoodLemmas.{chunks_split}
 use Rattle.ms_base.proofs.machine.ChangeLemmas.{slots_same, unchanged_pools}
-use Rattle.ms_base.proofs.granules.GrowingLemmas.{growing_keeps_the_limit}
+use Rattle.ms_base.proofs.granules.GranuleGrowingLemmas.{growing_keeps_the_limit}
 use Rattle.ms_pool.specs.Ledger.{Loan, Ledger, held_in, state_in, with_loan}
 use Rattle.ms_pool.specs.Calls.{tallied, Took, Grew}
 use Rattle.ms_arena.specs.Arena.{ArenaView}

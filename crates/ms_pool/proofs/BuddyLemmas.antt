@@ -15,11 +15,11 @@ use Rattle.ms_base.specs.Held.{meets_chunk}
 use Rattle.ms_base.specs.FreeParts.{free_within}
 use Rattle.ms_base.proofs.free.FreeLemmas.{IsFreeWithin, by_halves, listed_are_free}
 use Rattle.ms_base.proofs.free.HalvesLemmas.{IsStart, multiple_of_smaller, size_of_halves, steps_apart, words_over}
-use Rattle.ms_buddy.specs.Leaves.{LentLeaf, IsLeafAt, can_enlarge, chunk_of, covers, free_of, is_lent, is_same, leaf_of, span_at}
+use Rattle.ms_buddy.specs.Leaves.{LentLeaf, IsLeafAt, can_enlarge, chunk_of, covers, free_of, is_lent, is_same, leaf_of, span_at, AreLeaves}
 use Rattle.ms_buddy.specs.declared.node.Leaf.{Leaf}
 use Rattle.ms_buddy.specs.declared.node.Leaf.TheVariants.{Free, Lent}
 use Rattle.ms_buddy.specs.Leaves.{span_of as leaf_span}
-use Rattle.ms_buddy.proofs.HalvesLemmas.{size_of-halves, size_of-some}
+use Rattle.ms_buddy.proofs.TreeHalvesLemmas.{size_of-halves, size_of-some}
 use Rattle.ms_pool.proofs.WalkedLemmas.{covers_both, free_is_clear}
 
 -- Parts rise from low to high: each starts where the one before ends, or later.
@@ -259,3 +259,36 @@ pub no_root_can : (part : Span) (free : List Span) → can_enlarge part free ≡
 no_root_can part free can =
     let leads = and_parts (nat_lt 0 part.level && is_leader part.start part.level) (list_any (is_same (record { start = buddy_start part.start part.level; level = part.level })) free) can in
     ltb-true 0 part.level (and_parts (nat_lt 0 part.level) (is_leader part.start part.level) leads.0).0
+
+-- A lent leader of a level that is not 0: its buddy begins in the root, and the leaf there decides.
+pub leads : (start level size : ℕ) → size ≡ size_of level → 0 < level → level ≤ 12 → start % (2 * size) ≡ 0 → start % size_of (level - 1) ≡ 0
+leads start level size is some low whole = ap (λ (n : ℕ). start % n) (sym (ap (λ (n : ℕ). 2 * n) is ∙ parent_size level some low)) ∙ whole
+
+pub record IsLeaderThere (tree : List LentLeaf) (start level size : ℕ) : Type 0 where
+  pub some : 0 < level
+  pub leads : start % size_of (level - 1) ≡ 0
+  pub placed : IsPart start level
+  pub within : start + size < 524288
+
+pub leader_there : (tree : List LentLeaf) (start level number size : ℕ) → AreLeaves tree → is_lent tree (span_at start level) ≡ true → number ≡ level → number ≤ 12
+    → (number ≡ 0 → ⊥) → size ≡ size_of level → start % (2 * size) ≡ 0 → IsLeaderThere tree start level size
+leader_there tree start level number size leaves lent same low other is whole = record {
+  some = some;
+  leads = leads start level size is some (omega (arith, same, low)) whole;
+  placed = place.0;
+  within = omega (arith, is, buddy_within start level some (omega (arith, same, low)) (leads start level size is some (omega (arith, same, low)) whole) place.1);
+}
+  where
+    some : 0 < level
+    some = omega (arith, same, other)
+
+    place : IsPart start level × (start + size_of level ≤ 524288)
+    place = lent_place (span_at start level) tree leaves.parts leaves.in_root lent
+
+pub decided_by_buddy : (tree : List LentLeaf) (start level size : ℕ) (part : Span) (leaf : Leaf) (is_free : Bool) → IsLeaderThere tree start level size → size ≡ size_of level
+    → IsLeafAt (start + size) part leaf tree (free_of tree) → (is_free ≡ true → leaf ≡ Free) × (leaf ≡ Free → is_free ≡ true)
+    → (is_free && (part.level == level)) ≡ can_enlarge (span_at start level) (free_of tree)
+decided_by_buddy tree start level size part leaf is_free there is found same =
+    buddy_by_leaf tree (start + size_of level) level part leaf is_free (buddy_is_part start level there.placed)
+    (subst (λ (n : ℕ). IsLeafAt (start + n) part leaf tree (free_of tree)) is found) same
+    ∙ sym (leader_can start level (free_of tree) there.some there.leads)

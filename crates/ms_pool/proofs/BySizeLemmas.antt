@@ -57,7 +57,3 @@ pub large_are_not : (pool : PoolState) (words level : ℕ) → IsSoundPool pool 
     → first_at pool words true level ≡ None
 unfolding first_at
 large_are_not pool words level sound some fits large gives = large_find pool words level (free_parts pool.held pool.slots) sound some fits large gives (free_ones pool)
-
-pub is_wanted : (b : Bool) → not b ≡ false → b ≡ true
-is_wanted true e = refl
-is_wanted false e = absurd (cc)

@@ -7,19 +7,19 @@ use Rattle.ms_base.specs.declared.kind.Space.{Space}
 use Rattle.ms_base.specs.declared.kind.Space.TheVariants.{NonClass, Class}
 use Rattle.ms_base.specs.declared.span.Chunk.{Chunk}
 use Rattle.ms_base.specs.Spaces.{is_in}
+use Rattle.ms_base.proofs.arena.BlockLemmas.{not_in_other}
 use Rattle.ms_pool.specs.Account.{AccountState, AreChunks}
 use Rattle.ms_pool.specs.Ledger.{Loan, Ledger, IsSoundLedger, Serves, is_owned_by, others_than, recommitted, with_less_open}
 use Rattle.ms_pool.specs.Calls.{Closed, ClosedBoth}
 use Rattle.ms_pool.proofs.ledger.AccountLemmas.{LiesIn, own_lie_in}
 use Rattle.ms_pool.proofs.ledger.FewerLemmas.{none_left, others_stay}
-use Rattle.ms_pool.proofs.ledger.LentLemmas.{not_there}
 use Rattle.ms_pool.proofs.ledger.LoanLemmas.{owned_by}
-use Rattle.ms_pool.proofs.SettleLemmas.{settles_once}
+use Rattle.ms_pool.proofs.PoolSettleLemmas.{settles_once}
 
 -- Chunks that lie in both spaces are none.
 none_in_both : (chunks : List Chunk) → AllByRecursion (LiesIn NonClass) chunks → AllByRecursion (LiesIn Class) chunks → chunks ≡ []
 none_in_both [] lie too = refl
-none_in_both (c ∷ chunks) lie too = absurd (both_ways (is_in Class c.start) (not_there NonClass c.start lie.0) too.0)
+none_in_both (c ∷ chunks) lie too = absurd (both_ways (is_in Class c.start) (not_in_other NonClass c.start lie.0) too.0)
 
 -- The second account is served still.
 pub served_still : (old mid : Ledger) (account class_account : AccountState) → account.space ≡ NonClass → class_account.space ≡ Class

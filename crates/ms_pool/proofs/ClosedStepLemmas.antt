@@ -9,7 +9,7 @@ use Rattle.ms_pool.specs.Account.{AccountState}
 use Rattle.ms_pool.specs.Ledger.{Loan, Ledger, IsSoundLedger, Serves, others_than, recommitted, with_closed, with_less_open}
 use Rattle.ms_pool.specs.Releasing.{with_released, without_loan}
 use Rattle.ms_pool.proofs.ClosingLemmas.{all_gone, at_place, take_one_more, without_all, without_none, without_one_more}
-use Rattle.ms_pool.proofs.SettleLemmas.{settled_already, settles_once}
+use Rattle.ms_pool.proofs.PoolSettleLemmas.{settled_already, settles_once}
 
 -- The pool once the chunks of these places are taken back.
 abbrev pub without_chunks : List Chunk → Ledger → Ledger

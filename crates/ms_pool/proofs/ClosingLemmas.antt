@@ -1,9 +1,8 @@
 -- The chunks of an account taken back one after the other: which are lent still, that none of the
 -- owner's is lent at the end, and that granules may follow once or at each step. The proofs of
 -- `close` and `close_both` use them.
-use Rattle.std.proofs.Common.{◌≡◌, ◌≢◌, ◌≤◌, ℕ, zero, suc, ◌+◌, Bool, true, false, cond, not, ◌&&◌, ◌||◌, ◌==◌, eqb-true, List, [], ◌∷◌, ◌++◌, map, take, refl, sym, ap, ◌∙◌, arith, inl, inr, Some}
+use Rattle.std.proofs.Common.{◌≡◌, ◌≤◌, ℕ, zero, suc, ◌+◌, Bool, true, false, cond, not, ◌&&◌, ◌||◌, ◌==◌, eqb-true, List, [], ◌∷◌, ◌++◌, map, take, refl, sym, ap, ◌∙◌, arith, inl, inr, Some}
 use Rattle.std.specs.Ordering.{nat_cmp}
-use Rattle.std.specs.declared.cmp.Ordering.TheVariants.{Less}
 use Rattle.std.specs.List.{AllByRecursion, filter, list_any, slice_get}
 use Rattle.std.specs.List.Sorted.{IsStrictlySortedBy}
 use Rattle.std.proofs.lemmas.Bool.{or_cases, or_from, or_left, or_right, or_parts, and_parts, ne_eqb}
@@ -24,8 +23,9 @@ use Rattle.ms_pool.specs.Account.{AccountState, AreChunks}
 use Rattle.ms_pool.specs.Ledger.{Loan, Ledger, IsSoundLedger, Serves, is_owned_by, others_than}
 use Rattle.ms_pool.specs.Releasing.{is_at, is_lent_in, without_loan}
 use Rattle.ms_pool.proofs.ledger.LoanLemmas.{owned_by}
-use Rattle.ms_pool.proofs.ledger.OrderLemmas.{StartsElsewhere, start_of}
+use Rattle.ms_pool.proofs.ledger.LoanOrderLemmas.{StartsElsewhere, start_of}
 use Rattle.ms_pool.proofs.ReleasedChunkLemmas.{is_there, not_true}
+use Rattle.ms_pool.proofs.ledger.LoanAtLemmas.{all_above}
 
 -- One of the chunks is of that place; and the loans of none of their places.
 abbrev pub at_place : List Chunk → ℕ → ℕ → Bool
@@ -130,13 +130,6 @@ lent_still ledger account place chunk served chunks found =
     (list_any-IsPermutation (is_there chunk) (owned_by account.owner ledger.loans) account.chunks served.chunks ∙ itself_there account.chunks place chunk found))
 
 -- At the end none of the owner's is lent, and all others are.
-all_above : (start : ℕ) (loans : List Loan) → AllByRecursion (λ (y : ℕ). nat_cmp start y ≡ Less) (map start_of loans) → AllByRecursion (StartsElsewhere start) loans
-all_above start [] all = tt
-all_above start (loan ∷ loans) all = (λ same. differ start loan.chunk.start all.0 (sym same), all_above start loans all.1)
-  where
-    differ : (a b : ℕ) → nat_cmp a b ≡ Less → a ≢ b
-    differ a b e same = grind (arith, nat_tests, e)
-
 none_owned_at : (owner start level : ℕ) (loans : List Loan) → AllByRecursion (StartsElsewhere start) loans → at_place (owned_by owner loans) start level ≡ false
 none_owned_at owner start level [] others = refl
 none_owned_at owner start level (loan ∷ loans) others = step (is_owned_by owner loan) (none_owned_at owner start level loans others.1)

@@ -1,5 +1,5 @@
 -- The committed granules below the class space's, counted by those that are missing.
-use Rattle.std.proofs.Common.{◌≡◌, ℕ, ◌+◌, ◌*◌, ◌/◌, not, ◌&&◌, length, refl, sym, ap, ◌∙◌, arith}
+use Rattle.std.proofs.Common.{◌≡◌, ℕ, ◌+◌, ◌*◌, ◌/◌, not, ◌&&◌, length, refl, sym, ap, ◌∙◌, arith, ◌≤◌, ◌-◌}
 use Rattle.std.specs.Prelude.{nat_lt}
 use Rattle.std.specs.List.{filter, range_with_len}
 use Rattle.std.proofs.lemmas.Bool.Decides.{nat_tests}
@@ -8,13 +8,14 @@ use Rattle.std.proofs.lemmas.List.Filters.{length-filter_both}
 use Rattle.std.proofs.lemmas.List.FromFn.{length-range_with_len}
 use Rattle.std.proofs.lemmas.List.Kept.{IsStrictlyIncreasing-filter}
 use Rattle.std.proofs.lemmas.Map.Keys.{sorted_from_strictly_increasing}
-use Rattle.ms_base.specs.declared.kind.Space.TheVariants.{NonClass}
+use Rattle.ms_base.specs.declared.kind.Space.TheVariants.{NonClass, Class}
 use Rattle.ms_base.specs.Committed.{is_among}
 use Rattle.ms_commit.specs.NumberSet.{count_missing, is_in_range}
 use Rattle.ms_commit.specs.Nodes.{NodesState, AreSound, granules_in, is_granule_of, node_granules}
 use Rattle.ms_commit.proofs.RangeLemmas.{is_among-filter, is_among-range}
 use Rattle.ms_commit.proofs.SameLemmas.{same_sets}
 use Rattle.ms_commit.proofs.SetLemmas.{IsStrictlyIncreasing-range}
+use Rattle.ms_commit.proofs.SpaceLemmas.{are_of_two_spaces}
 
 in_first : (n k : ℕ) → is_in_range 0 n k ≡ nat_lt k n
 in_first n k = grind (arith, nat_tests)
@@ -41,3 +42,20 @@ below_counted nodes count sound e =
 
 pub granules_below : (nodes : NodesState) (slots granule : ℕ) → slots ≡ 64 → granule ≡ nodes.limits.granule → slots * (1048576 / granule) ≡ 64 * node_granules nodes
 granules_below nodes slots granule e f = ap (λ (n : ℕ). n * (1048576 / granule)) e ∙ ap (λ (g : ℕ). 64 * (1048576 / g)) f
+
+-- What is not missing below the class space's slots is committed there, and the rest in the class space.
+pub record IsCountedBelow (nodes : NodesState) (count missing : ℕ) : Type 0 where
+  pub fits : missing ≤ count
+  pub below : count - missing ≡ length (granules_in NonClass nodes)
+  pub above : length nodes.granules ≡ count - missing + length (granules_in Class nodes)
+
+pub counted_below : (nodes : NodesState) (slots granule missing : ℕ) → AreSound nodes → slots ≡ 64 → granule ≡ nodes.limits.granule
+    → missing ≡ count_missing nodes.granules 0 (slots * (1048576 / granule)) → IsCountedBelow nodes (slots * (1048576 / granule)) missing
+counted_below nodes slots granule missing sound e f told = record {
+  fits = omega (arith, told, counted);
+  below = omega (arith, told, counted);
+  above = omega (arith, told, counted, (are_of_two_spaces nodes sound).counted NonClass);
+}
+  where
+    counted : count_missing nodes.granules 0 (slots * (1048576 / granule)) + length (granules_in NonClass nodes) ≡ slots * (1048576 / granule)
+    counted = below_counted nodes (slots * (1048576 / granule)) sound (granules_below nodes slots granule e f)

@@ -23,9 +23,9 @@ use Rattle.ms_pool.specs.declared.lender.Lender.{Lender}
 use Rattle.ms_pool.specs.Ledger.{held_in}
 use Rattle.ms_pool.specs.Keeping.{IsKept, ledger_of}
 use Rattle.ms_pool.specs.Counting.{AreRaised, HasRoom, parts_of}
-use Rattle.ms_pool.proofs.CountLemmas.{parts_of-append, parts_of-none, parts_of-raised}
+use Rattle.ms_pool.proofs.PoolCountLemmas.{parts_of-append, parts_of-none, parts_of-raised}
 use Rattle.ms_pool.proofs.FreeRootLemmas.{free_in_root}
-use Rattle.ms_pool.proofs.SlotLoopLemmas.{end_slot, first_slot, root_in, root_there}
+use Rattle.ms_pool.proofs.SlotLoopLemmas.{end_slot, first_slot, root_in, root_there, given_by, parts_by_slots}
 
 -- The free parts of a slot, from the trees of its two roots.
 root_parts : (space : Space) (lender : Lender) (slot half level : ℕ) → IsKept lender → half ≤ 1 → first_slot space ≤ slot → slot < end_slot space lender.nodes
@@ -138,3 +138,61 @@ parts_by_level counts parts all same = fill_by_all (λ level. count_by (λ (part
 pub slot_room : (now level : ℕ) (f : ℕ → List Span) (n end : ℕ) (whole : List Span) → n < end
     → now + parts_of level (flat_map f (range_with_len n (end - n))) ≡ parts_of level whole → parts_of level whole < 2 ^ 32 → now + parts_of level (f n) < 2 ^ 32
 slot_room now level f n end whole h so_far fits = omega (arith, so_far, fits, parts_step level f n end h)
+
+-- The parts of a level in a space, and those in its slots from one on.
+abbrev pub parts_in : Space → Lender → ℕ → ℕ
+parts_in space lender level = parts_of level (free_parts (held_in space (ledger_of lender)) (slots_of space lender.nodes))
+
+abbrev pub parts_from : Space → Lender → ℕ → ℕ → ℕ
+parts_from space lender slot level =
+    parts_of level (flat_map (given_by lender.nodes (held_in space (ledger_of lender))) (range_with_len slot (end_slot space lender.nodes - slot)))
+
+abbrev pub parts_at : Space → Lender → ℕ → ℕ → ℕ
+parts_at space lender slot level = parts_of level (given_by lender.nodes (held_in space (ledger_of lender)) slot)
+
+-- What was counted and the parts of the slots that are left make the whole.
+pub record IsCountedTo (space : Space) (lender : Lender) (free : List ℕ) (slot : ℕ) : Type 0 where
+  pub low : first_slot space ≤ slot
+  pub full : length free ≡ 13
+  pub counted : (level : ℕ) → level < 13 → get_or free level 0 + parts_from space lender slot level ≡ parts_in space lender level
+
+pub counted_to_first : (space : Space) (lender : Lender) (free : List ℕ) (slot : ℕ) → IsKept lender → slot ≡ first_slot space → length free ≡ 13
+    → ((level : ℕ) → get_or free level 0 ≡ 0) → IsCountedTo space lender free slot
+counted_to_first space lender free slot kept start full none = record {
+  low = omega (arith, start);
+  full = full;
+  counted = λ level h. omega (
+    arith,
+    none level,
+    ap (parts_of level) (parts_by_slots space lender.nodes (held_in space (ledger_of lender)) kept.nodes),
+    ap (λ (first : ℕ). parts_from space lender first level) start,
+  );
+}
+
+pub counted_to_next : (space : Space) (lender : Lender) (free next : List ℕ) (slot : ℕ) → slot < end_slot space lender.nodes → IsCountedTo space lender free slot
+    → AreRaised free (parts_at space lender slot) next → IsCountedTo space lender next (slot + 1)
+counted_to_next space lender free next slot within so_far raised = record {
+  low = omega (arith, so_far.low);
+  full = raised.full ∙ so_far.full;
+  counted = λ level h. omega (
+    arith,
+    so_far.counted level h,
+    raised.counts level h,
+    parts_step level (given_by lender.nodes (held_in space (ledger_of lender))) slot (end_slot space lender.nodes) within,
+  );
+}
+
+pub room_for_next : (space : Space) (lender : Lender) (free : List ℕ) (slot : ℕ) → IsKept lender → slot < end_slot space lender.nodes → IsCountedTo space lender free slot
+    → HasRoom free (parts_at space lender slot)
+room_for_next space lender free slot kept within so_far = λ level h.
+    slot_room (get_or free level 0) level (given_by lender.nodes (held_in space (ledger_of lender))) slot (end_slot space lender.nodes)
+    (free_parts (held_in space (ledger_of lender)) (slots_of space lender.nodes)) within (so_far.counted level h) (few_parts space lender level kept)
+
+pub counted_to_last : (space : Space) (lender : Lender) (free : List ℕ) (slot : ℕ) → end_slot space lender.nodes ≤ slot → IsCountedTo space lender free slot
+    → free ≡ map (λ level. count_by (λ (part : Span). part.level == level) (free_parts (held_in space (ledger_of lender)) (slots_of space lender.nodes))) all_levels
+counted_to_last space lender free slot past so_far =
+    parts_by_level free (free_parts (held_in space (ledger_of lender)) (slots_of space lender.nodes)) so_far.full (λ level h. omega (
+      arith,
+      so_far.counted level h,
+      parts_end level (given_by lender.nodes (held_in space (ledger_of lender))) slot (end_slot space lender.nodes) past,
+    ))

@@ -13,7 +13,7 @@ use Rattle.ms_base.specs.Spaces.{is_in}
 use Rattle.ms_base.specs.FreeParts.{free_within}
 use Rattle.ms_base.proofs.free.MovedLemmas.{raised_part, raised_chunk, free_among_others}
 use Rattle.ms_buddy.specs.Leaves.{LentLeaf, AreLeaves, chunk_of, free_of}
-use Rattle.ms_buddy.proofs.HalvesLemmas.{size_of-some}
+use Rattle.ms_buddy.proofs.TreeHalvesLemmas.{size_of-some}
 use Rattle.ms_pool.specs.Ledger.{Loan}
 use Rattle.ms_pool.specs.Keeping.{loan_at, loans_from}
 use Rattle.ms_pool.proofs.RootLemmas.{EndsBy, StartsFrom, at_root}

@@ -1,7 +1,7 @@
 -- What `grow` does, from what the code has found out: the chunk is one of the account's, and the one
 -- that it becomes has its place.
 use Rattle.std.proofs.Common.{◌≡◌, ◌<◌, ◌≤◌, ◌^◌, ℕ, zero, suc, ◌+◌, ◌-◌, ◌*◌, Bool, true, false, ◌&&◌, ◌||◌, ◌==◌, Some, List, [], ◌∷◌, ◌++◌, length, get_or, map, refl, sym, ap, ap₂, subst, ◌∙◌, arith, eq-eqb, eqb-true, ltb-true, leb-true, inl, inr}
-use Rattle.std.specs.Prelude.{Option, Result, Err, ◌⊎◌, nat_le, nat_lt, slice_get, slice_set}
+use Rattle.std.specs.Prelude.{Option, Result, Err, ◌⊎◌, nat_le, nat_lt, slice_get}
 use Rattle.std.specs.List.{All, AllByRecursion, Contains, list_all, list_any}
 use Rattle.std.proofs.lemmas.Bool.{and_parts}
 use Rattle.std.proofs.lemmas.List.Elements.{All-contains, All-from_recursion}
@@ -23,6 +23,7 @@ use Rattle.ms_base.specs.Causes.{committed_count, granules_missing}
 use Rattle.ms_base.specs.PoolSteps.{grown, is_free, parent_with_front, with_front}
 use Rattle.ms_base.proofs.granules.FrontLemmas.{has_front_for}
 use Rattle.ms_base.proofs.granules.GranuleLemmas.{ends_in_node}
+use Rattle.ms_base.proofs.free.PickLemmas.{both_joined}
 use Rattle.ms_commit.specs.Nodes.{slots_of}
 use Rattle.ms_pool.specs.declared.lender.Lender.{Lender}
 use Rattle.ms_pool.specs.Account.{AccountState, AreChunks}
@@ -34,12 +35,12 @@ use Rattle.ms_pool.proofs.BuddyLemmas.{parent_size}
 use Rattle.ms_pool.proofs.OpenLemmas.{open_is_low, open_is_of_space}
 use Rattle.ms_pool.specs.Searching.{lacking}
 use Rattle.ms_pool.proofs.ReachLemmas.{by_tests, grown_past, reached-is}
-use Rattle.ms_pool.proofs.RootLemmas.{both_all}
 use Rattle.ms_pool.proofs.TakingLemmas.{all_committed, run_of_open}
 use Rattle.ms_pool.proofs.ledger.LoanLemmas.{chunks_in, chunks_in-here}
 use Rattle.ms_pool.proofs.ledger.LoanAtLemmas.{IsLoan, after_elsewhere, before_elsewhere, contains_at, loan_of, replaced, replaced_at}
-use Rattle.ms_pool.proofs.ledger.OrderLemmas.{StartsElsewhere, start_of}
-use Rattle.ms_pool.proofs.ledger.SlotLemmas.{starts_in}
+use Rattle.ms_pool.proofs.ledger.LoanOrderLemmas.{StartsElsewhere, start_of}
+use Rattle.ms_pool.proofs.ledger.LedgerSlotLemmas.{starts_in}
+use Rattle.ms_pool.specs.Placing.{IsLentThere}
 
 -- A place of a list, as it is read, and as it is where it is given what it has.
 pub found_at : (chunks : List Chunk) (place : ℕ) (chunk : Chunk) → place < length chunks → chunk ≡ get_or chunks place chunk → slice_get chunks place ≡ Some chunk
@@ -47,16 +48,10 @@ found_at [] place chunk within e = absurd (omega arith)
 found_at (c ∷ chunks) zero chunk within e = ap (λ (one : Chunk). Some one) (sym e)
 found_at (c ∷ chunks) (suc place) chunk within e = found_at chunks place chunk (omega arith) e
 
-pub set_same : (chunks : List Chunk) (place : ℕ) (chunk : Chunk) → slice_get chunks place ≡ Some chunk → slice_set chunks place chunk ≡ chunks
-set_same [] place chunk e = absurd (cc)
-set_same (c ∷ chunks) zero chunk e = let its : c ≡ chunk = cc in ap (λ (one : Chunk). one ∷ chunks) (sym its)
-set_same (c ∷ chunks) (suc place) chunk e = ap (λ (l : List Chunk). c ∷ l) (set_same chunks place chunk e)
-
 -- The chunk of an account, in the pool.
 pub record IsOwn (space : Space) (lender : Lender) (owner : ℕ) (chunk : Chunk) : Type 0 where
   pub loan : IsLoan owner chunk (ledger_of lender).loans
-  pub lent : is_lent_in (ledger_of lender).loans chunk ≡ true
-  pub reserved : is_reserved (slots_of space lender.nodes) (slot_of chunk.start) ≡ true
+  pub there : IsLentThere lender space chunk
   pub placed : IsPart chunk.start chunk.level
 
 lent_by : (owner : ℕ) (chunk : Chunk) (before after : List Loan) → is_lent_in (before ++ record { owner = owner; chunk = chunk } ∷ after) chunk ≡ true
@@ -76,8 +71,10 @@ pub is_own : (lender : Lender) (account : AccountState) (place : ℕ) (chunk : C
     → slice_get account.chunks place ≡ Some chunk → IsOwn account.space lender account.owner chunk
 is_own lender account place chunk kept served chunks found = record {
   loan = loan;
-  lent = ap (λ (l : List Loan). is_lent_in l chunk) loan.is ∙ lent_by account.owner chunk loan.before loan.after;
-  reserved = own_reserved account.space here;
+  there = record {
+    lent = ap (λ (l : List Loan). is_lent_in l chunk) loan.is ∙ lent_by account.owner chunk loan.before loan.after;
+    reserved = own_reserved account.space here;
+  };
   placed = All-contains (λ (one : Chunk). IsPart one.start one.level) account.chunks chunk chunks.parts has;
 }
   where
@@ -111,7 +108,7 @@ pub no_more : (lender : Lender) (owner : ℕ) (chunk greater : Chunk) → IsKept
     → All (HasNoMore greater) (ledger_of lender).loans
 no_more lender owner chunk greater kept loan same higher =
     All-from_recursion (HasNoMore greater) (ledger_of lender).loans (subst (AllByRecursion (HasNoMore greater)) (sym loan.is)
-    (both_all (HasNoMore greater) loan.before (own ∷ loan.after) (none loan.before (before_elsewhere loan.before own loan.after sorted))
+    (both_joined (HasNoMore greater) loan.before (own ∷ loan.after) (none loan.before (before_elsewhere loan.before own loan.after sorted))
     ((λ e. higher), none loan.after (after_elsewhere loan.before own loan.after sorted))))
   where
     own : Loan

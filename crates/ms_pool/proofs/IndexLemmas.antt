@@ -1,5 +1,5 @@
--- The index of the trees: what a bit told anew does to it, and that it stays exact where one tree
--- changes and its bits are told anew.
+-- The index of the trees: what a bit told anew does to it, and that it is exact over whole trees.
+-- `note` and `Trees::whole` use these.
 use Rattle.std.proofs.Common.{◌≡◌, ◌<◌, ◌≤◌, ℕ, suc, zero, ◌+◌, ◌*◌, ◌%◌, ◌/◌, ◌^◌, Bool, true, false, cond, not, ◌&&◌, ◌||◌, ◌==◌, List, [], length, get_or, refl, sym, ap, ◌∙◌, inl, inr, arith, ne_eqb, bit_and}
 use Rattle.std.specs.Int.{bit_at}
 use Rattle.std.proofs.lemmas.Nat.Bits.{shr_and_one}
@@ -11,8 +11,8 @@ use Rattle.ms_base.specs.Committed.{is_among}
 use Rattle.ms_commit.specs.NumberSet.{with_range, without_range}
 use Rattle.ms_commit.proofs.SetLemmas.{is_among-with_range, is_among-without_range}
 use Rattle.ms_buddy.specs.Leaves.{LentLeaf, free_of, has_level, is_of}
-use Rattle.ms_buddy.proofs.FreeLemmas.{free_of-none}
-use Rattle.ms_pool.specs.Trees.{IsIndex, has_free, place_in}
+use Rattle.ms_buddy.proofs.FreeLeafLemmas.{free_of-none}
+use Rattle.ms_pool.specs.Trees.{IsIndex, place_in}
 
 -- A bit is told anew.
 abbrev pub Tells : List ℕ → List ℕ → ℕ → Bool → Type 0
@@ -45,9 +45,6 @@ pub record AreTold (old new : List ℕ) (root levels below : ℕ) : Type 0 where
   pub here : (level : ℕ) → level < below → is_among new (place_in level root) ≡ has_level levels level
   pub others : (number : ℕ) → (number % 192 ≡ root → ⊥) → is_among new number ≡ is_among old number
 
-pub none_told : (old : List ℕ) (root levels : ℕ) → AreTold old old root levels 0
-none_told old root levels = record { here = λ level h. absurd (omega arith); others = λ number h. refl }
-
 pub one_told : (old now new : List ℕ) (root levels below : ℕ) (set : Bool) → root < 192 → AreTold old now root levels below → Tells now new (place_in below root) set
     → has_level levels below ≡ set → AreTold old new root levels (below + 1)
 one_told old now new root levels below set h told tells is = record {
@@ -63,25 +60,6 @@ one_told old now new root levels below set h told tells is = record {
       ∙ other_is number (place_in below root) set (is_among now number) (λ e. elsewhere (omega arith))
       ∙ told.others number elsewhere;
 }
-
--- One tree has changed, and its bits are told anew.
-pub still_exact : (old new : List ℕ) (trees now : List (List LentLeaf)) (root levels : ℕ) → IsIndex old trees → length now ≡ length trees
-    → ((k : ℕ) → (k ≡ root → ⊥) → get_or now k [] ≡ get_or trees k [])
-    → ((level : ℕ) → level ≤ 12 → is_among new (place_in level root) ≡ has_level levels level)
-    → ((number : ℕ) → (number % 192 ≡ root → ⊥) → is_among new number ≡ is_among old number)
-    → ((level : ℕ) → has_level levels level ≡ list_any (is_of level) (free_of (get_or now root []))) → IsIndex new now
-still_exact old new trees now root levels index count same here others free = record {
-  few = omega (arith, count, index.few);
-  exact = λ level at_ low there. elim (cases_eq at_ root) [
-    | inl own ↦ ap (λ (r : ℕ). is_among new (place_in level r)) own ∙ here level low ∙ free level ∙ ap (λ (r : ℕ). has_free now level r) (sym own)
-    | inr other ↦ others (place_in level at_) (λ e. other (remainder level at_ root (omega (arith, there, count, index.few)) e))
-        ∙ index.exact level at_ low (omega (arith, there, count))
-        ∙ ap (λ (tree : List LentLeaf). list_any (is_of level) (free_of tree)) (sym (same at_ other))
-  ];
-}
-  where
-    remainder : (level at_ root : ℕ) → at_ < 192 → (192 * level + at_) % 192 ≡ root → at_ ≡ root
-    remainder level at_ root h e = omega arith
 
 -- With whole trees alone each has level 0 free.
 read_replicate : (count at_ : ℕ) → get_or {A = List LentLeaf} (replicate count []) at_ [] ≡ []

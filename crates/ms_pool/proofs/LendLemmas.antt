@@ -1,5 +1,5 @@
 -- The granules of a space once a chunk is lent: those that were committed, and those of its front.
-use Rattle.std.proofs.Common.{◌≡◌, ◌<◌, ◌≤◌, ℕ, ◌+◌, ◌-◌, ◌*◌, ◌/◌, Bool, true, false, cond, ◌&&◌, ◌||◌, ◌==◌, List, [], ◌∷◌, refl, sym, ap, subst, ◌∙◌, arith, inl, inr, lt-ltb, le-ltb, le-leb, eq-eqb}
+use Rattle.std.proofs.Common.{◌≡◌, ◌<◌, ◌≤◌, ℕ, ◌+◌, ◌-◌, ◌*◌, ◌/◌, Bool, true, false, ◌&&◌, ◌||◌, List, [], ◌∷◌, refl, sym, ap, ◌∙◌, arith, inl, inr, lt-ltb, le-ltb, le-leb}
 use Rattle.std.specs.Prelude.{nat_lt, nat_le}
 use Rattle.std.specs.List.{AllByRecursion, list_all, list_any}
 use Rattle.std.proofs.lemmas.Bool.{and_parts, cases_lt, lt-leb, or_cases}
@@ -19,6 +19,7 @@ use Rattle.ms_base.specs.Front.{HasFront}
 use Rattle.ms_base.specs.Held.{AreHeld}
 use Rattle.ms_base.specs.Committed.{committed_with, is_among, is_committed, is_committed_now}
 use Rattle.ms_base.proofs.granules.GranuleLemmas.{ends_in_node}
+use Rattle.ms_base.proofs.granules.FreeGranuleLemmas.{meets_bounds}
 use Rattle.ms_commit.specs.NumberSet.{is_in_range, with_range}
 use Rattle.ms_commit.specs.Nodes.{NodesState, AreSound, granules_in, is_granule_of, node_granules, slots_of}
 use Rattle.ms_commit.proofs.ModelLemmas.{is_among-committed, is_among-meeting, space_is_committed}
@@ -28,10 +29,6 @@ use Rattle.ms_pool.specs.Ledger.{Loan, with_loan}
 use Rattle.ms_pool.proofs.ledger.LoanLemmas.{chunks_in, chunks_in-with, chunks_in-with_elsewhere}
 
 -- A granule that meets a front lies in its chunk's slot.
-bounds : (a m b n : ℕ) → meet a m b n ≡ true → (a < b + n) × (b < a + m)
-bounds a m b n e = let both = and_parts (nat_lt a (b + n)) (nat_lt b (a + m)) e in
-    (Rattle.std.proofs.Common.ltb-true a (b + n) both.0, Rattle.std.proofs.Common.ltb-true b (a + m) both.1)
-
 by_granule : (policy : Policy) (start front k node : ℕ) → node * node_words ≤ start → start + front ≤ node * node_words + node_words
     → start < k * granule_of policy + granule_of policy → k * granule_of policy < start + front → k / slot_granules (granule_of policy) ≡ node
 by_granule Balanced start front k node low high h l = omega arith
@@ -41,7 +38,7 @@ by_granule Never start front k node low high h l = omega arith
 pub front_in_slot : (policy : Policy) (start front level k : ℕ) → IsPart start level → front ≤ size_of level
     → meet start front (k * granule_of policy) (granule_of policy) ≡ true → k / slot_granules (granule_of policy) ≡ slot_of start
 front_in_slot policy start front level k part within meets =
-    let both = bounds start front (k * granule_of policy) (granule_of policy) meets in
+    let both = meets_bounds start front (k * granule_of policy) (granule_of policy) meets in
     by_granule policy start front k (slot_of start) (omega arith) (omega (arith, within, ends_in_node start level part)) both.0 both.1
 
 -- So a granule that meets a held chunk's front lies in a reserved slot.

@@ -17,13 +17,13 @@ use Rattle.ms_base.proofs.free.MovedLemmas.{raised_chunk}
 use Rattle.ms_base.proofs.machine.SumLemmas.{capacity_within, fronts_within}
 use Rattle.ms_commit.specs.Nodes.{NodesState, slots_of}
 use Rattle.ms_buddy.specs.Leaves.{LentLeaf, AreLeaves, chunk_of}
-use Rattle.ms_buddy.proofs.HalvesLemmas.{size_of-some}
+use Rattle.ms_buddy.proofs.TreeHalvesLemmas.{size_of-some}
 use Rattle.ms_pool.specs.declared.lender.Lender.{Lender}
 use Rattle.ms_pool.specs.declared.counting.Counted.{Counted}
 use Rattle.ms_pool.specs.Ledger.{held_in}
 use Rattle.ms_pool.specs.Keeping.{IsKept, ledger_of, loan_at, loans_from}
 use Rattle.ms_pool.specs.Counting.{Counts, HasRoomFor, front_in, one_of, total, words_in}
-use Rattle.ms_pool.proofs.CountLemmas.{HasCounted, all_counted, counts_on, room_left, total-cons, total-none, total-raised}
+use Rattle.ms_pool.proofs.PoolCountLemmas.{HasCounted, all_counted, counts_on, room_left, total-cons, total-none, total-raised}
 use Rattle.ms_pool.proofs.FreeRootLemmas.{IsRootIn, at_tree, chunks_there, chunks_there-append, own_there}
 use Rattle.ms_pool.proofs.FreeCountLemmas.{few_slots}
 use Rattle.ms_pool.proofs.SlotLoopLemmas.{end_slot, first_slot, root_in}

@@ -13,7 +13,7 @@ use Rattle.ms_base.specs.Level.{root_words}
 use Rattle.ms_base.specs.FreeLaws.{start_of}
 use Rattle.ms_base.specs.FreeParts.{free_parts, free_within}
 use Rattle.ms_base.proofs.free.RisingLemmas.{free_parts_rise}
-use Rattle.ms_buddy.proofs.HalvesLemmas.{size_of-some}
+use Rattle.ms_buddy.proofs.TreeHalvesLemmas.{size_of-some}
 use Rattle.ms_buddy.specs.Leaves.{LentLeaf, chunk_of, free_of, is_of, is_of_from}
 use Rattle.ms_pool.specs.Searching.{are_among, first_in, part_in}
 use Rattle.ms_pool.proofs.EnoughLemmas.{InRootPart, free_lie_in}

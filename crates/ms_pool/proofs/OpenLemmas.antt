@@ -2,7 +2,7 @@
 use Rattle.std.proofs.Common.{◌≡◌, ◌<◌, ◌≤◌, ℕ, ◌+◌, Bool, true, false, cond, ◌||◌, ◌==◌, length, refl, sym, ap, ◌∙◌, arith, inl, inr, eq-eqb}
 use Rattle.std.specs.Ordering.{nat_cmp}
 use Rattle.std.specs.BTreeSet.{insert_key}
-use Rattle.std.proofs.lemmas.Bool.{both_ways, false_from_ne_true, ltb-true, leb-true}
+use Rattle.std.proofs.lemmas.Bool.{both_ways, false_from_ne_true, ltb-true, leb-true, or_left, or_right}
 use Rattle.std.proofs.lemmas.Bool.Decides.{nat_tests}
 use Rattle.std.proofs.lemmas.List.Folds.{list_any-append}
 use Rattle.std.proofs.lemmas.Map.Keys.{sorted_from_strictly_increasing}
@@ -19,15 +19,7 @@ use Rattle.ms_commit.proofs.RangeLemmas.{is_among-range}
 use Rattle.ms_commit.proofs.SameLemmas.{is_among-insert_key}
 use Rattle.ms_pool.specs.Keeping.{IsOpen, with_reserved}
 use Rattle.ms_pool.proofs.ledger.FoundLemmas.{lowest_within}
-use Rattle.ms_pool.proofs.ledger.SlotLemmas.{same_with}
-
-or_left : (a b : Bool) → a ≡ true → (a || b) ≡ true
-or_left true b e = refl
-or_left false b e = absurd (cc)
-
-or_right : (a b : Bool) → b ≡ true → (a || b) ≡ true
-or_right true b e = refl
-or_right false b e = e
+use Rattle.ms_pool.proofs.ledger.LedgerSlotLemmas.{same_with}
 
 -- A slot that is reserved in a space is reserved.
 pub reserved_of_space : (space : Space) (nodes : NodesState) (slot : ℕ) → is_reserved (slots_of space nodes) slot ≡ true → is_reserved (all_slots nodes) slot ≡ true

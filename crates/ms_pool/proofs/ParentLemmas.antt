@@ -21,7 +21,7 @@ use Rattle.ms_base.proofs.free.MovedLemmas.{raised_part}
 use Rattle.ms_base.proofs.free.PartLemmas.{size_by_level}
 use Rattle.ms_commit.specs.Nodes.{slots_of}
 use Rattle.ms_buddy.specs.Leaves.{LentLeaf, AreLeaves, can_enlarge, free_of, is_same, span_at}
-use Rattle.ms_buddy.proofs.HalvesLemmas.{size_of-some}
+use Rattle.ms_buddy.proofs.TreeHalvesLemmas.{size_of-some}
 use Rattle.ms_pool.specs.declared.lender.Lender.{Lender}
 use Rattle.ms_pool.specs.Ledger.{held_in, state_in}
 use Rattle.ms_pool.specs.Keeping.{IsKept, ledger_of}

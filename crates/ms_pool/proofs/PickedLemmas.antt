@@ -86,6 +86,3 @@ found_is_reserved pool p m words part h is =
     let free = All-contains (IsFreePart pool.held pool.slots) (free_parts pool.held pool.slots) other.1 (listed_is_free pool.held pool.slots) (other.0, other.2, other.3) in
     ap (λ (start : ℕ). is_reserved pool.slots (slot_of start)) (sym (eqb-true other.1.start part.start (and_parts (other.1.start == part.start) (other.1.level == part.level) other.4).0))
     ∙ free.reserved
-
-pub slot_of_its_root : (slot : ℕ) → slot_of (slot * node_words) ≡ slot
-slot_of_its_root slot = omega arith

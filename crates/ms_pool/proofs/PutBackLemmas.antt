@@ -1,7 +1,6 @@
 -- The pool where its trees have taken a chunk back, and the nodes uncommit what no front meets any
 -- more: it is the model's. The proof of `release` uses them.
-use Rattle.std.proofs.Common.{◌≡◌, ◌<◌, ◌≤◌, ℕ, ◌*◌, ◌/◌, ◌%◌, true, false, not, ◌⊎◌, List, [], get_or, length, refl, sym, ap, ◌∙◌, arith, Some}
-use Rattle.std.specs.List.{All, find}
+use Rattle.std.proofs.Common.{◌≡◌, ◌<◌, ◌≤◌, ℕ, ◌*◌, ◌/◌, true, false, not, ◌⊎◌, List, refl, sym, ap, ◌∙◌, arith}
 use Rattle.std.proofs.lemmas.List.Elements.{recursion_from_All}
 use denote.Enum.Bare.{sameb}
 use Rattle.ms_base.specs.declared.kind.Space.{Space}
@@ -15,10 +14,10 @@ use Rattle.ms_base.specs.Level.{size_of, root_words}
 use Rattle.ms_base.specs.Policy.{granule_of, keeps}
 use Rattle.ms_base.proofs.free.MovedLemmas.{raised_part}
 use Rattle.ms_commit.specs.Nodes.{NodesState, AreInReserved, granules_in, without_granules}
-use Rattle.ms_buddy.specs.Leaves.{LentLeaf, AreLeaves, covers, free_of}
+use Rattle.ms_buddy.specs.Leaves.{LentLeaf, AreLeaves}
 use Rattle.ms_pool.specs.declared.lender.Lender.{Lender}
 use Rattle.ms_pool.specs.Ledger.{Loan, Ledger}
-use Rattle.ms_pool.specs.Releasing.{is_lent_in, with_released, without_loan}
+use Rattle.ms_pool.specs.Releasing.{is_lent_in, with_released, without_loan, TakesBack}
 use Rattle.ms_pool.specs.Keeping.{IsKept, ledger_of, loans_from}
 use Rattle.ms_pool.proofs.SlotLoopLemmas.{committed_is}
 use Rattle.ms_pool.proofs.ReleasedGranuleLemmas.{first_of, count_of}
@@ -36,20 +35,12 @@ keeps_where Balanced e = absurd (cc)
 keeps_where Aggressive e = absurd (cc)
 keeps_where Never e = refl
 
--- The trees have taken the chunk back, and the free leaf is found.
-pub record IsPutBack (lender : Lender) (trees : List (List LentLeaf)) (chunk : Chunk) (part : Span) : Type 0 where
-  pub loans : loans_from 0 trees ≡ without_loan chunk (loans_from 0 lender.trees.items)
-  pub leaves : All AreLeaves trees
-  pub count : length trees ≡ length lender.trees.items
-  pub there : chunk.start / root_words < length lender.trees.items
-  pub free : find (covers (chunk.start % root_words)) (free_of (get_or trees (chunk.start / root_words) [])) ≡ Some part
-
 -- The part, by its place in the pool.
 abbrev pub place_of : Chunk → Span → Span
 place_of chunk part = raised_part (chunk.start / root_words * root_words) part
 
 back : (lender : Lender) (trees : List (List LentLeaf)) (chunk : Chunk) (part : Span) (of : IsOfSpace chunk.start) → IsKept lender
-    → is_lent_in (loans_from 0 lender.trees.items) chunk ≡ true → IsPutBack lender trees chunk part
+    → is_lent_in (loans_from 0 lender.trees.items) chunk ≡ true → TakesBack lender.trees.items chunk part trees
     → IsBack (ledger_of lender) of.space chunk (place_of chunk part)
 back lender trees chunk part of kept lent put =
     is_back (ledger_of lender) trees chunk part of.space kept.sound lent of.here of.there put.loans (recursion_from_All AreLeaves trees put.leaves)
@@ -85,7 +76,7 @@ same_seen lender chunk loans granules e f =
 
 -- All granules stay.
 pub released_where_all_stay : (lender : Lender) (trees : List (List LentLeaf)) (chunk : Chunk) (part : Span) → IsKept lender
-    → is_lent_in (loans_from 0 lender.trees.items) chunk ≡ true → IsPutBack lender trees chunk part
+    → is_lent_in (loans_from 0 lender.trees.items) chunk ≡ true → TakesBack lender.trees.items chunk part trees
     → (keeps lender.policy ≡ true) ⊎ ((keeps lender.policy ≡ false) × (size_of part.level < granule_of lender.policy))
     → seen (ledger_of lender) (loans_from 0 trees) lender.nodes ≡ with_released (ledger_of lender) chunk
 released_where_all_stay lender trees chunk part kept lent put small =
@@ -104,7 +95,7 @@ pub record LeaveThere (lender : Lender) (trees : List (List LentLeaf)) (chunk : 
       ≡ with_released (ledger_of lender) chunk
 
 pub released_where_some_leave : (lender : Lender) (trees : List (List LentLeaf)) (chunk : Chunk) (part : Span) → IsKept lender
-    → is_lent_in (loans_from 0 lender.trees.items) chunk ≡ true → IsPutBack lender trees chunk part
+    → is_lent_in (loans_from 0 lender.trees.items) chunk ≡ true → TakesBack lender.trees.items chunk part trees
     → keeps lender.policy ≡ false → granule_of lender.policy ≤ size_of part.level
     → LeaveThere lender trees chunk part
 released_where_some_leave lender trees chunk part kept lent put leaves large = record {

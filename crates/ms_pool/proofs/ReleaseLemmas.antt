@@ -19,12 +19,12 @@ use Rattle.ms_base.specs.Committed.{committed_with}
 use Rattle.ms_base.specs.State.{committed_now}
 use Rattle.ms_base.proofs.machine.GoodLemmas.{each_space}
 use Rattle.ms_base.proofs.free.MovedLemmas.{raised_part}
-use Rattle.ms_base.proofs.granules.KeepingLemmas.{uncommits_nothing}
+use Rattle.ms_base.proofs.granules.GranuleKeepingLemmas.{uncommits_nothing}
 use Rattle.ms_buddy.specs.Leaves.{LentLeaf, AreLeaves, covers, free_of}
 use Rattle.ms_pool.specs.Ledger.{Ledger, IsSoundLedger, committed_of, held_in, state_in}
 use Rattle.ms_pool.specs.Releasing.{is_at, is_lent_in, with_released, without_loan}
 use Rattle.ms_pool.specs.Keeping.{loans_from}
-use Rattle.ms_pool.proofs.ledger.CloseLemmas.{sound_with_fewer}
+use Rattle.ms_pool.proofs.ledger.LedgerCloseLemmas.{sound_with_fewer}
 use Rattle.ms_pool.proofs.ledger.FewerLemmas.{AreFewer, all_are_fewer, filtered_are_fewer}
 use Rattle.ms_pool.proofs.FreeRootLemmas.{chunks_there}
 use Rattle.ms_pool.proofs.ReleasedChunkLemmas.{is_there, without_chunk, held_without, held_there, held_elsewhere, clear_once_out}

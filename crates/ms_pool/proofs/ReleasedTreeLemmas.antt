@@ -10,7 +10,7 @@ use Rattle.ms_base.specs.declared.span.Chunk.{Chunk}
 use Rattle.ms_base.specs.declared.span.Span.{Span}
 use Rattle.ms_base.specs.Level.{size_of, root_words}
 use Rattle.ms_buddy.specs.Leaves.{LentLeaf, AreLeaves, is_lent, is_same, span_of, without_leaf}
-use Rattle.ms_buddy.proofs.HalvesLemmas.{size_of-some}
+use Rattle.ms_buddy.proofs.TreeHalvesLemmas.{size_of-some}
 use Rattle.ms_pool.specs.Ledger.{Loan}
 use Rattle.ms_pool.specs.Keeping.{loan_at, loans_from}
 use Rattle.ms_pool.specs.Releasing.{is_at, is_lent_in, without_loan}

@@ -3,6 +3,7 @@
 use Rattle.std.proofs.Common.{◌≡◌, ◌<◌, ◌≤◌, ℕ, zero, suc, ◌+◌, ◌*◌, List, [], ◌∷◌, ◌++◌, length, get_or, set, map, refl, sym, ap, subst, ◌∙◌, arith, append_assoc}
 use Rattle.std.specs.List.{AllByRecursion}
 use Rattle.ms_base.specs.Level.{size_of, root_words}
+use Rattle.ms_base.proofs.free.PickLemmas.{both_joined}
 use Rattle.ms_buddy.specs.Leaves.{LentLeaf, AreLeaves}
 use Rattle.ms_pool.specs.Ledger.{Loan}
 use Rattle.ms_pool.specs.Keeping.{loan_at, loans_from}
@@ -13,11 +14,6 @@ EndsBy end loan = loan.chunk.start + size_of loan.chunk.level ≤ end
 
 abbrev pub StartsFrom : ℕ → Loan → Type 0
 StartsFrom start loan = start ≤ loan.chunk.start
-
--- What holds of all of two lists holds of both together.
-pub both_all : {X : Type 0} (P : X → Type 0) (xs ys : List X) → AllByRecursion P xs → AllByRecursion P ys → AllByRecursion P (xs ++ ys)
-both_all P [] ys all more = more
-both_all P (x ∷ xs) ys all more = (all.0, both_all P xs ys all.1 more)
 
 -- A root's leaves, as loans, lie in it.
 abbrev InRoot : LentLeaf → Type 0
@@ -41,7 +37,7 @@ wider_by low high (loan ∷ loans) h all = (omega (arith, all.0), wider_by low h
 
 pub starts_from_first : (first : ℕ) (trees : List (List LentLeaf)) → AllByRecursion (StartsFrom (first * root_words)) (loans_from first trees)
 starts_from_first first [] = tt
-starts_from_first first (tree ∷ trees) = both_all (StartsFrom (first * root_words)) (map (loan_at first) tree) (loans_from (first + 1) trees)
+starts_from_first first (tree ∷ trees) = both_joined (StartsFrom (first * root_words)) (map (loan_at first) tree) (loans_from (first + 1) trees)
     (starts_in_root first tree)
     (wider_from (first * root_words) ((first + 1) * root_words) (loans_from (first + 1) trees) (omega arith) (starts_from_first (first + 1) trees))
 
@@ -75,7 +71,7 @@ at_root (t ∷ trees) first (suc i) root e within all =
           ∙ sym (append_assoc (map (loan_at first) t) rest.before (map (loan_at root) (get_or trees i []) ++ rest.after));
       changed = λ tree. ap (λ (l : List Loan). map (loan_at first) t ++ l) (rest.changed tree)
           ∙ sym (append_assoc (map (loan_at first) t) rest.before (map (loan_at root) tree ++ rest.after));
-      low = both_all (EndsBy (root * root_words)) (map (loan_at first) t) rest.before
+      low = both_joined (EndsBy (root * root_words)) (map (loan_at first) t) rest.before
           (wider_by ((first + 1) * root_words) (root * root_words) (map (loan_at first) t) (omega (arith, e)) (ends_in_root first t all.0.in_root))
           rest.low;
       high = rest.high;

@@ -9,7 +9,7 @@ use Rattle.ms_base.specs.declared.kind.Space.{Space}
 use Rattle.ms_base.specs.declared.refusal.Refusal.{Refusal}
 use Rattle.ms_pool.specs.Account.{AccountState}
 use Rattle.ms_pool.specs.Ledger.{Ledger, Serves}
-use Rattle.ms_pool.proofs.ledger.CloseLemmas.{both_closed_serves_others}
+use Rattle.ms_pool.proofs.ledger.LedgerCloseLemmas.{both_closed_serves_others}
 use Rattle.ms_pool.specs.Calls.{ClosedBoth, Opened, OpenedBoth}
 use Rattle.ms_pool.specs.Serving.{AreServed, HasNone, StandsAt}
 

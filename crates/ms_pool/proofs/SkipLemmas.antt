@@ -1,24 +1,25 @@
 -- Slots of whose roots none has a free leaf of the level are passed over: the loop over slots goes on
 -- from the one that the index tells.
-use Rattle.std.proofs.Common.{◌≡◌, ◌<◌, ◌≤◌, ℕ, zero, suc, ◌+◌, ◌-◌, ◌*◌, Bool, true, false, cond, not, ◌&&◌, ◌||◌, ◌==◌, List, [], ◌∷◌, get_or, map, refl, ap, ◌∙◌, arith, Option, Some, None}
+use Rattle.std.proofs.Common.{◌≡◌, ◌<◌, ◌≤◌, ℕ, zero, suc, ◌+◌, ◌-◌, ◌*◌, Bool, true, false, cond, not, ◌&&◌, ◌||◌, ◌==◌, List, [], ◌∷◌, get_or, map, refl, ap, ◌∙◌, arith, Option, Some, None, sym}
 use Rattle.std.specs.List.{find, flat_map, list_any, range_with_len}
+use Rattle.std.specs.Option.{option_or}
 use Rattle.ms_base.specs.declared.kind.Space.{Space}
 use Rattle.ms_base.specs.declared.kind.Space.TheVariants.{NonClass, Class}
 use Rattle.ms_base.specs.Spaces.{by_space}
 use Rattle.ms_base.specs.declared.span.Span.{Span}
 use Rattle.ms_base.specs.Level.{size_of}
-use Rattle.ms_base.specs.FreeParts.{free_in_slot}
+use Rattle.ms_base.specs.FreeParts.{free_in_slot, free_parts}
 use Rattle.ms_base.specs.Part.{is_reserved}
 use Rattle.ms_base.specs.Policy.{granule_of}
-use Rattle.ms_commit.specs.Nodes.{all_slots}
+use Rattle.ms_commit.specs.Nodes.{all_slots, slots_of}
 use Rattle.ms_buddy.specs.Leaves.{LentLeaf, free_of, is_of}
 use Rattle.ms_pool.specs.declared.lender.Lender.{Lender}
 use Rattle.ms_pool.specs.Ledger.{held_in, state_in}
 use Rattle.ms_pool.specs.Keeping.{IsKept, ledger_of}
 use Rattle.ms_pool.specs.Searching.{are_among, first_in, grants, part_in}
 use Rattle.ms_pool.specs.Trees.{has_free}
-use Rattle.ms_pool.proofs.SearchLemmas.{find_step, found_later}
-use Rattle.ms_pool.proofs.SlotLoopLemmas.{end_slot, first_slot, given_by, slot_found}
+use Rattle.ms_pool.proofs.SearchLemmas.{find_step, found_later, find_end}
+use Rattle.ms_pool.proofs.SlotLoopLemmas.{end_slot, first_slot, given_by, slot_found, parts_by_slots}
 
 -- A root without a free leaf of the level has none to find.
 none_of_level : (passes : Span → Bool) (level root : ℕ) (parts : List Span) → list_any (is_of level) parts ≡ false
@@ -91,3 +92,53 @@ to_slot space lender words committed level a b kept some fits low h k none =
 pub first_before : (space : Space) (class_slots : ℕ) → by_space space 0 64 ≤ by_space space 64 (64 + class_slots)
 first_before NonClass class_slots = omega arith
 first_before Class class_slots = omega arith
+
+-- What the slots of a space give to a search: all of them, and those from one on.
+abbrev pub found_of : Space → Lender → ℕ → Bool → ℕ → Option Span
+found_of space lender words committed level =
+    find (grants (state_in space (ledger_of lender)) words committed level) (free_parts (held_in space (ledger_of lender)) (slots_of space lender.nodes))
+
+abbrev pub found_by : Space → Lender → ℕ → Bool → ℕ → ℕ → Option Span
+found_by space lender words committed level slot =
+    find (grants (state_in space (ledger_of lender)) words committed level) (given_by lender.nodes (held_in space (ledger_of lender)) slot)
+
+abbrev pub found_from : Space → Lender → ℕ → Bool → ℕ → ℕ → Option Span
+found_from space lender words committed level slot =
+    find (grants (state_in space (ledger_of lender)) words committed level)
+    (flat_map (given_by lender.nodes (held_in space (ledger_of lender))) (range_with_len slot (end_slot space lender.nodes - slot)))
+
+-- What is found first lies in the slots that are left.
+pub record IsLookedTo (space : Space) (lender : Lender) (words : ℕ) (committed : Bool) (level slot : ℕ) : Type 0 where
+  pub low : first_slot space ≤ slot
+  pub high : slot ≤ end_slot space lender.nodes
+  pub first : found_of space lender words committed level ≡ found_from space lender words committed level slot
+
+pub looked_to_first : (space : Space) (lender : Lender) (words : ℕ) (committed : Bool) (level slot : ℕ) → IsKept lender → slot ≡ first_slot space
+    → IsLookedTo space lender words committed level slot
+looked_to_first space lender words committed level slot kept start = record {
+  low = omega (arith, start);
+  high = omega (arith, start, first_before space lender.nodes.class_slots);
+  first = ap (find (grants (state_in space (ledger_of lender)) words committed level)) (parts_by_slots space lender.nodes (held_in space (ledger_of lender)) kept.nodes)
+      ∙ ap (found_from space lender words committed level) (sym start);
+}
+
+-- Where no root below the next slot has a free leaf of the level, that slot decides, or those after it;
+-- where there is no next one, nothing is found.
+pub decided_at : (space : Space) (lender : Lender) (words : ℕ) (committed : Bool) (level a slot : ℕ) → IsKept lender → 1 ≤ words → words ≤ size_of level
+    → IsLookedTo space lender words committed level a → a ≤ slot → slot < end_slot space lender.nodes
+    → ((root : ℕ) → 2 * a ≤ root → root < 2 * slot → has_free lender.trees.items level root ≡ false)
+    → found_of space lender words committed level ≡ option_or (found_by space lender words committed level slot) (found_from space lender words committed level (slot + 1))
+decided_at space lender words committed level a slot kept some fits looked before within none =
+    looked.first
+    ∙ to_slot space lender words committed level a slot kept some fits looked.low before (omega (arith, within)) none
+    ∙ find_step (grants (state_in space (ledger_of lender)) words committed level) (given_by lender.nodes (held_in space (ledger_of lender))) slot (end_slot space lender.nodes) within
+
+pub decided_last : (space : Space) (lender : Lender) (words : ℕ) (committed : Bool) (level a : ℕ) → IsKept lender → 1 ≤ words → words ≤ size_of level
+    → IsLookedTo space lender words committed level a
+    → ((root : ℕ) → 2 * a ≤ root → root < 2 * end_slot space lender.nodes → has_free lender.trees.items level root ≡ false)
+    → found_of space lender words committed level ≡ None
+decided_last space lender words committed level a kept some fits looked none =
+    looked.first
+    ∙ to_slot space lender words committed level a (end_slot space lender.nodes) kept some fits looked.low looked.high (omega arith) none
+    ∙ find_end (grants (state_in space (ledger_of lender)) words committed level) (given_by lender.nodes (held_in space (ledger_of lender)))
+    (end_slot space lender.nodes) (end_slot space lender.nodes) (omega arith)

@@ -22,10 +22,15 @@ use Rattle.ms_base.proofs.granules.MissingLemmas.{limit_by_missing, need_by_miss
 use Rattle.ms_base.proofs.granules.NeedLemmas.{picked_is_part}
 use Rattle.ms_commit.proofs.SpaceLemmas.{are_of_two_spaces}
 use Rattle.ms_pool.specs.declared.lender.Lender.{Lender}
-use Rattle.ms_pool.specs.Ledger.{state_in}
+use Rattle.ms_pool.specs.Ledger.{state_in, Serves}
 use Rattle.ms_pool.specs.Keeping.{IsKept, IsOpen, IsRunOf, ledger_of}
 use Rattle.ms_pool.specs.Searching.{is_full, lacking, part_picked}
 use Rattle.ms_pool.proofs.OpenLemmas.{IsSlotThere, open_is_low, open_is_of_space}
+use Rattle.ms_pool.specs.Lending.{chunk_at, Adds, span_of}
+use Rattle.ms_pool.specs.Account.{AccountState, AreChunks}
+use Rattle.ms_pool.specs.Placing.{MayBeLent}
+use Rattle.ms_pool.proofs.ledger.TakeLemmas.{TakenWell, taken_well, with_chunk}
+use Rattle.ms_pool.proofs.ledger.TookLemmas.{MayAsk}
 
 -- The chunk at the part that is picked.
 pub chunk_is : (pool : PoolState) (p m words : ℕ) (span : Span) → span ≡ part_picked pool p m words
@@ -133,3 +138,64 @@ taken_ok space lender p m words chunk kept h k some fits is room within =
     met = limit_by_missing pool p m words (kept.sound.spaces space) h k some fits room
         ∙ le-ltb pool.limits.granules (committed_count pool + granules_missing pool (chunk_picked pool p m words))
         (omega (arith, within, all_committed space lender kept, ap (granules_missing pool) is))
+
+-- What `take` knows once a part is picked: its chunk is the model's, and is well picked.
+pub record IsPickedThere (lender : Lender) (space : Space) (wanted most words : ℕ) (chunk : Chunk) : Type 0 where
+  pub asks : MayAsk wanted most words
+  pub is : chunk ≡ chunk_picked (state_in space (ledger_of lender)) wanted most words
+  pub slot : IsOpen space lender.nodes (slot_of chunk.start)
+  pub well : IsWellPicked space chunk
+
+pub picked_there : (lender : Lender) (space : Space) (wanted most words : ℕ) (span : Span) (chunk : Chunk) → IsKept lender → MayAsk wanted most words
+    → span ≡ part_picked (state_in space (ledger_of lender)) wanted most words → IsOpen space lender.nodes (slot_of span.start)
+    → chunk ≡ chunk_at lender.policy span words → IsPickedThere lender space wanted most words chunk
+picked_there lender space wanted most words span chunk kept asks picked open_ made = record {
+  asks = asks;
+  is = is;
+  slot = slot;
+  well = is_well_picked space lender wanted most words chunk kept asks.levels asks.real asks.some asks.fits is slot;
+}
+  where
+    is : chunk ≡ chunk_picked (state_in space (ledger_of lender)) wanted most words
+    is = made ∙ chunk_is (state_in space (ledger_of lender)) wanted most words span picked
+
+    slot : IsOpen space lender.nodes (slot_of chunk.start)
+    slot = subst (λ (one : Chunk). IsOpen space lender.nodes (slot_of one.start)) (sym made) open_
+
+-- The limit is kept: the chunk is lent, and all is well with it.
+pub record TakesThere (lender : Lender) (account : AccountState) (wanted most words : ℕ) (chunk : Chunk) : Type 0 where
+  pub ok : taken (state_in account.space (ledger_of lender)) wanted most words ≡ Ok chunk
+  pub good : TakenWell (ledger_of lender) account wanted most words chunk
+  pub may : MayBeLent lender account.space account.owner chunk
+
+pub takes_there : (lender : Lender) (account now : AccountState) (wanted most words : ℕ) (chunk : Chunk) → IsKept lender
+    → IsPickedThere lender account.space wanted most words chunk
+    → account ≡ now → Serves (ledger_of lender) now → AreChunks account.space account.chunks
+    → is_full (state_in account.space (ledger_of lender)) most ≡ false
+    → length lender.nodes.granules + lacking (state_in account.space (ledger_of lender)) chunk ≤ lender.nodes.limits.granules
+    → TakesThere lender account wanted most words chunk
+takes_there lender account now wanted most words chunk kept at_ same served chunks room within = record {
+  ok = ok;
+  good = good;
+  may = record {
+    placed = at_.well.placed;
+    some = at_.well.some;
+    within = at_.well.within;
+    inside = at_.well.inside;
+    slot = at_.slot;
+    limit = within;
+    sound = good.sound;
+  };
+}
+  where
+    ok : taken (state_in account.space (ledger_of lender)) wanted most words ≡ Ok chunk
+    ok = taken_ok account.space lender wanted most words chunk kept at_.asks.levels at_.asks.real at_.asks.some at_.asks.fits at_.is room within
+
+    good : TakenWell (ledger_of lender) account wanted most words chunk
+    good = taken_well (ledger_of lender) account wanted most words chunk kept.sound (subst (Serves (ledger_of lender)) (sym same) served) chunks
+        at_.asks.levels at_.asks.real at_.asks.some at_.asks.fits ok
+
+pub adds_there : (lender : Lender) (account : AccountState) (wanted most words : ℕ) (span : Span) (chunk : Chunk) → chunk ≡ chunk_at lender.policy span words
+    → TakesThere lender account wanted most words chunk → Adds lender.policy wanted most words account span (with_chunk account chunk)
+adds_there lender account wanted most words span chunk made takes =
+    subst (λ (one : Span). Adds lender.policy wanted most words account one (with_chunk account chunk)) (ap span_of made) takes.good.adds

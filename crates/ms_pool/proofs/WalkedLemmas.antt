@@ -16,7 +16,7 @@ use Rattle.ms_buddy.specs.Leaves.{LentLeaf, AreLeaves, AreInOrder, IsLeafAt, chu
 use Rattle.ms_buddy.specs.Leaves.{span_of as leaf_span}
 use Rattle.ms_buddy.specs.declared.node.Leaf.{Leaf}
 use Rattle.ms_buddy.specs.declared.node.Leaf.TheVariants.{Free, Lent}
-use Rattle.ms_buddy.proofs.HalvesLemmas.{size_of-some}
+use Rattle.ms_buddy.proofs.TreeHalvesLemmas.{size_of-some}
 use Rattle.ms_pool.specs.Counting.{chunks_at}
 
 -- How far a walk has come: the leaves before the offset have ended, and the others start later.

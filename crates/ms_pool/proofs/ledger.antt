@@ -1,11 +1,11 @@
 -- The pool as its callers see it: what holds of it before and after each call. TookLemmas, GrewLemmas,
--- ClosedLemmas and HeldLemmas have what callers need; the others are their parts.
+-- ClosedLemmas and HeldLoanLemmas have what callers need; the others are their parts.
 pub mod LoanLemmas
 pub mod SoundLemmas
 pub mod FoundLemmas
 pub mod TakenLemmas
-pub mod SlotLemmas
-pub mod OrderLemmas
+pub mod LedgerSlotLemmas
+pub mod LoanOrderLemmas
 pub mod LentLemmas
 pub mod AccountLemmas
 pub mod TakeLemmas
@@ -13,11 +13,10 @@ pub mod GreaterLemmas
 pub mod LoanAtLemmas
 pub mod GrowLemmas
 pub mod FewerLemmas
-pub mod CloseLemmas
-pub mod OpenLemmas
+pub mod LedgerCloseLemmas
+pub mod LedgerOpenLemmas
 pub mod PurgeLemmas
-pub mod EmptyLemmas
-pub mod HeldLemmas
+pub mod HeldLoanLemmas
 pub mod KeepsLemmas
 pub mod TookLemmas
 pub mod GrewLemmas

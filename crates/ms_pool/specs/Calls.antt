@@ -28,7 +28,8 @@ new_account owner space = record { owner = owner; space = space; chunks = [] }
 abbrev pub Opened : Ledger → Space → Result AccountState Refusal → Ledger → Type 0
 Opened old space (Ok account) new = (account ≡ new_account (old.given + 1) space) × (new ≡ with_opened old space)
 Opened old space (Err refusal) new =
-    (refusal ≡ IdsUsedUp) × (2 ^ 32 ≤ old.given + 1) × (new ≡ tallied old (record old.tallies { open_ids = one_more old.tallies.open_ids }))
+    (refusal ≡ IdsUsedUp) × (2 ^ 32 ≤ old.given + 1)
+    × (new ≡ tallied old (record old.tallies { open_ids = one_more old.tallies.open_ids }))
 
 -- An account in each space is opened, by one event: their numbers are the next two.
 abbrev pub OpenedBoth : Ledger → Result (AccountState × AccountState) Refusal → Ledger → Type 0
@@ -36,10 +37,12 @@ OpenedBoth old (Ok accounts) new =
     (accounts ≡ (new_account (old.given + 1) NonClass, new_account (old.given + 2) Class))
     × (new ≡ with_opened (with_opened old NonClass) Class)
 OpenedBoth old (Err refusal) new =
-    (refusal ≡ IdsUsedUp) × (2 ^ 32 ≤ old.given + 2) × (new ≡ tallied old (record old.tallies { open_ids = one_more old.tallies.open_ids }))
+    (refusal ≡ IdsUsedUp) × (2 ^ 32 ≤ old.given + 2)
+    × (new ≡ tallied old (record old.tallies { open_ids = one_more old.tallies.open_ids }))
 
 -- A chunk is lent: the one that the searches pick.
-pub record Lends (old : Ledger) (account : AccountState) (wanted most words : ℕ) (span : Span) (new : Ledger) : Type 0 where
+pub record Lends (old : Ledger) (account : AccountState) (wanted most words : ℕ) (span : Span)
+    (new : Ledger) : Type 0 where
   pub chunk : Chunk
   pub picked : taken (state_in account.space old) wanted most words ≡ Ok chunk
   pub answer : span ≡ span_of chunk
@@ -77,7 +80,8 @@ GrewFrom old account chunk total may_enlarge (Err (NoRoom level)) new =
 GrewFrom old account chunk total may_enlarge (Err _) new = ⊥
 
 -- So it is for the chunk that starts there.
-pub record Grew (old : Ledger) (account : AccountState) (start total : ℕ) (may_enlarge : Bool) (answer : Result Span Refusal) (new : Ledger) : Type 0 where
+pub record Grew (old : Ledger) (account : AccountState) (start total : ℕ) (may_enlarge : Bool)
+    (answer : Result Span Refusal) (new : Ledger) : Type 0 where
   pub place : ℕ
   pub chunk : Chunk
   pub found : slice_get account.chunks place ≡ Some chunk

@@ -16,12 +16,14 @@ has_room pool chunk = may_become_parent pool chunk
 unfoldable pub reached : PoolState → Chunk → ℕ → Bool → Option Chunk
 reached pool chunk total may_enlarge =
     if nat_le total (size_of chunk.level) then Some (with_front pool chunk total)
-    else if nat_le total (2 * size_of chunk.level) && may_enlarge && has_room pool chunk then Some (parent_with_front pool chunk total)
+    else if nat_le total (2 * size_of chunk.level) && may_enlarge && has_room pool chunk
+    then Some (parent_with_front pool chunk total)
     else None
 
 -- The loans once the chunk that starts there has grown.
 abbrev pub with_greater_loan : Chunk → List Loan → List Loan
-with_greater_loan chunk loans = map (λ (loan : Loan). cond (loan.chunk.start == chunk.start) (record loan { chunk = chunk }) loan) loans
+with_greater_loan chunk loans =
+    map (λ (loan : Loan). cond (loan.chunk.start == chunk.start) (record loan { chunk = chunk }) loan) loans
 
 -- A loan from that start has no greater front.
 abbrev pub HasNoMore : Chunk → Loan → Type 0

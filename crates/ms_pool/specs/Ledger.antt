@@ -7,7 +7,7 @@ use Rattle.ms_base.specs.declared.kind.Space.{Space}
 use Rattle.ms_base.specs.declared.kind.Space.TheVariants.{NonClass, Class}
 use Rattle.ms_base.specs.declared.span.Chunk.{Chunk}
 use Rattle.ms_base.specs.Held.{has_chunk_in}
-use Rattle.ms_base.specs.Spaces.{other_space, by_space, class_slots, is_in}
+use Rattle.ms_base.specs.Spaces.{other_space, by_space, class_slots, first_class_slot, is_in}
 use Rattle.ms_base.specs.State.{Limits, PoolState, committed_now}
 use Rattle.ms_base.specs.Good.{IsSoundPool}
 use Rattle.ms_base.specs.PoolSteps.{slots_with}
@@ -91,7 +91,7 @@ pub record IsSoundLedger (ledger : Ledger) : Type 0 where
   pub owners : All (λ (loan : Loan). (1 ≤ loan.owner) × (loan.owner ≤ ledger.given)) ledger.loans
   pub given : ledger.given < 2 ^ 32
   pub opened : ledger.opened + ledger.class_opened ≤ ledger.given
-  pub nodes : (1 ≤ ledger.limits.nodes) × (ledger.limits.nodes ≤ 64)
+  pub nodes : (1 ≤ ledger.limits.nodes) × (ledger.limits.nodes ≤ first_class_slot)
   pub class_nodes : ledger.limits.class_nodes ≤ 16
 
 -- The pool once its granules follow its loans and slots.
@@ -120,7 +120,8 @@ with_lent ledger space owner chunk =
 abbrev pub with_grown : Ledger → Chunk → Ledger
 with_grown ledger chunk =
     recommitted (record ledger {
-      loans = map (λ (loan : Loan). cond (loan.chunk.start == chunk.start) (record loan { chunk = chunk }) loan) ledger.loans;
+      loans = map (λ (loan : Loan). cond (loan.chunk.start == chunk.start) (record loan { chunk = chunk }) loan)
+          ledger.loans;
     })
 
 -- The loans that are not an owner's.

@@ -19,7 +19,8 @@ chunk_at policy span words =
 
 -- A chunk of a level from the one wanted up to the most that serves is added last, with a front for
 -- the words.
-pub record Adds (policy : Policy) (wanted most words : ℕ) (old : AccountState) (span : Span) (new : AccountState) : Type 0 where
+pub record Adds (policy : Policy) (wanted most words : ℕ) (old : AccountState) (span : Span)
+    (new : AccountState) : Type 0 where
   pub at_least : wanted ≤ span.level
   pub at_most : span.level ≤ most
   pub after : new ≡ record old { chunks = old.chunks ++ chunk_at policy span words ∷ [] }
@@ -44,7 +45,8 @@ pub record MayBeParent (chunk : Chunk) (total : ℕ) (may_enlarge : Bool) : Type
   pub fits : total ≤ 2 * size_of chunk.level
 
 -- The chunk that starts there reaches so many words, in its place among the others.
-pub record Grows (policy : Policy) (start total : ℕ) (may_enlarge : Bool) (old : AccountState) (span : Span) (new : AccountState) : Type 0 where
+pub record Grows (policy : Policy) (start total : ℕ) (may_enlarge : Bool) (old : AccountState)
+    (span : Span) (new : AccountState) : Type 0 where
   pub place : ℕ
   pub chunk : Chunk
   pub found : slice_get old.chunks place ≡ Some chunk

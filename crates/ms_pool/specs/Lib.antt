@@ -9,4 +9,5 @@ pub mod Counting
 pub mod Searching
 pub mod Growing
 pub mod Releasing
+pub mod Placing
 pub mod Serving

@@ -12,6 +12,10 @@ use Rattle.ms_base.specs.Pick.{candidates, found_at, is_committed_enough, levels
 use Rattle.ms_base.specs.Causes.{granules_missing, meets_reserve_limit}
 use Rattle.ms_buddy.specs.Leaves.{LentLeaf, free_of}
 
+-- The words of the smallest granule of all policies.
+abbrev pub least_granule : ℕ
+least_granule = 2048
+
 -- The part has the level and, if it has to be, is committed enough.
 abbrev pub grants : PoolState → ℕ → Bool → ℕ → Span → Bool
 grants pool words committed level part = (part.level == level) && (not committed || is_committed_enough pool words part)
@@ -48,7 +52,8 @@ part_in root part = record { start = part.start + root * root_words; level = par
 -- these granules.
 unfoldable pub first_in : List ℕ → ℕ → ℕ → Bool → ℕ → ℕ → List LentLeaf → Option Span
 first_in numbers granule words committed level root tree =
-    find (λ part. (part.level == level) && (not committed || are_among numbers granule part.start words)) (map (part_in root) (free_of tree))
+    find (λ part. (part.level == level) && (not committed || are_among numbers granule part.start words))
+    (map (part_in root) (free_of tree))
 
 -- No free part is large enough, and no node may be reserved.
 unfoldable pub is_full : PoolState → ℕ → Bool

@@ -12,11 +12,16 @@ pub record TreesState : Type 0 where
 abbrev pub has_free : List (List LentLeaf) → ℕ → ℕ → Bool
 has_free trees level root = list_any (is_of level) (free_of (get_or trees root []))
 
--- The number in the index that stands for a level and a root: each level has a row of 192.
+-- How many numbers of the index a level has: enough for each root that may be reserved.
+abbrev pub row_bits : ℕ
+row_bits = 192
+
+-- The number in the index that stands for a level and a root: each level has a row.
 abbrev pub place_in : ℕ → ℕ → ℕ
-place_in level root = 192 * level + root
+place_in level root = row_bits * level + root
 
 -- The index has exactly the levels and roots where the tree has a free leaf.
 pub record IsIndex (numbers : List ℕ) (trees : List (List LentLeaf)) : Type 0 where
-  pub few : length trees ≤ 192
-  pub exact : (level root : ℕ) → level ≤ 12 → root < length trees → is_among numbers (place_in level root) ≡ has_free trees level root
+  pub few : length trees ≤ row_bits
+  pub exact : (level root : ℕ) → level ≤ 12 → root < length trees
+      → is_among numbers (place_in level root) ≡ has_free trees level root

@@ -17,8 +17,11 @@ use std::marker::Model;
 /// list themselves.
 #[derive(Drop)]
 pub struct Account {
+    /// The owner's number, 1 to 4294967295.
     pub(crate) owner: u32,
+    /// Where the chunks lie.
     pub(crate) space: Space,
+    /// The chunks in the order taken; starts are word numbers, fronts words.
     pub(crate) chunks: Vec<Chunk>,
 }
 

@@ -4,7 +4,7 @@
 ghost use Rattle.std.specs.Prelude.{◌≡◌, ◌+◌, ◌-◌, ◌*◌, ◌<◌, ◌≤◌, ◌^◌, ◌==◌, cond, [], get_or, length, map};
 ghost use Rattle.ms_base.specs.Part.{is_reserved};
 ghost use Rattle.ms_base.specs.FreeParts.{free_in_slot};
-ghost use Rattle.ms_base.specs.Spaces.{by_space};
+ghost use Rattle.ms_base.specs.Spaces.{by_space, first_class_slot};
 ghost use Rattle.ms_base.specs.Totals.{capacity_of, free_by_level, fronts_of, lent_by_level, pool_sums};
 ghost use Rattle.ms_commit.specs.Nodes.{all_slots, granules_in};
 ghost use Rattle.ms_buddy.specs.Leaves.{AreLeaves, chunk_of, free_of};
@@ -15,7 +15,7 @@ ghost use Rattle.ms_pool.specs.Tallies.{AreTallies};
 ghost use Rattle.ms_pool.specs.Counting.{AreRaised, Counts, HasRoom, HasRoomFor, chunks_at, parts_of};
 
 use crate::lender::Lender;
-use crate::totals::PoolTotals;
+use crate::totals::{LEVELS, PoolTotals};
 use ms_base::{Level, NODE_WORDS, ROOT_WORDS, SLOTS, Space, Span, granule};
 use ms_buddy::Leaf;
 
@@ -23,15 +23,19 @@ use ms_buddy::Leaf;
 /// their fronts.
 #[derive(Clone, Copy)]
 pub(crate) struct Counted {
-    pub(crate) lent: [u32; 13],
+    /// Chunks by level.
+    pub(crate) lent: [u32; LEVELS],
+    /// Their words.
     pub(crate) capacity: u64,
+    /// The words of their fronts.
     pub(crate) fronts: u64,
 }
 
 /// What was counted of parts that are free: how many of each level.
 #[derive(Clone, Copy)]
 pub(crate) struct FreeCounted {
-    pub(crate) free: [u32; 13],
+    /// Parts by level.
+    pub(crate) free: [u32; LEVELS],
 }
 
 impl Lender {
@@ -91,7 +95,7 @@ impl Lender {
         ensures { result.free ≡ free_by_level (state_in space (ledger_of self.now)) }
     {
         let (first, end) = self.slots_of(space);
-        let mut counted = FreeCounted { free: [0; 13] };
+        let mut counted = FreeCounted { free: [0; LEVELS] };
         for slot in first..end {
             counted = self.free_in_slot(space, slot, counted);
         }
@@ -101,8 +105,9 @@ impl Lender {
     /// Counts the free parts of a slot of the space, where it is reserved, beside those before.
     fn free_in_slot(&self, space: Space, slot: u32, before: FreeCounted) -> FreeCounted
         requires kept { IsKept self.now }
-        requires low { by_space space 0 64 ≤ slot }
-        requires high { slot < by_space space 64 (64 + self.now.nodes.class_slots) }
+        requires low { by_space space 0 first_class_slot ≤ slot }
+        requires high { slot
+            < by_space space first_class_slot (first_class_slot + self.now.nodes.class_slots) }
         requires room { HasRoom before.free
             (λ level. parts_of level
             (cond (is_reserved (all_slots self.now.nodes) slot)
@@ -145,7 +150,7 @@ impl Lender {
     {
         let (first, end) = self.slots_of(space);
         let mut counted = Counted {
-            lent: [0; 13],
+            lent: [0; LEVELS],
             capacity: 0,
             fronts: 0,
         };
@@ -174,7 +179,7 @@ impl Lender {
 }
 
 /// Counts one more of a level.
-fn one_more(counts: [u32; 13], level: Level) -> [u32; 13]
+fn one_more(counts: [u32; LEVELS], level: Level) -> [u32; LEVELS]
     requires { get_or counts level 0 + 1 < 2 ^ 32 }
     ensures { AreRaised counts (λ other. cond (level == other) 1 0) result }
 {
@@ -188,6 +193,7 @@ fn with_part(counted: FreeCounted, level: Level) -> FreeCounted
     requires fits { level < 13 → get_or counted.free level 0 + 1 < 2 ^ 32 }
     ensures { AreRaised counted.free (λ other. cond (level == other) 1 0) result.free }
 {
+    // That a level is at most 12 is learnt here.
     let _ = level.number();
     let free = one_more(counted.free, level);
     FreeCounted { free }
@@ -198,6 +204,7 @@ fn with_leaf(counted: Counted, span: Span, leaf: Leaf) -> Counted
     requires { HasRoomFor counted (chunks_at span leaf) }
     ensures { Counts counted (chunks_at span leaf) result }
 {
+    // That a level is at most 12 is learnt here.
     let _ = span.level.number();
     match leaf {
         Leaf::Free => counted,

@@ -14,7 +14,7 @@ ghost use Rattle.std.specs.Prelude.{◌≡◌, ◌+◌, ◌*◌, ◌<◌, ◌≤
 ghost use Rattle.std.specs.List.{All};
 ghost use Rattle.ms_base.specs.declared.kind.Space.TheVariants.{NonClass};
 ghost use Rattle.ms_base.specs.Held.{has_chunk_in};
-ghost use Rattle.ms_base.specs.Spaces.{by_space};
+ghost use Rattle.ms_base.specs.Spaces.{by_space, first_class_slot};
 ghost use Rattle.ms_base.specs.State.{limits_of};
 ghost use Rattle.ms_buddy.specs.Leaves.{AreLeaves};
 ghost use Rattle.ms_pool.specs.Ledger.{empty_ledger, held_in, with_opened};
@@ -30,23 +30,36 @@ use std::alloc::{AllocError, Global};
 /// How often each refusal was given, modulo 2^64. No call tells them: contracts alone see them.
 #[derive(Drop)]
 pub(crate) struct Counts {
+    /// `take` met the commit limit.
     pub(crate) take_commit: u64,
+    /// `take` met the reserve limit.
     pub(crate) take_reserve: u64,
+    /// `grow` met the commit limit.
     pub(crate) grow_commit: u64,
+    /// `grow` had no room.
     pub(crate) grow_room: u64,
+    /// `open` and `open_both` had too few owner numbers left.
     pub(crate) open_ids: u64,
 }
 
 /// What a pool keeps.
 #[derive(Drop)]
 pub(crate) struct Lender {
+    /// Where the boxes of trees and the lists of accounts come from.
     pub(crate) alloc: Global,
+    /// The reserved slots, the committed granules, and the limits of both.
     pub(crate) nodes: Nodes,
+    /// Two trees for each slot that may be reserved: 128 to 160.
     pub(crate) trees: Trees,
+    /// By what rule granules are committed and given back.
     pub(crate) policy: Policy,
+    /// The last owner number that was given out; 0 where none was.
     pub(crate) given: u32,
+    /// Open accounts outside the class space; at most `given`, with those of the class space.
     pub(crate) opened: u32,
+    /// Open accounts of the class space.
     pub(crate) class_opened: u32,
+    /// How often each refusal was given.
     pub(crate) counts: Counts,
 }
 
@@ -155,8 +168,8 @@ impl Lender {
     /// Tells whether both roots of a slot below the class space's are whole.
     fn is_whole(&self, slot: u32) -> bool
         requires leaves { All AreLeaves self.now.trees.items }
-        requires trees { 128 ≤ length self.now.trees.items }
-        requires low { slot < 64 }
+        requires trees { 2 * first_class_slot ≤ length self.now.trees.items }
+        requires low { slot < first_class_slot }
         ensures { result ≡ not (has_chunk_in (held_in NonClass (ledger_of self.now)) slot) }
     {
         let first = 2 * slot as usize;

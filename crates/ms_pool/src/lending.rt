@@ -1,23 +1,24 @@
 //! Lending, growing and taking back: the calls that change which chunks are lent.
 
-ghost use Rattle.std.specs.Prelude.{◌≡◌, ◌+◌, ◌<◌, ◌≤◌, ◌^◌, true, false, length, IsSome, IfSome, OnSome, IfNone, IfOk, OnErr, Some, [], get_or, ◌-◌, ◌*◌, ◌/◌, ◌%◌, IsTrue, IsFalse, slice_get, ◌⊎◌, ◌↔◌};
+ghost use Rattle.std.specs.Prelude.{◌≡◌, ◌+◌, ◌<◌, ◌≤◌, ◌^◌, true, false, length, IsSome, IfSome, OnSome, IfNone, IfOk, OnErr, Some, ◌-◌, ◌*◌, ◌/◌, ◌%◌, IsTrue, IsFalse, slice_get, ◌↔◌};
 ghost use Rattle.ms_base.specs.declared.kind.Space.TheVariants.{NonClass, Class};
-ghost use Rattle.std.specs.List.{All, find};
-ghost use Rattle.ms_base.specs.Part.{IsPart, is_reserved, slot_of};
+ghost use Rattle.std.specs.List.{All};
+ghost use Rattle.ms_base.specs.Part.{is_reserved, slot_of};
 ghost use Rattle.ms_base.specs.Level.{root_words, size_of};
-ghost use Rattle.ms_buddy.specs.Leaves.{AreLeaves, covers, free_of, can_enlarge, is_lent, span_at};
-ghost use Rattle.ms_pool.specs.Growing.{has_room, reached, with_greater_loan, HasNoMore};
-ghost use Rattle.ms_pool.specs.Releasing.{is_lent_in, without_loan, with_released};
-ghost use Rattle.ms_base.specs.Spaces.{by_space};
+ghost use Rattle.ms_buddy.specs.Leaves.{free_of, can_enlarge, is_lent, span_at};
+ghost use Rattle.ms_pool.specs.Growing.{has_room, reached};
+ghost use Rattle.ms_pool.specs.Releasing.{is_lent_in, with_released};
+ghost use Rattle.ms_base.specs.Spaces.{by_space, first_class_slot};
 ghost use Rattle.ms_base.specs.Front.{front_for};
 ghost use Rattle.ms_base.specs.Pick.{lowest_unreserved};
 ghost use Rattle.ms_commit.specs.Nodes.{AreInReserved, AreSound, all_slots, granules_with, slots_of, with_granules};
 ghost use Rattle.ms_pool.specs.Account.{has_chunk_at};
 ghost use Rattle.ms_pool.specs.Lending.{Adds, Grows, span_of};
-ghost use Rattle.ms_pool.specs.Ledger.{IsSoundLedger, Serves, opened_in, state_in, with_lent, with_loan, with_grown};
+ghost use Rattle.ms_pool.specs.Ledger.{Serves, opened_in, state_in, with_lent, with_grown};
 ghost use Rattle.ms_pool.specs.Calls.{Closed, ClosedBoth, Grew, Took};
-ghost use Rattle.ms_pool.specs.Keeping.{IsKept, IsOpen, IsRunOf, ledger_of, loans_from, with_reserved};
-ghost use Rattle.ms_pool.specs.Searching.{is_full, lacking, part_picked};
+ghost use Rattle.ms_pool.specs.Keeping.{IsKept, IsOpen, IsRunOf, ledger_of, with_reserved};
+ghost use Rattle.ms_pool.specs.Placing.{IsLentThere, MayBeLent, MayBeReplaced};
+ghost use Rattle.ms_pool.specs.Searching.{least_granule, is_full, lacking, part_picked};
 
 use crate::account::Account;
 use crate::lender::Lender;
@@ -48,6 +49,7 @@ impl Lender {
         ensures unchanged { OnErr result (account.new ≡ account.old) }
         ensures took { Took (ledger_of self.old) account.old wanted most words result (ledger_of self.new) }
     {
+        // That a level is at most 12 is learnt here.
         let _ = most.number();
         let space = account.space;
         let owner = account.owner;
@@ -104,7 +106,7 @@ impl Lender {
     fn new_slot(&self, space: Space) -> Option<u32>
         requires { IsKept self.now }
         ensures lowest { IfSome result (λ slot. slot ≡ lowest_unreserved self.now.nodes.slots) }
-        ensures low { IfSome result (λ slot. slot < 64) }
+        ensures low { IfSome result (λ slot. slot < first_class_slot) }
         ensures space { OnSome result (space ≡ NonClass) }
         ensures granted { OnSome result
             (length self.now.nodes.slots < self.now.nodes.limits.nodes) }
@@ -177,14 +179,7 @@ impl Lender {
     /// front; `false` where memory is wanting.
     fn lend(&mut self, space: Space, owner: u32, chunk: &Chunk) -> bool
         requires kept { IsKept self.old }
-        requires placed { IsPart chunk.now.start chunk.now.level }
-        requires some { 1 ≤ chunk.now.front }
-        requires within { chunk.now.front ≤ size_of chunk.now.level }
-        requires inside { IsRunOf space chunk.now.start chunk.now.front }
-        requires slot { IsOpen space self.old.nodes (slot_of chunk.now.start) }
-        requires limit { length self.old.nodes.granules + lacking (state_in space (ledger_of self.old)) chunk.now
-            ≤ self.old.nodes.limits.granules }
-        requires sound { IsSoundLedger (with_lent (ledger_of self.old) space owner chunk.now) }
+        requires may { MayBeLent self.old space owner chunk.now }
         ensures lent { IsTrue result
             → ledger_of self.new ≡ with_lent (ledger_of self.old) space owner chunk.now }
         ensures unchanged { IsFalse result → ledger_of self.new ≡ ledger_of self.old }
@@ -238,8 +233,7 @@ impl Lender {
     /// The chunk once it reaches so many words: with a greater front, or as its parent.
     fn reaching(&self, space: Space, chunk: &Chunk, total: u64, may_enlarge: bool) -> Option<Chunk>
         requires kept { IsKept self.now }
-        requires lent { IsTrue (is_lent_in (ledger_of self.now).loans chunk.now) }
-        requires reserved { IsTrue (is_reserved (slots_of space self.now.nodes) (slot_of chunk.now.start)) }
+        requires own { IsLentThere self.now space chunk.now }
         ensures { result
             ≡ reached (state_in space (ledger_of self.now)) chunk.now total may_enlarge }
     {
@@ -257,8 +251,7 @@ impl Lender {
     /// Tells whether a chunk is no root, the leader, and its buddy one free part.
     fn may_become_parent(&self, space: Space, chunk: &Chunk) -> bool
         requires kept { IsKept self.now }
-        requires lent { IsTrue (is_lent_in (ledger_of self.now).loans chunk.now) }
-        requires reserved { IsTrue (is_reserved (slots_of space self.now.nodes) (slot_of chunk.now.start)) }
+        requires own { IsLentThere self.now space chunk.now }
         ensures room { result ≡ has_room (state_in space (ledger_of self.now)) chunk.now }
         ensures no_root { IsTrue result → 0 < chunk.now.level }
     {
@@ -270,20 +263,8 @@ impl Lender {
     /// Puts the grown chunk in the place of the chunk, and commits its front.
     fn replace(&mut self, space: Space, chunk: &Chunk, greater: &Chunk)
         requires kept { IsKept self.old }
-        requires lent { IsTrue (is_lent_in (ledger_of self.old).loans chunk.now) }
-        requires reserved { IsTrue (is_reserved (slots_of space self.old.nodes) (slot_of chunk.now.start)) }
-        requires start { greater.now.start ≡ chunk.now.start }
-        requires placed { IsPart greater.now.start greater.now.level }
-        requires some { 1 ≤ greater.now.front }
-        requires within { greater.now.front ≤ size_of greater.now.level }
-        requires inside { IsRunOf space greater.now.start greater.now.front }
-        requires higher { All (HasNoMore greater.now) (ledger_of self.old).loans }
-        requires grows { (greater.now.level ≡ chunk.now.level)
-            ⊎ ((greater.now.level + 1 ≡ chunk.now.level)
-            × IsTrue (has_room (state_in space (ledger_of self.old)) chunk.now)) }
-        requires limit { length self.old.nodes.granules
-            + lacking (state_in space (ledger_of self.old)) greater.now ≤ self.old.nodes.limits.granules }
-        requires sound { IsSoundLedger (with_grown (ledger_of self.old) greater.now) }
+        requires own { IsLentThere self.old space chunk.now }
+        requires may { MayBeReplaced self.old space chunk.now greater.now }
         ensures grown { ledger_of self.new ≡ with_grown (ledger_of self.old) greater.now }
         ensures kept { IsKept self.new }
     {
@@ -372,7 +353,7 @@ fn span_of(chunk: &Chunk) -> Span
 
 /// The chunk of a place, with a front for so many words.
 fn chunk_at(policy: Policy, start: u64, level: Level, words: u64) -> Chunk
-    requires { words ≤ 524288 }
+    requires { words ≤ root_words }
     ensures { result
         ≡ record { start = start; level = level; front = front_for policy (size_of level) words } }
 {
@@ -393,10 +374,10 @@ fn chunk_at(policy: Policy, start: u64, level: Level, words: u64) -> Chunk
 /// The lowest slot that isn't reserved, where one below the class space's isn't.
 fn lowest_missing(nodes: &Nodes) -> Option<u32>
     requires sound { AreSound nodes.now }
-    requires few { nodes.now.limits.nodes ≤ 64 }
+    requires few { nodes.now.limits.nodes ≤ first_class_slot }
     requires left { length nodes.now.slots < nodes.now.limits.nodes }
     ensures lowest { IfSome result (λ slot. slot ≡ lowest_unreserved nodes.now.slots) }
-    ensures low { IfSome result (λ slot. slot < 64) }
+    ensures low { IfSome result (λ slot. slot < first_class_slot) }
     ensures some { IsSome result }
 {
     for slot in 0..SLOTS {
@@ -451,7 +432,7 @@ fn reserve(nodes: &mut Nodes, slot: u32)
 
 /// Commits the granules of a front, which lie in reserved slots and are within the limit.
 fn commit(nodes: &mut Nodes, granule: u64, chunk: &Chunk)
-    requires granule { 2048 ≤ granule }
+    requires granule { least_granule ≤ granule }
     requires some { 1 ≤ chunk.now.front }
     requires fits { chunk.now.start + chunk.now.front < 2 ^ 63 }
     requires reserved { AreInReserved nodes.old (chunk.now.start / granule)

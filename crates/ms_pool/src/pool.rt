@@ -23,6 +23,7 @@ use std::marker::Model;
 /// After HotSpot's chunkManager.cpp and virtualSpaceList.cpp.
 #[derive(Drop)]
 pub struct Pool {
+    /// All that is kept; `Lender` has units and ranges.
     lender: Lender,
 }
 
@@ -205,6 +206,7 @@ impl Pool {
     fn learn(&self)
         ensures { IsSoundLedger self.now }
     {
+        // The borrow tells what holds of every pool.
         let _ = &self.lender;
     }
 }

@@ -16,11 +16,11 @@ ghost use Rattle.std.specs.Prelude.{◌≡◌, ◌+◌, ◌-◌, ◌*◌, ◌/�
 ghost use Rattle.ms_base.specs.Level.{root_words, size_of};
 ghost use Rattle.ms_base.specs.Policy.{granule_of};
 ghost use Rattle.ms_base.specs.Part.{is_reserved};
-ghost use Rattle.ms_base.specs.Spaces.{by_space};
+ghost use Rattle.ms_base.specs.Spaces.{by_space, first_class_slot};
 ghost use Rattle.ms_commit.specs.Nodes.{all_slots};
 ghost use Rattle.ms_pool.specs.Ledger.{state_in};
 ghost use Rattle.ms_pool.specs.Keeping.{IsKept, ledger_of};
-ghost use Rattle.ms_pool.specs.Searching.{are_among, first_at, first_down, first_found, first_in, first_in_slot, first_up};
+ghost use Rattle.ms_pool.specs.Searching.{least_granule, are_among, first_at, first_down, first_found, first_in, first_in_slot, first_up};
 
 use crate::lender::Lender;
 use ms_base::{Level, Policy, ROOT_WORDS, SLOTS, Space, Span, granule};
@@ -28,8 +28,11 @@ use ms_base::{Level, Policy, ROOT_WORDS, SLOTS, Space, Span, granule};
 /// What is looked for: where, how many words, and whether they have to be committed.
 #[derive(Clone, Copy)]
 pub(crate) struct Wish {
+    /// Where the part has to lie.
     pub(crate) space: Space,
+    /// The words of the chunk's front, 1 to those of the part.
     pub(crate) words: u64,
+    /// Whether the front has to be committed already.
     pub(crate) committed: bool,
     pub ghost some: { 1 ≤ words },
 }
@@ -43,6 +46,7 @@ impl Lender {
         requires fits { words ≤ size_of most }
         ensures { result ≡ first_found (state_in space (ledger_of self.now)) wanted most words }
     {
+        // That a level is at most 12 is learnt here.
         let _ = most.number();
         let committed = Wish {
             space,
@@ -174,13 +178,15 @@ impl Lender {
     /// Finds the lowest free part of a slot of the space, where it is reserved.
     fn lowest_in_slot(&self, slot: u32, wish: Wish, level: Level) -> Option<Span>
         requires kept { IsKept self.now }
-        requires low { by_space wish.space 0 64 ≤ slot }
-        requires high { slot < by_space wish.space 64 (64 + self.now.nodes.class_slots) }
+        requires low { by_space wish.space 0 first_class_slot ≤ slot }
+        requires high { slot
+            < by_space wish.space first_class_slot (first_class_slot + self.now.nodes.class_slots) }
         requires fits { wish.words ≤ size_of level }
         ensures { result
             ≡ first_in_slot (state_in wish.space (ledger_of self.now))
             (is_reserved (all_slots self.now.nodes) slot) wish.words wish.committed level slot }
     {
+        // That a level has at most the words of a root is learnt here.
         let _ = level.words();
         if self.nodes.is_reserved(slot) {
             let root = 2 * slot as usize;
@@ -195,8 +201,9 @@ impl Lender {
     /// The slots that a space may have: the first, and the one past the last.
     pub(crate) fn slots_of(&self, space: Space) -> (u32, u32)
         requires { IsKept self.now }
-        ensures first { result.0 ≡ by_space space 0 64 }
-        ensures end { result.1 ≡ by_space space 64 (64 + self.now.nodes.class_slots) }
+        ensures first { result.0 ≡ by_space space 0 first_class_slot }
+        ensures end { result.1
+            ≡ by_space space first_class_slot (first_class_slot + self.now.nodes.class_slots) }
         ensures few { result.1 ≤ 80 }
     {
         match space {
@@ -249,7 +256,7 @@ impl Lender {
 
 /// The granules that meet so many words from the start on: the first, and how many.
 pub(crate) fn granules_meeting(granule: u64, start: u64, words: u64) -> (u64, u64)
-    requires granule { 2048 ≤ granule }
+    requires granule { least_granule ≤ granule }
     requires some { 1 ≤ words }
     requires fits { start + words < 2 ^ 63 }
     ensures first { result.0 ≡ start / granule }

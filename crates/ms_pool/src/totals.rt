@@ -1,5 +1,8 @@
 //! Sums over one space of a pool.
 
+/// How many levels chunks have: 0 to 12.
+pub(crate) const LEVELS: usize = 13;
+
 /// The sums over one space of a pool: reserved nodes, committed granules, chunks lent and parts free
 /// by level (0 to 12), the words that are lent and those of fronts, and open accounts. After
 /// HotSpot's VM.metaspace, with this project's numbers.
@@ -10,9 +13,9 @@ pub struct PoolTotals {
     /// Committed granules.
     pub granules: u64,
     /// Chunks that are lent, by level.
-    pub lent: [u32; 13],
+    pub lent: [u32; LEVELS],
     /// Parts that are free, by level.
-    pub free: [u32; 13],
+    pub free: [u32; LEVELS],
     /// Words of the chunks that are lent.
     pub capacity: u64,
     /// Words of their fronts.

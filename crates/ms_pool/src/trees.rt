@@ -10,28 +10,34 @@
 //! that level. A root that isn't reserved is whole, so at level 0 it has its bit, and whoever asks
 //! looks whether its slot is reserved. Each change of a tree tells the 13 bits of its root anew. The
 //! places of trees and index are made once.
-ghost use Rattle.std.specs.Prelude.{◌≡◌, ◌≢◌, ℕ, ◌+◌, ◌-◌, ◌*◌, ◌/◌, ◌%◌, ◌<◌, ◌≤◌, ◌⊎◌, false, [], get_or, length, replicate, IfOk, IfSome, IfNone, IsTrue, IsFalse, Some};
+ghost use Rattle.std.specs.Prelude.{◌≡◌, ℕ, ◌+◌, ◌-◌, ◌*◌, ◌/◌, ◌%◌, ◌<◌, ◌≤◌, false, [], get_or, length, replicate, IfOk, IfSome, IfNone, IsTrue, IsFalse, Some};
 ghost use Rattle.std.specs.List.{All, find};
 ghost use Rattle.ms_base.specs.Committed.{is_among};
-ghost use Rattle.ms_base.specs.Level.{root_words, size_of};
-ghost use Rattle.ms_base.specs.Part.{IsPart};
-ghost use Rattle.ms_buddy.specs.Leaves.{AreLeaves, can_enlarge, covers, free_of, has_level, is_lent, span_at};
+ghost use Rattle.ms_base.specs.Level.{root_words};
+ghost use Rattle.ms_buddy.specs.Leaves.{AreLeaves, covers, free_of, has_level};
 ghost use Rattle.ms_pool.specs.Growing.{with_greater_loan};
 ghost use Rattle.ms_pool.specs.Keeping.{loans_from};
 ghost use Rattle.ms_pool.specs.Ledger.{with_loan};
-ghost use Rattle.ms_pool.specs.Releasing.{is_lent_in, without_loan};
-ghost use Rattle.ms_pool.specs.Trees.{has_free, place_in};
+ghost use Rattle.ms_pool.specs.Placing.{MayBeCarved, MayBeRaised};
+ghost use Rattle.ms_pool.specs.Releasing.{TakesBack, is_lent_in, without_loan};
+ghost use Rattle.ms_pool.specs.Trees.{has_free, place_in, row_bits};
 
+use crate::totals::LEVELS;
 use ms_base::{Chunk, Level, ROOT_WORDS, Span};
 use ms_buddy::SplitTree;
 use ms_commit::Mask;
 use std::alloc::{AllocError, Global};
 use std::marker::Model;
 
+/// The bits of a level in the index: one for each of at most 160 roots, and some to spare.
+const ROW_BITS: usize = 192;
+
 /// A tree for each root that may be reserved, and the index. Contracts see the lent leaves of each.
 #[derive(Drop)]
 pub(crate) struct Trees {
+    /// The tree of each root, by the root's number; 160 at most.
     trees: Vec<SplitTree<Global>>,
+    /// The index: a row of bits for each level, 39 words in all.
     roots: Mask<39>,
 }
 
@@ -48,7 +54,7 @@ impl Model for Trees {
 impl Trees {
     /// Makes so many trees, each of one free leaf.
     pub(crate) fn whole(alloc: Global, count: usize) -> Result<Trees, AllocError>
-        requires { count ≤ 192 }
+        requires { count ≤ row_bits }
         ensures { IfOk result (λ trees. trees.items ≡ replicate count []) }
     {
         let trees = whole_trees(alloc, count)?;
@@ -79,7 +85,7 @@ impl Trees {
         if end <= from {
             return None;
         }
-        let row = 192 * level.number() as usize;
+        let row = ROW_BITS * level.number() as usize;
         match self.roots.lowest_within(row + from, end - from) {
             Some(place) => Some(place - row),
             None => None,
@@ -90,10 +96,7 @@ impl Trees {
 /// Lends the chunk's part in the tree of its root; `false` where memory is wanting.
 pub(crate) fn carve(trees: &mut Trees, alloc: Global, owner: u32, chunk: &Chunk) -> bool
     requires leaves { All AreLeaves trees.old.items }
-    requires there { chunk.now.start < root_words * length trees.old.items }
-    requires placed { IsPart chunk.now.start chunk.now.level }
-    requires some { 1 ≤ chunk.now.front }
-    requires within { chunk.now.front ≤ size_of chunk.now.level }
+    requires may { MayBeCarved trees.old.items chunk.now }
     ensures lent { IsTrue result
         → loans_from 0 trees.new.items
         ≡ with_loan (record { owner = owner; chunk = chunk.now }) (loans_from 0 trees.old.items) }
@@ -112,13 +115,7 @@ pub(crate) fn carve(trees: &mut Trees, alloc: Global, owner: u32, chunk: &Chunk)
 pub(crate) fn put_back(trees: &mut Trees, chunk: &Chunk) -> Span
     requires leaves { All AreLeaves trees.old.items }
     requires lent { IsTrue (is_lent_in (loans_from 0 trees.old.items) chunk.now) }
-    ensures loans { loans_from 0 trees.new.items ≡ without_loan chunk.now (loans_from 0 trees.old.items) }
-    ensures leaves { All AreLeaves trees.new.items }
-    ensures count { length trees.new.items ≡ length trees.old.items }
-    ensures there { chunk.now.start / root_words < length trees.old.items }
-    ensures free { find (covers (chunk.now.start % root_words))
-        (free_of (get_or trees.new.items (chunk.now.start / root_words) []))
-        ≡ Some result }
+    ensures { TakesBack trees.old.items chunk.now result trees.new.items }
 {
     let part = put_back_leaf(&mut trees.trees, chunk);
     let root = (chunk.start / ROOT_WORDS) as usize;
@@ -130,16 +127,7 @@ pub(crate) fn put_back(trees: &mut Trees, chunk: &Chunk) -> Span
 /// Makes the chunk's leaf that of the grown chunk, in the tree of its root.
 pub(crate) fn raise(trees: &mut Trees, chunk: &Chunk, greater: &Chunk)
     requires leaves { All AreLeaves trees.old.items }
-    requires there { chunk.now.start < root_words * length trees.old.items }
-    requires lent { IsTrue (is_lent (get_or trees.old.items (chunk.now.start / root_words) [])
-        (span_at (chunk.now.start % root_words) chunk.now.level)) }
-    requires start { greater.now.start ≡ chunk.now.start }
-    requires some { 1 ≤ greater.now.front }
-    requires within { greater.now.front ≤ size_of greater.now.level }
-    requires grows { (greater.now.level ≡ chunk.now.level)
-        ⊎ ((greater.now.level + 1 ≡ chunk.now.level)
-        × IsTrue (can_enlarge (span_at (chunk.now.start % root_words) chunk.now.level)
-        (free_of (get_or trees.old.items (chunk.now.start / root_words) [])))) }
+    requires may { MayBeRaised trees.old.items chunk.now greater.now }
     ensures loans { loans_from 0 trees.new.items
         ≡ with_greater_loan greater.now (loans_from 0 trees.old.items) }
     ensures leaves { All AreLeaves trees.new.items }
@@ -153,14 +141,14 @@ pub(crate) fn raise(trees: &mut Trees, chunk: &Chunk, greater: &Chunk)
 
 /// Tells the index anew of which levels a root has free leaves.
 fn note(roots: &mut Mask<39>, root: usize, levels: u16)
-    requires { root < 192 }
+    requires { root < row_bits }
     ensures here { (level : ℕ) → level ≤ 12
         → is_among roots.new (place_in level root) ≡ has_level levels level }
-    ensures others { (number : ℕ) → (number % 192 ≡ root → ⊥)
+    ensures others { (number : ℕ) → (number % row_bits ≡ root → ⊥)
         → is_among roots.new number ≡ is_among roots.old number }
 {
-    for level in 0..13 {
-        let place = 192 * level + root;
+    for level in 0..LEVELS {
+        let place = ROW_BITS * level + root;
         if levels >> level & 1 == 1 {
             roots.insert_range(place, 1);
         } else {
@@ -172,10 +160,7 @@ fn note(roots: &mut Mask<39>, root: usize, levels: u16)
 /// Lends the chunk's part in the tree of its root; `false` where memory is wanting.
 fn carve_leaf(trees: &mut Vec<SplitTree<Global>>, alloc: Global, owner: u32, chunk: &Chunk) -> bool
     requires leaves { All AreLeaves trees.old.items }
-    requires there { chunk.now.start < root_words * length trees.old.items }
-    requires placed { IsPart chunk.now.start chunk.now.level }
-    requires some { 1 ≤ chunk.now.front }
-    requires within { chunk.now.front ≤ size_of chunk.now.level }
+    requires may { MayBeCarved trees.old.items chunk.now }
     ensures lent { IsTrue result
         → loans_from 0 trees.new.items
         ≡ with_loan (record { owner = owner; chunk = chunk.now }) (loans_from 0 trees.old.items) }
@@ -223,16 +208,7 @@ fn put_back_leaf(trees: &mut Vec<SplitTree<Global>>, chunk: &Chunk) -> Span
 /// Makes the chunk's leaf that of the grown chunk, in the tree of its root.
 fn raise_leaf(trees: &mut Vec<SplitTree<Global>>, chunk: &Chunk, greater: &Chunk)
     requires leaves { All AreLeaves trees.old.items }
-    requires there { chunk.now.start < root_words * length trees.old.items }
-    requires lent { IsTrue (is_lent (get_or trees.old.items (chunk.now.start / root_words) [])
-        (span_at (chunk.now.start % root_words) chunk.now.level)) }
-    requires start { greater.now.start ≡ chunk.now.start }
-    requires some { 1 ≤ greater.now.front }
-    requires within { greater.now.front ≤ size_of greater.now.level }
-    requires grows { (greater.now.level ≡ chunk.now.level)
-        ⊎ ((greater.now.level + 1 ≡ chunk.now.level)
-        × IsTrue (can_enlarge (span_at (chunk.now.start % root_words) chunk.now.level)
-        (free_of (get_or trees.old.items (chunk.now.start / root_words) [])))) }
+    requires may { MayBeRaised trees.old.items chunk.now greater.now }
     ensures loans { loans_from 0 trees.new.items
         ≡ with_greater_loan greater.now (loans_from 0 trees.old.items) }
     ensures leaves { All AreLeaves trees.new.items }
@@ -242,6 +218,7 @@ fn raise_leaf(trees: &mut Vec<SplitTree<Global>>, chunk: &Chunk, greater: &Chunk
 {
     let root = (chunk.start / ROOT_WORDS) as usize;
     let level = chunk.level;
+    // That a level is at most 12 is learnt here.
     let _ = level.number();
     let span = Span {
         start: chunk.start % ROOT_WORDS,

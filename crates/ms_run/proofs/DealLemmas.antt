@@ -31,7 +31,7 @@ use Rattle.ms_loaders.specs.Settles.{MaySettle, open_accounts, accounts_in}
 use Rattle.ms_shared.specs.declared.lock_rule.SeatView.{SeatView}
 use Rattle.ms_shared.specs.Entries.{Has, fresh, IsRecord}
 use Rattle.ms_shared.specs.SeatView.{SeatState, LockState, ServesBy, opened_by, knows_all, knows_limits}
-use Rattle.ms_shared.proofs.EntryLemmas.{has_record, fresh_records}
+use Rattle.ms_shared.proofs.RecordLemmas.{has_record, fresh_records}
 use Rattle.ms_run.specs.declared.share.Task.{Task}
 use Rattle.ms_run.specs.declared.share.Share.{Share}
 use Rattle.ms_run.specs.Manned.{IsManned}

@@ -8,7 +8,7 @@ mod LifetimeReplyLemmas
 mod GrantLemmas
 mod SeatStaysLemmas
 mod GatherLemmas
-mod SettleLemmas
+mod PhaseSettleLemmas
 mod MergeLemmas
 mod PhaseLemmas
 mod OwnStepLemmas
@@ -18,7 +18,7 @@ mod HandOnLemmas
 mod DealLemmas
 mod ThreadLemmas
 mod DealtUseLemmas
-mod MovedLemmas
+mod MeterMoveLemmas
 mod UseLemmas
-mod TakenLemmas
+mod TakenApartLemmas
 mod MeterSumLemmas

@@ -15,8 +15,8 @@ use Rattle.ms_loaders.proofs.ServedLemmas.{times, is_it, it_is, one_if}
 use Rattle.ms_shared.specs.declared.lock_rule.SeatView.{SeatView}
 use Rattle.ms_shared.specs.Entries.{Entry, Has, refreshed, fresh}
 use Rattle.ms_shared.specs.SeatView.{ServesBy, IsKnown, view_after}
-use Rattle.ms_shared.proofs.EntryLemmas.{has_record}
-use Rattle.ms_shared.proofs.CallLemmas.{served_by_pool}
+use Rattle.ms_shared.proofs.RecordLemmas.{has_record}
+use Rattle.ms_shared.proofs.LockCallLemmas.{served_by_pool}
 use Rattle.ms_loaders.proofs.CloseLemmas.{among_more}
 
 -- What stands in two lists together stands in one of them.

@@ -8,7 +8,7 @@ use Rattle.ms_base.specs.declared.refusal.Refusal.TheVariants.{LoaderExists, NoL
 use Rattle.ms_base.specs.Alone.{OwnLoader, OwnReply}
 use Rattle.ms_base.specs.Names.{AreNamed, named, without}
 use Rattle.ms_base.specs.State.{LoaderState}
-use Rattle.ms_base.proofs.events.EntryLemmas.{named_without_same}
+use Rattle.ms_base.proofs.events.SeenEntryLemmas.{named_without_same}
 use Rattle.ms_loaders.specs.Loader.{LoaderView}
 use Rattle.ms_loaders.specs.Loaders.{InsertRefused}
 use Rattle.ms_loaders.specs.System.{states_of}

@@ -27,7 +27,7 @@ use Rattle.ms_base.specs.Transition.{HasLoader, Transition, Leaves, Cause, NewCa
 use Rattle.ms_base.specs.WordLaws.{alloc_in}
 use Rattle.ms_base.specs.Alone.{OwnLoader, OwnReply}
 use Rattle.ms_base.proofs.entries.LookupLemmas.{named_changed_same, named_changed_other, named_new_same, named_new_other, named_without_other}
-use Rattle.ms_base.proofs.events.EntryLemmas.{all_values, named_without_same}
+use Rattle.ms_base.proofs.events.SeenEntryLemmas.{all_values, named_without_same}
 use Rattle.ms_base.proofs.machine.GoodLemmas.{loader_is_sound, good_with_numbers_used}
 use Rattle.ms_base.proofs.machine.BackedLemmas.{blocks_are_apart}
 use Rattle.ms_run.specs.Own.{own_of, own_in}

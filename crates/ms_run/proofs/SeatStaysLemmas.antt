@@ -45,7 +45,7 @@ use Rattle.ms_shared.specs.declared.lock_rule.SeatView.{SeatView}
 use Rattle.ms_shared.specs.Entries.{Entry, Has, refreshed, fresh}
 use Rattle.ms_shared.specs.SeatView.{SeatState, ServesBy, OverLock, opened_by}
 use Rattle.ms_shared.specs.LockCalls.{TookOver, GrewOver}
-use Rattle.ms_shared.proofs.EntryLemmas.{has_record}
+use Rattle.ms_shared.proofs.RecordLemmas.{has_record}
 use Rattle.ms_run.specs.Manned.{IsManned}
 use Rattle.ms_loaders.proofs.ServedLemmas.{times, one_if, all_joined, owners_split, is_it, times_split, it_is, all_parts, own_is_among, accounts_split}
 use Rattle.ms_loaders.proofs.FitLemmas.{chunk_of, owner_of}

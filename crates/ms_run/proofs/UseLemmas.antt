@@ -14,7 +14,7 @@ use Rattle.ms_base.specs.Alone.{OwnLoader, OwnReply}
 use Rattle.ms_base.specs.Names.{AreNamed, named, without}
 use Rattle.ms_base.proofs.entries.EntryLemmas.{rises_without}
 use Rattle.ms_base.proofs.entries.LookupLemmas.{named_without_other}
-use Rattle.ms_base.proofs.events.EntryLemmas.{named_without_same, same_entries}
+use Rattle.ms_base.proofs.events.SeenEntryLemmas.{named_without_same, same_entries}
 use Rattle.ms_loaders.specs.Loader.{LoaderView}
 use Rattle.ms_loaders.specs.System.{states_of}
 use Rattle.ms_loaders.specs.Used.{used_by, used_at, used_in}

@@ -15,7 +15,7 @@ use Rattle.ms_base.specs.Request.{loader_of, is_name}
 use Rattle.ms_loaders.specs.Loader.{LoaderView}
 use Rattle.ms_loaders.specs.System.{states_of}
 use Rattle.ms_loaders.specs.Used.{used_in}
-use Rattle.ms_run.proofs.MovedLemmas.{moved_none, moved_then}
+use Rattle.ms_run.proofs.MeterMoveLemmas.{moved_none, moved_then}
 use Rattle.ms_run.proofs.TouchLemmas.{named_states}
 use Rattle.ms_loaders.proofs.UnloadLemmas.{state_of}
 use Rattle.ms_shared.specs.MeterRule.{MeterSeatState}

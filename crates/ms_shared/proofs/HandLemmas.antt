@@ -13,9 +13,9 @@ use Rattle.ms_shared.specs.declared.lock_rule.LockView.{LockView}
 use Rattle.ms_shared.specs.Entries.{Entry, Has, only, all_but}
 use Rattle.ms_shared.specs.SeatView.{ServesBy, opened_by, tallies_of_both, knows_limits, knows_both, without_account, account_alone, with_account}
 use Rattle.ms_shared.specs.LockRule.{Sat, both, view_without, note_of, less_part, spare_part}
-use Rattle.ms_shared.proofs.CutLemmas.{Cuts, no_tally, none_opened}
-use Rattle.ms_shared.proofs.EntryLemmas.{times_cut, records_cut, has_left, has_right}
-use Rattle.ms_shared.proofs.DealLemmas.{seat_of, seen_as}
+use Rattle.ms_shared.proofs.SeatCutLemmas.{Cuts, no_tally, none_opened}
+use Rattle.ms_shared.proofs.RecordLemmas.{times_cut, records_cut, has_left, has_right}
+use Rattle.ms_shared.proofs.SeatDealLemmas.{seat_of, seen_as}
 
 opened_cut : (owner : ℕ) (space one : Space) (view : SeatView) → 0 < opened_by view space
     → opened_by (without_account owner space view) one + opened_by (account_alone owner space view) one ≡ opened_by view one

@@ -20,7 +20,7 @@ use Rattle.ms_shared.specs.Entries.{times, once_given, refreshed, fresh}
 use Rattle.ms_shared.specs.SeatView.{TallyKind, commit_of_take, reserve_of_take, commit_of_grow, room_of_grow, ids_of_open, tally_of, opened_by, IsKnown, raised_with, tallies_after, view_after}
 use Rattle.ms_shared.specs.LockRule.{IsLocked, Fits, Sat, has_pool, count_some, with_pool, Seizes, Moves, after, some_pool, taken_of}
 use Rattle.ms_shared.proofs.TotalLemmas.{total-set, total_at, total_two, total_kept, mod_shift, mod_in}
-use Rattle.ms_shared.proofs.EntryLemmas.{times-append, times-refreshed, times_fresh, records_append, refreshed_records, fresh_records, same_records, once_given-le}
+use Rattle.ms_shared.proofs.RecordLemmas.{times-append, times-refreshed, times_fresh, records_append, refreshed_records, fresh_records, same_records, once_given-le}
 
 pub some_apart : (pool : Ledger) → None ≡ Some pool → ⊥
 some_apart pool is = let one : ◌≡◌ {A = ℕ} 0 1 = ap count_some is in absurd (omega arith)

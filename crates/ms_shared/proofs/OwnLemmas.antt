@@ -10,10 +10,10 @@ use Rattle.ms_pool.specs.Account.{AccountState, AreChunks}
 use Rattle.ms_pool.specs.Ledger.{Ledger, state_in, held_in, opened_in}
 use Rattle.ms_pool.specs.Calls.{sums_in}
 use Rattle.ms_pool.specs.declared.totals.PoolTotals.{PoolTotals}
-use Rattle.ms_pool.proofs.ledger.HeldLemmas.{own_sum_within}
+use Rattle.ms_pool.proofs.ledger.HeldLoanLemmas.{own_sum_within}
 use Rattle.ms_shared.specs.SeatView.{SeatState, ServesBy, IsKnown}
 use Rattle.ms_shared.specs.LockCalls.{CountsOwn}
-use Rattle.ms_shared.proofs.CallLemmas.{served_by_pool}
+use Rattle.ms_shared.proofs.LockCallLemmas.{served_by_pool}
 
 abbrev one_if_level : ℕ → Chunk → ℕ
 one_if_level level chunk = cond (chunk.level == level) 1 0

@@ -63,7 +63,8 @@ new_read (more loader (more kind none)) =
     let k : IsKindWord _ = kind_read kind in
     record { command = Asks (New l.value k.kind); valid = omega (arith, l.low); fields_are = rw l.written (rw k.written refl) }
 
-alloc_read : {rest : List (List ℕ)} → Pass (loader_field ∷ block_field ∷ word_field ∷ []) rest → IsSpelled (codes "alloc" ∷ rest)
+alloc_read : {rest : List (List ℕ)} → Pass (loader_field ∷ block_field ∷ word_field ∷ []) rest
+    → IsSpelled (codes "alloc" ∷ rest)
 alloc_read (more loader (more block (more words none))) =
     let l : IsNumeral (2 ^ 16 - 1) _ = loader_read loader in
     let b : IsNumeral (2 ^ 32 - 1) _ = block_read block in
@@ -74,7 +75,8 @@ alloc_read (more loader (more block (more words none))) =
       fields_are = rw l.written (rw b.written (rw w.written refl));
     }
 
-calloc_read : {rest : List (List ℕ)} → Pass (loader_field ∷ block_field ∷ word_field ∷ []) rest → IsSpelled (codes "calloc" ∷ rest)
+calloc_read : {rest : List (List ℕ)} → Pass (loader_field ∷ block_field ∷ word_field ∷ []) rest
+    → IsSpelled (codes "calloc" ∷ rest)
 calloc_read (more loader (more block (more words none))) =
     let l : IsNumeral (2 ^ 16 - 1) _ = loader_read loader in
     let b : IsNumeral (2 ^ 32 - 1) _ = block_read block in
@@ -85,7 +87,8 @@ calloc_read (more loader (more block (more words none))) =
       fields_are = rw l.written (rw b.written (rw w.written refl));
     }
 
-write_read : {rest : List (List ℕ)} → Pass (loader_field ∷ block_field ∷ word_field ∷ word_field ∷ []) rest → IsSpelled (codes "write" ∷ rest)
+write_read : {rest : List (List ℕ)} → Pass (loader_field ∷ block_field ∷ word_field ∷ word_field ∷ []) rest
+    → IsSpelled (codes "write" ∷ rest)
 write_read (more loader (more block (more index (more value none)))) =
     let l : IsNumeral (2 ^ 16 - 1) _ = loader_read loader in
     let b : IsNumeral (2 ^ 32 - 1) _ = block_read block in
@@ -97,7 +100,8 @@ write_read (more loader (more block (more index (more value none)))) =
       fields_are = rw l.written (rw b.written (rw i.written (rw v.written refl)));
     }
 
-read_read : {rest : List (List ℕ)} → Pass (loader_field ∷ block_field ∷ word_field ∷ []) rest → IsSpelled (codes "read" ∷ rest)
+read_read : {rest : List (List ℕ)} → Pass (loader_field ∷ block_field ∷ word_field ∷ []) rest
+    → IsSpelled (codes "read" ∷ rest)
 read_read (more loader (more block (more index none))) =
     let l : IsNumeral (2 ^ 16 - 1) _ = loader_read loader in
     let b : IsNumeral (2 ^ 32 - 1) _ = block_read block in
@@ -136,7 +140,8 @@ at_word true fields others rest here later e = here refl (pass_from_no_fault fie
 at_word false fields others rest here later e = later e
 
 -- A word that is that of the table.
-named : (word other : List ℕ) (rest : List (List ℕ)) → bytes_eq word other ≡ true → IsSpelled (other ∷ rest) → IsSpelled (word ∷ rest)
+named : (word other : List ℕ) (rest : List (List ℕ)) → bytes_eq word other ≡ true → IsSpelled (other ∷ rest)
+    → IsSpelled (word ∷ rest)
 named word other rest same spelled = rw ((bytes_eq-Decides word other).0 same) spelled
 
 -- Fields without a fault are those of a valid command.

@@ -12,7 +12,8 @@ abbrev pub IsSolid : List ℕ → Type 0
 IsSolid bytes = All (λ byte. eqb byte 32 ≡ false) bytes
 
 -- Fields without spaces are cut as they were joined.
-pub fields_of-join : (first : List ℕ) (rest : List (List ℕ)) → IsSolid first → AllByRecursion IsSolid rest → fields_of (join_with_byte 32 (first ∷ rest)) ≡ first ∷ rest
+pub fields_of-join : (first : List ℕ) (rest : List (List ℕ)) → IsSolid first → AllByRecursion IsSolid rest
+    → fields_of (join_with_byte 32 (first ∷ rest)) ≡ first ∷ rest
 fields_of-join first [] solid all = slice_split_none (λ byte. eqb byte 32) first solid
 fields_of-join first (next ∷ rest) solid all =
     slice_split_at (λ byte. eqb byte 32) first 32 (join_with_byte 32 (next ∷ rest)) solid refl
@@ -33,7 +34,8 @@ found_inside : (inside : Bool) (place at : ℕ) → Some at ≡ cond inside (Som
 found_inside true place at e = (refl, cc)
 found_inside false place at e = cc
 
-pub cut_there : (p : ℕ → Bool) (text : List ℕ) (at : ℕ) → Some at ≡ position p text → slice_split p text ≡ take at text ∷ slice_split p (drop (at + 1) text)
+pub cut_there : (p : ℕ → Bool) (text : List ℕ) (at : ℕ) → Some at ≡ position p text
+    → slice_split p text ≡ take at text ∷ slice_split p (drop (at + 1) text)
 cut_there p text at e =
     let found : (ltb (position_or_len p text) (length text) ≡ true) × (position_or_len p text ≡ at) = found_inside _ _ at e in
     rw found.1 at (slice_split_first p text 0 (ltb-true _ _ found.0))
@@ -43,7 +45,8 @@ not_true true never = absurd (never refl)
 not_true false never = refl
 
 -- The first place that a search finds, in the words of `position`.
-pub position_from_first : (p : ℕ → Bool) (text : List ℕ) (found : Option ℕ) → IsFirstByte p text found → found ≡ position p text
+pub position_from_first : (p : ℕ → Bool) (text : List ℕ) (found : Option ℕ) → IsFirstByte p text found
+    → found ≡ position p text
 position_from_first p text None nowhere =
     let none : position_or_len p text ≡ length text = position_or_len_is p text (length text) 0 (omega arith) (λ k below. not_true (p (get_or text k 0)) (nowhere k (omega arith) below)) (λ below. absurd (omega (arith, below))) in
     rw none (rw (le-ltb (length text) (length text) (omega arith)) refl)

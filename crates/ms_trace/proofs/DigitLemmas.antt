@@ -54,13 +54,15 @@ pub value-decimal : (n : ℕ) → n < 2 ^ 64 → digits_value 10 (decimal n) ≡
 value-decimal n small = digits_value-decimal own n small
 
 -- Each number is what `decimal` writes of its value.
-pub decimal-value : (bytes : List ℕ) → is_number bytes ≡ true → digits_value 10 bytes < 2 ^ 64 → decimal (digits_value 10 bytes) ≡ bytes
+pub decimal-value : (bytes : List ℕ) → is_number bytes ≡ true → digits_value 10 bytes < 2 ^ 64
+    → decimal (digits_value 10 bytes) ≡ bytes
 decimal-value bytes e small =
     let h : IsPlain bytes = plain_from_is_number bytes e in
     decimal-digits_value own bytes h.digits h.some h.zero_alone small
 
 -- No byte of a number is a space.
-digits_have_no_space : (bytes : List ℕ) → all_ascii_digits bytes ≡ true → AllByRecursion (λ byte. eqb byte 32 ≡ false) bytes
+digits_have_no_space : (bytes : List ℕ) → all_ascii_digits bytes ≡ true
+    → AllByRecursion (λ byte. eqb byte 32 ≡ false) bytes
 digits_have_no_space [] e = tt
 digits_have_no_space (first ∷ rest) e =
     let parts : (is_ascii_digit first ≡ true) × (all_ascii_digits rest ≡ true) = and_parts _ _ e in
@@ -71,12 +73,14 @@ decimal_has_no_space n small =
     All-from_recursion (λ byte. eqb byte 32 ≡ false) (decimal n) (digits_have_no_space (decimal n) (digits_decimal own n small))
 
 -- A byte that is no digit makes a field no number.
-digit_at_all : (bytes : List ℕ) (i : ℕ) → all_ascii_digits bytes ≡ true → i < length bytes → is_ascii_digit (get_or bytes i 0) ≡ true
+digit_at_all : (bytes : List ℕ) (i : ℕ) → all_ascii_digits bytes ≡ true → i < length bytes
+    → is_ascii_digit (get_or bytes i 0) ≡ true
 digit_at_all [] i e inside = absurd (omega arith)
 digit_at_all (first ∷ rest) zero e inside = (and_parts _ _ e).0
 digit_at_all (first ∷ rest) (suc i) e inside = digit_at_all rest i (and_parts _ _ e).1 (omega (arith, inside))
 
-pub not_number_at : (bytes : List ℕ) (i : ℕ) → i < length bytes → is_ascii_digit (get_or bytes i 0) ≡ false → is_number bytes ≡ false
+pub not_number_at : (bytes : List ℕ) (i : ℕ) → i < length bytes → is_ascii_digit (get_or bytes i 0) ≡ false
+    → is_number bytes ≡ false
 not_number_at bytes i inside e =
     elim (is_number bytes) as (λ b. is_number bytes ≡ b → b ≡ false) [
       | true ↦ λ number. absurd (both_ways _ e (digit_at_all bytes i (plain_from_is_number bytes number).digits inside))
@@ -84,24 +88,28 @@ not_number_at bytes i inside e =
     ] refl
 
 -- One more digit.
-digits_more_suc : (bytes : List ℕ) (i : ℕ) → i < length bytes → all_ascii_digits (take i bytes) ≡ true → is_ascii_digit (get_or bytes i 0) ≡ true → all_ascii_digits (take (suc i) bytes) ≡ true
+digits_more_suc : (bytes : List ℕ) (i : ℕ) → i < length bytes → all_ascii_digits (take i bytes) ≡ true
+    → is_ascii_digit (get_or bytes i 0) ≡ true → all_ascii_digits (take (suc i) bytes) ≡ true
 digits_more_suc [] i inside all e = absurd (omega arith)
 digits_more_suc (first ∷ rest) zero inside all e = and_from (is_ascii_digit first) true e refl
 digits_more_suc (first ∷ rest) (suc i) inside all e =
     let parts : (is_ascii_digit first ≡ true) × (all_ascii_digits (take i rest) ≡ true) = and_parts _ _ all in
     and_from (is_ascii_digit first) (all_ascii_digits (take (suc i) rest)) parts.0 (digits_more_suc rest i (omega (arith, inside)) parts.1 e)
 
-pub digits_more_test : (bytes : List ℕ) (i : ℕ) → i < length bytes → all_ascii_digits (take i bytes) ≡ true → is_ascii_digit (get_or bytes i 0) ≡ true → all_ascii_digits (take (i + 1) bytes) ≡ true
+pub digits_more_test : (bytes : List ℕ) (i : ℕ) → i < length bytes → all_ascii_digits (take i bytes) ≡ true
+    → is_ascii_digit (get_or bytes i 0) ≡ true → all_ascii_digits (take (i + 1) bytes) ≡ true
 digits_more_test bytes i inside all e = rw add-one (digits_more_suc bytes i inside all e)
 
 digit_value-digit : (byte : ℕ) → is_ascii_digit byte ≡ true → digit_value byte ≡ byte - 48
 digit_value-digit byte e = grind (arith, nat_tests, e)
 
-pub value_more : (bytes : List ℕ) (i : ℕ) → i < length bytes → is_ascii_digit (get_or bytes i 0) ≡ true → digits_value 10 (take (i + 1) bytes) ≡ digits_value 10 (take i bytes) * 10 + (get_or bytes i 0 - 48)
+pub value_more : (bytes : List ℕ) (i : ℕ) → i < length bytes → is_ascii_digit (get_or bytes i 0) ≡ true
+    → digits_value 10 (take (i + 1) bytes) ≡ digits_value 10 (take i bytes) * 10 + (get_or bytes i 0 - 48)
 value_more bytes i inside e = rw (sym (digit_value-digit (get_or bytes i 0) e)) (digits_value_more 10 bytes i inside)
 
 -- Where one digit more doesn't fit in 64 bits, nor does the whole.
-pub value_is_long : (bytes : List ℕ) (i : ℕ) → i < length bytes → is_ascii_digit (get_or bytes i 0) ≡ true → (digits_value 10 (take i bytes) * 10 + (get_or bytes i 0 - 48) < 2 ^ 64 → ⊥) → 2 ^ 64 ≤ digits_value 10 bytes
+pub value_is_long : (bytes : List ℕ) (i : ℕ) → i < length bytes → is_ascii_digit (get_or bytes i 0) ≡ true
+    → (digits_value 10 (take i bytes) * 10 + (get_or bytes i 0 - 48) < 2 ^ 64 → ⊥) → 2 ^ 64 ≤ digits_value 10 bytes
 value_is_long bytes i inside e long =
     let front : digits_value 10 (take (i + 1) bytes) ≤ digits_value 10 bytes = digits_value-take-le 10 bytes (i + 1) (omega arith) in
     omega (arith, value_more bytes i inside e, front, long)
@@ -112,7 +120,8 @@ list_all-digits [] = refl
 list_all-digits (byte ∷ bytes) = ap (λ rest. is_ascii_digit byte && rest) (list_all-digits bytes)
 
 -- Digits without a leading zero are a number.
-pub is_number_from_digits : (bytes : List ℕ) → all_ascii_digits bytes ≡ true → 0 < length bytes → ((get_or bytes 0 0 ≡ 48) × (length bytes ≡ 1)) ⊎ (get_or bytes 0 0 ≡ 48 → ⊥) → is_number bytes ≡ true
+pub is_number_from_digits : (bytes : List ℕ) → all_ascii_digits bytes ≡ true → 0 < length bytes
+    → ((get_or bytes 0 0 ≡ 48) × (length bytes ≡ 1)) ⊎ (get_or bytes 0 0 ≡ 48 → ⊥) → is_number bytes ≡ true
 is_number_from_digits bytes all some either =
     is_number_from_plain bytes
     (record {

@@ -32,26 +32,31 @@ pub record IsNumeral (greatest : ℕ) (bytes : List ℕ) : Type 0 where
   pub low : value ≤ greatest
   pub written : decimal value ≡ bytes
 
-number_form : (good large : Bool) → cond (not good) (Some BadNumber) (cond large (Some NumberTooLarge) None) ≡ None → (good ≡ true) × (large ≡ false)
+number_form : (good large : Bool) → cond (not good) (Some BadNumber) (cond large (Some NumberTooLarge) None) ≡ None
+    → (good ≡ true) × (large ≡ false)
 number_form true true e = cc
 number_form true false e = (refl, refl)
 number_form false large e = cc
 
-pub number_read : {greatest : ℕ} {bytes : List ℕ} → greatest < 2 ^ 64 → Passes (number_field greatest) bytes → IsNumeral greatest bytes
+pub number_read : {greatest : ℕ} {bytes : List ℕ} → greatest < 2 ^ 64 → Passes (number_field greatest) bytes
+    → IsNumeral greatest bytes
 number_read {greatest} {bytes} small passes =
     let parts : (is_number bytes ≡ true) × (ltb greatest (digits_value 10 bytes) ≡ false) = number_form _ _ passes.without_fault in
     let low : digits_value 10 bytes ≤ greatest = grind (arith, nat_tests, parts.1) in
     record { value = digits_value 10 bytes; low = low; written = decimal-value bytes parts.0 (omega arith) }
 
 -- A number of more than 64 bits is too large for each field, and what isn't all digits is no number.
-long_form : (digits : Bool) (greatest : ℕ) (bytes : List ℕ) → digits ≡ all_ascii_digits bytes → (all_ascii_digits bytes ≡ true → is_number bytes ≡ true) → (is_number bytes ≡ true → all_ascii_digits bytes ≡ true) →
+long_form : (digits : Bool) (greatest : ℕ) (bytes : List ℕ) → digits ≡ all_ascii_digits bytes
+    → (all_ascii_digits bytes ≡ true → is_number bytes ≡ true)
+    → (is_number bytes ≡ true → all_ascii_digits bytes ≡ true) →
     ltb greatest (digits_value 10 bytes) ≡ true → Some (cond digits NumberTooLarge BadNumber) ≡ field_fault (number_field greatest) bytes
 long_form true greatest bytes e from to large = rw (from (sym e)) (rw large refl)
 long_form false greatest bytes e from to large =
     let no : is_number bytes ≡ false = elim (is_number bytes) as (λ b. is_number bytes ≡ b → b ≡ false) [ true ↦ λ f. absurd (both_ways _ (sym e) (to f)) | false ↦ λ f. refl ] refl in
     rw no refl
 
-pub long_fault : (greatest : ℕ) (bytes : List ℕ) → greatest < 2 ^ 64 → 2 ^ 64 ≤ digits_value 10 bytes → 0 < length bytes → ((get_or bytes 0 0 ≡ 48) × (length bytes ≡ 1)) ⊎ (get_or bytes 0 0 ≡ 48 → ⊥) →
+pub long_fault : (greatest : ℕ) (bytes : List ℕ) → greatest < 2 ^ 64 → 2 ^ 64 ≤ digits_value 10 bytes → 0 < length bytes
+    → ((get_or bytes 0 0 ≡ 48) × (length bytes ≡ 1)) ⊎ (get_or bytes 0 0 ≡ 48 → ⊥) →
     Some (cond (list_all is_ascii_digit bytes) NumberTooLarge BadNumber) ≡ field_fault (number_field greatest) bytes
 long_fault greatest bytes small long some either =
     long_form _ greatest bytes (list_all-digits bytes) (λ all. is_number_from_digits bytes all some either) (λ number. (plain_from_is_number bytes number).digits)
@@ -69,7 +74,10 @@ pub record IsKindWord (bytes : List ℕ) : Type 0 where
   pub kind : Kind
   pub written : kind_word kind ≡ bytes
 
-kind_form : (bytes : List ℕ) (a b c d : Bool) → (a ≡ true → kind_word Standard ≡ bytes) → (b ≡ true → kind_word Boot ≡ bytes) → (c ≡ true → kind_word Reflection ≡ bytes) → (d ≡ true → kind_word Hidden ≡ bytes) → cond (a || (b || (c || (d || false)))) None (Some BadKind) ≡ None → IsKindWord bytes
+kind_form : (bytes : List ℕ) (a b c d : Bool) → (a ≡ true → kind_word Standard ≡ bytes)
+    → (b ≡ true → kind_word Boot ≡ bytes) → (c ≡ true → kind_word Reflection ≡ bytes)
+    → (d ≡ true → kind_word Hidden ≡ bytes) → cond (a || (b || (c || (d || false)))) None (Some BadKind) ≡ None
+    → IsKindWord bytes
 kind_form bytes true b c d of_a of_b of_c of_d e = record { kind = Standard; written = of_a refl }
 kind_form bytes false true c d of_a of_b of_c of_d e = record { kind = Boot; written = of_b refl }
 kind_form bytes false false true d of_a of_b of_c of_d e = record { kind = Reflection; written = of_c refl }
@@ -88,7 +96,8 @@ kind_read {bytes} passes =
 -- As many texts as fields, and none has a fault.
 pub data Pass : List Field → List (List ℕ) → Type 0 where
   none : Pass [] []
-  more : {field : Field} {bytes : List ℕ} {fields : List Field} {rest : List (List ℕ)} → Passes field bytes → Pass fields rest → Pass (field ∷ fields) (bytes ∷ rest)
+  more : {field : Field} {bytes : List ℕ} {fields : List Field} {rest : List (List ℕ)} → Passes field bytes
+      → Pass fields rest → Pass (field ∷ fields) (bytes ∷ rest)
 
 -- Texts that pass are no fault of a known word.
 counted : {fields : List Field} {rest : List (List ℕ)} → Pass fields rest → length rest ≡ length fields
@@ -99,7 +108,8 @@ faultless : {fields : List Field} {rest : List (List ℕ)} → Pass fields rest 
 faultless none = refl
 faultless (more passes pass) = rw passes.without_fault (faultless pass)
 
-pub no_fault_from_pass : {fields : List Field} {rest : List (List ℕ)} → Pass fields rest → after_word_fault (Some fields) rest ≡ None
+pub no_fault_from_pass : {fields : List Field} {rest : List (List ℕ)} → Pass fields rest
+    → after_word_fault (Some fields) rest ≡ None
 no_fault_from_pass pass = grind (arith, nat_tests, counted pass, faultless pass)
 
 -- Without a fault the texts pass.
@@ -107,7 +117,8 @@ both_none : (one other : Option FaultKind) → first_of_two one other ≡ None �
 both_none None other e = (refl, e)
 both_none (Some kind) other e = cc
 
-pass_from_parts : (fields : List Field) (rest : List (List ℕ)) → length rest ≡ length fields → fields_fault fields rest ≡ None → Pass fields rest
+pass_from_parts : (fields : List Field) (rest : List (List ℕ)) → length rest ≡ length fields
+    → fields_fault fields rest ≡ None → Pass fields rest
 pass_from_parts [] [] same e = none
 pass_from_parts [] (bytes ∷ rest) same e = absurd (omega (arith, same))
 pass_from_parts (field ∷ fields) [] same e = absurd (omega (arith, same))
@@ -115,11 +126,13 @@ pass_from_parts (field ∷ fields) (bytes ∷ rest) same e =
     let parts : (field_fault field bytes ≡ None) × (fields_fault fields rest ≡ None) = both_none (field_fault field bytes) (fields_fault fields rest) e in
     more (record { without_fault = parts.0 }) (pass_from_parts fields rest (omega (arith, same)) parts.1)
 
-count_form : (same : Bool) (fault : Option FaultKind) → cond same fault (Some FieldCount) ≡ None → (same ≡ true) × (fault ≡ None)
+count_form : (same : Bool) (fault : Option FaultKind) → cond same fault (Some FieldCount) ≡ None
+    → (same ≡ true) × (fault ≡ None)
 count_form true fault e = (refl, e)
 count_form false fault e = cc
 
-pub pass_from_no_fault : (fields : List Field) (rest : List (List ℕ)) → after_word_fault (Some fields) rest ≡ None → Pass fields rest
+pub pass_from_no_fault : (fields : List Field) (rest : List (List ℕ)) → after_word_fault (Some fields) rest ≡ None
+    → Pass fields rest
 pass_from_no_fault fields rest e =
     let parts : (eqb (length rest) (length fields) ≡ true) × (fields_fault fields rest ≡ None) = count_form _ _ e in
     pass_from_parts fields rest (grind (arith, nat_tests, parts.0)) parts.1

@@ -84,7 +84,8 @@ lines_of-line line text clean =
     ∙ line_first line (slice_split (λ byte. eqb byte 10) text) (some_part text)
 
 -- Empty lines before lines that read.
-gap_reads : (gap number : ℕ) (text : List ℕ) (trace : List Line) → number + gap ≤ most_lines → ReadsFrom (number + gap) (lines_of text) trace → ReadsFrom number (lines_of (replicate gap 10 ++ text)) trace
+gap_reads : (gap number : ℕ) (text : List ℕ) (trace : List Line) → number + gap ≤ most_lines
+    → ReadsFrom (number + gap) (lines_of text) trace → ReadsFrom number (lines_of (replicate gap 10 ++ text)) trace
 gap_reads zero number text trace few reads = rw add-zero at reads
 gap_reads (suc gap) number text trace few reads =
     let place : number + suc gap ≡ number + 1 + gap = omega arith in
@@ -92,7 +93,8 @@ gap_reads (suc gap) number text trace few reads =
     rw (lines_of-line [] (replicate gap 10 ++ text) refl) (trace, omega arith, omega arith, inl (refl, refl), later)
 
 -- A printed trace reads as itself.
-pub printed_reads : (last : ℕ) (trace : List Line) → AllByRecursion (λ (line : Line). IsValid line.command) trace → rises_above last trace ≡ true → ReadsFrom (last + 1) (lines_of (text_from (last + 1) trace)) trace
+pub printed_reads : (last : ℕ) (trace : List Line) → AllByRecursion (λ (line : Line). IsValid line.command) trace
+    → rises_above last trace ≡ true → ReadsFrom (last + 1) (lines_of (text_from (last + 1) trace)) trace
 printed_reads last [] valid rises = refl
 printed_reads last (line ∷ trace) (valid, others) rises =
     let parts : ((ltb last line.number && leb line.number most_lines) ≡ true) × (rises_above line.number trace ≡ true) = and_parts _ _ rises in
@@ -110,14 +112,17 @@ printed_reads last (line ∷ trace) (valid, others) rises =
     (gap_reads gap (last + 1) (spelling_of line.command ++ 10 ∷ text) (line ∷ trace) (rw place high) (rw place here))
 
 -- The lines left begin with the next one.
-drop_here : (items : List Line) (i : ℕ) (d : Line) → i < length items → drop i items ≡ get_or items i d ∷ drop (i + 1) items
+drop_here : (items : List Line) (i : ℕ) (d : Line) → i < length items
+    → drop i items ≡ get_or items i d ∷ drop (i + 1) items
 drop_here items i d inside = rw add-one (drop-cons items i d inside)
 
-joined : (text gap spelled rest : List ℕ) → text ++ gap ++ spelled ++ 10 ∷ [] ++ rest ≡ text ++ (gap ++ spelled ++ 10 ∷ rest)
+joined : (text gap spelled rest : List ℕ)
+    → text ++ gap ++ spelled ++ 10 ∷ [] ++ rest ≡ text ++ (gap ++ spelled ++ 10 ∷ rest)
 joined text gap spelled rest = simp append_assoc refl
 
 -- What is printed of a line is the next part of the text.
-pub line_printed : (items : List Line) (i last : ℕ) (d : Line) (text whole : List ℕ) → i < length items → text ++ text_from (last + 1) (drop i items) ≡ whole →
+pub line_printed : (items : List Line) (i last : ℕ) (d : Line) (text whole : List ℕ) → i < length items
+    → text ++ text_from (last + 1) (drop i items) ≡ whole →
     text ++ replicate ((get_or items i d).number - last - 1) 10 ++ spelling_of (get_or items i d).command ++ 10 ∷ [] ++ text_from ((get_or items i d).number + 1) (drop (i + 1) items) ≡ whole
 line_printed items i last d text whole inside e =
     let line : Line = get_or items i d in
@@ -125,7 +130,8 @@ line_printed items i last d text whole inside e =
     rw gap (joined text _ (spelling_of line.command) _ ∙ rw (drop_here items i d inside) at e)
 
 -- The lines left rise from that line's number on.
-pub rises_on : (items : List Line) (i last : ℕ) (d : Line) → i < length items → rises_above last (drop i items) ≡ true → rises_above (get_or items i d).number (drop (i + 1) items) ≡ true
+pub rises_on : (items : List Line) (i last : ℕ) (d : Line) → i < length items → rises_above last (drop i items) ≡ true
+    → rises_above (get_or items i d).number (drop (i + 1) items) ≡ true
 rises_on items i last d inside rises =
     let front : rises_above last (get_or items i d ∷ drop (i + 1) items) ≡ true = rw (drop_here items i d inside) at rises in
     (and_parts _ _ front).1

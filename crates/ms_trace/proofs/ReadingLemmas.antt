@@ -16,7 +16,8 @@ use Rattle.ms_trace.proofs.SpellingLemmas.{IsAllowed, allowed_from_no_fault}
 use Rattle.ms_trace.proofs.TraceLemmas.{Says, faultless_from_reads}
 
 -- A part before others is a line.
-pub line_first : (part : List ℕ) (parts : List (List ℕ)) → 0 < length parts → without_empty_end (part ∷ parts) ≡ part ∷ without_empty_end parts
+pub line_first : (part : List ℕ) (parts : List (List ℕ)) → 0 < length parts
+    → without_empty_end (part ∷ parts) ≡ part ∷ without_empty_end parts
 line_first part [] some = absurd (omega arith)
 line_first [] (next ∷ parts) some = refl
 line_first (byte ∷ bytes) (next ∷ parts) some = refl
@@ -32,7 +33,8 @@ text_after None = []
 text_after (Some text) = text.now
 
 -- What is cut off a text that isn't empty is its first line.
-pub lines_of-cut : (rest line : List ℕ) (after : Option (Bor (List ℕ))) → 0 < length rest → parts_of 10 rest ≡ line ∷ parts_after 10 after → lines_of rest ≡ line ∷ lines_of (text_after after)
+pub lines_of-cut : (rest line : List ℕ) (after : Option (Bor (List ℕ))) → 0 < length rest
+    → parts_of 10 rest ≡ line ∷ parts_after 10 after → lines_of rest ≡ line ∷ lines_of (text_after after)
 lines_of-cut rest line None some cut =
     let same : line ≡ rest = sym (ap (join_with_byte 10) cut) ∙ join_with_byte-slice_split 10 rest in
     ap without_empty_end cut ∙ last_line line (rw same some)
@@ -40,12 +42,15 @@ lines_of-cut rest line (Some text) some cut =
     ap without_empty_end cut ∙ line_first line (parts_of 10 text.now) (omega (arith, length-slice_split (λ byte. eqb byte 10) text.now))
 
 -- Lines read as a trace with one more line.
-says_more : (number : ℕ) (line : List ℕ) (trace rest said : List Line) → Says number line trace rest → Says number line (trace ++ said) (rest ++ said)
+says_more : (number : ℕ) (line : List ℕ) (trace rest said : List Line) → Says number line trace rest
+    → Says number line (trace ++ said) (rest ++ said)
 says_more number line trace rest said (inl (silent, e)) = inl (silent, ap (λ lines. lines ++ said) e)
 says_more number line trace rest said (inr gives) =
     inr (record { command = gives.command; valid = gives.valid; spelled = gives.spelled; trace_is = ap (λ lines. lines ++ said) gives.trace_is })
 
-reads_push : (number : ℕ) (before : List (List ℕ)) (line : List ℕ) (trace said : List Line) → ReadsFrom number before trace → ReadsFrom (number + length before) (line ∷ []) said → ReadsFrom number (before ++ line ∷ []) (trace ++ said)
+reads_push : (number : ℕ) (before : List (List ℕ)) (line : List ℕ) (trace said : List Line)
+    → ReadsFrom number before trace → ReadsFrom (number + length before) (line ∷ []) said
+    → ReadsFrom number (before ++ line ∷ []) (trace ++ said)
 reads_push number [] line trace said e last = rw e (rw add-zero at last)
 reads_push number (first ∷ before) line trace said (rest, few, short, says, more) last =
     let place : number + suc (length before) ≡ number + 1 + length before = omega arith in
@@ -58,11 +63,9 @@ pub record IsRead (text rest : List ℕ) (number : ℕ) (trace : List Line) : Ty
   pub number_is : number ≡ length before
   pub reads : ReadsFrom 1 before trace
 
-pub nothing_read : (text : List ℕ) → IsRead text text 0 []
-nothing_read text = record { before = []; lines_are = refl; number_is = refl; reads = refl }
-
 -- One line more.
-pub line_more : (text rest after line : List ℕ) (number : ℕ) (trace new : List Line) → IsRead text rest number trace → lines_of rest ≡ line ∷ lines_of after →
+pub line_more : (text rest after line : List ℕ) (number : ℕ) (trace new : List Line) → IsRead text rest number trace
+    → lines_of rest ≡ line ∷ lines_of after →
     Keeps (number + 1) line trace new → IsRead text after (number + 1) new
 line_more text rest after line number trace new read cut keeps =
     let allowed : IsAllowed (number + 1) line = allowed_from_no_fault (number + 1) line keeps.faultless in
@@ -76,11 +79,13 @@ line_more text rest after line number trace new read cut keeps =
     }
 
 -- A line that is kept is allowed, so its number is.
-pub kept_number : (number : ℕ) (line : List ℕ) (trace new : List Line) → Keeps number line trace new → number ≤ most_lines
+pub kept_number : (number : ℕ) (line : List ℕ) (trace new : List Line) → Keeps number line trace new
+    → number ≤ most_lines
 kept_number number line trace new keeps = (allowed_from_no_fault number line keeps.faultless).few
 
 -- A line with a fault is the first one.
-fault_here : (text rest after line : List ℕ) (number : ℕ) (trace : List Line) (kind : FaultKind) → IsRead text rest number trace → lines_of rest ≡ line ∷ lines_of after →
+fault_here : (text rest after line : List ℕ) (number : ℕ) (trace : List Line) (kind : FaultKind)
+    → IsRead text rest number trace → lines_of rest ≡ line ∷ lines_of after →
     fault_of (number + 1) line ≡ Some kind → HasFault text (number + 1) kind
 fault_here text rest after line number trace kind read cut e = record {
   before = read.before;
@@ -92,14 +97,16 @@ fault_here text rest after line number trace kind read cut e = record {
   kind_is = e;
 }
 
-pub blames_text : (text rest after line : List ℕ) (number : ℕ) (trace : List Line) (fault : ParseFault) → IsRead text rest number trace → lines_of rest ≡ line ∷ lines_of after →
+pub blames_text : (text rest after line : List ℕ) (number : ℕ) (trace : List Line) (fault : ParseFault)
+    → IsRead text rest number trace → lines_of rest ≡ line ∷ lines_of after →
     BlamesLine (number + 1) line fault → BlamesText text fault
 blames_text text rest after line number trace (Trace fault) read cut (at, kind) =
     rw at (fault_here text rest after line number trace fault.kind read cut kind)
 blames_text text rest after line number trace OutOfMemory read cut blames = tt
 
 -- Where nothing is left, the text was read.
-pub all_read : (text rest : List ℕ) (number : ℕ) (trace : List Line) → IsRead text rest number trace → length rest ≡ 0 → ReadsFrom 1 (lines_of text) trace
+pub all_read : (text rest : List ℕ) (number : ℕ) (trace : List Line) → IsRead text rest number trace → length rest ≡ 0
+    → ReadsFrom 1 (lines_of text) trace
 all_read text [] number trace read none =
     let whole : lines_of text ≡ read.before = read.lines_are ∙ append-nil read.before in
     rw whole read.reads

@@ -25,7 +25,8 @@ use Rattle.ms_trace.proofs.CutLemmas.{IsSolid, fields_of-join}
 use Rattle.ms_trace.proofs.CommandLemmas.{IsSpelled, valid_has_no_fault, command_from_no_fault}
 
 -- No field of a valid command has a space.
-solid : (bytes : List ℕ) → list_all (λ byte. not (eqb byte 32)) bytes ≡ true → AllByRecursion (λ byte. eqb byte 32 ≡ false) bytes
+solid : (bytes : List ℕ) → list_all (λ byte. not (eqb byte 32)) bytes ≡ true
+    → AllByRecursion (λ byte. eqb byte 32 ≡ false) bytes
 solid [] e = tt
 solid (byte ∷ bytes) e =
     let parts : (not (eqb byte 32) ≡ true) × (list_all (λ byte. not (eqb byte 32)) bytes ≡ true) = and_parts _ _ e in
@@ -47,7 +48,8 @@ block_is_solid : (n : ℕ) → n < 2 ^ 32 → IsSolid (decimal n)
 block_is_solid n h = decimal_has_no_space n (omega arith)
 
 -- The spelling of a valid command is cut into its fields.
-pub fields_of-spelling : (command : Command) → IsValid command → fields_of (spelling_of command) ≡ command_fields command
+pub fields_of-spelling : (command : Command) → IsValid command
+    → fields_of (spelling_of command) ≡ command_fields command
 fields_of-spelling (Asks (New loader kind)) h =
     ap (λ fields. codes "new" ∷ fields) (fields_of-join _ (kind_word kind ∷ []) (loader_is_solid loader h) (kind_is_solid kind, tt))
 fields_of-spelling (Asks (Alloc loader block words)) (l, b, w) =
@@ -136,7 +138,8 @@ command_of-fields Sync h = refl
 command_of-fields Report h = refl
 
 -- It is that of no other command.
-pub one_command : (one other : Command) → IsValid one → IsValid other → spelling_of one ≡ spelling_of other → one ≡ other
+pub one_command : (one other : Command) → IsValid one → IsValid other → spelling_of one ≡ spelling_of other
+    → one ≡ other
 one_command one other v w e =
     sym (command_of-fields one v)
     ∙ ap command_of (sym (fields_of-spelling one v) ∙ ap fields_of e ∙ fields_of-spelling other w)
@@ -210,7 +213,8 @@ allowed_from_no_fault number line e =
       says = ⊎_elim (λ silent. inl silent) (λ none. inr (spelled_line line (command_from_no_fault (fields_of line) none))) parts.2;
     }
 
-no_fault_back : (many long silent : Bool) (fault : Option FaultKind) → many ≡ false → long ≡ false → (silent ≡ true) ⊎ (fault ≡ None) →
+no_fault_back : (many long silent : Bool) (fault : Option FaultKind) → many ≡ false → long ≡ false
+    → (silent ≡ true) ⊎ (fault ≡ None) →
     cond many (Some TooManyLines) (cond long (Some LineTooLong) (cond silent None fault)) ≡ None
 no_fault_back many long silent fault few short (inl e) = rw few (rw short (rw e refl))
 no_fault_back many long true fault few short (inr e) = rw few (rw short refl)

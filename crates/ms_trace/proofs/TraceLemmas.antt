@@ -11,7 +11,8 @@ use Rattle.ms_trace.specs.Laws.{IsSameFault}
 use Rattle.ms_trace.proofs.SpellingLemmas.{IsAllowed, allowed_from_no_fault, no_fault_from_allowed, one_command, spelling_is_not_silent}
 
 -- Lines that read as a trace have no fault.
-pub faultless_from_reads : (number : ℕ) (lines : List (List ℕ)) (trace : List Line) → ReadsFrom number lines trace → AreFaultless number lines
+pub faultless_from_reads : (number : ℕ) (lines : List (List ℕ)) (trace : List Line) → ReadsFrom number lines trace
+    → AreFaultless number lines
 faultless_from_reads number [] trace reads = tt
 faultless_from_reads number (line ∷ lines) trace (rest, few, short, says, more) =
     let allowed : IsAllowed number line = record {
@@ -26,7 +27,8 @@ pub record Reads (number : ℕ) (lines : List (List ℕ)) : Type 0 where
   pub trace : List Line
   pub reads : ReadsFrom number lines trace
 
-goes_on : (number : ℕ) (line : List ℕ) (lines : List (List ℕ)) → IsAllowed number line → Reads (number + 1) lines → Reads number (line ∷ lines)
+goes_on : (number : ℕ) (line : List ℕ) (lines : List (List ℕ)) → IsAllowed number line → Reads (number + 1) lines
+    → Reads number (line ∷ lines)
 goes_on number line lines allowed later =
     elim allowed.says [
       | inl silent ↦ record { trace = later.trace; reads = (later.trace, allowed.few, allowed.short, inl (silent, refl), later.reads) }
@@ -61,10 +63,12 @@ cases_option : (fault : Option FaultKind) → (fault ≡ None) ⊎ ((kind : Faul
 cases_option None = inl refl
 cases_option (Some kind) = inr (kind, refl)
 
-found_here : (number : ℕ) (line : List ℕ) (lines : List (List ℕ)) (kind : FaultKind) → fault_of number line ≡ Some kind → HasFirst number (line ∷ lines)
+found_here : (number : ℕ) (line : List ℕ) (lines : List (List ℕ)) (kind : FaultKind) → fault_of number line ≡ Some kind
+    → HasFirst number (line ∷ lines)
 found_here number line lines kind e = record { before = []; line = line; after = lines; kind = kind; lines_are = refl; faultless = tt; kind_is = rw add-zero e }
 
-found_later : (number : ℕ) (line : List ℕ) (lines : List (List ℕ)) → fault_of number line ≡ None → HasFirst (number + 1) lines → HasFirst number (line ∷ lines)
+found_later : (number : ℕ) (line : List ℕ) (lines : List (List ℕ)) → fault_of number line ≡ None
+    → HasFirst (number + 1) lines → HasFirst number (line ∷ lines)
 found_later number line lines none first =
     let place : number + suc (length first.before) ≡ number + 1 + length first.before = omega arith in
     record {
@@ -115,7 +119,8 @@ same_line number line one other rest other_rest same (inr gives) (inr others) =
     ∙ ap (λ lines. record { number = number; command = others.command } ∷ lines) same
     ∙ sym others.trace_is
 
-pub one_trace : (number : ℕ) (lines : List (List ℕ)) (one other : List Line) → ReadsFrom number lines one → ReadsFrom number lines other → one ≡ other
+pub one_trace : (number : ℕ) (lines : List (List ℕ)) (one other : List Line) → ReadsFrom number lines one
+    → ReadsFrom number lines other → one ≡ other
 one_trace number [] one other e f = e ∙ sym f
 one_trace number (line ∷ lines) one other (rest, few, short, says, more) (other_rest, few2, short2, other_says, other_more) =
     same_line number line one other rest other_rest (one_trace (number + 1) lines rest other_rest more other_more) says other_says
@@ -127,7 +132,8 @@ rises_after below number line trace rest under few silent_rises rises (inl (sile
 rises_after below number line trace rest under few silent_rises rises (inr gives) =
     rw gives.trace_is (and_from _ _ (and_from _ _ (lt-ltb below number under) (le-leb number most_lines few)) rises)
 
-pub numbers_rise : (below number : ℕ) (lines : List (List ℕ)) (trace : List Line) → below < number → ReadsFrom number lines trace → rises_above below trace ≡ true
+pub numbers_rise : (below number : ℕ) (lines : List (List ℕ)) (trace : List Line) → below < number
+    → ReadsFrom number lines trace → rises_above below trace ≡ true
 numbers_rise below number [] trace under e = rw e refl
 numbers_rise below number (line ∷ lines) trace under (rest, few, short, says, more) =
     rises_after below number line trace rest under few (numbers_rise below (number + 1) lines rest (omega arith) more)
@@ -137,7 +143,8 @@ numbers_rise below number (line ∷ lines) trace under (rest, few, short, says, 
 pub clash : (fault : Option FaultKind) (kind : FaultKind) → fault ≡ None → fault ≡ Some kind → ⊥
 clash fault kind none some = cc
 
-same_kind : (fault : Option FaultKind) (kind other_kind : FaultKind) → fault ≡ Some kind → fault ≡ Some other_kind → kind ≡ other_kind
+same_kind : (fault : Option FaultKind) (kind other_kind : FaultKind) → fault ≡ Some kind → fault ≡ Some other_kind
+    → kind ≡ other_kind
 same_kind fault kind other_kind e f = cc
 
 pub one_fault : (number at other_at : ℕ) (before other_before : List (List ℕ)) (line other_line : List ℕ) (after other_after : List (List ℕ)) (kind other_kind : FaultKind) →

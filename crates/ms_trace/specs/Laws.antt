@@ -9,11 +9,14 @@ use Rattle.ms_trace.specs.Spelling.{IsValid, ReadsAs, rises_above, text_of}
 
 -- A text that reads as a trace has no fault.
 abbrev pub NeverBoth : Type 0
-NeverBoth = (text : List ℕ) (trace : Trace) (number : ℕ) (kind : FaultKind) → ReadsAs text trace → ¬ HasFault text number kind
+NeverBoth =
+    (text : List ℕ) (trace : Trace) (number : ℕ) (kind : FaultKind) → ReadsAs text trace → ¬ HasFault text number kind
 
 -- Each text reads as a trace or has a fault.
 abbrev pub OneOfTheTwo : Type 0
-OneOfTheTwo = (text : List ℕ) → ((trace : Trace) × ReadsAs text trace) ⊎ ((number : ℕ) × (kind : FaultKind) × HasFault text number kind)
+OneOfTheTwo =
+    (text : List ℕ) → ((trace : Trace) × ReadsAs text trace)
+    ⊎ ((number : ℕ) × (kind : FaultKind) × HasFault text number kind)
 
 -- A text reads as one trace only.
 abbrev pub OneTrace : Type 0
@@ -36,4 +39,6 @@ NumbersRise = (text : List ℕ) (trace : Trace) → ReadsAs text trace → IsTru
 
 -- A trace of valid commands whose line numbers rise is read back from what it is printed as.
 abbrev pub PrintedReads : Type 0
-PrintedReads = (trace : Trace) → All (λ (line : Line). IsValid line.command) trace.lines → IsTrue (rises_above 0 trace.lines) → ReadsAs (text_of trace) trace
+PrintedReads =
+    (trace : Trace) → All (λ (line : Line). IsValid line.command) trace.lines → IsTrue (rises_above 0 trace.lines)
+    → ReadsAs (text_of trace) trace

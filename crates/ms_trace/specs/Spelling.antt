@@ -15,7 +15,8 @@ abbrev pub step_fields : Step → List (List ℕ)
 step_fields (New loader kind) = codes "new" ∷ decimal loader ∷ kind_word kind ∷ []
 step_fields (Alloc loader block words) = codes "alloc" ∷ decimal loader ∷ decimal block ∷ decimal words ∷ []
 step_fields (Calloc loader block words) = codes "calloc" ∷ decimal loader ∷ decimal block ∷ decimal words ∷ []
-step_fields (Write loader block index value) = codes "write" ∷ decimal loader ∷ decimal block ∷ decimal index ∷ decimal value ∷ []
+step_fields (Write loader block index value) =
+    codes "write" ∷ decimal loader ∷ decimal block ∷ decimal index ∷ decimal value ∷ []
 step_fields (Read loader block index) = codes "read" ∷ decimal loader ∷ decimal block ∷ decimal index ∷ []
 step_fields (Free loader block) = codes "free" ∷ decimal loader ∷ decimal block ∷ []
 step_fields (Unload loader) = codes "unload" ∷ decimal loader ∷ []
@@ -36,7 +37,8 @@ abbrev pub IsValidStep : Step → Type 0
 IsValidStep (New loader kind) = loader < 2 ^ 16
 IsValidStep (Alloc loader block words) = (loader < 2 ^ 16) × (block < 2 ^ 32) × (words < 2 ^ 64)
 IsValidStep (Calloc loader block words) = (loader < 2 ^ 16) × (block < 2 ^ 32) × (words < 2 ^ 64)
-IsValidStep (Write loader block index value) = (loader < 2 ^ 16) × (block < 2 ^ 32) × (index < 2 ^ 64) × (value < 2 ^ 64)
+IsValidStep (Write loader block index value) =
+    (loader < 2 ^ 16) × (block < 2 ^ 32) × (index < 2 ^ 64) × (value < 2 ^ 64)
 IsValidStep (Read loader block index) = (loader < 2 ^ 16) × (block < 2 ^ 32) × (index < 2 ^ 64)
 IsValidStep (Free loader block) = (loader < 2 ^ 16) × (block < 2 ^ 32)
 IsValidStep (Unload loader) = loader < 2 ^ 16
@@ -70,7 +72,8 @@ ReadsAs text trace = ReadsFrom 1 (lines_of text) trace.lines
 -- Line numbers rise from above a number up to the greatest that a line may have.
 abbrev pub rises_above : ℕ → List Line → Bool
 rises_above number [] = true
-rises_above number (line ∷ lines) = nat_lt number line.number && nat_le line.number most_lines && rises_above line.number lines
+rises_above number (line ∷ lines) =
+    nat_lt number line.number && nat_le line.number most_lines && rises_above line.number lines
 
 -- The lines of a trace, from a number on, as a text: empty lines in the gaps, each command on the
 -- line of its number.

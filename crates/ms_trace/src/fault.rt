@@ -28,11 +28,13 @@ pub enum FaultKind {
     NumberTooLarge,
 }
 
-/// The first faulty line, 1 to 100001, and its first failing check.
+/// The first faulty line of a text, and what is wrong with it.
 #[derive(Clone, Copy, Debug, PartialEq, Eq, Error)]
 #[error("line {line}: {kind}")]
 pub struct TraceFault {
+    /// The line's number, 1 to 100001.
     pub line: u32,
+    /// Its first failing check.
     pub kind: FaultKind,
 }
 

@@ -59,52 +59,39 @@ fn print_step<A: Allocator>(text: &mut Vec<u8, A>, step: Step) -> Result<(), All
         Step::New { loader, kind } => {
             text.extend_from_slice(b"new".as_slice())?;
             print_number(text, u64::from(loader))?;
-            print_kind(text, kind)?;
+            print_kind(text, kind)
         }
         Step::Alloc {
             loader,
             block,
             words,
-        } => {
-            print_block(text, b"alloc".as_slice(), loader, block)?;
-            print_number(text, words)?;
-        }
+        } => print_block_number(text, b"alloc".as_slice(), loader, block, words),
         Step::Calloc {
             loader,
             block,
             words,
-        } => {
-            print_block(text, b"calloc".as_slice(), loader, block)?;
-            print_number(text, words)?;
-        }
+        } => print_block_number(text, b"calloc".as_slice(), loader, block, words),
         Step::Write {
             loader,
             block,
             index,
             value,
         } => {
-            print_block(text, b"write".as_slice(), loader, block)?;
-            print_number(text, index)?;
-            print_number(text, value)?;
+            print_block_number(text, b"write".as_slice(), loader, block, index)?;
+            print_number(text, value)
         }
         Step::Read {
             loader,
             block,
             index,
-        } => {
-            print_block(text, b"read".as_slice(), loader, block)?;
-            print_number(text, index)?;
-        }
-        Step::Free { loader, block } => {
-            print_block(text, b"free".as_slice(), loader, block)?;
-        }
+        } => print_block_number(text, b"read".as_slice(), loader, block, index),
+        Step::Free { loader, block } => print_block(text, b"free".as_slice(), loader, block),
         Step::Unload { loader } => {
             text.extend_from_slice(b"unload".as_slice())?;
-            print_number(text, u64::from(loader))?;
+            print_number(text, u64::from(loader))
         }
-        Step::Purge => text.extend_from_slice(b"purge".as_slice())?,
+        Step::Purge => text.extend_from_slice(b"purge".as_slice()),
     }
-    Ok(())
 }
 
 /// Prints a word, then a loader and a block.
@@ -120,6 +107,22 @@ fn print_block<A: Allocator>(
     text.extend_from_slice(word)?;
     print_number(text, u64::from(loader))?;
     print_number(text, u64::from(block))
+}
+
+/// Prints a word, then a loader, a block and a number.
+fn print_block_number<A: Allocator>(
+    text: &mut Vec<u8, A>,
+    word: &[u8],
+    loader: u16,
+    block: u32,
+    number: u64,
+) -> Result<(), AllocError>
+    ensures { OnOk result (text.new.items
+        ≡ text.old.items ++ word.now ++ 32 ∷ decimal loader ++ 32 ∷ decimal block
+        ++ 32 ∷ decimal number) }
+{
+    print_block(text, word, loader, block)?;
+    print_number(text, number)
 }
 
 /// Prints a space and a number.

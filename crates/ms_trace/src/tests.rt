@@ -181,7 +181,8 @@ fn a_text_of_more_than_8100000_bytes_has_a_fault(rt: HostRuntime) -> Result<(), 
 
 /// A text with each word.
 const ALL_WORDS: &[u8] =
-    b"new 1 hidden\nalloc 1 2 30\ncalloc 1 3 5\nwrite 1 2 3 40\n# done\n\nread 1 2 3\nfree 1 2\nunload 1\npurge\nsync\nreport\n";
+    b"new 1 hidden\nalloc 1 2 30\ncalloc 1 3 5\nwrite 1 2 3 40\n# done\n\nread 1 2 3\n\
+      free 1 2\nunload 1\npurge\nsync\nreport\n";
 
 /// The fault of each beginning of that text by its length: none, UnknownCommand, FieldCount, BadKind
 /// or BadNumber, by their first letters.
@@ -400,8 +401,8 @@ fn a_trace_is_printed_with_its_gaps(rt: HostRuntime) -> Result<(), Fail> {
     let trace = trace_of(rt.alloc(), lines.as_slice())?;
     assert!(rt; trace.rises());
     let text = print(rt.alloc(), &trace)?;
-    let expected =
-        b"\nnew 7 reflection\nalloc 7 0 18446744073709551615\ncalloc 7 4294967295 1\n\nwrite 7 0 1 2\nread 7 0 1\nfree 7 0\nunload 7\npurge\nsync\n\nreport\n";
+    let expected = b"\nnew 7 reflection\nalloc 7 0 18446744073709551615\ncalloc 7 4294967295 1\n\n\
+          write 7 0 1 2\nread 7 0 1\nfree 7 0\nunload 7\npurge\nsync\n\nreport\n";
     assert!(rt; text.as_slice() == expected.as_slice());
     let back = parse(rt.alloc(), text.as_slice())?;
     assert!(rt; back.lines.as_slice() == lines.as_slice());

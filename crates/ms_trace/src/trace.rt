@@ -20,7 +20,9 @@ pub enum Command {
 /// A command and the number of its line, which counts from 1, blank lines and comments included.
 #[derive(Clone, Copy, Debug, PartialEq, Eq)]
 pub struct Line {
+    /// The line's number, 1 to 100000 where a text was read.
     pub number: u32,
+    /// What the line asks.
     pub command: Command,
 }
 
@@ -66,6 +68,7 @@ impl Lines {
 /// The command lines of a text, in the order of their numbers where a text was read.
 #[derive(Drop)]
 pub struct Trace {
+    /// A line for each command; blank lines and comments leave gaps in the numbers.
     pub lines: Lines,
 }
 

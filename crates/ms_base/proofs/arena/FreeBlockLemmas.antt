@@ -1,25 +1,18 @@
--- An arena stays sound where a block is placed in a free block, and where the words of a freed one
--- are kept.
-use Rattle.std.proofs.Common.{◌≡◌, ◌≤◌, ◌+◌, ◌-◌, ℕ, true, false, cond, Some, List, [], ◌∷◌, ◌++◌, length, refl, ap, ◌∙◌, arith, inl, inr}
+-- An arena stays sound where a block is placed in a free block, whose rest is kept.
+use Rattle.std.proofs.Common.{◌≡◌, ◌≤◌, ◌+◌, ◌-◌, ℕ, true, false, cond, Some, List, [], ◌∷◌, ◌++◌, refl, ◌∙◌, arith, inl, inr}
 use Rattle.std.specs.Prelude.{nat_le}
 use Rattle.std.specs.List.{list_any}
 use Rattle.std.proofs.lemmas.Bool.{or_parts, or_from, or_left, or_right, or_cases, leb-true}
 use Rattle.std.proofs.lemmas.Bool.Decides.{nat_tests}
 use Rattle.std.proofs.lemmas.List.{append_assoc}
 use Rattle.ms_base.specs.declared.span.Chunk.{Chunk}
-use Rattle.ms_base.specs.declared.words.LiveBlock.{LiveBlock}
-use Rattle.ms_base.specs.declared.kind.Space.{Space}
-use Rattle.ms_base.specs.Spaces.{is_in}
 use Rattle.ms_base.specs.Interval.{meet, meets_any, lies_in}
 use Rattle.ms_base.specs.Names.{named, with_new, without}
 use Rattle.ms_base.specs.State.{ArenaState}
-use Rattle.ms_base.specs.Live.{run_of, runs_in}
 use Rattle.ms_base.specs.Good.{topped, IsSound}
 use Rattle.ms_base.specs.Place.{with_rest, with_used}
-use Rattle.ms_base.proofs.entries.EntryLemmas.{Split, split_at}
 use Rattle.ms_base.proofs.runs.ApartLemmas.{list_any-with}
-use Rattle.ms_base.proofs.arena.BlockLemmas.{run_in_here, runs_in_split, runs_in_joined}
-use Rattle.ms_base.proofs.arena.KeptLemmas.{Fits, IsTakenOut, sound_with_live, sound_with_kept, kept_taken_out, live_taken_out}
+use Rattle.ms_base.proofs.arena.KeptLemmas.{Fits, IsTakenOut, sound_with_live, sound_with_kept, kept_taken_out}
 
 -- A part of a run that fits does.
 narrower_clear : (a m k n b l : ℕ) → a ≤ k → k + n ≤ a + m → meet a m b l ≡ false → meet k n b l ≡ false
@@ -94,23 +87,3 @@ used_is_sound arena b a run n has long within sound =
 
     after : (s n k : ℕ) → meet (s + n) k s n ≡ false
     after s n k = grind (arith, nat_tests)
-
--- A freed block whose words are kept.
-pub freed_is_sound : (space : Space) (arena : ArenaState) (blocks : List (ℕ × LiveBlock)) (block : ℕ) (found : LiveBlock)
-    → named blocks block ≡ Some found → is_in space found.start ≡ true → IsSound arena (runs_in space blocks)
-    → IsSound (record arena { kept = with_new arena.kept found.start (length found.contents) }) (runs_in space (without blocks block))
-freed_is_sound space arena blocks block found has here sound =
-    rw (ap (runs_in space) split.gone ∙ runs_in_joined space split.before split.after) (sound_with_kept arena (b ++ a) (run_of found) out.fits out.sound)
-  where
-    split : Split blocks block found
-    split = split_at blocks block found has
-
-    b : List (ℕ × ℕ)
-    b = runs_in space split.before
-
-    a : List (ℕ × ℕ)
-    a = runs_in space split.after
-
-    out : IsTakenOut arena (b ++ a) (run_of found)
-    out = live_taken_out arena b (run_of found) a
-        (rw (ap (runs_in space) split.is ∙ runs_in_split space split.before split.after block found ∙ ap (λ (l : List (ℕ × ℕ)). b ++ (l ++ a)) (run_in_here space found here)) at sound)

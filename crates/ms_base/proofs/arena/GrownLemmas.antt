@@ -60,7 +60,8 @@ same_use run (c ∷ chunks) (t ∷ tops) (suc place) was is found same =
 
 all_same_use : (arena : ArenaState) (place : ℕ) (was is : Chunk) (runs : List (ℕ × ℕ))
     → slice_get arena.chunks place ≡ Some was → is.start ≡ was.start
-    → list_all (is_in_use (record arena { chunks = slice_set arena.chunks place is })) runs ≡ list_all (is_in_use arena) runs
+    → list_all (is_in_use (record arena { chunks = slice_set arena.chunks place is })) runs
+    ≡ list_all (is_in_use arena) runs
 all_same_use arena place was is [] found same = refl
 all_same_use arena place was is (run ∷ runs) found same =
     ap (λ (b : Bool). b && list_all (is_in_use (record arena { chunks = slice_set arena.chunks place is })) runs) (same_use run arena.chunks arena.tops place was is found same)
@@ -137,9 +138,11 @@ GrowsClear held was is =
 pub good_with_grown : (space : Space) (m : Machine) (name : ℕ) (before other : LoaderState) (place : ℕ) (was is : Chunk)
     → HasLoader m name before → slice_get (arena_of space before).chunks place ≡ Some was
     → (arena_of space other).chunks ≡ slice_set (arena_of space before).chunks place is
-    → (arena_of (other_space space) other).chunks ≡ (arena_of (other_space space) before).chunks → IsSoundLoader other → IsPart is.start is.level
+    → (arena_of (other_space space) other).chunks ≡ (arena_of (other_space space) before).chunks → IsSoundLoader other
+    → IsPart is.start is.level
     → HasFront m.limits.policy is → is.start ≡ was.start → GrowsClear (chunks_held space m.loaders) was is
-    → length (committed_now (pool_of space (changed space m name other (slots_in space m)))) + length (committed_in (other_space space) m) ≤ m.limits.granules
+    → length (committed_now (pool_of space (changed space m name other (slots_in space m))))
+    + length (committed_in (other_space space) m) ≤ m.limits.granules
     → IsGood m → IsGood (recommitted (changed space m name other (slots_in space m)))
 good_with_grown space m name before other place was is found at chunks elsewhere sound placed front same grows few good =
     good_with_change space m name before other slots found elsewhere sound (record {

@@ -1,5 +1,5 @@
--- An arena stays sound where a top rises: for a block placed there, or since its chunk retires.
-use Rattle.std.proofs.Common.{◌≡◌, ◌≤◌, ◌<◌, ◌+◌, ◌-◌, ℕ, zero, suc, Bool, true, false, not, Some, None, List, [], ◌∷◌, ◌++◌, length, map, refl, ◌∙◌, subst, arith, inl, inr}
+-- An arena stays sound where a top rises, and the words that it rises over fit there.
+use Rattle.std.proofs.Common.{◌≡◌, ◌≤◌, ◌<◌, ◌+◌, ◌-◌, ℕ, zero, suc, Bool, true, false, not, Some, List, [], ◌∷◌, ◌++◌, length, map, refl, ◌∙◌, subst, arith, inl, inr}
 use Rattle.std.specs.Prelude.{nat_le, slice_get, slice_index}
 use Rattle.std.specs.List.{All, AllByRecursion, list_any, list_all, zip}
 use Rattle.std.proofs.lemmas.Bool.{and_parts, and_from, or_from, or_left, or_right, or_cases, not-true, le-leb, leb-true}
@@ -12,11 +12,10 @@ use Rattle.ms_base.specs.Front.{HasFront}
 use Rattle.ms_base.specs.Held.{words_of}
 use Rattle.ms_base.specs.State.{ArenaState}
 use Rattle.ms_base.specs.Good.{topped, is_in_use, IsSound}
-use Rattle.ms_base.specs.Place.{tops_with, last_place, current, current_top, with_top, retired_chunk, retired}
+use Rattle.ms_base.specs.Place.{tops_with}
 use Rattle.ms_base.proofs.runs.ApartLemmas.{meet_turned}
-use Rattle.ms_base.proofs.machine.BackedLemmas.{some_front, in_use_in_front, clear_of_others}
-use Rattle.ms_base.proofs.arena.KeptLemmas.{Fits, sound_with_live}
-use Rattle.ms_base.proofs.arena.FreeBlockLemmas.{rest_is_sound}
+use Rattle.ms_base.proofs.machine.BackedLemmas.{further, some_front, in_use_in_front, clear_of_others}
+use Rattle.ms_base.proofs.arena.KeptLemmas.{Fits}
 use Rattle.ms_base.proofs.arena.TopLemmas.{none_topped}
 
 -- A run in use, as a test of a chunk with its top.
@@ -25,9 +24,6 @@ holds run used = lies_in run (used.0.start, used.1)
 
 abbrev is_topped_within : Chunk × ℕ → Bool
 is_topped_within used = nat_le used.1 used.0.front
-
-further : (r m a t f : ℕ) → lies_in (r, m) (a, t) ≡ true → t ≤ f → lies_in (r, m) (a, f) ≡ true
-further r m a t f h k = grind (arith, nat_tests)
 
 -- What is in use is so still under a higher top.
 any_raised : (run : ℕ × ℕ) (chunks : List Chunk) (tops : List ℕ) (place top : ℕ) → slice_index tops place ≤ top
@@ -194,26 +190,3 @@ above_fits policy arena live place n top chunk fronts apart found is within long
   used = any_at_place (chunk.start + slice_index arena.tops place, n) arena.chunks arena.tops place top chunk found
       (above_in_front chunk.start (slice_index arena.tops place) n top (omega (arith, is)));
 }
-
--- A block placed at the current chunk's top.
-pub placed_at_top_is_sound : (policy : Policy) (arena : ArenaState) (b a : List (ℕ × ℕ)) (n : ℕ) (chunk : Chunk)
-    → All (HasFront policy) arena.chunks → are_apart (map words_of arena.chunks) ≡ true → current arena ≡ Some chunk
-    → current_top arena + n ≤ chunk.front → 2 ≤ n → IsSound arena (b ++ a)
-    → IsSound (with_top arena (current_top arena + n)) (b ++ (chunk.start + current_top arena, n) ∷ a)
-placed_at_top_is_sound policy arena b a n chunk fronts apart found within long sound =
-    sound_with_live (with_top arena (current_top arena + n)) b (chunk.start + current_top arena, n) a
-    (above_fits policy arena (b ++ a) (last_place arena) n (current_top arena + n) chunk fronts apart found refl within long sound)
-    (raised_is_sound arena (b ++ a) (last_place arena) (current_top arena + n) chunk found (omega arith) within sound)
-
--- The current chunk retired.
-pub retired_is_sound : (policy : Policy) (arena : ArenaState) (live : List (ℕ × ℕ)) → All (HasFront policy) arena.chunks
-    → are_apart (map words_of arena.chunks) ≡ true → IsSound arena live → IsSound (retired arena) live
-retired_is_sound policy arena live fronts apart sound =
-    elim (current arena) as (λ o. current arena ≡ o → IsSound (retired_chunk arena o) live) [
-      | None ↦ λ found. sound
-      | Some chunk ↦ λ found.
-          let low = top_within arena.chunks arena.tops (last_place arena) chunk found sound.tops in
-          rest_is_sound (with_top arena chunk.front) live (chunk.start + current_top arena) (chunk.front - current_top arena)
-          (λ some. above_fits policy arena live (last_place arena) (chunk.front - current_top arena) chunk.front chunk fronts apart found (omega (arith, low)) (omega arith) some sound)
-          (raised_is_sound arena live (last_place arena) chunk.front chunk found low (omega arith) sound)
-    ] refl

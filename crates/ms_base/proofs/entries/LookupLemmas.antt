@@ -8,7 +8,7 @@ use Rattle.std.proofs.lemmas.Bool.Decides.{nat_tests}
 use Rattle.ms_base.specs.Names.{named, with_new, with_changed, without}
 use Rattle.ms_base.proofs.entries.EntryLemmas.{same_name}
 
-at_itself : (name : ℕ) → is_at (nat_cmp name) name ≡ true
+pub at_itself : (name : ℕ) → is_at (nat_cmp name) name ≡ true
 at_itself name = grind (arith, nat_tests)
 
 not_at_other : (name other : ℕ) → (name ≡ other → ⊥) → is_at (nat_cmp other) name ≡ false

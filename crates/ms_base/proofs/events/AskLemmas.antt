@@ -25,11 +25,11 @@ use Rattle.ms_base.specs.Spread.{SpreadStep, Part, AreWhole, AsksChunk, words_fo
 use Rattle.ms_base.specs.Serial.{is_place}
 use Rattle.ms_base.proofs.granules.NeedLemmas.{taken_is}
 use Rattle.ms_base.proofs.machine.ChangeLemmas.{slots_same}
-use Rattle.ms_base.proofs.events.GrownLemmas.{grows_well, set_same}
-use Rattle.ms_base.proofs.events.CauseLemmas.{NoneCause, none_cause, leaves_same}
+use Rattle.ms_base.proofs.events.GrownEventLemmas.{grows_well, set_same}
+use Rattle.ms_base.proofs.events.EventCauseLemmas.{NoneCause, none_cause, leaves_same}
 use Rattle.ms_base.proofs.events.StageLemmas.{Stage, owes_block, owes_refusal, OwesRefusal, IsPassed, IsOwed, GoesOnBy}
 use Rattle.ms_base.proofs.events.BackLemmas.{done_there, with_seen, pool_seen, steps_back}
-use Rattle.ms_base.proofs.events.AllocLemmas.{IsPlain, had_back}
+use Rattle.ms_base.proofs.events.AllocEventLemmas.{IsPlain, had_back}
 
 words_of_it : (space : Space) (name block words : ℕ) → words_for (alloc_in space name block words) ≡ block_words words
 words_of_it NonClass name block words = refl

@@ -14,7 +14,7 @@ use Rattle.ms_base.specs.Event.{Event, taking, acting, Answer, lent, replied, re
 use Rattle.ms_base.specs.Spread.{SpreadStep, IsOwnReply, Part, AreWhole, HasNoSpan, not_asked, not_had, GoesOn}
 use Rattle.ms_base.specs.Serial.{is_place}
 use Rattle.ms_base.proofs.events.StageLemmas.{Stage, rest_of, GoesOnBy, FirstGoesOn}
-use Rattle.ms_base.proofs.events.AllocLemmas.{IsPlain}
+use Rattle.ms_base.proofs.events.AllocEventLemmas.{IsPlain}
 use Rattle.ms_base.proofs.events.AskLemmas.{goes_on_taken, goes_on_refused}
 use Rattle.ms_base.proofs.events.LocalLemmas.{acts_refused}
 use Rattle.ms_base.proofs.events.OwedLemmas.{added_by, goes_on_placed}

@@ -21,8 +21,8 @@ use Rattle.ms_base.specs.Event.{Event, opening, taking, growing, closing, purgin
 use Rattle.ms_base.specs.SpreadLaws.{LeavesOthers}
 use Rattle.ms_base.proofs.entries.LookupLemmas.{named_changed_same, named_changed_other, named_new_other, named_without_other}
 use Rattle.ms_base.proofs.machine.GoodLemmas.{good_with_new_loader, good_with_loader, good_without_loader, good_when_purged}
-use Rattle.ms_base.proofs.events.KeptLemmas.{TakingIsAddable, good_with_taken}
-use Rattle.ms_base.proofs.events.GrownLemmas.{good_with_greater}
+use Rattle.ms_base.proofs.events.KeptEventLemmas.{TakingIsAddable, good_with_taken}
+use Rattle.ms_base.proofs.events.GrownEventLemmas.{good_with_greater}
 
 -- A local event changes one loader, but for its chunks.
 pub record ChangesOne (old : Machine) (step : Step) (new : Machine) : Type 0 where
@@ -33,15 +33,6 @@ pub record ChangesOne (old : Machine) (step : Step) (new : Machine) : Type 0 whe
   pub has : HasLoader old name before
   pub same : (space : Space) → (arena_of space after).chunks ≡ (arena_of space before).chunks
   pub is : new ≡ with_loader old name after
-
--- Its chunks stay where another arena has them.
-chunks_stay : (space : Space) (loader : LoaderState) (arena : ArenaState)
-    → arena.chunks ≡ (arena_of space loader).chunks → (one : Space)
-    → (arena_of one (with_arena space loader arena)).chunks ≡ (arena_of one loader).chunks
-chunks_stay NonClass loader arena same NonClass = same
-chunks_stay NonClass loader arena same Class = refl
-chunks_stay Class loader arena same NonClass = refl
-chunks_stay Class loader arena same Class = same
 
 with_blocks_stay : (space : Space) (loader : LoaderState) (blocks : List (ℕ × LiveBlock)) (arena : ArenaState)
     → arena.chunks ≡ (arena_of space loader).chunks → (one : Space)

@@ -14,11 +14,11 @@ use Rattle.ms_base.specs.Spread.{SpreadStep, Part, AreWhole, IsOwnReply}
 use Rattle.ms_base.specs.Serial.{is_place}
 use Rattle.ms_base.proofs.entries.EntryLemmas.{rises_with_changed}
 use Rattle.ms_base.proofs.entries.LookupLemmas.{named_changed_same, named_changed_other}
-use Rattle.ms_base.proofs.events.EntryLemmas.{changed_back}
-use Rattle.ms_base.proofs.events.CauseLemmas.{acts_not, leaves_same}
+use Rattle.ms_base.proofs.events.SeenEntryLemmas.{changed_back}
+use Rattle.ms_base.proofs.events.EventCauseLemmas.{acts_not, leaves_same}
 use Rattle.ms_base.proofs.events.StageLemmas.{Stage, idle, IsSeen, GoesBack, GoesOnBy}
 use Rattle.ms_base.proofs.events.BackLemmas.{done_there, with_seen, steps_back}
-use Rattle.ms_base.proofs.events.AllocLemmas.{IsPlain}
+use Rattle.ms_base.proofs.events.AllocEventLemmas.{IsPlain}
 use Rattle.ms_base.proofs.events.AskLemmas.{same_step}
 
 -- A local event that is refused is the whole step, or its place: nothing changes.

@@ -18,10 +18,10 @@ use Rattle.ms_base.specs.Spread.{SpreadStep, Part, AreWhole}
 use Rattle.ms_base.specs.Serial.{is_place}
 use Rattle.ms_base.proofs.entries.LookupLemmas.{named_changed_same}
 use Rattle.ms_base.proofs.machine.ChangeLemmas.{unchanged_pools}
-use Rattle.ms_base.proofs.events.EntryLemmas.{changed_back}
+use Rattle.ms_base.proofs.events.SeenEntryLemmas.{changed_back}
 use Rattle.ms_base.proofs.events.StageLemmas.{Stage, idle, turned_down, owes_block, owes_refusal, IsPassed, IsOnItsWay, GoesOnBy}
 use Rattle.ms_base.proofs.events.BackLemmas.{done_there, done_elsewhere, with_seen, goes_back}
-use Rattle.ms_base.proofs.events.AllocLemmas.{IsPlain, served_in}
+use Rattle.ms_base.proofs.events.AllocEventLemmas.{IsPlain, served_in}
 use Rattle.ms_base.proofs.events.AskLemmas.{same_step}
 use Rattle.ms_base.proofs.events.LocalLemmas.{served_back}
 

@@ -8,7 +8,7 @@ use Rattle.ms_base.specs.Names.{AreNamed, named}
 use Rattle.ms_base.specs.State.{LoaderState, Machine, arena_of, empty_loader, chunks_held, pool_of}
 use Rattle.ms_base.specs.Good.{IsSoundLoader, IsGood}
 use Rattle.ms_base.proofs.machine.GoodLemmas.{sound_with, loader_is_sound}
-use Rattle.ms_base.proofs.events.EntryLemmas.{given, same_given, all_values}
+use Rattle.ms_base.proofs.events.SeenEntryLemmas.{given, same_given, all_values}
 use Rattle.ms_base.proofs.events.HappenLemmas.{added_chunks, emptied_chunks}
 use Rattle.ms_base.proofs.events.StageLemmas.{Stage, idle, turned_down, owes_block, owes_refusal, unloading, retracting, Shows, Was}
 use Rattle.ms_base.proofs.events.BackLemmas.{with_seen}
@@ -37,10 +37,10 @@ same_chunks space name retracting serial real shows was = ap (chunks_at space na
     ∙ sym (ap (chunks_at space name) was.1)
 
 -- And what the serial order's machine has is sound.
-abbrev some_loader : LoaderState → Option LoaderState
+abbrev pub some_loader : LoaderState → Option LoaderState
 some_loader loader = Some loader
 
-same_loader : (a b : LoaderState) (o : Option LoaderState) → o ≡ some_loader a → o ≡ some_loader b → a ≡ b
+pub same_loader : (a b : LoaderState) (o : Option LoaderState) → o ≡ some_loader a → o ≡ some_loader b → a ≡ b
 same_loader a b o e f = let both : some_loader a ≡ some_loader b = sym e ∙ f in cc
 
 none_there : (loader : LoaderState) (o : Option LoaderState) → o ≡ None → o ≡ some_loader loader → ⊥

@@ -24,8 +24,8 @@ use Rattle.ms_base.specs.Spread.{SpreadStep, Spreads, Moment, part_of, parts_by,
 use Rattle.ms_base.specs.Serial.{done_by, done_at, serial, steps_of, replies_of, is_place}
 use Rattle.ms_base.specs.SpreadLaws.{LeavesOthers, IsKeptAt, SpreadsAreSerial}
 use Rattle.ms_base.proofs.granules.FrontSumLemmas.{nothing_is_left}
-use Rattle.ms_base.proofs.events.EntryLemmas.{same_entries}
-use Rattle.ms_base.proofs.events.KeptLemmas.{TakingIsAddable}
+use Rattle.ms_base.proofs.events.SeenEntryLemmas.{same_entries}
+use Rattle.ms_base.proofs.events.KeptEventLemmas.{TakingIsAddable}
 use Rattle.ms_base.proofs.events.HappenLemmas.{good_after, others_after}
 use Rattle.ms_base.proofs.events.StageLemmas.{Stage, idle, turned_down, owes_block, owes_refusal, unloading, retracting, Shows, Was, Left, GoesBack, GoesOnBy}
 use Rattle.ms_base.proofs.events.BackLemmas.{done_there, with_seen, recommitted_seen}

@@ -25,11 +25,11 @@ use Rattle.ms_base.specs.Event.{Event, opening, growing, closing, acting, Answer
 use Rattle.ms_base.specs.Spread.{SpreadStep, Spreads, IsWhole, IsAlone, Part, parts_of, AreWhole, HasNoSpan, not_asked, not_had, GoesOn, SpreadsAlloc}
 use Rattle.ms_base.specs.Serial.{is_place}
 use Rattle.ms_base.proofs.events.StageLemmas.{Stage, idle, turned_down, owes_block, owes_refusal, unloading, retracting, Was, Left, rest_of, GoesOnBy, FirstGoesOn}
-use Rattle.ms_base.proofs.events.AllocLemmas.{IsPlain}
+use Rattle.ms_base.proofs.events.AllocEventLemmas.{IsPlain}
 use Rattle.ms_base.proofs.events.AskLemmas.{goes_on_grown}
 use Rattle.ms_base.proofs.events.LocalLemmas.{acts_refused, acts_on_block}
 use Rattle.ms_base.proofs.events.OwedLemmas.{goes_on_turned, added_by, pays_block, pays_refusal}
-use Rattle.ms_base.proofs.events.OpenLemmas.{goes_on_opened, goes_on_unopened, goes_on_in_vain, goes_on_emptied, goes_on_closed, goes_on_retracted}
+use Rattle.ms_base.proofs.events.OpenEventLemmas.{goes_on_opened, goes_on_unopened, goes_on_in_vain, goes_on_emptied, goes_on_closed, goes_on_retracted}
 use Rattle.ms_base.proofs.events.FirstLemmas.{goes_on_first}
 
 idle_is_plain : IsPlain idle

@@ -67,7 +67,8 @@ first_root = refl
 second_root : taken (class_pool 1 (chunk 67108864 0 524288 ∷ []) 0 8192) 0 0 524288 ≡ Ok (chunk 67633152 0 524288)
 second_root = refl
 
-used_up : taken (class_pool 1 (chunk 67108864 0 524288 ∷ chunk 67633152 0 524288 ∷ []) 0 8192) 4 12 2 ≡ Err (ReserveLimit 1 1)
+used_up : taken (class_pool 1 (chunk 67108864 0 524288 ∷ chunk 67633152 0 524288 ∷ []) 0 8192) 4 12 2
+    ≡ Err (ReserveLimit 1 1)
 used_up = refl
 
 -- Both spaces count against the one limit of granules.
@@ -113,10 +114,12 @@ a_granule_elsewhere = refl
 smaller_committed_first : taken (class_pool 2 (chunk 67108864 11 256 ∷ []) 0 8192) 2 12 127 ≡ Ok (chunk 67112960 7 4096)
 smaller_committed_first = refl
 
-smaller_uncommitted_next : taken (class_pool 1 (chunk 67108864 11 256 ∷ chunk 67239936 2 106496 ∷ []) 0 8192) 2 5 16326 ≡ Ok (chunk 67174400 3 16384)
+smaller_uncommitted_next : taken (class_pool 1 (chunk 67108864 11 256 ∷ chunk 67239936 2 106496 ∷ []) 0 8192) 2 5 16326
+    ≡ Ok (chunk 67174400 3 16384)
 smaller_uncommitted_next = refl
 
-leader_grows : grown (class_pool 1 (chunk 67108864 11 256 ∷ []) 0 8192) (chunk 67108864 11 256) 300 true ≡ Ok (chunk 67108864 10 512)
+leader_grows : grown (class_pool 1 (chunk 67108864 11 256 ∷ []) 0 8192) (chunk 67108864 11 256) 300 true
+    ≡ Ok (chunk 67108864 10 512)
 leader_grows = refl
 
 -- The pool's sums are those of its space.

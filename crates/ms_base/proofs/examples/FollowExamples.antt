@@ -28,7 +28,8 @@ one_rises x = IsStrictlyIncreasing-from_sorted (x ∷ []) (tt, tt)
 abbrev some_loader : LoaderState → Option LoaderState
 some_loader loader = Some loader
 
-is_sound : (one : LoaderState) → IsSoundLoader one → (loader : LoaderState) → some_loader one ≡ some_loader loader → IsSoundLoader loader
+is_sound : (one : LoaderState) → IsSoundLoader one → (loader : LoaderState) → some_loader one ≡ some_loader loader
+    → IsSoundLoader loader
 is_sound one sound loader e = let same : one ≡ loader = cc in subst IsSoundLoader same sound
 
 -- An emptied loader is sound, and so is one whose block lies at the start of its chunk.

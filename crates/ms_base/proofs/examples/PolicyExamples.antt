@@ -65,13 +65,16 @@ small_commit_limit : taken (pool Aggressive [] (chunk 0 8 2048 ∷ []) (0 ∷ []
 small_commit_limit = refl
 
 -- A leader of level 8 whose parent is wanted needs a second granule.
-parent_needs_a_granule : grown (pool Aggressive [] (chunk 0 8 2048 ∷ []) (0 ∷ []) 8192) (chunk 0 8 2048) 4096 true ≡ Ok (chunk 0 7 4096)
+parent_needs_a_granule : grown (pool Aggressive [] (chunk 0 8 2048 ∷ []) (0 ∷ []) 8192) (chunk 0 8 2048) 4096 true
+    ≡ Ok (chunk 0 7 4096)
 parent_needs_a_granule = refl
 
-parent_is_refused : grown (pool Aggressive [] (chunk 0 8 2048 ∷ []) (0 ∷ []) 1) (chunk 0 8 2048) 4096 true ≡ Err (CommitLimit 1 1 1)
+parent_is_refused : grown (pool Aggressive [] (chunk 0 8 2048 ∷ []) (0 ∷ []) 1) (chunk 0 8 2048) 4096 true
+    ≡ Err (CommitLimit 1 1 1)
 parent_is_refused = refl
 
-front_rises : grown (pool Aggressive [] (chunk 0 6 2048 ∷ []) (0 ∷ []) 8192) (chunk 0 6 2048) 3000 true ≡ Ok (chunk 0 6 4096)
+front_rises : grown (pool Aggressive [] (chunk 0 6 2048 ∷ []) (0 ∷ []) 8192) (chunk 0 6 2048) 3000 true
+    ≡ Ok (chunk 0 6 4096)
 front_rises = refl
 
 -- Policy none: a boot loader's first chunk is committed whole, 64 granules.
@@ -139,14 +142,17 @@ one_too_many : taken (with_hole 3) 4 5 8193 ≡ Err (CommitLimit 3 3 1)
 one_too_many = refl
 
 -- A chunk grows by its parent alone, which is committed whole.
-doubles : grown (pool Never (2 ∷ []) (chunk 0 5 16384 ∷ []) (0 ∷ []) 8192) (chunk 0 5 16384) 20000 true ≡ Ok (chunk 0 4 32768)
+doubles : grown (pool Never (2 ∷ []) (chunk 0 5 16384 ∷ []) (0 ∷ []) 8192) (chunk 0 5 16384) 20000 true
+    ≡ Ok (chunk 0 4 32768)
 doubles = refl
 
-doubling_is_refused : grown (pool Never (2 ∷ []) (chunk 0 5 16384 ∷ []) (0 ∷ []) 3) (chunk 0 5 16384) 20000 true ≡ Err (CommitLimit 3 3 1)
+doubling_is_refused : grown (pool Never (2 ∷ []) (chunk 0 5 16384 ∷ []) (0 ∷ []) 3) (chunk 0 5 16384) 20000 true
+    ≡ Err (CommitLimit 3 3 1)
 doubling_is_refused = refl
 
 -- Within its size it has nothing to ask for: its front is its size.
-front_is_the_size : grown (pool Never [] (chunk 0 5 16384 ∷ []) (0 ∷ []) 2) (chunk 0 5 16384) 16384 true ≡ Ok (chunk 0 5 16384)
+front_is_the_size : grown (pool Never [] (chunk 0 5 16384 ∷ []) (0 ∷ []) 2) (chunk 0 5 16384) 16384 true
+    ≡ Ok (chunk 0 5 16384)
 front_is_the_size = refl
 
 -- A whole root of which one granule is committed is committed enough for two words, and found first;

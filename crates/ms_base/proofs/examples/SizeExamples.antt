@@ -26,7 +26,8 @@ sizes : map size_of (0 ∷ 1 ∷ 2 ∷ 3 ∷ 4 ∷ 5 ∷ 6 ∷ 7 ∷ 8 ∷ 9 ∷
     ≡ 524288 ∷ 262144 ∷ 131072 ∷ 65536 ∷ 32768 ∷ 16384 ∷ 8192 ∷ 4096 ∷ 2048 ∷ 1024 ∷ 512 ∷ 256 ∷ 128 ∷ []
 sizes = refl
 
-levels : map level_that_holds (1 ∷ 128 ∷ 129 ∷ 4096 ∷ 8193 ∷ 262144 ∷ 262145 ∷ 524288 ∷ []) ≡ 12 ∷ 12 ∷ 11 ∷ 7 ∷ 5 ∷ 1 ∷ 0 ∷ 0 ∷ []
+levels : map level_that_holds (1 ∷ 128 ∷ 129 ∷ 4096 ∷ 8193 ∷ 262144 ∷ 262145 ∷ 524288 ∷ [])
+    ≡ 12 ∷ 12 ∷ 11 ∷ 7 ∷ 5 ∷ 1 ∷ 0 ∷ 0 ∷ []
 levels = refl
 
 standard_growth : map (growth_level Standard NonClass) (range_with_len 0 7) ≡ 10 ∷ 10 ∷ 10 ∷ 9 ∷ 8 ∷ 8 ∷ 8 ∷ []
@@ -66,7 +67,8 @@ fronts : map (λ level. front_for Balanced (size_of level) 10) (0 ∷ 6 ∷ 7 �
 fronts = refl
 
 -- Policy aggressive has granules of 2048 words: chunks of level 8 have one, those of 4096 words two.
-fronts_of_small_granules : map (λ level. front_for Aggressive (size_of level) 10) (0 ∷ 6 ∷ 7 ∷ 8 ∷ 9 ∷ 12 ∷ []) ≡ 2048 ∷ 2048 ∷ 2048 ∷ 2048 ∷ 1024 ∷ 128 ∷ []
+fronts_of_small_granules : map (λ level. front_for Aggressive (size_of level) 10) (0 ∷ 6 ∷ 7 ∷ 8 ∷ 9 ∷ 12 ∷ [])
+    ≡ 2048 ∷ 2048 ∷ 2048 ∷ 2048 ∷ 1024 ∷ 128 ∷ []
 fronts_of_small_granules = refl
 
 both_granules : front_for Aggressive 4096 2049 ≡ 4096

@@ -105,7 +105,8 @@ row m =
     ∷ in_state m alloc (acting (Alloc 2 1 10)) (replied (At 512))
     ∷ []
 
-serial_order : (m : Machine) → serial (row m) ≡ (Alloc 2 1 10, At 512) ∷ (Calloc 3 1 500, Refused (CommitLimit 1 1 1)) ∷ (Unload 1, Done) ∷ []
+serial_order : (m : Machine) → serial (row m)
+    ≡ (Alloc 2 1 10, At 512) ∷ (Calloc 3 1 500, Refused (CommitLimit 1 1 1)) ∷ (Unload 1, Done) ∷ []
 serial_order m = refl
 
 -- An unload that is never closed is no whole step; nor is one that is closed first.
@@ -126,7 +127,8 @@ limit_is_told (inr on) = elim on.goes_on [
   ]
 ]
   where
-    two_events : (asked : List (Event × Answer)) (first second : Event × Answer) {one : Event × Answer} → one ∷ [] ≡ asked ++ first ∷ second ∷ [] → ⊥
+    two_events : (asked : List (Event × Answer)) (first second : Event × Answer) {one : Event × Answer}
+        → one ∷ [] ≡ asked ++ first ∷ second ∷ [] → ⊥
     two_events [] first second e = absurd (cc)
     two_events (a ∷ []) first second e = absurd (cc)
     two_events (a ∷ b ∷ asked) first second e = absurd (cc)
@@ -240,7 +242,8 @@ unclosed_is_no_step : AreWhole unclosed → ⊥
 unclosed_is_no_step are = of_steps are.steps are.parts_are
   where
     its : (spread : SpreadStep) (events : List (Event × Answer)) (more : List Part) → spread.events ≡ events
-        → (unclosed ≡ more → ⊥) → unclosed ≡ map (λ (one : Event × Answer). (Some spread, one.0, one.1)) events ++ more → ⊥
+        → (unclosed ≡ more → ⊥) → unclosed ≡ map (λ (one : Event × Answer). (Some spread, one.0, one.1)) events ++ more
+        → ⊥
     its spread [] more has later e = later e
     its spread (one ∷ []) more has later e =
         let first : some_spread unload ≡ some_spread spread = ap (λ (l : List Part). whose l) e in

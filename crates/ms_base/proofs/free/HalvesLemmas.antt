@@ -67,7 +67,8 @@ size_of_halves below h = ap (λ (n : ℕ). 2 ^ n) (exponent below h) ∙ twice (
 pub start_is_whole : (below start : ℕ) → below < 12 → IsStart (suc below) start → IsStart below start
 start_is_whole below start h whole = multiple_of_smaller start (12 - suc below) (12 - below) (omega arith) (omega arith) whole
 
-pub middle_is_whole : (below start : ℕ) → below < 12 → IsStart (suc below) start → IsStart below (start + words_over below)
+pub middle_is_whole : (below start : ℕ) → below < 12 → IsStart (suc below) start
+    → IsStart below (start + words_over below)
 middle_is_whole below start h whole = add-mod_right start (words_over below) ∙ start_is_whole below start h whole
 
 -- The level above the halves' one.
@@ -75,7 +76,8 @@ level_above : (below : ℕ) → below < 12 → (12 - below) - 1 ≡ 12 - suc bel
 level_above below h = omega arith
 
 -- The parent of both halves is the part.
-pub parent_of_lower : (below start : ℕ) → below < 12 → IsStart (suc below) start → parent_start start (12 - below) ≡ start
+pub parent_of_lower : (below start : ℕ) → below < 12 → IsStart (suc below) start
+    → parent_start start (12 - below) ≡ start
 parent_of_lower below start h whole =
     ap (λ (l : ℕ). start - start % size_of l) (level_above below h) ∙ ap (λ (r : ℕ). start - r) whole ∙ omega arith
 

@@ -29,14 +29,17 @@ use Rattle.ms_base.specs.Totals.{PoolSums, all_levels, lent_by_level, free_by_le
 use Rattle.ms_base.specs.FreeLaws.{AreAlike, with_held, AnswersTheSame}
 use Rattle.ms_base.proofs.free.AlikeLemmas.{alike_leave_the_same, permuted_are_alike}
 
-same_free : (pool : PoolState) (other : List Chunk) → AreAlike pool.held other → free_parts other pool.slots ≡ free_parts pool.held pool.slots
+same_free : (pool : PoolState) (other : List Chunk) → AreAlike pool.held other
+    → free_parts other pool.slots ≡ free_parts pool.held pool.slots
 same_free pool other alike = sym (alike_leave_the_same pool.limits.policy pool.committed pool.slots pool.held other alike).free
 
-pub committed_alike : (pool : PoolState) (other : List Chunk) → AreAlike pool.held other → committed_now (with_held pool other) ≡ committed_now pool
+pub committed_alike : (pool : PoolState) (other : List Chunk) → AreAlike pool.held other
+    → committed_now (with_held pool other) ≡ committed_now pool
 committed_alike pool other alike = sym (alike_leave_the_same pool.limits.policy pool.committed pool.slots pool.held other alike).committed
 
 -- The tests of room.
-pub room_alike : (pool : PoolState) (other : List Chunk) → AreAlike pool.held other → (m : ℕ) → has_room (with_held pool other) m ≡ has_room pool m
+pub room_alike : (pool : PoolState) (other : List Chunk) → AreAlike pool.held other → (m : ℕ)
+    → has_room (with_held pool other) m ≡ has_room pool m
 room_alike pool other alike m = ap (list_any (λ (part : Span). nat_le part.level m)) (same_free pool other alike)
 
 pub committed_room_alike : (pool : PoolState) (other : List Chunk) → AreAlike pool.held other → (m words : ℕ)
@@ -104,7 +107,8 @@ may_become_parent_alike pool other alike chunk =
     ap (λ (parts : List Span). nat_lt 0 chunk.level && is_leader chunk.start chunk.level
     && list_any (λ (part : Span). (part.start == buddy_start chunk.start chunk.level) && (part.level == chunk.level)) parts) (same_free pool other alike)
 
-pub grown_alike : (pool : PoolState) (other : List Chunk) → AreAlike pool.held other → (chunk : Chunk) (total : ℕ) (may_enlarge : Bool)
+pub grown_alike : (pool : PoolState) (other : List Chunk) → AreAlike pool.held other
+    → (chunk : Chunk) (total : ℕ) (may_enlarge : Bool)
     → grown (with_held pool other) chunk total may_enlarge ≡ grown pool chunk total may_enlarge
 grown_alike pool other alike chunk total may_enlarge =
     ap (λ b. if nat_le total chunk.front then Ok chunk
@@ -113,11 +117,13 @@ grown_alike pool other alike chunk total may_enlarge =
     else Err (NoRoom chunk.level)) (may_become_parent_alike pool other alike chunk)
 
 -- The law on alike chunks.
-pub alike_answer_the_same : (pool : PoolState) (other : List Chunk) → AreAlike pool.held other → AnswersTheSame pool other
+pub alike_answer_the_same : (pool : PoolState) (other : List Chunk) → AreAlike pool.held other
+    → AnswersTheSame pool other
 alike_answer_the_same pool other alike = record { taking = taken_alike pool other alike; growing = grown_alike pool other alike }
 
 -- The sums.
-by_level : (count count' : ℕ → ℕ) → ((level : ℕ) → count level ≡ count' level) → (levels : List ℕ) → map count levels ≡ map count' levels
+by_level : (count count' : ℕ → ℕ) → ((level : ℕ) → count level ≡ count' level) → (levels : List ℕ)
+    → map count levels ≡ map count' levels
 by_level count count' same [] = refl
 by_level count count' same (level ∷ levels) =
     ap (λ (n : ℕ). n ∷ map count levels) (same level) ∙ ap (λ (l : List ℕ). count' level ∷ l) (by_level count count' same levels)
@@ -150,7 +156,8 @@ sums_alike pool other accounts moved =
         (same_free pool other (permuted_are_alike pool.held other moved))
 
 -- Chunks in another order are held too, and the pool is as sound.
-pub held_permuted : (policy : Policy) (slots : List ℕ) (held other : List Chunk) → IsPermutation held other → AreHeld policy slots held → AreHeld policy slots other
+pub held_permuted : (policy : Policy) (slots : List ℕ) (held other : List Chunk) → IsPermutation held other
+    → AreHeld policy slots held → AreHeld policy slots other
 held_permuted policy slots held other moved h = record {
   parts = All-permutation (λ (chunk : Chunk). IsPart chunk.start chunk.level) held other moved h.parts;
   fronts = All-permutation (HasFront policy) held other moved h.fronts;
@@ -158,7 +165,8 @@ held_permuted policy slots held other moved h = record {
   apart = apart-permuted (map words_of held) (map words_of other) (IsPermutation-map words_of held other moved) h.apart;
 }
   where
-    as_none : (test : Chunk → Bool) (chunks : List Chunk) → list_all test chunks ≡ not (list_any (λ chunk. not (test chunk)) chunks)
+    as_none : (test : Chunk → Bool) (chunks : List Chunk)
+        → list_all test chunks ≡ not (list_any (λ chunk. not (test chunk)) chunks)
     as_none test [] = refl
     as_none test (chunk ∷ chunks) = ap (λ b. test chunk && b) (as_none test chunks) ∙ both (test chunk) (list_any (λ c. not (test c)) chunks)
       where
@@ -169,7 +177,8 @@ held_permuted policy slots held other moved h = record {
     all_permuted : (test : Chunk → Bool) → list_all test held ≡ list_all test other
     all_permuted test = as_none test held ∙ ap not (permuted_are_alike held other moved (λ chunk. not (test chunk))) ∙ sym (as_none test other)
 
-pub sound_permuted : (pool : PoolState) (other : List Chunk) → IsPermutation pool.held other → IsSoundPool pool → IsSoundPool (with_held pool other)
+pub sound_permuted : (pool : PoolState) (other : List Chunk) → IsPermutation pool.held other → IsSoundPool pool
+    → IsSoundPool (with_held pool other)
 sound_permuted pool other moved sound = record {
   held = held_permuted pool.limits.policy pool.slots pool.held other moved sound.held;
   slots = sound.slots;

@@ -35,7 +35,8 @@ fewer_pass p q (x ∷ xs) narrow =
 
 -- Chunks that are given back commit nothing more.
 pub committed_rest : (policy : Policy) (before : List ℕ) (b mid a : List Chunk) (slots : List ℕ)
-    → length (committed_with policy before (b ++ a) slots) ≤ length (committed_with policy before (b ++ (mid ++ a)) slots)
+    → length (committed_with policy before (b ++ a) slots)
+    ≤ length (committed_with policy before (b ++ (mid ++ a)) slots)
 committed_rest policy before b mid a slots =
     fewer_pass (is_committed_now policy before (b ++ a)) (is_committed_now policy before (b ++ (mid ++ a))) (flat_map (granules_of granule) slots)
     (λ k passes. or_still (keeps policy && is_among before k) (is_committed granule (b ++ a) k) (is_committed granule (b ++ (mid ++ a)) k)
@@ -51,7 +52,8 @@ committed_rest policy before b mid a slots =
 
 -- Slots that go take nothing more in.
 pub fewer_slots : (p : ℕ → Bool) (granule : ℕ) (q : ℕ → Bool) (slots : List ℕ)
-    → length (filter p (flat_map (granules_of granule) (filter q slots))) ≤ length (filter p (flat_map (granules_of granule) slots))
+    → length (filter p (flat_map (granules_of granule) (filter q slots)))
+    ≤ length (filter p (flat_map (granules_of granule) slots))
 fewer_slots p granule q [] = omega arith
 fewer_slots p granule q (slot ∷ slots) =
     elim (q slot) as (λ b. length (filter p (flat_map (granules_of granule) (cond b (slot ∷ filter q slots) (filter q slots)))) ≤ length (filter p (flat_map (granules_of granule) (slot ∷ slots)))) [
@@ -60,12 +62,14 @@ fewer_slots p granule q (slot ∷ slots) =
     ]
   where
     one : (rest : List ℕ)
-        → length (filter p (flat_map (granules_of granule) (slot ∷ rest))) ≡ length (filter p (granules_of granule slot)) + length (filter p (flat_map (granules_of granule) rest))
+        → length (filter p (flat_map (granules_of granule) (slot ∷ rest)))
+        ≡ length (filter p (granules_of granule slot)) + length (filter p (flat_map (granules_of granule) rest))
     one rest = ap length (filter-append p (granules_of granule slot) (flat_map (granules_of granule) rest))
         ∙ length-append (filter p (granules_of granule slot)) (filter p (flat_map (granules_of granule) rest))
 
 -- Tests that agree on each number of a list pass the same of them.
-agree_in : (p q : ℕ → Bool) (xs : List ℕ) → ((k : ℕ) → list_any (is_number k) xs ≡ true → p k ≡ q k) → filter p xs ≡ filter q xs
+agree_in : (p q : ℕ → Bool) (xs : List ℕ) → ((k : ℕ) → list_any (is_number k) xs ≡ true → p k ≡ q k)
+    → filter p xs ≡ filter q xs
 agree_in p q [] same = refl
 agree_in p q (x ∷ xs) same =
     ap (λ b. cond b (x ∷ filter p xs) (filter p xs)) (same x (or_left (x == x) (list_any (is_number x) xs) (same_number x)))
@@ -76,7 +80,8 @@ agree_in p q (x ∷ xs) same =
 
 -- The granules that were found committed are found so again.
 pub committed_settles : (policy : Policy) (before : List ℕ) (held : List Chunk) (slots : List ℕ)
-    → committed_with policy (committed_with policy before held slots) held slots ≡ committed_with policy before held slots
+    → committed_with policy (committed_with policy before held slots) held slots
+    ≡ committed_with policy before held slots
 committed_settles policy before held slots = agree_in (is_committed_now policy found held) now numbers (λ k there.
     again (keeps policy) (is_among before k) (is_committed (granule_of policy) held k) (is_among found k)
     (same_truth (is_among found k) (now k) (λ h. passes_in now numbers k h) (λ h. kept_by now numbers k h there)))
@@ -90,7 +95,8 @@ committed_settles policy before held slots = agree_in (is_committed_now policy f
     found : List ℕ
     found = committed_with policy before held slots
 
-    again : (b among meets found : Bool) → found ≡ ((b && among) || meets) → ((b && found) || meets) ≡ ((b && among) || meets)
+    again : (b among meets found : Bool) → found ≡ ((b && among) || meets)
+        → ((b && found) || meets) ≡ ((b && among) || meets)
     again true among true found e = rw e (always among)
       where
         always : (among : Bool) → ((among || true) || true) ≡ (among || true)
@@ -119,8 +125,3 @@ length_filter p (x ∷ xs) = elim (p x) as (λ b. length (cond b (x ∷ filter p
 pub committed_at_most : (p : ℕ → Bool) (granule : ℕ) (slots : List ℕ)
     → length (filter p (flat_map (granules_of granule) slots)) ≤ length slots * (node_words / granule)
 committed_at_most p granule slots = omega (arith, length_filter p (flat_map (granules_of granule) slots), length_granules granule slots)
-
--- So 128 a node are enough of granules of 8192 words.
-pub committed_within : (p : ℕ → Bool) (slots : List ℕ) (nodes limit : ℕ) → length slots ≤ nodes → 128 * nodes ≤ limit
-    → length (filter p (flat_map (granules_of 8192) slots)) ≤ limit
-committed_within p slots nodes limit few room = omega (arith, committed_at_most p 8192 slots)

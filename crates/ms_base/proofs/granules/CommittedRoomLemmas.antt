@@ -65,8 +65,10 @@ granules_from_first granule start words some_granule some =
 
 -- Where a policy gives back, a granule that meets a free part is committed exactly where the part is
 -- smaller than a granule; where it does not, it is committed at least there.
-pub committed_by_size : (pool : PoolState) (part : Span) (number : ℕ) → IsSoundPool pool → IsFreePart pool.held pool.slots part
-    → meet part.start (size_of part.level) (number * granule_in pool) (granule_in pool) ≡ true → IsCommittedBySize pool part number
+pub committed_by_size : (pool : PoolState) (part : Span) (number : ℕ) → IsSoundPool pool
+    → IsFreePart pool.held pool.slots part
+    → meet part.start (size_of part.level) (number * granule_in pool) (granule_in pool) ≡ true
+    → IsCommittedBySize pool part number
 committed_by_size pool part number sound free meets = record {
   small = λ less. committed_where_front pool number sound (by_front ∙ lt-ltb (size_of part.level) (granule_in pool) less);
   large = λ reclaims large. committed_by_front pool number sound reclaims ∙ by_front ∙ le-ltb (size_of part.level) (granule_in pool) large;
@@ -88,7 +90,8 @@ enough_alike pool part words b some few each =
     granule : ℕ
     granule = granule_in pool
 
-pub enough_by_size : (pool : PoolState) (part : Span) (words : ℕ) → IsSoundPool pool → IsFreePart pool.held pool.slots part
+pub enough_by_size : (pool : PoolState) (part : Span) (words : ℕ) → IsSoundPool pool
+    → IsFreePart pool.held pool.slots part
     → 1 ≤ words → words ≤ size_of part.level → IsEnoughBySize pool part words
 enough_by_size pool part words sound free some few = record {
   small = λ less. enough_alike pool part words true some few (λ k meets. (committed_by_size pool part k sound free meets).small less);
@@ -96,7 +99,8 @@ enough_by_size pool part words sound free some few = record {
 }
 
 -- Where a part is committed enough, so is the free part that it lies in, where a policy gives back.
-around_is_enough : (pool : PoolState) (part around : Span) (words : ℕ) → IsSoundPool pool → keeps pool.limits.policy ≡ false
+around_is_enough : (pool : PoolState) (part around : Span) (words : ℕ) → IsSoundPool pool
+    → keeps pool.limits.policy ≡ false
     → IsFreePart pool.held pool.slots around → LiesIn part around → 1 ≤ words → words ≤ size_of part.level
     → is_committed_enough pool words part ≡ true → is_committed_enough pool words around ≡ true
 around_is_enough pool part around words sound reclaims free within some few enough = elim (cases_lt (size_of around.level) granule) [

@@ -106,7 +106,8 @@ abbrev is_free : ℕ → List Chunk → ℕ × ℕ → Bool
 is_free word held run = has_word word run && not (is_held word held)
 
 free_in_halves : (word start half size : ℕ) (b : Bool) → size ≡ half + half
-    → one_if (lies_in (word, 1) (start, half) && b) + one_if (lies_in (word, 1) (start + half, half) && b) ≡ one_if (lies_in (word, 1) (start, size) && b)
+    → one_if (lies_in (word, 1) (start, half) && b) + one_if (lies_in (word, 1) (start + half, half) && b)
+    ≡ one_if (lies_in (word, 1) (start, size) && b)
 free_in_halves word start half size b e = grind (arith, nat_tests)
 
 -- The parts have the word once where it lies in the part with so many levels below it and in no
@@ -168,7 +169,8 @@ in_node word slot = elim (cases_eq slot (slot_of word)) [
 
 -- The free parts of a slot cover each word of its node that lies in no held chunk.
 covered_in_slot : (held : List Chunk) (word slot : ℕ) → AreParts held
-    → times word (map words_of_part (free_in_slot held slot)) ≡ one_if ((slot == slot_of word) && not (is_held word held))
+    → times word (map words_of_part (free_in_slot held slot))
+    ≡ one_if ((slot == slot_of word) && not (is_held word held))
 covered_in_slot held word slot parts = times_joined word (free_within held 12 (root_of slot)) (free_within held 12 (root_of slot + size_of 0))
     ∙ omega (
       arith,
@@ -188,7 +190,8 @@ not_among slot other (y ∷ slots) e above = or_from (y == other) (is_reserved s
     differs a b y e h = grind (arith, nat_tests)
 
 covered_in_slots : (held : List Chunk) (word : ℕ) (slots : List ℕ) → AreParts held → IsStrictlySortedBy nat_cmp slots
-    → times word (map words_of_part (flat_map (free_in_slot held) slots)) ≡ one_if (is_reserved slots (slot_of word) && not (is_held word held))
+    → times word (map words_of_part (flat_map (free_in_slot held) slots))
+    ≡ one_if (is_reserved slots (slot_of word) && not (is_held word held))
 unfolding IsStrictlySortedBy
 covered_in_slots held word [] parts sorted = refl
 covered_in_slots held word (slot ∷ slots) parts sorted = times_joined word (free_in_slot held slot) (flat_map (free_in_slot held) slots)
@@ -245,7 +248,8 @@ covered_once policy word held slots good rising = sum_by-append (λ r. one_if (h
       )
     ] refl
   where
-    free_times : times word (map words_of_part (free_parts held slots)) ≡ one_if (is_reserved slots (slot_of word) && not (is_held word held))
+    free_times : times word (map words_of_part (free_parts held slots))
+        ≡ one_if (is_reserved slots (slot_of word) && not (is_held word held))
     free_times = covered_in_slots held word slots good.parts (sorted_from_strictly_increasing slots rising)
 
     both_false : (b : Bool) → (b && false) ≡ false

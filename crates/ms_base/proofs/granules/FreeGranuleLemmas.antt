@@ -68,7 +68,8 @@ large_is_uncommitted policy held slots part number k e small good free meets lar
     whole : number * granule_of policy % size_of k ≡ 0
     whole = ap (λ (n : ℕ). number * n % size_of k) e ∙ mul-mod_left number (size_of k)
 
-    inside : (part.start ≤ number * granule_of policy) × (number * granule_of policy + size_of k ≤ part.start + size_of part.level)
+    inside : (part.start ≤ number * granule_of policy)
+        × (number * granule_of policy + size_of k ≤ part.start + size_of part.level)
     inside = meeting_lies_in part.start part.level (number * granule_of policy) k free.placed (small, whole) large
         (ap (λ (n : ℕ). meet part.start (size_of part.level) (number * granule_of policy) n) (sym e) ∙ meets)
 
@@ -131,11 +132,13 @@ small_is_committed policy held slots part number k e small good free meets less 
     apart = ap (λ (other : Chunk). meet other.start (size_of other.level) part.start (size_of part.level)) (sym keeper.3)
         ∙ one_is_apart held part.start part.level keeper.0 chunk keeper.2 free.empty
 
-    inside : (part.level ≤ chunk.level) × (parent ≤ chunk.start) × (chunk.start + size_of chunk.level ≤ parent + size_of (part.level - 1))
+    inside : (part.level ≤ chunk.level) × (parent ≤ chunk.start)
+        × (chunk.start + size_of chunk.level ≤ parent + size_of (part.level - 1))
     inside = keeper_in_parent part chunk free.placed (omega arith)
         (All-contains (λ (other : Chunk). IsPart other.start other.level) held chunk good.parts (keeper.0, keeper.2, keeper.3)) keeper.4 apart
 
-    around : (number * granule_of policy ≤ parent) × (parent + size_of (part.level - 1) ≤ number * granule_of policy + size_of k)
+    around : (number * granule_of policy ≤ parent)
+        × (parent + size_of (part.level - 1) ≤ number * granule_of policy + size_of k)
     around = let bounds = meets_bounds part.start (size_of part.level) (number * granule_of policy) (granule_of policy) meets in
         meeting_lies_in (number * granule_of policy) k parent (part.level - 1) (small, ap (λ (n : ℕ). number * n % size_of k) e ∙ mul-mod_left number (size_of k))
         (omega (arith, free.placed.0), parent_is_whole part.start part.level) (omega arith)

@@ -35,7 +35,8 @@ makes_up power level h = ap (λ (n : ℕ). 2 ^ n) exponent ∙ pow-add 2 (19 - l
     exponent = omega (arith, below)
 
 -- So does the granule of each policy.
-pub made_up : (policy : Policy) (level : ℕ) → granule_of policy ≤ size_of level → (count : ℕ) × (size_of level ≡ count * granule_of policy)
+pub made_up : (policy : Policy) (level : ℕ) → granule_of policy ≤ size_of level
+    → (count : ℕ) × (size_of level ≡ count * granule_of policy)
 made_up policy level h =
     let granule = granule_is_level policy in
     let count : ℕ = 2 ^ (19 - level - (19 - granule.level)) in
@@ -44,7 +45,8 @@ made_up policy level h =
 pub front_small : (policy : Policy) (size words : ℕ) → size < granule_of policy → front_for policy size words ≡ size
 front_small policy size words h = rw (lt-ltb size (granule_of policy) h) (always (keeps policy))
   where
-    always : (b : Bool) → (if b || true then size else granules_for (granule_of policy) words * granule_of policy) ≡ size
+    always : (b : Bool) → (if b || true then size else granules_for (granule_of policy) words * granule_of policy)
+        ≡ size
     always true = refl
     always false = refl
 
@@ -76,7 +78,8 @@ front_cases policy level words h = elim (cases_lt (size_of level) (granule_of po
 ]
 
 -- The front reaches as far as was asked.
-pub front_reaches : (policy : Policy) (level words : ℕ) → words ≤ size_of level → words ≤ front_for policy (size_of level) words
+pub front_reaches : (policy : Policy) (level words : ℕ) → words ≤ size_of level
+    → words ≤ front_for policy (size_of level) words
 front_reaches policy level words h = elim (front_cases policy level words h) [
   | inl full ↦ omega (arith, full, h)
   | inr whole ↦ omega (arith, whole.1, rounds_up (granule_of policy) words (granule_some policy))

@@ -116,7 +116,8 @@ words_of_granules granule (k ∷ numbers) =
     )
 
 -- Fronts have no more words than are committed.
-pub fronts_committed : (pool : PoolState) → IsSoundPool pool → fronts_of pool.held ≤ length pool.committed * granule_in pool
+pub fronts_committed : (pool : PoolState) → IsSoundPool pool
+    → fronts_of pool.held ≤ length pool.committed * granule_in pool
 fronts_committed pool sound =
     omega (
       arith,

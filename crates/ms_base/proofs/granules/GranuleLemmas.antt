@@ -43,7 +43,8 @@ node_by_level level h = ap (λ (n : ℕ). 2 ^ n) (exponent level h) ∙ pow-add 
     exponent level h = omega arith
 
 -- A part that starts in a node ends in it.
-pub ends_in_node : (start level : ℕ) → IsPart start level → start + size_of level ≤ slot_of start * node_words + node_words
+pub ends_in_node : (start level : ℕ) → IsPart start level
+    → start + size_of level ≤ slot_of start * node_words + node_words
 ends_in_node start level part =
     omega (
       arith,
@@ -77,8 +78,10 @@ below a b e = grind (arith, nat_tests)
 
 -- A granule that holds a word of a chunk's front is a granule of the chunk's node, where n
 -- granules make a node.
-pub in_node : (granule n : ℕ) (chunk : Chunk) (k : ℕ) → n * granule ≡ node_words → IsPart chunk.start chunk.level → chunk.front ≤ size_of chunk.level
-    → meet chunk.start chunk.front (k * granule) granule ≡ true → (slot_of chunk.start * n ≤ k) × (k < slot_of chunk.start * n + n)
+pub in_node : (granule n : ℕ) (chunk : Chunk) (k : ℕ) → n * granule ≡ node_words → IsPart chunk.start chunk.level
+    → chunk.front ≤ size_of chunk.level
+    → meet chunk.start chunk.front (k * granule) granule ≡ true
+    → (slot_of chunk.start * n ≤ k) × (k < slot_of chunk.start * n + n)
 in_node granule n chunk k whole part front meets = (omega (arith, lower), upper)
   where
     apart : (chunk.start < k * granule + granule) × (k * granule < chunk.start + chunk.front)
@@ -107,7 +110,8 @@ in_range a (suc n) k h m = elim (cases_eq a k) [
 ]
 
 -- What a reserved slot's list has, the lists of all slots together have.
-in_slots : (f : ℕ → List ℕ) (slots : List ℕ) (slot k : ℕ) → is_reserved slots slot ≡ true → list_any (is_number k) (f slot) ≡ true
+in_slots : (f : ℕ → List ℕ) (slots : List ℕ) (slot k : ℕ) → is_reserved slots slot ≡ true
+    → list_any (is_number k) (f slot) ≡ true
     → list_any (is_number k) (flat_map f slots) ≡ true
 in_slots f [] slot k reserved there = absurd (cc)
 in_slots f (s ∷ slots) slot k reserved there =
@@ -118,14 +122,16 @@ in_slots f (s ∷ slots) slot k reserved there =
     ] refl
 
 -- What is in a list and passes the test is in the filtered list, and what is there passes.
-pub kept_by : (p : ℕ → Bool) (xs : List ℕ) (k : ℕ) → p k ≡ true → list_any (is_number k) xs ≡ true → list_any (is_number k) (filter p xs) ≡ true
+pub kept_by : (p : ℕ → Bool) (xs : List ℕ) (k : ℕ) → p k ≡ true → list_any (is_number k) xs ≡ true
+    → list_any (is_number k) (filter p xs) ≡ true
 kept_by p [] k passes there = absurd (cc)
 kept_by p (x ∷ xs) k passes there = elim (x == k) as (λ b. (x == k) ≡ b → list_any (is_number k) (cond (p x) (x ∷ filter p xs) (filter p xs)) ≡ true) [
   | true ↦ λ e. rw (ap p (eqb-true x k e) ∙ passes) (or_left (x == k) (list_any (is_number k) (filter p xs)) e)
   | false ↦ λ e. later (p x) (kept_by p xs k passes (rw e at there))
 ] refl
   where
-    later : (b : Bool) → list_any (is_number k) (filter p xs) ≡ true → list_any (is_number k) (cond b (x ∷ filter p xs) (filter p xs)) ≡ true
+    later : (b : Bool) → list_any (is_number k) (filter p xs) ≡ true
+        → list_any (is_number k) (cond b (x ∷ filter p xs) (filter p xs)) ≡ true
     later true h = or_right (x == k) (list_any (is_number k) (filter p xs)) h
     later false h = h
 
@@ -141,8 +147,10 @@ passes_in p (x ∷ xs) k there = elim (p x) as (λ b. p x ≡ b → list_any (is
 
 -- A granule that holds a word of a front is a granule of a reserved slot.
 in_reserved : (policy : Policy) (slots : List ℕ) (k : ℕ) (held : List Chunk)
-    → AllByRecursion IsPlaced held → AllByRecursion (HasFront policy) held → list_all (λ (chunk : Chunk). is_reserved slots (slot_of chunk.start)) held ≡ true
-    → is_committed (granule_of policy) held k ≡ true → list_any (is_number k) (flat_map (granules_of (granule_of policy)) slots) ≡ true
+    → AllByRecursion IsPlaced held → AllByRecursion (HasFront policy) held
+    → list_all (λ (chunk : Chunk). is_reserved slots (slot_of chunk.start)) held ≡ true
+    → is_committed (granule_of policy) held k ≡ true
+    → list_any (is_number k) (flat_map (granules_of (granule_of policy)) slots) ≡ true
 in_reserved policy slots k [] parts fronts reserved meets = absurd (cc)
 in_reserved policy slots k (chunk ∷ held) parts fronts reserved meets =
     let here = and_parts (is_reserved slots (slot_of chunk.start)) (list_all (λ (c : Chunk). is_reserved slots (slot_of c.start)) held) reserved in
@@ -154,13 +162,15 @@ in_reserved policy slots k (chunk ∷ held) parts fronts reserved meets =
     ] refl meets
 
 pub granule_is_reserved : (policy : Policy) (slots : List ℕ) (held : List Chunk) (k : ℕ) → AreHeld policy slots held
-    → is_committed (granule_of policy) held k ≡ true → list_any (is_number k) (flat_map (granules_of (granule_of policy)) slots) ≡ true
+    → is_committed (granule_of policy) held k ≡ true
+    → list_any (is_number k) (flat_map (granules_of (granule_of policy)) slots) ≡ true
 granule_is_reserved policy slots held k good meets =
     in_reserved policy slots k held (recursion_from_All IsPlaced held good.parts) (recursion_from_All (HasFront policy) held good.fronts) good.reserved meets
 
 -- What is among those that pass a test is in the list, and what is in the list and passes is among
 -- them.
-in_list : (p : ℕ → Bool) (xs : List ℕ) (k : ℕ) → list_any (is_number k) (filter p xs) ≡ true → list_any (is_number k) xs ≡ true
+in_list : (p : ℕ → Bool) (xs : List ℕ) (k : ℕ) → list_any (is_number k) (filter p xs) ≡ true
+    → list_any (is_number k) xs ≡ true
 in_list p [] k there = absurd (cc)
 in_list p (x ∷ xs) k there = elim (p x) as (λ b. list_any (is_number k) (cond b (x ∷ filter p xs) (filter p xs)) ≡ true → list_any (is_number k) (x ∷ xs) ≡ true) [
   | true ↦ λ there. elim (or_cases (x == k) (list_any (is_number k) (filter p xs)) there) [
@@ -177,7 +187,8 @@ committed_where_now pool k sound there =
     passes_in (is_committed_now pool.limits.policy pool.committed pool.held) (flat_map (granules_of (granule_in pool)) pool.slots) k
     (ap (list_any (is_number k)) (sym sound.committed) ∙ there)
 
-pub committed_where_front : (pool : PoolState) (k : ℕ) → IsSoundPool pool → is_committed (granule_in pool) pool.held k ≡ true
+pub committed_where_front : (pool : PoolState) (k : ℕ) → IsSoundPool pool
+    → is_committed (granule_in pool) pool.held k ≡ true
     → has_committed pool k ≡ true
 committed_where_front pool k sound meets =
     ap (list_any (is_number k)) sound.committed
@@ -193,7 +204,8 @@ committed_are_counted pool k sound = record {
       (ap (list_any (is_number k)) (sym sound.committed) ∙ there);
 }
   where
-    now_by_front : keeps pool.limits.policy ≡ false → is_committed_now pool.limits.policy pool.committed pool.held k ≡ true
+    now_by_front : keeps pool.limits.policy ≡ false
+        → is_committed_now pool.limits.policy pool.committed pool.held k ≡ true
         → is_committed (granule_in pool) pool.held k ≡ true
     now_by_front e h = sym (ap (λ b. (b && is_among pool.committed k) || is_committed (granule_in pool) pool.held k) e) ∙ h
 

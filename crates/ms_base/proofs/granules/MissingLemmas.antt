@@ -31,11 +31,12 @@ use Rattle.ms_base.proofs.granules.GranuleLemmas.{in_node, in_range, committed_a
 use Rattle.ms_base.proofs.granules.FreeGranuleLemmas.{meets_bounds, bounds_meet}
 use Rattle.ms_base.proofs.granules.FrontLemmas.{has_front_for}
 use Rattle.ms_base.proofs.granules.CommittedRoomLemmas.{committed_by_size, enough_by_size}
-use Rattle.ms_base.proofs.granules.CountLemmas.{slot_is_there, meets_between, is_between, not_there}
+use Rattle.ms_base.proofs.granules.GranuleCountLemmas.{slot_is_there, meets_between, is_between, not_there}
 use Rattle.ms_base.proofs.granules.NeedLemmas.{quotient_is, Covers, chunk_covers, nothing_missing, picked_is_part}
 
 -- Rising numbers that have each of a range are as many at least.
-as_many : (xs : List ℕ) (a n : ℕ) → IsStrictlySortedBy nat_cmp xs → ((k : ℕ) → a ≤ k → k < a + n → is_reserved xs k ≡ true) → n ≤ length xs
+as_many : (xs : List ℕ) (a n : ℕ) → IsStrictlySortedBy nat_cmp xs
+    → ((k : ℕ) → a ≤ k → k < a + n → is_reserved xs k ≡ true) → n ≤ length xs
 unfolding IsStrictlySortedBy
 as_many [] a zero sorted each = omega arith
 as_many [] a (suc n) sorted each = let wrong = each a (omega arith) (omega arith) in absurd (cc)
@@ -61,12 +62,14 @@ as_many (x ∷ xs) a (suc n) sorted each = elim (cases_lt x a) [
         unlike x a h = grind (arith, h)
 
 -- What is found passes the test, or nothing does.
-found_passes : (p : ℕ → Bool) (xs : List ℕ) (other : ℕ) → (p (unwrap_or (find p xs) other) ≡ true) ⊎ ((k : ℕ) → list_any (λ (x : ℕ). x == k) xs ≡ true → p k ≡ false)
+found_passes : (p : ℕ → Bool) (xs : List ℕ) (other : ℕ)
+    → (p (unwrap_or (find p xs) other) ≡ true) ⊎ ((k : ℕ) → list_any (λ (x : ℕ). x == k) xs ≡ true → p k ≡ false)
 found_passes p [] other = inr (λ k there. absurd (cc))
 found_passes p (x ∷ xs) other = go (p x) refl (found_passes p xs other)
   where
     go : (b : Bool) → p x ≡ b → ((p (unwrap_or (find p xs) other) ≡ true) ⊎ ((k : ℕ) → list_any (λ (y : ℕ). y == k) xs ≡ true → p k ≡ false))
-        → (p (unwrap_or (find p (x ∷ xs)) other) ≡ true) ⊎ ((k : ℕ) → list_any (λ (y : ℕ). y == k) (x ∷ xs) ≡ true → p k ≡ false)
+        → (p (unwrap_or (find p (x ∷ xs)) other) ≡ true)
+        ⊎ ((k : ℕ) → list_any (λ (y : ℕ). y == k) (x ∷ xs) ≡ true → p k ≡ false)
     go true e rest = inl (rw e e)
     go false e (inl found) = inl (rw e found)
     go false e (inr none) = inr (λ k there. elim (or_cases (x == k) (list_any (λ (y : ℕ). y == k) xs) there) [
@@ -75,7 +78,8 @@ found_passes p (x ∷ xs) other = go (p x) refl (found_passes p xs other)
     ])
 
 -- The lowest slot that isn't reserved is not.
-pub lowest_is_not_reserved : (slots : List ℕ) → IsStrictlySortedBy nat_cmp slots → is_reserved slots (lowest_unreserved slots) ≡ false
+pub lowest_is_not_reserved : (slots : List ℕ) → IsStrictlySortedBy nat_cmp slots
+    → is_reserved slots (lowest_unreserved slots) ≡ false
 lowest_is_not_reserved slots sorted = elim (found_passes free (range_with_len 0 (length slots + 1)) 0) [
   | inl found ↦ not_not (is_reserved slots (lowest_unreserved slots)) found
   | inr none ↦ let more = as_many slots 0 (length slots + 1) sorted (λ k h m. not_free (is_reserved slots k) (none k (in_range 0 (length slots + 1) k h m))) in absurd (omega (arith, more))
@@ -93,8 +97,10 @@ lowest_is_not_reserved slots sorted = elim (found_passes free (range_with_len 0 
     not_free false e = absurd (cc)
 
 -- The granules that the front of a picked chunk meets are missing.
-none_there : (pool : PoolState) (chunk : Chunk) → IsSoundPool pool → IsPart chunk.start chunk.level → chunk.front ≤ size_of chunk.level
-    → is_reserved pool.slots (slot_of chunk.start) ≡ false → (k : ℕ) → meet chunk.start chunk.front (k * granule_in pool) (granule_in pool) ≡ true → has_committed pool k ≡ false
+none_there : (pool : PoolState) (chunk : Chunk) → IsSoundPool pool → IsPart chunk.start chunk.level
+    → chunk.front ≤ size_of chunk.level
+    → is_reserved pool.slots (slot_of chunk.start) ≡ false → (k : ℕ)
+    → meet chunk.start chunk.front (k * granule_in pool) (granule_in pool) ≡ true → has_committed pool k ≡ false
 none_there pool chunk sound placed within fresh k meets = false_from_ne_true (has_committed pool k) (λ there.
     let own = in_node granule (node_words / granule) chunk k (granules_make_nodes pool.limits.policy) placed within meets in
     both_ways (is_reserved pool.slots (slot_of chunk.start)) fresh
@@ -103,15 +109,18 @@ none_there pool chunk sound placed within fresh k meets = false_from_ne_true (ha
     granule : ℕ
     granule = granule_in pool
 
-not_enough : (pool : PoolState) (m words : ℕ) (part : Span) → has_committed_room pool m words ≡ false → Contains (free_parts pool.held pool.slots) part → part.level ≤ m
+not_enough : (pool : PoolState) (m words : ℕ) (part : Span) → has_committed_room pool m words ≡ false
+    → Contains (free_parts pool.held pool.slots) part → part.level ≤ m
     → is_committed_enough pool words part ≡ false
 not_enough pool m words part none listed serves = false_from_ne_true (is_committed_enough pool words part) (λ enough.
     both_ways (has_committed_room pool m words) none
     (list_any_at (λ (other : Span). nat_le other.level m && is_committed_enough pool words other) (free_parts pool.held pool.slots) listed.0 part listed.1
     (ap (λ (other : Span). nat_le other.level m && is_committed_enough pool words other) listed.2 ∙ and_from (nat_le part.level m) (is_committed_enough pool words part) (le-leb part.level m serves) enough)))
 
-in_free_part : (pool : PoolState) (m words : ℕ) (part : Span) (start front : ℕ) → IsSoundPool pool → keeps pool.limits.policy ≡ false → has_committed_room pool m words ≡ false
-    → Contains (free_parts pool.held pool.slots) part → part.level ≤ m → m ≤ 12 → 1 ≤ words → words ≤ size_of m → start ≡ part.start → front ≤ size_of part.level
+in_free_part : (pool : PoolState) (m words : ℕ) (part : Span) (start front : ℕ) → IsSoundPool pool
+    → keeps pool.limits.policy ≡ false → has_committed_room pool m words ≡ false
+    → Contains (free_parts pool.held pool.slots) part → part.level ≤ m → m ≤ 12 → 1 ≤ words → words ≤ size_of m
+    → start ≡ part.start → front ≤ size_of part.level
     → (k : ℕ) → meet start front (k * granule_in pool) (granule_in pool) ≡ true → has_committed pool k ≡ false
 in_free_part pool m words part start front sound reclaims none listed serves h some fits same within k meets = elim (cases_lt (size_of part.level) (granule_in pool)) [
   | inl small ↦ absurd (both_ways (is_committed_enough pool words part) (not_enough pool m words part none listed serves)
@@ -126,11 +135,13 @@ in_free_part pool m words part start front sound reclaims none listed serves h s
     wider = let bounds = meets_bounds start front (k * granule_in pool) (granule_in pool) meets in
         bounds_meet part.start (size_of part.level) (k * granule_in pool) (granule_in pool) (omega (arith, bounds.0, same)) (omega (arith, bounds.1, same, within))
 
-front_of_picked : (pool : PoolState) (p m words : ℕ) → p ≤ m → m ≤ 12 → 1 ≤ words → words ≤ size_of m → HasFront pool.limits.policy (chunk_picked pool p m words)
+front_of_picked : (pool : PoolState) (p m words : ℕ) → p ≤ m → m ≤ 12 → 1 ≤ words → words ≤ size_of m
+    → HasFront pool.limits.policy (chunk_picked pool p m words)
 front_of_picked pool p m words h k some fits = has_front_for pool.limits.policy (picked pool p m words).start (picked pool p m words).level words some
     (omega (arith, fits, size_falls (picked pool p m words).level m (picked_serves pool p m words h).1 k))
 
-pub all_missing : (pool : PoolState) (p m words : ℕ) → IsSoundPool pool → keeps pool.limits.policy ≡ false → has_committed_room pool m words ≡ false
+pub all_missing : (pool : PoolState) (p m words : ℕ) → IsSoundPool pool → keeps pool.limits.policy ≡ false
+    → has_committed_room pool m words ≡ false
     → p ≤ m → m ≤ 12 → 1 ≤ words → words ≤ size_of m
     → (k : ℕ) → meet (chunk_picked pool p m words).start (chunk_picked pool p m words).front (k * granule_in pool) (granule_in pool) ≡ true → has_committed pool k ≡ false
 all_missing pool p m words sound reclaims none h k some fits number meets = elim (found_is_free_or_new pool p m words h) [
@@ -160,13 +171,15 @@ all_missing pool p m words sound reclaims none h k some fits number meets = elim
     slot_of_start n = quotient_is (n * node_words) n node_words (omega arith) (omega arith) (omega arith)
 
 -- So the words need as many as are missing.
-all_kept : (p : ℕ → Bool) (a n : ℕ) → ((k : ℕ) → a ≤ k → k < a + n → p k ≡ false) → length (filter (λ k. not (p k)) (range_with_len a n)) ≡ n
+all_kept : (p : ℕ → Bool) (a n : ℕ) → ((k : ℕ) → a ≤ k → k < a + n → p k ≡ false)
+    → length (filter (λ k. not (p k)) (range_with_len a n)) ≡ n
 all_kept p a zero none = refl
 all_kept p a (suc n) none =
     ap (λ b. length (cond (not b) (a ∷ filter (λ k. not (p k)) (range_with_len (a + 1) n)) (filter (λ k. not (p k)) (range_with_len (a + 1) n)))) (none a (omega arith) (omega arith))
     ∙ omega (arith, all_kept p (a + 1) n (λ k h m. none k (omega arith) (omega arith)))
 
-pub need_is_missing : (pool : PoolState) (p m words : ℕ) → IsSoundPool pool → keeps pool.limits.policy ≡ false → has_committed_room pool m words ≡ false
+pub need_is_missing : (pool : PoolState) (p m words : ℕ) → IsSoundPool pool → keeps pool.limits.policy ≡ false
+    → has_committed_room pool m words ≡ false
     → p ≤ m → m ≤ 12 → 1 ≤ words → words ≤ size_of m
     → granules_missing pool (chunk_picked pool p m words) ≡ granules_for (granule_in pool) words
 need_is_missing pool p m words sound reclaims none h k some fits =
@@ -195,7 +208,8 @@ need_is_missing pool p m words sound reclaims none h k some fits =
 
 -- One rule for all policies: where the reserve limit is not met, the commit limit is met exactly
 -- where the missing granules would pass it.
-pub limit_by_missing : (pool : PoolState) (p m words : ℕ) → IsSoundPool pool → p ≤ m → m ≤ 12 → 1 ≤ words → words ≤ size_of m → meets_reserve_limit pool m ≡ false
+pub limit_by_missing : (pool : PoolState) (p m words : ℕ) → IsSoundPool pool → p ≤ m → m ≤ 12 → 1 ≤ words
+    → words ≤ size_of m → meets_reserve_limit pool m ≡ false
     → meets_commit_limit pool p m words ≡ nat_lt pool.limits.granules (committed_count pool + granules_missing pool (chunk_picked pool p m words))
 limit_by_missing pool p m words sound h k some fits room = by_policy (keeps pool.limits.policy) refl
   where
@@ -215,19 +229,23 @@ limit_by_missing pool p m words sound h k some fits room = by_policy (keeps pool
     not_over most total h = grind (arith, nat_tests, h)
 
     by_room : keeps pool.limits.policy ≡ false → (b : Bool) → has_committed_room pool m words ≡ b
-        → (not (not false && b) && nat_lt limit (count + granules_for (granule_in pool) words)) ≡ nat_lt limit (count + missing)
+        → (not (not false && b) && nat_lt limit (count + granules_for (granule_in pool) words))
+        ≡ nat_lt limit (count + missing)
     by_room e true there = sym (not_over limit (count + missing) (omega (arith, sound.granules, nothing_missing pool p m words e h k some fits there)))
     by_room e false none = ap (λ (n : ℕ). nat_lt limit (count + n)) (sym (need_is_missing pool p m words sound e none h k some fits))
 
-    by_policy : (b : Bool) → keeps pool.limits.policy ≡ b → meets_commit_limit pool p m words ≡ nat_lt limit (count + missing)
+    by_policy : (b : Bool) → keeps pool.limits.policy ≡ b
+        → meets_commit_limit pool p m words ≡ nat_lt limit (count + missing)
     by_policy true e = rw (room, e) refl
     by_policy false e =
         ap (λ r. not r && not (needs_none pool m words) && nat_lt limit (count + granules_needed pool p m words)) room
         ∙ ap (λ b. not (not b && has_committed_room pool m words) && nat_lt limit (count + needs b)) e
         ∙ by_room e (has_committed_room pool m words) refl
 
-pub need_by_missing : (pool : PoolState) (p m words : ℕ) → IsSoundPool pool → p ≤ m → m ≤ 12 → 1 ≤ words → words ≤ size_of m
-    → meets_commit_limit pool p m words ≡ true → granules_needed pool p m words ≡ granules_missing pool (chunk_picked pool p m words)
+pub need_by_missing : (pool : PoolState) (p m words : ℕ) → IsSoundPool pool → p ≤ m → m ≤ 12 → 1 ≤ words
+    → words ≤ size_of m
+    → meets_commit_limit pool p m words ≡ true
+    → granules_needed pool p m words ≡ granules_missing pool (chunk_picked pool p m words)
 need_by_missing pool p m words sound h k some fits met = by_policy (keeps pool.limits.policy) refl
   where
     parts : (r n o : Bool) → (not r && not n && o) ≡ true → n ≡ false
@@ -238,7 +256,8 @@ need_by_missing pool p m words sound h k some fits met = by_policy (keeps pool.l
     some_needed : needs_none pool m words ≡ false
     some_needed = parts (meets_reserve_limit pool m) (needs_none pool m words) (nat_lt pool.limits.granules (committed_count pool + granules_needed pool p m words)) met
 
-    by_policy : (b : Bool) → keeps pool.limits.policy ≡ b → granules_needed pool p m words ≡ granules_missing pool (chunk_picked pool p m words)
+    by_policy : (b : Bool) → keeps pool.limits.policy ≡ b
+        → granules_needed pool p m words ≡ granules_missing pool (chunk_picked pool p m words)
     by_policy true e = rw e refl
     by_policy false e =
         ap (λ b. if b then granules_missing pool (chunk_picked pool p m words) else granules_for (granule_in pool) words) e

@@ -54,7 +54,8 @@ pub record Covers (granule start front words : ℕ) : Type 0 where
   pub last : (start + front - 1) / granule ≡ (start + words - 1) / granule
   pub count : (start + words - 1) / granule + 1 - start / granule ≡ granules_for granule words
 
-covers_small : (policy : Policy) (start level words : ℕ) → IsPart start level → 1 ≤ words → words ≤ size_of level → size_of level < granule_of policy
+covers_small : (policy : Policy) (start level words : ℕ) → IsPart start level → 1 ≤ words → words ≤ size_of level
+    → size_of level < granule_of policy
     → Covers (granule_of policy) start (front_for policy (size_of level) words) words
 covers_small policy start level words part some fits small = record {
   last = ap (λ (front : ℕ). (start + front - 1) / g) (front_small policy (size_of level) words small) ∙ last_of (size_of level) (omega (arith, size_some level)) (omega arith)
@@ -90,7 +91,8 @@ covers_small policy start level words part some fits small = record {
     last_of : (n : ℕ) → 1 ≤ n → n ≤ size_of level → (start + n - 1) / g ≡ first
     last_of n one most = quotient_is (start + n - 1) first g (granule_some policy) (omega (arith, inside.0, one)) (omega (arith, inside.1, is, one, most))
 
-covers_large : (policy : Policy) (start level words : ℕ) → keeps policy ≡ false → IsPart start level → 1 ≤ words → words ≤ size_of level → granule_of policy ≤ size_of level
+covers_large : (policy : Policy) (start level words : ℕ) → keeps policy ≡ false → IsPart start level → 1 ≤ words
+    → words ≤ size_of level → granule_of policy ≤ size_of level
     → Covers (granule_of policy) start (front_for policy (size_of level) words) words
 covers_large policy start level words reclaims part some fits large = record {
   last = ap (λ (front : ℕ). (start + front - 1) / g) front_is ∙ last_front ∙ sym last_words;
@@ -135,7 +137,8 @@ covers_large policy start level words reclaims part some fits large = record {
         (omega (arith, whole, add-mul first more g, div-add-mod' (words - 1) g, some))
         (omega (arith, whole, add-mul first more g, div-add-mod' (words - 1) g, mod_below (words - 1) g (omega (arith, granule_some policy)), some))
 
-pub front_covers : (policy : Policy) (start level words : ℕ) → keeps policy ≡ false → IsPart start level → 1 ≤ words → words ≤ size_of level
+pub front_covers : (policy : Policy) (start level words : ℕ) → keeps policy ≡ false → IsPart start level → 1 ≤ words
+    → words ≤ size_of level
     → Covers (granule_of policy) start (front_for policy (size_of level) words) words
 front_covers policy start level words reclaims part some fits = elim (cases_lt (size_of level) (granule_of policy)) [
   | inl small ↦ covers_small policy start level words part some fits small
@@ -143,7 +146,8 @@ front_covers policy start level words reclaims part some fits = elim (cases_lt (
 ]
 
 -- Where some free part is large and committed enough, what is found first is so.
-first_joined : (P : Span → Type 0) (xs ys : List Span) (other : Span) → AllByRecursion P xs → (xs ≡ [] → ⊥) → P (unwrap_or (slice_get (xs ++ ys) 0) other)
+first_joined : (P : Span → Type 0) (xs ys : List Span) (other : Span) → AllByRecursion P xs → (xs ≡ [] → ⊥)
+    → P (unwrap_or (slice_get (xs ++ ys) 0) other)
 first_joined P [] ys other all some = absurd (some refl)
 first_joined P (x ∷ xs) ys other all some = all.0
 
@@ -154,11 +158,13 @@ all_trivial (x ∷ xs) = (tt, all_trivial xs)
 abbrev IsEnough : PoolState → ℕ → Span → Type 0
 IsEnough pool words part = is_committed_enough pool words part ≡ true
 
-enough_at_level : (pool : PoolState) (words level : ℕ) → AllByRecursion (IsEnough pool words) (found_at pool words true level)
+enough_at_level : (pool : PoolState) (words level : ℕ)
+    → AllByRecursion (IsEnough pool words) (found_at pool words true level)
 enough_at_level pool words level = all_filtered (λ (part : Span). ⊤) (IsEnough pool words) (λ (part : Span). (part.level == level) && (not true || is_committed_enough pool words part))
     (λ part trivial passes. (both_true (part.level == level) (is_committed_enough pool words part) passes).1) (free_parts pool.held pool.slots) (all_trivial (free_parts pool.held pool.slots))
 
-enough_at_levels : (pool : PoolState) (words : ℕ) (levels : List ℕ) → AllByRecursion (IsEnough pool words) (flat_map (found_at pool words true) levels)
+enough_at_levels : (pool : PoolState) (words : ℕ) (levels : List ℕ)
+    → AllByRecursion (IsEnough pool words) (flat_map (found_at pool words true) levels)
 enough_at_levels pool words levels = all_given (λ (level : ℕ). ⊤) (IsEnough pool words) (found_at pool words true) (λ level trivial. enough_at_level pool words level) levels (all_trivial levels)
 
 filter_some : (p : Span → Bool) (xs : List Span) → list_any p xs ≡ true → filter p xs ≡ [] → ⊥
@@ -172,14 +178,16 @@ append_none : (xs ys : List Span) → xs ++ ys ≡ [] → (xs ≡ []) × (ys ≡
 append_none [] ys e = (refl, e)
 append_none (x ∷ xs) ys e = absurd (cc)
 
-given_some : (f : ℕ → List Span) (levels : List ℕ) (level : ℕ) → list_any (is_number level) levels ≡ true → (f level ≡ [] → ⊥) → flat_map f levels ≡ [] → ⊥
+given_some : (f : ℕ → List Span) (levels : List ℕ) (level : ℕ) → list_any (is_number level) levels ≡ true
+    → (f level ≡ [] → ⊥) → flat_map f levels ≡ [] → ⊥
 given_some f [] level there some none = cc
 given_some f (l ∷ levels) level there some none = elim (l == level) as (λ b. (l == level) ≡ b → (b || list_any (is_number level) levels) ≡ true → ⊥) [
   | true ↦ λ same there. some (ap f (sym (eqb-true l level same)) ∙ (append_none (f l) (flat_map f levels) none).0)
   | false ↦ λ other there. given_some f levels level there some (append_none (f l) (flat_map f levels) none).1
 ] refl there
 
-mapped : (f : ℕ → ℕ) (xs : List ℕ) (k : ℕ) → list_any (is_number k) xs ≡ true → list_any (is_number (f k)) (map f xs) ≡ true
+mapped : (f : ℕ → ℕ) (xs : List ℕ) (k : ℕ) → list_any (is_number k) xs ≡ true
+    → list_any (is_number (f k)) (map f xs) ≡ true
 mapped f [] k there = absurd (cc)
 mapped f (x ∷ xs) k there = elim (x == k) as (λ b. (x == k) ≡ b → (b || list_any (is_number k) xs) ≡ true → list_any (is_number (f k)) (map f (x ∷ xs)) ≡ true) [
   | true ↦ λ same there. or_left (f x == f k) (list_any (is_number (f k)) (map f xs)) (alike (f x) (f k) (ap f (eqb-true x k same)))
@@ -257,7 +265,8 @@ found_is_enough pool p m words h room =
 new_root_is_part : (n p : ℕ) → p ≤ 12 → IsPart (n * node_words) p
 new_root_is_part n p h = (h, ap (λ (k : ℕ). k % size_of p) (ap (λ (k : ℕ). n * k) (node_by_level p h) ∙ sym (mul_assoc n (2 ^ (p + 1)) (size_of p))) ∙ mul-mod_left (n * 2 ^ (p + 1)) (size_of p))
 
-pub picked_is_part : (pool : PoolState) (p m words : ℕ) → p ≤ m → m ≤ 12 → IsPart (picked pool p m words).start (picked pool p m words).level
+pub picked_is_part : (pool : PoolState) (p m words : ℕ) → p ≤ m → m ≤ 12
+    → IsPart (picked pool p m words).start (picked pool p m words).level
 picked_is_part pool p m words h k = elim (found_is_free_or_new pool p m words h) [
   | inl found ↦
       let some = Any-from_list_any (λ (other : Span). (other.start == part.start) && (other.level == part.level)) (free_parts pool.held pool.slots) found.free in
@@ -285,12 +294,14 @@ none_missing p (x ∷ xs) all =
 
 -- Under the policies balanced and aggressive, no more is missing than the words need, and nothing
 -- where there is committed room.
-pub chunk_covers : (pool : PoolState) (p m words : ℕ) → keeps pool.limits.policy ≡ false → p ≤ m → m ≤ 12 → 1 ≤ words → words ≤ size_of m
+pub chunk_covers : (pool : PoolState) (p m words : ℕ) → keeps pool.limits.policy ≡ false → p ≤ m → m ≤ 12 → 1 ≤ words
+    → words ≤ size_of m
     → Covers (granule_in pool) (chunk_picked pool p m words).start (chunk_picked pool p m words).front words
 chunk_covers pool p m words reclaims h k some fits = front_covers pool.limits.policy (picked pool p m words).start (picked pool p m words).level words reclaims
     (picked_is_part pool p m words h k) some (omega (arith, fits, size_falls (picked pool p m words).level m (picked_serves pool p m words h).1 k))
 
-pub missing_within : (pool : PoolState) (p m words : ℕ) → keeps pool.limits.policy ≡ false → p ≤ m → m ≤ 12 → 1 ≤ words → words ≤ size_of m
+pub missing_within : (pool : PoolState) (p m words : ℕ) → keeps pool.limits.policy ≡ false → p ≤ m → m ≤ 12 → 1 ≤ words
+    → words ≤ size_of m
     → granules_missing pool (chunk_picked pool p m words) ≤ granules_for (granule_in pool) words
 missing_within pool p m words reclaims h k some fits =
     let covers = chunk_covers pool p m words reclaims h k some fits in
@@ -304,7 +315,8 @@ missing_within pool p m words reclaims h k some fits =
       covers.count,
     )
 
-pub nothing_missing : (pool : PoolState) (p m words : ℕ) → keeps pool.limits.policy ≡ false → p ≤ m → m ≤ 12 → 1 ≤ words → words ≤ size_of m
+pub nothing_missing : (pool : PoolState) (p m words : ℕ) → keeps pool.limits.policy ≡ false → p ≤ m → m ≤ 12 → 1 ≤ words
+    → words ≤ size_of m
     → has_committed_room pool m words ≡ true → granules_missing pool (chunk_picked pool p m words) ≡ 0
 nothing_missing pool p m words reclaims h k some fits room =
     let chunk = chunk_picked pool p m words in
@@ -325,7 +337,8 @@ pub record IsTaken (pool : PoolState) (p m words : ℕ) (chunk : Chunk) : Type 0
   pub granules : meets_commit_limit pool p m words ≡ false
   pub is : chunk ≡ chunk_picked pool p m words
 
-pub taken_is : (pool : PoolState) (p m words : ℕ) (chunk : Chunk) → taken pool p m words ≡ Ok chunk → IsTaken pool p m words chunk
+pub taken_is : (pool : PoolState) (p m words : ℕ) (chunk : Chunk) → taken pool p m words ≡ Ok chunk
+    → IsTaken pool p m words chunk
 taken_is pool p m words chunk is =
     elim (meets_reserve_limit pool m) as (λ b. meets_reserve_limit pool m ≡ b → (if b then Err (ReserveLimit (length pool.slots) (node_limit pool)) else later (meets_commit_limit pool p m words)) ≡ Ok chunk → IsTaken pool p m words chunk) [
       | true ↦ λ e is. absurd (cc)
@@ -339,7 +352,8 @@ taken_is pool p m words chunk is =
     later b = if b then Err (CommitLimit (committed_count pool) pool.limits.granules (granules_needed pool p m words)) else Ok (chunk_picked pool p m words)
 
 -- A request that is answered by a chunk keeps the limit of granules.
-pub taking_keeps_the_limit : (pool : PoolState) (p m words : ℕ) (chunk : Chunk) → IsSoundPool pool → p ≤ m → m ≤ 12 → 1 ≤ words → words ≤ size_of m
+pub taking_keeps_the_limit : (pool : PoolState) (p m words : ℕ) (chunk : Chunk) → IsSoundPool pool → p ≤ m → m ≤ 12
+    → 1 ≤ words → words ≤ size_of m
     → taken pool p m words ≡ Ok chunk → committed_count pool + granules_missing pool chunk ≤ pool.limits.granules
 taking_keeps_the_limit pool p m words chunk sound h k some fits is =
     subst (λ (one : Chunk). committed_count pool + granules_missing pool one ≤ pool.limits.granules) (sym its.is)
@@ -365,7 +379,8 @@ taking_keeps_the_limit pool p m words chunk sound h k some fits is =
     within : needs_none pool m words ≡ false → total ≤ pool.limits.granules
     within e = not_over pool.limits.granules total (needs_none pool m words) (rw its.room at its.granules) e
       where
-        not_over : (limit total : ℕ) (none : Bool) → (not false && (not none && nat_lt limit total)) ≡ false → none ≡ false → total ≤ limit
+        not_over : (limit total : ℕ) (none : Bool) → (not false && (not none && nat_lt limit total)) ≡ false
+            → none ≡ false → total ≤ limit
         not_over limit total false h e = over limit total h
           where
             over : (limit total : ℕ) → nat_lt limit total ≡ false → total ≤ limit

@@ -30,7 +30,8 @@ abbrev chunks_of : Space → List LoaderState → List Chunk
 chunks_of space loaders = flat_map (λ (loader : LoaderState). (arena_of space loader).chunks) loaders
 
 -- Each lies in a front.
-in_fronts : (arena : ArenaState) (runs : List (ℕ × ℕ)) → list_all (λ (used : Chunk × ℕ). nat_le used.1 used.0.front) (topped arena) ≡ true
+in_fronts : (arena : ArenaState) (runs : List (ℕ × ℕ))
+    → list_all (λ (used : Chunk × ℕ). nat_le used.1 used.0.front) (topped arena) ≡ true
     → list_all (is_in_use arena) runs ≡ true → list_all (some_front arena.chunks) runs ≡ true
 in_fronts arena [] tops h = refl
 in_fronts arena (run ∷ runs) tops h =
@@ -103,7 +104,8 @@ parts_of P [] ys all = (tt, all)
 parts_of P (x ∷ xs) ys all = let rest = parts_of P xs ys all.1 in ((all.0, rest.0), rest.1)
 
 apart_by_loader : (space : Space) (policy : Policy) (loaders : List LoaderState) → AllByRecursion IsSoundLoader loaders
-    → AllByRecursion (HasFront policy) (chunks_of space loaders) → are_apart (map words_of (chunks_of space loaders)) ≡ true
+    → AllByRecursion (HasFront policy) (chunks_of space loaders)
+    → are_apart (map words_of (chunks_of space loaders)) ≡ true
     → are_apart (flat_map (blocks_of space) loaders) ≡ true
 apart_by_loader space policy [] sound fronts apart = refl
 apart_by_loader space policy (l ∷ loaders) sound fronts apart =
@@ -115,7 +117,8 @@ apart_by_loader space policy (l ∷ loaders) sound fronts apart =
     (in_fronts (arena_of space l) (blocks_of space l) (sound.0.arenas space).tops (sound.0.arenas space).inside) (all_in_fronts space loaders sound.1) (sound.0.arenas space).apart
     (apart_by_loader space policy loaders sound.1 both.1 (later-apart (map words_of own) (map words_of others) chunks))
 
-all_in_space : (space : Space) (m : Machine) (runs : List (ℕ × ℕ)) → IsGood m → list_all (some_front (chunks_held space m.loaders)) runs ≡ true
+all_in_space : (space : Space) (m : Machine) (runs : List (ℕ × ℕ)) → IsGood m
+    → list_all (some_front (chunks_held space m.loaders)) runs ≡ true
     → list_all (λ (run : ℕ × ℕ). lies_in run (words_of_space space)) runs ≡ true
 all_in_space space m [] good h = refl
 all_in_space space m (run ∷ runs) good h =

@@ -34,6 +34,10 @@ use Rattle.ms_base.proofs.machine.GoodLemmas.{chunks_split, chunks_joined, loade
 use Rattle.ms_base.proofs.arena.BlockLemmas.{in_its_space, run_in_here, runs_in_split, runs_in_joined}
 use Rattle.ms_base.proofs.granules.GranuleLemmas.{committed_where_front, ends_in_node}
 
+-- What lies in the first words of an area lies in more of them.
+pub further : (r m a t f : ℕ) → lies_in (r, m) (a, t) ≡ true → t ≤ f → lies_in (r, m) (a, f) ≡ true
+further r m a t f h k = grind (arith, nat_tests)
+
 -- A run in use lies within the front of a chunk.
 pub in_use_in_front : (run : ℕ × ℕ) (chunks : List Chunk) (tops : List ℕ)
     → list_all (λ (used : Chunk × ℕ). nat_le used.1 used.0.front) (zip chunks tops) ≡ true
@@ -48,14 +52,12 @@ in_use_in_front run (c ∷ chunks) (t ∷ tops) tops_in h =
       | inl here ↦ or_left (lies_in run (c.start, c.front)) rest (further run.0 run.1 c.start t c.front here (leb-true t c.front low.0))
       | inr later ↦ or_right (lies_in run (c.start, c.front)) rest (in_use_in_front run chunks tops low.1 later)
     ]
-  where
-    further : (r m a t f : ℕ) → lies_in (r, m) (a, t) ≡ true → t ≤ f → lies_in (r, m) (a, f) ≡ true
-    further r m a t f h k = grind (arith, nat_tests)
 
 -- The runs of a space, a block of which is this one.
 runs_with_block : (space : Space) (loader : LoaderState) (block : ℕ) (found : LiveBlock) (has : named loader.blocks block ≡ Some found)
     → is_in space found.start ≡ true
-    → runs_in space loader.blocks ≡ runs_in space (split_at loader.blocks block found has).before ++ run_of found ∷ runs_in space (split_at loader.blocks block found has).after
+    → runs_in space loader.blocks ≡ runs_in space (split_at loader.blocks block found has).before ++ run_of found
+    ∷ runs_in space (split_at loader.blocks block found has).after
 runs_with_block space loader block found has here =
     let split = split_at loader.blocks block found has in
     ap (runs_in space) split.is ∙ runs_in_split space split.before split.after block found
@@ -104,7 +106,8 @@ front_meets run (c ∷ chunks) g n h meets =
 
 -- What some chunk of a loader passes, some held chunk does.
 any_of_loader : (space : Space) (p : Chunk → Bool) (loaders : List (ℕ × LoaderState)) (name : ℕ) (loader : LoaderState)
-    → named loaders name ≡ Some loader → list_any p (arena_of space loader).chunks ≡ true → list_any p (chunks_held space loaders) ≡ true
+    → named loaders name ≡ Some loader → list_any p (arena_of space loader).chunks ≡ true
+    → list_any p (chunks_held space loaders) ≡ true
 any_of_loader space p loaders name loader found h =
     let split = split_at loaders name loader found in
     let own = (arena_of space loader).chunks in
@@ -145,7 +148,8 @@ named_past (e ∷ b) name value a other found differ h =
 
 -- What no run of blocks passes, the run of a block of the space doesn't.
 not_of_block : (space : Space) (p : ℕ × ℕ → Bool) (blocks : List (ℕ × LiveBlock)) (block : ℕ) (found : LiveBlock)
-    → named blocks block ≡ Some found → is_in space found.start ≡ true → list_any p (runs_in space blocks) ≡ false → p (run_of found) ≡ false
+    → named blocks block ≡ Some found → is_in space found.start ≡ true → list_any p (runs_in space blocks) ≡ false
+    → p (run_of found) ≡ false
 not_of_block space p blocks block found has here h =
     let split = split_at blocks block found has in
     let b = runs_in space split.before in
@@ -263,23 +267,28 @@ apart_in_machine space m name loader run other_name other_loader other good has 
     all = ap (chunks_held space) split.is ∙ chunks_split space split.before split.after name loader
 
 -- A run in the front of a held chunk lies in the words of the space.
-slot_in : (space : Space) (slots : List ℕ) (slot : ℕ) → AllByRecursion (IsSlotOf space) slots → is_reserved slots slot ≡ true → IsSlotOf space slot
+slot_in : (space : Space) (slots : List ℕ) (slot : ℕ) → AllByRecursion (IsSlotOf space) slots
+    → is_reserved slots slot ≡ true → IsSlotOf space slot
 slot_in space [] slot below h = absurd (cc)
 slot_in space (s ∷ slots) slot below h = elim (or_cases (s == slot) (is_reserved slots slot) h) [
   | inl here ↦ subst (IsSlotOf space) (eqb-true s slot here) below.0
   | inr later ↦ slot_in space slots slot below.1 later
 ]
 
-within_words : (run : ℕ × ℕ) (start front size low n : ℕ) → lies_in run (start, front) ≡ true → front ≤ size → low ≤ start → start + size ≤ low + n
+within_words : (run : ℕ × ℕ) (start front size low n : ℕ) → lies_in run (start, front) ≡ true → front ≤ size
+    → low ≤ start → start + size ≤ low + n
     → lies_in run (low, n) ≡ true
 within_words run start front size low n h f l u = within run.0 run.1 start front size low n h f l u
   where
-    within : (r k start front size low n : ℕ) → lies_in (r, k) (start, front) ≡ true → front ≤ size → low ≤ start → start + size ≤ low + n
+    within : (r k start front size low n : ℕ) → lies_in (r, k) (start, front) ≡ true → front ≤ size → low ≤ start
+        → start + size ≤ low + n
         → lies_in (r, k) (low, n) ≡ true
     within r k start front size low n h f l u = grind (arith, nat_tests)
 
-chunk_in_space : (space : Space) (run : ℕ × ℕ) (chunk : Chunk) → IsPart chunk.start chunk.level → chunk.front ≤ size_of chunk.level
-    → IsSlotOf space (slot_of chunk.start) → lies_in run (chunk.start, chunk.front) ≡ true → lies_in run (words_of_space space) ≡ true
+chunk_in_space : (space : Space) (run : ℕ × ℕ) (chunk : Chunk) → IsPart chunk.start chunk.level
+    → chunk.front ≤ size_of chunk.level
+    → IsSlotOf space (slot_of chunk.start) → lies_in run (chunk.start, chunk.front) ≡ true
+    → lies_in run (words_of_space space) ≡ true
 chunk_in_space NonClass run chunk part front slot h =
     within_words run chunk.start chunk.front (size_of chunk.level) 0 first_class_word h front (omega arith)
     (omega (arith, ends_in_node chunk.start chunk.level part, slot))
@@ -287,7 +296,8 @@ chunk_in_space Class run chunk part front slot h =
     within_words run chunk.start chunk.front (size_of chunk.level) first_class_word 16777216 h front
     (omega (arith, div-add-mod' chunk.start node_words, slot.0)) (omega (arith, ends_in_node chunk.start chunk.level part, slot.1))
 
-front_in_space : (space : Space) (policy : Policy) (slots : List ℕ) (held : List Chunk) (run : ℕ × ℕ) → AllByRecursion (IsSlotOf space) slots
+front_in_space : (space : Space) (policy : Policy) (slots : List ℕ) (held : List Chunk) (run : ℕ × ℕ)
+    → AllByRecursion (IsSlotOf space) slots
     → AllByRecursion (λ (chunk : Chunk). IsPart chunk.start chunk.level) held → AllByRecursion (HasFront policy) held
     → list_all (λ (chunk : Chunk). is_reserved slots (slot_of chunk.start)) held ≡ true → some_front held run ≡ true
     → lies_in run (words_of_space space) ≡ true
@@ -299,30 +309,35 @@ front_in_space space policy slots (c ∷ held) run below parts fronts reserved h
       | inr later ↦ front_in_space space policy slots held run below parts.1 fronts.1 both.1 later
     ]
 
-pub run_in_space : (space : Space) (m : Machine) (run : ℕ × ℕ) → IsGood m → some_front (chunks_held space m.loaders) run ≡ true
+pub run_in_space : (space : Space) (m : Machine) (run : ℕ × ℕ) → IsGood m
+    → some_front (chunks_held space m.loaders) run ≡ true
     → lies_in run (words_of_space space) ≡ true
 run_in_space space m run good h = front_in_space space m.limits.policy (slots_in space m) (chunks_held space m.loaders) run
     (recursion_from_All (IsSlotOf space) (slots_in space m) (good.pools space).below)
     (recursion_from_All (λ (chunk : Chunk). IsPart chunk.start chunk.level) (chunks_held space m.loaders) (good.pools space).held.parts)
     (recursion_from_All (HasFront m.limits.policy) (chunks_held space m.loaders) (good.pools space).held.fronts) (good.pools space).held.reserved h
 
-block_in_space : (m : Machine) (name block : ℕ) (loader : LoaderState) (found : LiveBlock) → IsGood m → HasBlock m name block loader found
+block_in_space : (m : Machine) (name block : ℕ) (loader : LoaderState) (found : LiveBlock) → IsGood m
+    → HasBlock m name block loader found
     → lies_in (run_of found) (words_of_space (space_at found.start)) ≡ true
 block_in_space m name block loader found good has = run_in_space (space_at found.start) m (run_of found) good
     (any_of_loader (space_at found.start) (λ (chunk : Chunk). lies_in (run_of found) (chunk.start, chunk.front)) m.loaders name loader has.loader_is
     (block_in_own_front loader block found has.block_is (loader_is_sound m name loader has.loader_is good)))
 
 -- Runs of the two spaces share no word.
-pub spaces_are_apart : (space other : Space) (run runs : ℕ × ℕ) → (space ≡ other → ⊥) → lies_in run (words_of_space space) ≡ true
+pub spaces_are_apart : (space other : Space) (run runs : ℕ × ℕ) → (space ≡ other → ⊥)
+    → lies_in run (words_of_space space) ≡ true
     → lies_in runs (words_of_space other) ≡ true → meet run.0 run.1 runs.0 runs.1 ≡ false
 spaces_are_apart NonClass NonClass run runs differ h k = absurd (differ refl)
 spaces_are_apart NonClass Class run runs differ h k = below run.0 run.1 runs.0 runs.1 h k
   where
-    below : (a m b n : ℕ) → lies_in (a, m) (0, 67108864) ≡ true → lies_in (b, n) (67108864, 16777216) ≡ true → meet a m b n ≡ false
+    below : (a m b n : ℕ) → lies_in (a, m) (0, 67108864) ≡ true → lies_in (b, n) (67108864, 16777216) ≡ true
+        → meet a m b n ≡ false
     below a m b n h k = grind (arith, nat_tests)
 spaces_are_apart Class NonClass run runs differ h k = above run.0 run.1 runs.0 runs.1 h k
   where
-    above : (a m b n : ℕ) → lies_in (a, m) (67108864, 16777216) ≡ true → lies_in (b, n) (0, 67108864) ≡ true → meet a m b n ≡ false
+    above : (a m b n : ℕ) → lies_in (a, m) (67108864, 16777216) ≡ true → lies_in (b, n) (0, 67108864) ≡ true
+        → meet a m b n ≡ false
     above a m b n h k = grind (arith, nat_tests)
 spaces_are_apart Class Class run runs differ h k = absurd (differ refl)
 
@@ -344,7 +359,8 @@ blocks_are_apart m name block loader found other_name other_block other_loader o
           (block_in_space m name block loader found good has) (block_in_space m other_name other_block other_loader other good has_other)
     ]
   where
-    in_space : space_at found.start ≡ space_at other.start → meet found.start (length found.contents) other.start (length other.contents) ≡ false
+    in_space : space_at found.start ≡ space_at other.start
+        → meet found.start (length found.contents) other.start (length other.contents) ≡ false
     in_space spaces = elim (cases_eq name other_name) [
       | inl same ↦
           let one : Some loader ≡ Some other_loader = sym has.loader_is ∙ ap (named m.loaders) same ∙ has_other.loader_is in

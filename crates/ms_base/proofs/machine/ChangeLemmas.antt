@@ -1,48 +1,48 @@
 -- The machine stays good where a loader's arena and the slots change in one space, and the granules
 -- follow.
-use Rattle.std.proofs.Common.{◌≡◌, ◌≤◌, ◌+◌, ℕ, true, None, List, ◌∷◌, ◌++◌, length, refl, sym, ap, ◌∙◌, arith}
+use Rattle.std.proofs.Common.{◌≡◌, ◌≤◌, ◌+◌, ℕ, List, length, refl, sym, ap, ◌∙◌, arith}
 use Rattle.std.specs.Ordering.{nat_cmp}
 use Rattle.std.specs.BTreeMap.{is_at}
 use Rattle.std.proofs.lemmas.Map.Views.{All-values-set_value}
 use Rattle.ms_base.specs.declared.kind.Space.{Space}
 use Rattle.ms_base.specs.declared.kind.Space.TheVariants.{NonClass, Class}
 use Rattle.ms_base.specs.declared.span.Chunk.{Chunk}
-use Rattle.ms_base.specs.declared.words.LiveBlock.{LiveBlock}
-use Rattle.ms_base.specs.Spaces.{other_space, is_in}
+use Rattle.ms_base.specs.Spaces.{other_space}
 use Rattle.ms_base.specs.Committed.{committed_with}
-use Rattle.ms_base.specs.Names.{named, with_new}
-use Rattle.ms_base.specs.State.{ArenaState, LoaderState, Machine, arena_of, chunks_held, slots_in, with_slots, committed_in, pool_of, committed_now, recommitted}
-use Rattle.ms_base.specs.Live.{run_of, runs_in}
-use Rattle.ms_base.specs.Good.{IsSound, IsSoundLoader, IsGood}
-use Rattle.ms_base.specs.Transition.{HasLoader, with_loader, with_allocated}
-use Rattle.ms_base.proofs.entries.NameLemmas.{rises_with_new}
-use Rattle.ms_base.proofs.entries.EntryLemmas.{Gap, gap_at, rises_with_changed}
+use Rattle.ms_base.specs.State.{LoaderState, Machine, arena_of, chunks_held, slots_in, with_slots, committed_in, pool_of, committed_now, recommitted}
+use Rattle.ms_base.specs.Good.{IsSoundLoader, IsGood}
+use Rattle.ms_base.specs.Transition.{HasLoader, with_loader}
+use Rattle.ms_base.proofs.entries.EntryLemmas.{rises_with_changed}
 use Rattle.ms_base.proofs.machine.GoodLemmas.{each_space, chunks_with_same, IsSoundBut, recommitted_is_sound}
-use Rattle.ms_base.proofs.arena.BlockLemmas.{run_in_here, run_in_there, not_in_other, runs_in_split, runs_in_joined, arena_there, arena_elsewhere}
 
 -- The machine where a loader and the slots of a space are changed, before the granules follow.
 abbrev pub changed : Space → Machine → ℕ → LoaderState → List ℕ → Machine
 changed space m name other slots = with_slots space (with_loader m name other) slots
 
-slots_elsewhere : (space : Space) (m : Machine) (slots : List ℕ) → slots_in (other_space space) (with_slots space m slots) ≡ slots_in (other_space space) m
+slots_elsewhere : (space : Space) (m : Machine) (slots : List ℕ)
+    → slots_in (other_space space) (with_slots space m slots) ≡ slots_in (other_space space) m
 slots_elsewhere NonClass m slots = refl
 slots_elsewhere Class m slots = refl
 
 -- In the other space nothing changes.
-committed_elsewhere : (space : Space) (m : Machine) (slots : List ℕ) → committed_in (other_space space) (with_slots space m slots) ≡ committed_in (other_space space) m
+committed_elsewhere : (space : Space) (m : Machine) (slots : List ℕ)
+    → committed_in (other_space space) (with_slots space m slots) ≡ committed_in (other_space space) m
 committed_elsewhere NonClass m slots = refl
 committed_elsewhere Class m slots = refl
 
-both_counts : (count : Space → ℕ) (space : Space) (limit : ℕ) → count space + count (other_space space) ≤ limit → count NonClass + count Class ≤ limit
+both_counts : (count : Space → ℕ) (space : Space) (limit : ℕ) → count space + count (other_space space) ≤ limit
+    → count NonClass + count Class ≤ limit
 both_counts count NonClass limit h = h
 both_counts count Class limit h = omega (arith, h)
 
 -- The machine stays good where the space is sound with the change, and its granules with those of
 -- the other space are within the limit.
-pub good_with_change : (space : Space) (m : Machine) (name : ℕ) (before other : LoaderState) (slots : List ℕ) → HasLoader m name before
+pub good_with_change : (space : Space) (m : Machine) (name : ℕ) (before other : LoaderState) (slots : List ℕ)
+    → HasLoader m name before
     → (arena_of (other_space space) other).chunks ≡ (arena_of (other_space space) before).chunks → IsSoundLoader other
     → IsSoundBut (pool_of space (changed space m name other slots))
-    → length (committed_now (pool_of space (changed space m name other slots))) + length (committed_in (other_space space) m) ≤ m.limits.granules
+    → length (committed_now (pool_of space (changed space m name other slots)))
+    + length (committed_in (other_space space) m) ≤ m.limits.granules
     → IsGood m → IsGood (recommitted (changed space m name other slots))
 good_with_change space m name before other slots found same sound sound_here few good = record {
   loaders = All-values-set_value (is_at (nat_cmp name)) IsSoundLoader m.loaders other good.loaders sound;
@@ -93,44 +93,3 @@ slots_same Class m = refl
 pub unchanged_pools : (space : Space) (m : Machine) (name : ℕ) (other : LoaderState) → IsGood (with_loader m name other)
     → recommitted (changed space m name other (slots_in space m)) ≡ with_loader m name other
 unchanged_pools space m name other good = ap recommitted (slots_same space (with_loader m name other)) ∙ recommitted_same (with_loader m name other) good
-
--- A loader with another arena and a new block in a space, that is sound wherever the block stands
--- among the others.
-pub sound_with_allocated : (space : Space) (before : LoaderState) (from arena : ArenaState) (block : ℕ) (made : LiveBlock)
-    → named before.blocks block ≡ None → is_in space made.start ≡ true → IsSound from (runs_in space before.blocks)
-    → ((b a : List (ℕ × ℕ)) → IsSound from (b ++ a) → IsSound arena (b ++ run_of made ∷ a))
-    → IsSoundLoader before → IsSoundLoader (with_allocated space before arena block made)
-sound_with_allocated space before from arena block made unused here sound_from placed sound = record {
-  arenas = each_space (λ (one : Space). IsSound (arena_of one after) (runs_in one after.blocks)) space
-      (rw (arena_there space with_block arena, runs_here) (placed b a (rw (runs_old space) at sound_from)))
-      (rw (arena_elsewhere space with_block arena, runs_there) (sound.arenas (other_space space)));
-  names = rises_with_new before.blocks block made sound.names;
-}
-  where
-    with_block : LoaderState
-    with_block = record before { blocks = with_new before.blocks block made }
-
-    after : LoaderState
-    after = with_allocated space before arena block made
-
-    gap : Gap before.blocks block
-    gap = gap_at before.blocks block unused
-
-    b : List (ℕ × ℕ)
-    b = runs_in space gap.before
-
-    a : List (ℕ × ℕ)
-    a = runs_in space gap.after
-
-    runs_old : (one : Space) → runs_in one before.blocks ≡ runs_in one gap.before ++ runs_in one gap.after
-    runs_old one = ap (runs_in one) gap.is ∙ runs_in_joined one gap.before gap.after
-
-    runs_here : runs_in space (with_new before.blocks block made) ≡ b ++ run_of made ∷ a
-    runs_here = ap (runs_in space) (gap.made made) ∙ runs_in_split space gap.before gap.after block made
-        ∙ ap (λ (l : List (ℕ × ℕ)). b ++ (l ++ a)) (run_in_here space made here)
-
-    runs_there : runs_in (other_space space) (with_new before.blocks block made) ≡ runs_in (other_space space) before.blocks
-    runs_there = ap (runs_in (other_space space)) (gap.made made) ∙ runs_in_split (other_space space) gap.before gap.after block made
-        ∙ ap (λ (l : List (ℕ × ℕ)). runs_in (other_space space) gap.before ++ (l ++ runs_in (other_space space) gap.after))
-        (run_in_there (other_space space) made (not_in_other space made.start here))
-        ∙ sym (runs_old (other_space space))

@@ -40,7 +40,8 @@ each_space P Class here there Class = here
 
 -- The chunks of loaders before, at and after a name.
 pub chunks_split : (space : Space) (before after : List (ℕ × LoaderState)) (name : ℕ) (loader : LoaderState)
-    → chunks_held space (before ++ (name, loader) ∷ after) ≡ chunks_held space before ++ ((arena_of space loader).chunks ++ chunks_held space after)
+    → chunks_held space (before ++ (name, loader) ∷ after)
+    ≡ chunks_held space before ++ ((arena_of space loader).chunks ++ chunks_held space after)
 chunks_split space before after name loader =
     ap (flat_map (λ (l : LoaderState). (arena_of space l).chunks)) (values_split before after name loader)
     ∙ flat_map-append (λ (l : LoaderState). (arena_of space l).chunks) (values_of before) (loader ∷ values_of after)
@@ -52,7 +53,8 @@ chunks_joined space before after =
     ∙ flat_map-append (λ (l : LoaderState). (arena_of space l).chunks) (values_of before) (values_of after)
 
 -- A new loader holds nothing.
-pub chunks_with_new : (space : Space) (loaders : List (ℕ × LoaderState)) (name : ℕ) (loader : LoaderState) → named loaders name ≡ None
+pub chunks_with_new : (space : Space) (loaders : List (ℕ × LoaderState)) (name : ℕ) (loader : LoaderState)
+    → named loaders name ≡ None
     → (arena_of space loader).chunks ≡ [] → chunks_held space (with_new loaders name loader) ≡ chunks_held space loaders
 chunks_with_new space loaders name loader none empty =
     let gap = gap_at loaders name none in
@@ -141,7 +143,8 @@ good_with_numbers_used m few good = record { loaders = good.loaders; names = goo
 
 -- A sound loader in the place of one with the same chunks.
 pub good_with_loader : (m : Machine) (name : ℕ) (loader other : LoaderState) → HasLoader m name loader
-    → ((space : Space) → (arena_of space other).chunks ≡ (arena_of space loader).chunks) → IsSoundLoader other → IsGood m
+    → ((space : Space) → (arena_of space other).chunks ≡ (arena_of space loader).chunks) → IsSoundLoader other
+    → IsGood m
     → IsGood (with_loader m name other)
 good_with_loader m name loader other found same sound good = record {
   loaders = All-values-set_value (is_at (nat_cmp name)) IsSoundLoader m.loaders other good.loaders sound;

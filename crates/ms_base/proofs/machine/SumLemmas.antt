@@ -1,14 +1,13 @@
--- Sums are bounded: held chunks have no more words than the reserved slots, and used, live, kept and
--- committed words no more than 64 nodes.
-use Rattle.std.proofs.Common.{◌≡◌, ◌≤◌, ◌<◌, zero, suc, get_or, ◌+◌, ◌*◌, ◌/◌, ℕ, true, ◌||◌, List, [], ◌∷◌, ◌++◌, length, map, take, subst, Some, refl, sym, ap, ◌∙◌, arith, inl, inr}
+-- Sums are bounded: held chunks have no more words than the reserved slots, live and kept words no
+-- more than are in use, and used and committed words no more than all nodes of the space.
+use Rattle.std.proofs.Common.{◌≡◌, ◌≤◌, ◌<◌, zero, suc, get_or, ◌+◌, ◌*◌, ◌/◌, ℕ, true, ◌||◌, List, [], ◌∷◌, ◌++◌, length, map, refl, sym, ap, ◌∙◌, arith, inl, inr}
 use Rattle.std.specs.Prelude.{nat_le, sum, ◌==◌}
 use Rattle.std.specs.List.{All, AllByRecursion, list_any, list_all, sum_by, flat_map, zip, range_with_len}
 use Rattle.std.specs.Map.{values_of}
 use Rattle.std.proofs.lemmas.Nat.{mul-le, div-add-mod'}
 use Rattle.std.proofs.Math.Nat.{mul_assoc}
-use Rattle.std.proofs.lemmas.List.{take-map}
 use Rattle.std.proofs.lemmas.Bool.{and_parts, and_from, or_left, or_right, or_cases, le-leb, leb-true, eqb-true, cases_lt}
-use Rattle.std.proofs.lemmas.List.Sums.{sum_by-cons, sum_by-append, sum_by-take-le}
+use Rattle.std.proofs.lemmas.List.Sums.{sum_by-cons, sum_by-append}
 use Rattle.std.proofs.lemmas.List.Elements.{recursion_from_All}
 use Rattle.std.proofs.lemmas.Map.Views.{length-le_from_below}
 use Rattle.std.proofs.lemmas.Map.Keys.{sorted_from_strictly_increasing}
@@ -26,12 +25,10 @@ use Rattle.ms_base.specs.Spaces.{IsSlotOf, most_slots}
 use Rattle.ms_base.specs.Committed.{is_committed_now}
 use Rattle.ms_base.specs.Pick.{granule_in}
 use Rattle.ms_base.specs.State.{ArenaState, LoaderState, Machine, PoolState, arena_of, slots_in, pool_of}
-use Rattle.ms_base.specs.Names.{named}
 use Rattle.ms_base.specs.Live.{runs_in}
 use Rattle.ms_base.specs.Good.{topped, is_in_use, IsSound, IsSoundLoader, IsSoundPool, IsGood}
-use Rattle.ms_base.specs.Totals.{capacity_of, fronts_of, used_of, kept_of, live_in, used_words, live_words, kept_words, committed_words}
+use Rattle.ms_base.specs.Totals.{capacity_of, fronts_of, used_of, kept_of, live_in, used_words, committed_words}
 use Rattle.ms_base.proofs.granules.PolicyLemmas.{granules_make_nodes}
-use Rattle.ms_base.proofs.entries.EntryLemmas.{split_at, values_split}
 use Rattle.ms_base.proofs.granules.GranuleLemmas.{ends_in_node}
 use Rattle.ms_base.proofs.granules.CommittedLemmas.{committed_at_most}
 use Rattle.ms_base.proofs.runs.PackingLemmas.{packed, covered_one_by_one}
@@ -60,7 +57,8 @@ in_some_slot start level (s ∷ slots) part h =
 
 all_in_slots : (slots : List ℕ) (held : List Chunk) → AllByRecursion IsPlaced held
     → list_all (λ (chunk : Chunk). is_reserved slots (slot_of chunk.start)) held ≡ true
-    → list_all (λ (run : ℕ × ℕ). list_any (λ (area : ℕ × ℕ). lies_in run area) (map area_of slots)) (map words_of held) ≡ true
+    → list_all (λ (run : ℕ × ℕ). list_any (λ (area : ℕ × ℕ). lies_in run area) (map area_of slots)) (map words_of held)
+    ≡ true
 all_in_slots slots [] parts h = refl
 all_in_slots slots (c ∷ held) parts h =
     let both = and_parts (is_reserved slots (slot_of c.start)) (list_all (λ (d : Chunk). is_reserved slots (slot_of d.start)) held) h in
@@ -97,7 +95,8 @@ at_place low zero i d h = absurd (omega arith)
 at_place low (suc n) zero d h = omega arith
 at_place low (suc n) (suc i) d h = at_place (low + 1) n i d (omega arith) ∙ omega arith
 
-pub few_slots : (space : Space) (m : Machine) → IsSoundPool (pool_of space m) → length (slots_in space m) ≤ most_slots space
+pub few_slots : (space : Space) (m : Machine) → IsSoundPool (pool_of space m)
+    → length (slots_in space m) ≤ most_slots space
 few_slots NonClass m sound = length-le_from_below 64 m.slots (sorted_from_strictly_increasing m.slots sound.slots) sound.below
 few_slots Class m sound = omega (arith, length-range_with_len 64 nodes, few nodes sound.below)
   where
@@ -142,7 +141,8 @@ abbrev chunks_of_all : Space → List LoaderState → List Chunk
 chunks_of_all space loaders = flat_map (λ (loader : LoaderState). (arena_of space loader).chunks) loaders
 
 pub used_within : (space : Space) (loaders : List LoaderState) → AllByRecursion IsSoundLoader loaders
-    → sum_by (λ (loader : LoaderState). used_of (arena_of space loader)) loaders ≤ fronts_of (chunks_of_all space loaders)
+    → sum_by (λ (loader : LoaderState). used_of (arena_of space loader)) loaders
+    ≤ fronts_of (chunks_of_all space loaders)
 used_within space [] sound = omega arith
 used_within space (l ∷ loaders) sound =
     let arena = arena_of space l in
@@ -172,12 +172,14 @@ words_of_tops (c ∷ chunks) (t ∷ tops) few =
     )
 
 in_used_area : (run : ℕ × ℕ) (used : List (Chunk × ℕ))
-    → list_any (λ (area : ℕ × ℕ). lies_in run area) (map used_area used) ≡ list_any (λ (u : Chunk × ℕ). lies_in run (u.0.start, u.1)) used
+    → list_any (λ (area : ℕ × ℕ). lies_in run area) (map used_area used)
+    ≡ list_any (λ (u : Chunk × ℕ). lies_in run (u.0.start, u.1)) used
 in_used_area run [] = refl
 in_used_area run (u ∷ used) = ap (λ b. lies_in run (used_area u) || b) (in_used_area run used)
 
 all_in_used : (arena : ArenaState) (runs : List (ℕ × ℕ)) → list_all (is_in_use arena) runs ≡ true
-    → list_all (λ (run : ℕ × ℕ). list_any (λ (area : ℕ × ℕ). lies_in run area) (map used_area (topped arena))) runs ≡ true
+    → list_all (λ (run : ℕ × ℕ). list_any (λ (area : ℕ × ℕ). lies_in run area) (map used_area (topped arena))) runs
+    ≡ true
 all_in_used arena [] h = refl
 all_in_used arena (run ∷ runs) h =
     let both = and_parts (is_in_use arena run) (list_all (is_in_use arena) runs) h in
@@ -224,21 +226,9 @@ committed_within_slots pool sound =
           (omega (arith, granules_make_nodes pool.limits.policy)),
     )
 
--- A loader's part of a sum is at most the whole.
-pub part_of_sum : (amount : LoaderState → ℕ) (loaders : List (ℕ × LoaderState)) (name : ℕ) (loader : LoaderState)
-    → named loaders name ≡ Some loader → amount loader ≤ sum_by amount (values_of loaders)
-part_of_sum amount loaders name loader found =
-    let split = split_at loaders name loader found in
-    omega (
-      arith,
-      ap (λ (es : List (ℕ × LoaderState)). sum_by amount (values_of es)) split.is,
-      ap (sum_by amount) (values_split split.before split.after name loader),
-      sum_by-append amount (values_of split.before) (loader ∷ values_of split.after),
-      sum_by-cons amount loader (values_of split.after),
-    )
-
 -- So each sum is at most the words of all nodes of its space.
-pub capacity_below : (space : Space) (m : Machine) → IsGood m → capacity_of (pool_of space m).held ≤ most_slots space * node_words
+pub capacity_below : (space : Space) (m : Machine) → IsGood m
+    → capacity_of (pool_of space m).held ≤ most_slots space * node_words
 capacity_below space m good =
     omega (arith, capacity_within m.limits.policy (slots_in space m) (pool_of space m).held (good.pools space).held, few_slots space m (good.pools space))
 
@@ -251,14 +241,5 @@ used_below space m good =
       capacity_below space m good,
     )
 
-pub blocks_below : (space : Space) (m : Machine) → IsGood m → live_words space m + kept_words space m ≤ most_slots space * node_words
-blocks_below space m good =
-    omega (arith, all_blocks_within space (values_of m.loaders) (recursion_from_All IsSoundLoader (values_of m.loaders) good.loaders), used_below space m good)
-
 pub committed_below : (space : Space) (m : Machine) → IsGood m → committed_words space m ≤ most_slots space * node_words
 committed_below space m good = omega (arith, committed_within_slots (pool_of space m) (good.pools space), few_slots space m (good.pools space))
-
--- A sum over the first loaders is at most the sum over all.
-pub first_loaders : (amount : LoaderState → ℕ) (loaders : List (ℕ × LoaderState)) (k : ℕ)
-    → sum_by amount (values_of (take k loaders)) ≤ sum_by amount (values_of loaders)
-first_loaders amount loaders k = subst (λ (l : List LoaderState). sum_by amount l ≤ sum_by amount (values_of loaders)) (take-map (λ (e : ℕ × LoaderState). e.1) k loaders) (sum_by-take-le amount (values_of loaders) k)

@@ -235,7 +235,8 @@ read_after_write old name block index written value r =
 
 -- A word of a new block is read as 0.
 after_alloc_in : (space : Space) (old mid new : Machine) (name block index words start value : ℕ) (steps : List Step) (replies : List Reply)
-    → Allocates old space name block words start mid → Run mid (steps ++ Read name block index ∷ []) (replies ++ Value value ∷ []) new
+    → Allocates old space name block words start mid
+    → Run mid (steps ++ Read name block index ∷ []) (replies ++ Value value ∷ []) new
     → leave_word name block index steps replies ≡ true → value ≡ 0
 after_alloc_in space old mid new name block index words start value steps replies a run leaving =
     after_run mid new steps replies name block index 0 value run leaving (rw a.after (record {

@@ -40,7 +40,8 @@ sum_agree f g same (x ∷ xs) = omega (arith, sum_by-cons f x xs, sum_by-cons g 
 turned : (run : ℕ × ℕ) (runs : List (ℕ × ℕ)) → sum_by (λ other. pair other run) runs ≡ meeting runs run
 turned run runs = sum_agree (λ other. pair other run) (pair run) (λ other. ap one_if (meet_turned other.0 other.1 run.0 run.1)) runs
 
-pairs_with : (run : ℕ × ℕ) (runs : List (ℕ × ℕ)) → pairs (run ∷ runs) (run ∷ runs) ≡ pair run run + (meeting runs run + meeting runs run) + pairs runs runs
+pairs_with : (run : ℕ × ℕ) (runs : List (ℕ × ℕ))
+    → pairs (run ∷ runs) (run ∷ runs) ≡ pair run run + (meeting runs run + meeting runs run) + pairs runs runs
 unfolding pairs
 pairs_with run runs = omega (
   arith,
@@ -90,7 +91,8 @@ from_count (run ∷ runs) same =
     (from_count runs (omega (arith, sum_by-cons (λ one. pair one one) run runs, pairs_with run runs, no_fewer runs, same)))
 
 -- Runs that are apart are so in another order.
-pub apart-permuted : (runs others : List (ℕ × ℕ)) → IsPermutation runs others → are_apart runs ≡ true → are_apart others ≡ true
+pub apart-permuted : (runs others : List (ℕ × ℕ)) → IsPermutation runs others → are_apart runs ≡ true
+    → are_apart others ≡ true
 unfolding pairs
 apart-permuted runs others moved apart = from_count others
     (sum_agree (meeting others) (meeting runs) (λ run. sum_by-IsPermutation (pair run) runs others moved) others

@@ -22,7 +22,7 @@ use Rattle.ms_base.proofs.machine.SumLemmas.{capacity_within}
 use Rattle.ms_pool.specs.Account.{AccountState, AreChunks}
 use Rattle.ms_pool.specs.Ledger.{Loan, Ledger, IsSoundLedger, Serves, is_owned_by, state_in}
 use Rattle.ms_pool.proofs.ledger.LoanLemmas.{chunks_in, owned_by}
-use Rattle.ms_pool.proofs.ledger.SlotLemmas.{starts_in}
+use Rattle.ms_pool.proofs.ledger.LedgerSlotLemmas.{starts_in}
 
 abbrev pub LiesIn : Space → Chunk → Type 0
 LiesIn space chunk = is_in space chunk.start ≡ true

@@ -1,6 +1,6 @@
--- Calls of open, close and purge, whatever they answer: the ledger is sound, all accounts are served
--- still, and no other owner's chunks change.
-use Rattle.std.proofs.Common.{◌≡◌, ◌≢◌, ◌<◌, ◌+◌, ◌^◌, ℕ, refl, sym, subst, arith}
+-- Calls of open, close and purge, whatever they answer: all accounts but a closed one are served still,
+-- and no other owner's chunks change.
+use Rattle.std.proofs.Common.{◌≡◌, ◌≢◌, ◌<◌, ◌+◌, ℕ, refl, sym, subst, arith}
 use Rattle.std.specs.Prelude.{Result, Ok, Err, IfOk}
 use Rattle.ms_base.specs.declared.kind.Space.{Space}
 use Rattle.ms_base.specs.declared.kind.Space.TheVariants.{NonClass, Class}
@@ -8,10 +8,10 @@ use Rattle.ms_base.specs.declared.refusal.Refusal.{Refusal}
 use Rattle.ms_pool.specs.Account.{AccountState}
 use Rattle.ms_pool.specs.Ledger.{Ledger, IsSoundLedger, Serves, chunks_of, opened_in}
 use Rattle.ms_pool.specs.Calls.{Opened, OpenedBoth, Closed, ClosedBoth, Purged, new_account}
-use Rattle.ms_pool.proofs.ledger.CloseLemmas.{closed_is_sound, closed_has_nothing, closed_serves_others, closed_counts, closed_counts_elsewhere, closed_keeps_others, both_closed_is_sound, both_closed_serves_others, both_closed_keeps_others}
-use Rattle.ms_pool.proofs.ledger.OpenLemmas.{opened_is_sound, opened_has_nothing, opened_serves, both_opened_is_sound, both_opened_have_nothing, both_opened_serves}
-use Rattle.ms_pool.proofs.ledger.PurgeLemmas.{purged_is_sound, purged_serves}
-use Rattle.ms_pool.proofs.ledger.KeepsLemmas.{RaisesTally, sound_where_tallied, serves_where_tallied}
+use Rattle.ms_pool.proofs.ledger.LedgerCloseLemmas.{closed_is_sound, closed_has_nothing, closed_serves_others, closed_counts, closed_counts_elsewhere, closed_keeps_others, both_closed_is_sound, both_closed_serves_others, both_closed_keeps_others}
+use Rattle.ms_pool.proofs.ledger.LedgerOpenLemmas.{opened_has_nothing, opened_serves, both_opened_have_nothing, both_opened_serves}
+use Rattle.ms_pool.proofs.ledger.PurgeLemmas.{purged_serves}
+use Rattle.ms_pool.proofs.ledger.KeepsLemmas.{RaisesTally, serves_where_tallied}
 
 -- Where no owner's chunks change.
 abbrev pub KeepsAll : Ledger → Ledger → Type 0
@@ -25,11 +25,6 @@ pub opened_keeps : (old : Ledger) (space : Space) (result : Result AccountState 
     → KeepsAll old new
 opened_keeps old space (Ok account) new opened = subst (KeepsAll old) (sym opened.1) (λ owner. refl)
 opened_keeps old space (Err refusal) new refused = all_where_tallied old new (record { tallies = _; is = refused.2 })
-
-pub opened_leaves_sound : (old : Ledger) (space : Space) (result : Result AccountState Refusal) (new : Ledger) → IsSoundLedger old
-    → IfOk result (λ account. old.given + 1 < 2 ^ 32) → Opened old space result new → IsSoundLedger new
-opened_leaves_sound old space (Ok account) new sound few opened = subst IsSoundLedger (sym opened.1) (opened_is_sound old space sound few)
-opened_leaves_sound old space (Err refusal) new sound few refused = sound_where_tallied old new (record { tallies = _; is = refused.2 }) sound
 
 pub opened_leaves_served : (old : Ledger) (space : Space) (result : Result AccountState Refusal) (new : Ledger) (other : AccountState)
     → Opened old space result new → Serves old other → Serves new other
@@ -51,11 +46,6 @@ pub both_opened_keeps : (old : Ledger) (result : Result (AccountState × Account
     → KeepsAll old new
 both_opened_keeps old (Ok accounts) new opened = subst (KeepsAll old) (sym opened.1) (λ owner. refl)
 both_opened_keeps old (Err refusal) new refused = all_where_tallied old new (record { tallies = _; is = refused.2 })
-
-pub both_opened_leaves_sound : (old : Ledger) (result : Result (AccountState × AccountState) Refusal) (new : Ledger) → IsSoundLedger old
-    → IfOk result (λ accounts. old.given + 2 < 2 ^ 32) → OpenedBoth old result new → IsSoundLedger new
-both_opened_leaves_sound old (Ok accounts) new sound few opened = subst IsSoundLedger (sym opened.1) (both_opened_is_sound old sound few)
-both_opened_leaves_sound old (Err refusal) new sound few refused = sound_where_tallied old new (record { tallies = _; is = refused.2 }) sound
 
 pub both_opened_leaves_served : (old : Ledger) (result : Result (AccountState × AccountState) Refusal) (new : Ledger) (other : AccountState)
     → OpenedBoth old result new → Serves old other → Serves new other
@@ -126,9 +116,6 @@ both_closed_well old account class_account new sound some class_some closed = su
 -- Purge.
 pub purged_keeps : (old : Ledger) (gone : ℕ) (new : Ledger) → Purged old gone new → KeepsAll old new
 purged_keeps old gone new purged = subst (KeepsAll old) (sym purged.1) (λ owner. refl)
-
-pub purged_leaves_sound : (old : Ledger) (gone : ℕ) (new : Ledger) → IsSoundLedger old → Purged old gone new → IsSoundLedger new
-purged_leaves_sound old gone new sound purged = subst IsSoundLedger (sym purged.1) (purged_is_sound old sound)
 
 pub purged_leaves_served : (old : Ledger) (gone : ℕ) (new : Ledger) (account : AccountState) → Purged old gone new → Serves old account
     → Serves new account

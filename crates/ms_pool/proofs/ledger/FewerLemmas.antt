@@ -18,7 +18,7 @@ use Rattle.ms_base.proofs.machine.HeldLemmas.{held_rest}
 use Rattle.ms_pool.specs.Ledger.{Loan, Ledger, IsSoundLedger, committed_of, is_owned_by, others_than, state_in}
 use Rattle.ms_pool.proofs.ledger.AccountLemmas.{LiesIn}
 use Rattle.ms_pool.proofs.ledger.LoanLemmas.{chunks_in, owned_by}
-use Rattle.ms_pool.proofs.ledger.OrderLemmas.{order_filtered}
+use Rattle.ms_pool.proofs.ledger.LoanOrderLemmas.{order_filtered}
 
 -- What chunks keep where one goes, they keep where some go.
 kept_by_rest : (Q : List Chunk → Type 0) (step : (b : List Chunk) (chunk : Chunk) (a : List Chunk) → Q (b ++ chunk ∷ a) → Q (b ++ a))
@@ -143,23 +143,3 @@ owned_and_others space owner (loan ∷ loans) lie = go (loan.owner == owner) (is
         (IsPermutation-cons chunk rest (owned_by owner loans ++ others) (same lie))
         (IsPermutation-sym (owned_by owner loans ++ chunk ∷ others) (chunk ∷ (owned_by owner loans ++ others)) (IsPermutation-middle (owned_by owner loans) chunk others)))
     go false false e lie same = subst (λ (t : Bool). IsPermutation rest (owned_by owner loans ++ cond t (chunk ∷ others) others)) (sym e) (same lie)
-
--- Those of a space in which the owner has none stay.
-pub elsewhere_stay : (space : Space) (owner : ℕ) (loans : List Loan)
-    → AllByRecursion (λ (chunk : Chunk). is_in space chunk.start ≡ false) (owned_by owner loans)
-    → chunks_in space (others_than owner loans) ≡ chunks_in space loans
-elsewhere_stay space owner [] lie = refl
-elsewhere_stay space owner (loan ∷ loans) lie = go (loan.owner == owner) lie (elsewhere_stay space owner loans)
-  where
-    own : List Loan
-    own = filter (is_owned_by owner) loans
-
-    add : List Chunk → List Chunk
-    add l = cond (is_in space loan.chunk.start) (loan.chunk ∷ l) l
-
-    go : (b : Bool)
-        → AllByRecursion (λ (chunk : Chunk). is_in space chunk.start ≡ false) (map (λ (one : Loan). one.chunk) (cond b (loan ∷ own) own))
-        → (AllByRecursion (λ (chunk : Chunk). is_in space chunk.start ≡ false) (owned_by owner loans) → chunks_in space (others_than owner loans) ≡ chunks_in space loans)
-        → chunks_in space (cond (not b) (loan ∷ others_than owner loans) (others_than owner loans)) ≡ add (chunks_in space loans)
-    go true lie same = same lie.1 ∙ sym (ap (λ (t : Bool). cond t (loan.chunk ∷ chunks_in space loans) (chunks_in space loans)) lie.0)
-    go false lie same = ap add (same lie)

@@ -21,7 +21,7 @@ use Rattle.ms_base.specs.SumLaws.{GrowsWell}
 use Rattle.ms_base.specs.Good.{IsSoundPool}
 use Rattle.ms_base.proofs.arena.GrownLemmas.{GrowsClear}
 use Rattle.ms_base.proofs.free.HalvesLemmas.{size_some, size_of_halves}
-use Rattle.ms_base.proofs.granules.GrowingLemmas.{growing_keeps_the_limit, growing_is_clear}
+use Rattle.ms_base.proofs.granules.GranuleGrowingLemmas.{growing_keeps_the_limit, growing_is_clear}
 use Rattle.ms_base.proofs.machine.BackedLemmas.{middle_is_clear}
 use Rattle.ms_base.proofs.runs.ApartLemmas.{apart-rest_of, apart-with, list_any-rest_of, meet_turned}
 use Rattle.ms_pool.specs.Lending.{MayBeParent, reaching}

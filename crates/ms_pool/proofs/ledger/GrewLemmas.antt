@@ -1,5 +1,5 @@
--- A call of grow, whatever it answers: the ledger is sound, all accounts are served still, and nothing
--- changes but the chunks of the call's account.
+-- A call of grow, whatever it answers: all accounts are served still, and nothing changes but the chunks
+-- of the call's account.
 use Rattle.std.proofs.Common.{◌≡◌, ◌≢◌, ℕ, Bool, Some, List, refl, sym, ap, ◌∙◌, subst}
 use Rattle.std.specs.Prelude.{Result, Ok, Err, IfOk, OnErr, slice_get, slice_set}
 use Rattle.ms_base.specs.declared.span.Chunk.{Chunk}
@@ -12,7 +12,7 @@ use Rattle.ms_pool.specs.Ledger.{Ledger, IsSoundLedger, Serves}
 use Rattle.ms_pool.specs.Calls.{GrewFrom, Grew}
 use Rattle.ms_pool.proofs.ledger.LoanAtLemmas.{contains_at, same_from_start, swapped_at}
 use Rattle.ms_pool.proofs.ledger.GrowLemmas.{GrownWell, grown_well, with_greater, grown_keeps_others}
-use Rattle.ms_pool.proofs.ledger.KeepsLemmas.{RaisesTally, Keeps, keeps_where_tallied, sound_where_tallied, serves_where_tallied, keeps_serves}
+use Rattle.ms_pool.proofs.ledger.KeepsLemmas.{RaisesTally, Keeps, keeps_where_tallied, serves_where_tallied, keeps_serves}
 
 -- A chunk that doesn't grow.
 pub grow_refused_raises : (old : Ledger) (account : AccountState) (chunk : Chunk) (total : ℕ) (may_enlarge : Bool) (refusal : Refusal) (new : Ledger)
@@ -22,39 +22,25 @@ grow_refused_raises old account chunk total may_enlarge (NoRoom level) new refus
 grow_refused_raises old account chunk total may_enlarge _ new refused = absurd refused
 
 -- What a call leaves, by its answer for the chunk that it was asked for.
-record Leaves (old : Ledger) (account : AccountState) (new : Ledger) : Type 0 where
-  sound : IsSoundLedger new
-  keeps : Keeps account.owner old new
-
-leaves : (old : Ledger) (account : AccountState) (place : ℕ) (chunk : Chunk) (total : ℕ) (may_enlarge : Bool) (answer : Result Span Refusal) (new : Ledger)
+keeps_after : (old : Ledger) (account : AccountState) (place : ℕ) (chunk : Chunk) (total : ℕ) (may_enlarge : Bool) (answer : Result Span Refusal) (new : Ledger)
     → IsSoundLedger old → Serves old account → AreChunks account.space account.chunks → slice_get account.chunks place ≡ Some chunk
-    → GrewFrom old account chunk total may_enlarge answer new → Leaves old account new
-leaves old account place chunk total may_enlarge (Ok span) new sound served chunks found (greater, answered, at, is) =
+    → GrewFrom old account chunk total may_enlarge answer new → Keeps account.owner old new
+keeps_after old account place chunk total may_enlarge (Ok span) new sound served chunks found (greater, answered, at, is) =
     let well = grown_well old account place chunk greater total may_enlarge sound served chunks found answered in
-    subst (Leaves old account) (sym is) (record {
-      sound = well.sound;
-      keeps = record {
-        others = λ other differs. grown_keeps_others old account chunk greater other sound served chunks (contains_at account.chunks place chunk found) well.start differs;
-        given = refl;
-        opened = refl;
-        limits = refl;
-      };
+    subst (Keeps account.owner old) (sym is) (record {
+      others = λ other differs. grown_keeps_others old account chunk greater other sound served chunks (contains_at account.chunks place chunk found) well.start differs;
+      given = refl;
+      opened = refl;
+      limits = refl;
     })
-leaves old account place chunk total may_enlarge (Err refusal) new sound served chunks found refused =
-    let raises = grow_refused_raises old account chunk total may_enlarge refusal new refused in
-    record { sound = sound_where_tallied old new raises sound; keeps = keeps_where_tallied account.owner old new raises }
-
-pub grew_is_sound : (old : Ledger) (account : AccountState) (start total : ℕ) (may_enlarge : Bool) (answer : Result Span Refusal) (new : Ledger)
-    → IsSoundLedger old → Serves old account → AreChunks account.space account.chunks → Grew old account start total may_enlarge answer new
-    → IsSoundLedger new
-grew_is_sound old account start total may_enlarge answer new sound served chunks grew =
-    (leaves old account grew.place grew.chunk total may_enlarge answer new sound served chunks grew.found grew.after).sound
+keeps_after old account place chunk total may_enlarge (Err refusal) new sound served chunks found refused =
+    keeps_where_tallied account.owner old new (grow_refused_raises old account chunk total may_enlarge refusal new refused)
 
 pub grew_keeps : (old : Ledger) (account : AccountState) (start total : ℕ) (may_enlarge : Bool) (answer : Result Span Refusal) (new : Ledger)
     → IsSoundLedger old → Serves old account → AreChunks account.space account.chunks → Grew old account start total may_enlarge answer new
     → Keeps account.owner old new
 grew_keeps old account start total may_enlarge answer new sound served chunks grew =
-    (leaves old account grew.place grew.chunk total may_enlarge answer new sound served chunks grew.found grew.after).keeps
+    keeps_after old account grew.place grew.chunk total may_enlarge answer new sound served chunks grew.found grew.after
 
 pub grew_serves_others : (old : Ledger) (account : AccountState) (start total : ℕ) (may_enlarge : Bool) (answer : Result Span Refusal) (new : Ledger) (other : AccountState)
     → IsSoundLedger old → Serves old account → AreChunks account.space account.chunks → Grew old account start total may_enlarge answer new

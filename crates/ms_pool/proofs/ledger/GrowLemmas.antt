@@ -20,19 +20,19 @@ use Rattle.ms_base.specs.Pick.{granule_in}
 use Rattle.ms_base.specs.Causes.{granules_missing}
 use Rattle.ms_base.specs.PoolSteps.{grown}
 use Rattle.ms_base.proofs.arena.GrownLemmas.{GrowsClear}
-use Rattle.ms_base.proofs.granules.CountLemmas.{meets_front, count_with_front, committed_in_slots}
+use Rattle.ms_base.proofs.granules.GranuleCountLemmas.{meets_front, count_with_front, committed_in_slots}
 use Rattle.ms_base.proofs.granules.FreeGranuleLemmas.{meets_bounds, bounds_meet}
 use Rattle.ms_base.proofs.machine.HeldLemmas.{held_rest, held_with}
 use Rattle.ms_base.proofs.runs.ApartLemmas.{list_any-with}
+use Rattle.ms_base.proofs.arena.BlockLemmas.{not_in_other}
 use Rattle.ms_pool.specs.Account.{AccountState, AreChunks}
 use Rattle.ms_pool.specs.Lending.{Grows, reaching, span_of}
 use Rattle.ms_pool.specs.Ledger.{Loan, Ledger, IsSoundLedger, Serves, chunks_of, state_in, with_grown}
 use Rattle.ms_pool.proofs.ledger.LoanLemmas.{chunks_in, chunks_in-here, chunks_in-there, owned_by, owned_by-other}
 use Rattle.ms_pool.proofs.ledger.SoundLemmas.{sound_with_loans}
-use Rattle.ms_pool.proofs.ledger.SlotLemmas.{starts_in}
-use Rattle.ms_pool.proofs.ledger.OrderLemmas.{start_of}
+use Rattle.ms_pool.proofs.ledger.LedgerSlotLemmas.{starts_in}
+use Rattle.ms_pool.proofs.ledger.LoanOrderLemmas.{start_of}
 use Rattle.ms_pool.proofs.ledger.AccountLemmas.{own_clear}
-use Rattle.ms_pool.proofs.ledger.LentLemmas.{not_there}
 use Rattle.ms_pool.proofs.ledger.GreaterLemmas.{IsGreater, IsReached, grown_is_greater, grown_reaches, grown_is_apart, grown_meets_none}
 use Rattle.ms_pool.proofs.ledger.LoanAtLemmas.{IsLoan, Parted, parted_at, loan_of, contains_at, replaced, replaced_at, order_replaced, owners_replaced, swapped, swapped_at, owned_by-replaced}
 
@@ -67,7 +67,7 @@ grown_at old account was served chunks has = record {
   loan = loan_of account.owner was old.loans (Contains-permutation account.chunks (chunks_of old account.owner) was
       (IsPermutation-sym (chunks_of old account.owner) account.chunks served.chunks) has);
   here = here;
-  there = not_there account.space was.start here;
+  there = not_in_other account.space was.start here;
 }
   where
     here : is_in account.space was.start ≡ true

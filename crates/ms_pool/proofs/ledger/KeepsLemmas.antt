@@ -4,9 +4,9 @@ use Rattle.std.specs.List.Sorted.{IsPermutation}
 use Rattle.ms_base.specs.declared.span.Chunk.{Chunk}
 use Rattle.ms_pool.specs.Account.{AccountState}
 use Rattle.ms_pool.specs.Tallies.{Tallies}
-use Rattle.ms_pool.specs.Ledger.{Ledger, IsSoundLedger, Serves, chunks_of, opened_in}
+use Rattle.ms_pool.specs.Ledger.{Ledger, Serves, chunks_of, opened_in}
 use Rattle.ms_pool.specs.Calls.{tallied}
-use Rattle.ms_pool.proofs.ledger.OpenLemmas.{tallied_is_sound, tallied_serves}
+use Rattle.ms_pool.proofs.ledger.LedgerOpenLemmas.{tallied_serves}
 
 -- Nothing changes but a tally.
 pub record RaisesTally (old new : Ledger) : Type 0 where
@@ -22,9 +22,6 @@ pub record Keeps (owner : ℕ) (old new : Ledger) : Type 0 where
 
 pub keeps_where_tallied : (owner : ℕ) (old new : Ledger) → RaisesTally old new → Keeps owner old new
 keeps_where_tallied owner old new raises = subst (Keeps owner old) (sym raises.is) (record { others = λ other differs. refl; given = refl; opened = refl; limits = refl })
-
-pub sound_where_tallied : (old new : Ledger) → RaisesTally old new → IsSoundLedger old → IsSoundLedger new
-sound_where_tallied old new raises sound = subst IsSoundLedger (sym raises.is) (tallied_is_sound old raises.tallies sound)
 
 pub serves_where_tallied : (old new : Ledger) (account : AccountState) → RaisesTally old new → Serves old account → Serves new account
 serves_where_tallied old new account raises served = subst (λ (l : Ledger). Serves l account) (sym raises.is) (tallied_serves old raises.tallies account served)

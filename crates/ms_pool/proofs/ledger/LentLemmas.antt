@@ -1,9 +1,7 @@
 -- A ledger stays sound where a chunk is lent that its space may lend.
 use Rattle.std.proofs.Common.{◌≡◌, ◌≤◌, ◌+◌, ℕ, Bool, true, false, ◌||◌, List, ◌∷◌, ◌++◌, length, refl, sym, ap, ◌∙◌, arith}
 use Rattle.std.specs.List.{list_any}
-use Rattle.std.proofs.lemmas.Bool.{leb-true, ltb-true, lt-leb, le-ltb}
 use Rattle.ms_base.specs.declared.kind.Space.{Space}
-use Rattle.ms_base.specs.declared.kind.Space.TheVariants.{NonClass, Class}
 use Rattle.ms_base.specs.declared.span.Chunk.{Chunk}
 use Rattle.ms_base.specs.Part.{slot_of}
 use Rattle.ms_base.specs.Spaces.{other_space, is_in}
@@ -13,25 +11,21 @@ use Rattle.ms_base.specs.Pick.{granule_in}
 use Rattle.ms_base.specs.Causes.{granules_missing}
 use Rattle.ms_base.specs.PoolSteps.{slots_with}
 use Rattle.ms_base.proofs.runs.ApartLemmas.{list_any-with}
-use Rattle.ms_base.proofs.granules.CountLemmas.{meets_front, count_with_front}
+use Rattle.ms_base.proofs.granules.GranuleCountLemmas.{meets_front, count_with_front}
 use Rattle.ms_base.proofs.machine.HeldLemmas.{held_in, held_with}
+use Rattle.ms_base.proofs.arena.BlockLemmas.{not_in_other}
 use Rattle.ms_pool.specs.Account.{AccountState}
 use Rattle.ms_pool.specs.Ledger.{Loan, Ledger, IsSoundLedger, Serves, state_in, with_lent, with_loan}
 use Rattle.ms_pool.proofs.ledger.LoanLemmas.{Comes, comes, chunks_in, chunks_in-append, chunks_in-here, chunks_in-with_elsewhere}
 use Rattle.ms_pool.proofs.ledger.SoundLemmas.{changed, sound_with_change}
 use Rattle.ms_pool.proofs.ledger.TakenLemmas.{IsLendable}
-use Rattle.ms_pool.proofs.ledger.SlotLemmas.{AreWithSlot, slot_of_space, starts_in, with_slot}
-use Rattle.ms_pool.proofs.ledger.OrderLemmas.{starts_elsewhere, order_with, all_with}
-
--- What lies in a space does not lie in the other.
-pub not_there : (space : Space) (start : ℕ) → is_in space start ≡ true → is_in (other_space space) start ≡ false
-not_there NonClass start here = lt-leb 67108864 start (ltb-true start 67108864 here)
-not_there Class start here = le-ltb start 67108864 (leb-true 67108864 start here)
+use Rattle.ms_pool.proofs.ledger.LedgerSlotLemmas.{AreWithSlot, slot_of_space, starts_in, with_slot}
+use Rattle.ms_pool.proofs.ledger.LoanOrderLemmas.{starts_elsewhere, order_with, all_with}
 
 pub lent_is_sound : (old : Ledger) (account : AccountState) (chunk : Chunk) → IsSoundLedger old → Serves old account
     → IsLendable (state_in account.space old) chunk → IsSoundLedger (with_lent old account.space account.owner chunk)
 lent_is_sound old account chunk sound served lendable =
-    sound_with_change space old loans (slots_with old.slots chunk.start) sound (chunks_in-with_elsewhere (other_space space) loan old.loans (not_there space chunk.start here))
+    sound_with_change space old loans (slots_with old.slots chunk.start) sound (chunks_in-with_elsewhere (other_space space) loan old.loans (not_in_other space chunk.start here))
     (record {
       order = order_with loan old.loans (starts_elsewhere space chunk.start chunk.level old.loans here lendable.clear) sound.order;
       owners = all_with (λ (one : Loan). (1 ≤ one.owner) × (one.owner ≤ old.given)) loan old.loans (served.some, served.given) sound.owners;

@@ -17,7 +17,7 @@ use Rattle.ms_base.specs.Held.{words_of}
 use Rattle.ms_base.proofs.free.HalvesLemmas.{size_some}
 use Rattle.ms_pool.specs.Ledger.{Loan, is_owned_by}
 use Rattle.ms_pool.proofs.ledger.LoanLemmas.{owned_by}
-use Rattle.ms_pool.proofs.ledger.OrderLemmas.{start_of, StartsElsewhere}
+use Rattle.ms_pool.proofs.ledger.LoanOrderLemmas.{start_of, StartsElsewhere}
 
 -- An element at a place is contained.
 pub contains_at : (chunks : List Chunk) (place : ℕ) (chunk : Chunk) → slice_get chunks place ≡ Some chunk → Contains chunks chunk
@@ -70,7 +70,7 @@ loan_of owner chunk (loan ∷ loans) there = go (loan.owner == owner) refl there
 less_is_other : (a b : ℕ) → nat_cmp a b ≡ Less → a ≢ b
 less_is_other a b e same = grind (arith, nat_tests, e)
 
-all_above : (start : ℕ) (loans : List Loan) → AllByRecursion (λ (y : ℕ). nat_cmp start y ≡ Less) (map start_of loans)
+pub all_above : (start : ℕ) (loans : List Loan) → AllByRecursion (λ (y : ℕ). nat_cmp start y ≡ Less) (map start_of loans)
     → AllByRecursion (StartsElsewhere start) loans
 all_above start [] all = tt
 all_above start (loan ∷ loans) all = (λ same. less_is_other start loan.chunk.start all.0 (sym same), all_above start loans all.1)

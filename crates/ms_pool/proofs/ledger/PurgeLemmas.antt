@@ -1,8 +1,7 @@
 -- Nodes without a chunk purged: the ledger stays sound, and all accounts are served still.
-use Rattle.std.proofs.Common.{◌≡◌, ◌+◌, not, List, length, refl, ap, arith}
+use Rattle.std.proofs.Common.{List, length, refl, ap, arith}
 use Rattle.std.specs.List.{filter}
 use Rattle.std.proofs.lemmas.List.Elements.{All-filter}
-use Rattle.std.proofs.lemmas.List.Filters.{length-filter_both}
 use Rattle.std.proofs.lemmas.List.Kept.{IsStrictlyIncreasing-filter}
 use Rattle.std.proofs.lemmas.List.Sums.{length-filter, count_by-le-length}
 use Rattle.ms_base.specs.declared.kind.Space.{Space}
@@ -48,11 +47,3 @@ purged_is_sound old sound = ledger_is_sound old rest sound refl
 
 pub purged_serves : (old : Ledger) (account : AccountState) → Serves old account → Serves (purged old) account
 purged_serves old account served = record { some = served.some; given = served.given; chunks = served.chunks }
-
--- How many go.
-pub purged_counts : (old : Ledger)
-    → length (filter (λ slot. not (has_chunk_in (chunks_in NonClass old.loans) slot)) old.slots) + length (purged old).slots ≡ length old.slots
-purged_counts old = omega (arith, length-filter_both (has_chunk_in held) (λ slot. not (has_chunk_in held slot)) (λ slot. refl) old.slots)
-  where
-    held : List Chunk
-    held = chunks_in NonClass old.loans

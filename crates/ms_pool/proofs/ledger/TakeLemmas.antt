@@ -25,7 +25,7 @@ use Rattle.ms_pool.specs.Ledger.{Ledger, IsSoundLedger, Serves, chunks_of, state
 use Rattle.ms_pool.proofs.ledger.LoanLemmas.{owned_by-with, owned_by-with_other}
 use Rattle.ms_pool.proofs.ledger.TakenLemmas.{IsLendable, taken_is_lendable}
 use Rattle.ms_pool.proofs.ledger.GreaterLemmas.{runs_from_clear}
-use Rattle.ms_pool.proofs.ledger.SlotLemmas.{slot_of_space}
+use Rattle.ms_pool.proofs.ledger.LedgerSlotLemmas.{slot_of_space}
 use Rattle.ms_pool.proofs.ledger.LentLemmas.{lent_is_sound}
 use Rattle.ms_pool.proofs.ledger.AccountLemmas.{own_clear, own_are_few}
 

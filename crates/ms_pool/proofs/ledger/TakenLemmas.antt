@@ -25,7 +25,7 @@ use Rattle.ms_base.proofs.free.PickLemmas.{found_is_free_or_new, picked_serves}
 use Rattle.ms_base.proofs.free.RoomLemmas.{lowest_is_clear}
 use Rattle.ms_base.proofs.granules.FrontLemmas.{has_front_for}
 use Rattle.ms_base.proofs.granules.MissingLemmas.{lowest_is_not_reserved}
-use Rattle.ms_base.proofs.granules.NeedLemmas.{IsTaken, quotient_is, picked_is_part, taken_is, taking_keeps_the_limit}
+use Rattle.ms_base.proofs.granules.NeedLemmas.{IsTaken, picked_is_part, taken_is, taking_keeps_the_limit}
 use Rattle.ms_pool.proofs.ledger.FoundLemmas.{room_is_found, lowest_within, new_slot_is_clear}
 
 -- A slot in which a chunk may be lent: a reserved one, or one more.
@@ -60,8 +60,8 @@ in_found pool p m words h k found =
     part = found_first pool p m words
 
 -- A new root: no free part is large enough, so the nodes are not used up.
-slot_of_root : (n : ℕ) → slot_of (n * node_words) ≡ n
-slot_of_root n = quotient_is (n * node_words) n node_words (omega arith) (omega arith) (omega arith)
+pub slot_of_root : (n : ℕ) → slot_of (n * node_words) ≡ n
+slot_of_root n = omega arith
 
 is_room_left : (room : Bool) (slots limit : ℕ) → room ≡ false → (not room && (slots == limit)) ≡ false → slots ≤ limit → slots < limit
 is_room_left true slots limit none unmet h = absurd (cc)

@@ -1,5 +1,5 @@
--- A call of take, whatever it answers: the ledger is sound, all accounts are served still, and nothing
--- changes but the chunks of the call's account.
+-- A call of take, whatever it answers: all accounts are served still, and nothing changes but the chunks
+-- of the call's account.
 use Rattle.std.proofs.Common.{◌≡◌, ◌≢◌, ◌≤◌, ℕ, refl, sym, ap, ◌∙◌, subst}
 use Rattle.std.specs.Prelude.{Result, Ok, Err, IfOk, OnErr}
 use Rattle.ms_base.specs.declared.span.Span.{Span}
@@ -10,7 +10,7 @@ use Rattle.ms_pool.specs.Account.{AccountState, AreChunks}
 use Rattle.ms_pool.specs.Lending.{Adds, chunk_at, span_of}
 use Rattle.ms_pool.specs.Ledger.{Ledger, IsSoundLedger, Serves}
 use Rattle.ms_pool.specs.Calls.{Lends, TakeRefused, Took}
-use Rattle.ms_pool.proofs.ledger.KeepsLemmas.{RaisesTally, Keeps, keeps_where_tallied, sound_where_tallied, serves_where_tallied, keeps_serves}
+use Rattle.ms_pool.proofs.ledger.KeepsLemmas.{RaisesTally, Keeps, keeps_where_tallied, serves_where_tallied, keeps_serves}
 use Rattle.ms_pool.proofs.ledger.TakeLemmas.{TakenWell, taken_well, with_chunk, lent_keeps_others}
 
 -- A request that is refused.
@@ -45,14 +45,6 @@ lends_well : (old : Ledger) (account : AccountState) (wanted most words : ℕ) (
     → TakenWell old account wanted most words lends.chunk
 lends_well old account wanted most words span new sound served chunks asks lends =
     taken_well old account wanted most words lends.chunk sound served chunks asks.levels asks.real asks.some asks.fits lends.picked
-
-pub took_is_sound : (old : Ledger) (account : AccountState) (wanted most words : ℕ) (result : Result Span Refusal) (new : Ledger)
-    → IsSoundLedger old → Serves old account → AreChunks account.space account.chunks → MayAsk wanted most words
-    → Took old account wanted most words result new → IsSoundLedger new
-took_is_sound old account wanted most words (Ok span) new sound served chunks asks lends =
-    subst IsSoundLedger (sym lends.after) (lends_well old account wanted most words span new sound served chunks asks lends).sound
-took_is_sound old account wanted most words (Err refusal) new sound served chunks asks refused =
-    sound_where_tallied old new (take_refused_raises old account wanted most words refusal new refused) sound
 
 -- The account that the call leaves is served.
 pub took_serves : (old : Ledger) (account : AccountState) (wanted most words : ℕ) (result : Result Span Refusal) (new : Ledger) (after : AccountState)

@@ -2,7 +2,7 @@ use Rattle.std.proofs.Common.{subst, arith, List, ℕ}
 use Rattle.std.proofs.lemmas.Result.{err_from_is_err_and}
 use Rattle.ms_trace.specs.Faults.{BlamesText}
 use Rattle.ms_trace.specs.Spelling.{ReadsAs}
-use Rattle.metarun.proofs.ReadingLemmas.{blames_whole, outputs_whole}
+use Rattle.metarun.proofs.InputLemmas.{blames_whole, outputs_whole}
 use Rattle.metarun.proofs.SessionLemmas.{run_outputs}
 use Rattle.metarun.proofs.session.answer_to.Goals as goal
 

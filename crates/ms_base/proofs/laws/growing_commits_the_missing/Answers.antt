@@ -1,4 +1,4 @@
-use Rattle.ms_base.proofs.granules.GrowingLemmas.{growing_commits_the_missing}
+use Rattle.ms_base.proofs.granules.GranuleGrowingLemmas.{growing_commits_the_missing}
 use Rattle.ms_base.proofs.laws.growing_commits_the_missing.Goals as goal
 
 pub returns : goal.returns

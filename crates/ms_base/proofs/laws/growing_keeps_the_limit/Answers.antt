@@ -1,4 +1,4 @@
-use Rattle.ms_base.proofs.granules.GrowingLemmas.{growing_keeps_the_limit}
+use Rattle.ms_base.proofs.granules.GranuleGrowingLemmas.{growing_keeps_the_limit}
 use Rattle.ms_base.proofs.laws.growing_keeps_the_limit.Goals as goal
 
 pub returns : goal.returns

@@ -1,4 +1,4 @@
-use Rattle.ms_base.proofs.granules.KeepingLemmas.{uncommits_nothing}
+use Rattle.ms_base.proofs.granules.GranuleKeepingLemmas.{uncommits_nothing}
 use Rattle.ms_base.proofs.laws.none_uncommits_nothing.Goals as goal
 
 pub returns : goal.returns

@@ -1,62 +1,41 @@
 -- The part is carved in the half where it lies, and the other half stays.
 use Rattle.std.proofs.Common.{rules, arith, refl, ap, ◌∙◌}
 use Rattle.ms_buddy.specs.Leaves.{fits_in, leaf_of}
-use Rattle.ms_buddy.proofs.HalvesLemmas.{lower_place, upper_place}
-use Rattle.ms_buddy.proofs.SplitLemmas.{AtHalves, at_split}
-use Rattle.ms_buddy.proofs.CarveLemmas.{lower_inside, upper_inside, whole_fits_not, lower_fits, upper_fits, lower_is_free, upper_is_free, same_refusal, lower_added, upper_added}
+use Rattle.ms_buddy.proofs.SplitLemmas.{halves_at, at_split}
+use Rattle.ms_buddy.proofs.CarveLemmas.{lower_may, upper_may, whole_fits_not, lower_fits, upper_fits, lower_is_free, upper_is_free, same_refusal, lower_added, upper_added}
 use Rattle.ms_buddy.proofs.node.+carving.Goals as goal
 
 pub Node::carve-returns-then-number-level-clause-refusal : goal.Node::carve-returns-then-number-level-clause-refusal
 Node::carve-returns-then-number-level-clause-refusal g t c =
     let s = at_split _ c.args.start _ _ _ _ _ _ _ c.in-Split.is c.requires.tree refl in
-    (refl, ap (fits_in c.args.span) s.free ∙ whole_fits_not c.args.span _ _ _ _ _ s.halves s.low c.requires.inside (omega arith))
+    (refl, ap (fits_in c.args.span) s.free ∙ whole_fits_not c.args.span _ _ _ _ _ s.halves s.low c.requires.part.inside (omega arith))
 
 pub carve_in_half-carve-requires : goal.carve_in_half-carve-requires
-carve_in_half-carve-requires g t c κs within = (
-  omega arith,
-  (
-    search rules,
-    (
-      search rules,
-      (
-        lower_place _ _ c.requires.place (omega arith),
-        (c.requires.part, (lower_inside c.args.span _ _ _ c.requires.place c.requires.low c.requires.part c.requires.inside c.half_of.ensures.size c.if-span-middle.true, search rules)),
-      ),
-    ),
-  ),
-)
+carve_in_half-carve-requires g t c κs within =
+    let may = lower_may c.args.span c.args.level c.args.start _ _ c.requires.part c.requires.low c.half_of.ensures.size c.if-span-middle.true in
+    (omega arith, (search rules, (search rules, may)))
 
 pub carve_in_half-carve-requires-else-span-middle : goal.carve_in_half-carve-requires-else-span-middle
-carve_in_half-carve-requires-else-span-middle g t c κs within = (
-  omega arith,
-  (
-    search rules,
-    (
-      search rules,
-      (
-        upper_place _ _ _ c.requires.place (omega arith) (omega arith),
-        (c.requires.part, (upper_inside c.args.span _ _ _ c.requires.low c.requires.part.0 c.requires.inside c.half_of.ensures.size (omega arith), search rules)),
-      ),
-    ),
-  ),
-)
+carve_in_half-carve-requires-else-span-middle g t c κs within =
+    let may = upper_may c.args.span c.args.level c.args.start _ _ c.requires.part c.requires.low c.half_of.ensures.size (omega arith) in
+    (omega arith, (search rules, (search rules, may)))
 
 pub carve_in_half-returns-in-Ok-clause-lent : goal.carve_in_half-returns-in-Ok-clause-lent
 carve_in_half-returns-in-Ok-clause-lent g t c =
-    let halves : AtHalves c.args.level c.args.start c.half_of.result c.args.lower.now c.args.upper.now = record { low_tree = c.requires.trees.0; high_tree = c.requires.trees.1; size = c.half_of.ensures.size } in
+    let halves = halves_at c.args.level c.args.start _ _ c.args.lower.now c.args.upper.now c.requires.halves c.half_of.ensures.size in
     lower_added (leaf_of c.args.span c.args.owner c.args.front) _ _ _ _ _ c.carve.new.self halves c.if-span-middle.true c.in-Ok.ensures.lent
 
 pub carve_in_half-returns-in-Ok-carve-clause-lent : goal.carve_in_half-returns-in-Ok-carve-clause-lent
 carve_in_half-returns-in-Ok-carve-clause-lent g t c =
-    let halves : AtHalves c.args.level c.args.start c.half_of.result c.args.lower.now c.args.upper.now = record { low_tree = c.requires.trees.0; high_tree = c.requires.trees.1; size = c.half_of.ensures.size } in
+    let halves = halves_at c.args.level c.args.start _ _ c.args.lower.now c.args.upper.now c.requires.halves c.half_of.ensures.size in
     upper_added (leaf_of c.args.span c.args.owner c.args.front) _ _ _ _ _ c.carve-else-span-middle.new.self halves (omega arith) c.in-Ok-carve.ensures.lent
 
 pub carve_in_half-returns-in-Err-clause-refusal : goal.carve_in_half-returns-in-Err-clause-refusal
 carve_in_half-returns-in-Err-clause-refusal g t c =
-    let halves : AtHalves c.args.level c.args.start c.half_of.result c.args.lower.now c.args.upper.now = record { low_tree = c.requires.trees.0; high_tree = c.requires.trees.1; size = c.half_of.ensures.size } in
+    let halves = halves_at c.args.level c.args.start _ _ c.args.lower.now c.args.upper.now c.requires.halves c.half_of.ensures.size in
     same_refusal c.args.span _ _ (lower_fits c.args.span _ _ _ _ _ halves c.if-span-middle.true) (lower_is_free c.args.span _ _ _ _ _ halves c.if-span-middle.true) _ c.in-Err.ensures.refusal
 
 pub carve_in_half-returns-in-Err-carve-clause-refusal : goal.carve_in_half-returns-in-Err-carve-clause-refusal
 carve_in_half-returns-in-Err-carve-clause-refusal g t c =
-    let halves : AtHalves c.args.level c.args.start c.half_of.result c.args.lower.now c.args.upper.now = record { low_tree = c.requires.trees.0; high_tree = c.requires.trees.1; size = c.half_of.ensures.size } in
+    let halves = halves_at c.args.level c.args.start _ _ c.args.lower.now c.args.upper.now c.requires.halves c.half_of.ensures.size in
     same_refusal c.args.span _ _ (upper_fits c.args.span _ _ _ _ _ halves (omega arith)) (upper_is_free c.args.span _ _ _ _ _ halves (omega arith)) _ c.in-Err-carve.ensures.refusal

@@ -1,5 +1,5 @@
 use Rattle.std.proofs.Common.{◌+◌, ap, refl, arith}
-use Rattle.ms_pool.proofs.CountLemmas.{counts_none, counts_one, room_at}
+use Rattle.ms_pool.proofs.PoolCountLemmas.{counts_none, counts_one, room_at}
 use Rattle.ms_pool.proofs.counting.with_leaf.Goals as goal
 
 pub one_more-requires : goal.one_more-requires

@@ -5,18 +5,18 @@ use Rattle.ms_base.specs.Level.{root_words}
 use Rattle.ms_buddy.specs.Leaves.{LentLeaf, AreLeaves, leaf_of, span_at, with_leaf}
 use Rattle.ms_pool.specs.Ledger.{Loan, with_loan}
 use Rattle.ms_pool.specs.Keeping.{loans_from}
-use Rattle.ms_pool.proofs.CarveLemmas.{leaf_is_loan, loans_with_leaf, offset_is_whole, where_ok}
+use Rattle.ms_pool.proofs.CarvedPartLemmas.{leaf_is_loan, loans_with_leaf, offset_is_whole, where_ok}
 use Rattle.ms_pool.proofs.trees.carve_leaf.Goals as goal
 
 pub carve-requires-clause-aligned : goal.carve-requires-clause-aligned
-carve-requires-clause-aligned c = offset_is_whole c.args.chunk.now.start c.args.chunk.now.level c.requires.placed
+carve-requires-clause-aligned c = offset_is_whole c.args.chunk.now.start c.args.chunk.now.level c.requires.may.placed
 
 pub returns-clause-lent : goal.returns-clause-lent
 returns-clause-lent c = λ ok.
     let trees = c.args.trees.now.items in
     let chunk = c.args.chunk.now in
     let root = chunk.start / root_words in
-    let within : root < length trees = omega (arith, c.requires.there) in
+    let within : root < length trees = omega (arith, c.requires.may.there) in
     let leaf : LentLeaf = leaf_of (span_at (chunk.start % root_words) chunk.level) c.args.owner chunk.front in
     let lent : c.carve.new.self ≡ with_leaf leaf c.index_mut-tree.result.now = where_ok c.carve.result _ (sym c.is_ok-lent.ensures.value ∙ ok) c.carve.ensures.lent in
     ap (λ (t : List LentLeaf). loans_from 0 (set trees root t))

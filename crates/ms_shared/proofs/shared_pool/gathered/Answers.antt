@@ -2,8 +2,8 @@ use Rattle.std.proofs.Common.{rules, ◌≡◌, Option, ap, arith, sym, ◌∙�
 use Rattle.ms_pool.specs.Ledger.{Ledger}
 use Rattle.ms_shared.specs.SeatView.{SeatState}
 use Rattle.ms_shared.specs.LockRule.{Sat}
-use Rattle.ms_shared.proofs.CutLemmas.{join}
-use Rattle.ms_shared.proofs.GatherLemmas.{gather_done, slot_has, same_pool, gather_begins, gather_more, gather_ends}
+use Rattle.ms_shared.proofs.SeatCutLemmas.{join}
+use Rattle.ms_shared.proofs.SeatGatherLemmas.{gather_done, slot_has, same_pool, gather_begins, gather_more, gather_ends}
 use Rattle.ms_shared.proofs.TotalLemmas.{all_front, all_last}
 use Rattle.ms_shared.proofs.shared_pool.gathered.Goals as goal
 

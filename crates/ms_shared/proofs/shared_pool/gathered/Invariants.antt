@@ -1,6 +1,6 @@
 use Rattle.std.proofs.Common.{◌≡◌, [], vec_len}
 use Rattle.std.specs.List.{All}
-use Rattle.ms_shared.proofs.GatherLemmas.{IsGathering}
+use Rattle.ms_shared.proofs.SeatGatherLemmas.{IsGathering}
 use Rattle.ms_shared.proofs.shared_pool.gathered.Given as goal
 
 abbrev pub invariant-loop-seat : goal.invariant-loop-seat

@@ -1,5 +1,5 @@
 -- Each line cut off is kept, or has the first fault.
-use Rattle.std.proofs.Common.{◌≡◌, ◌+◌, ◌<◌, [], Some, None, List, ℕ, arith, refl, ◌∙◌, ap, length, Option, unwrap_or}
+use Rattle.std.proofs.Common.{◌≡◌, ◌+◌, ◌<◌, [], Some, None, List, ℕ, arith, refl, length, Option, unwrap_or}
 use Rattle.std.proofs.lemmas.Bool.Decides.{nat_tests}
 use Rattle.std.proofs.lemmas.Result.{err_from_is_err_and}
 use Rattle.std.specs.Borrow.{Bor}
@@ -18,7 +18,8 @@ returns-in_err-keep-clause-faults g c =
     (blames_text c.args.text.now rest (text_after after) c.cut_line.result.0.now c.loop-rest.number c.loop-rest.lines.items _ c.loop-rest.invariant.read
     (lines_of-cut rest c.cut_line.result.0.now after some c.cut_line.ensures.parts) c.in_err-keep.ensures.fault)
 
-rest_is : (after : Option (Bor (List ℕ))) (empty : Bor (List ℕ)) → empty.now ≡ [] → (unwrap_or after empty).now ≡ text_after after
+rest_is : (after : Option (Bor (List ℕ))) (empty : Bor (List ℕ)) → empty.now ≡ []
+    → (unwrap_or after empty).now ≡ text_after after
 rest_is None empty e = e
 rest_is (Some rest) empty e = refl
 
@@ -27,7 +28,8 @@ loop-rest-preserved g c =
     let rest : List ℕ = c.loop-rest.rest.now in
     let after : Option (Bor (List ℕ)) = c.cut_line.result.1 in
     let some : 0 < length rest = grind (arith, nat_tests, c.is_empty.ensures, c.loop-rest-test.true) in
-    let left : c.unwrap_or-rest.result.now ≡ text_after after = ap (λ left. left.now) c.unwrap_or-rest.ensures ∙ rest_is c.cut_line.result.1 c.as_slice.result c.as_slice.ensures in
+    let left : c.unwrap_or-rest.result.now ≡ text_after after =
+    rw c.unwrap_or-rest.ensures (rest_is after c.as_slice.result c.as_slice.ensures) in
     record {
       read = rw left
           (line_more c.args.text.now rest (text_after after) c.cut_line.result.0.now c.loop-rest.number c.loop-rest.lines.items c.keep.new.lines.items

@@ -11,22 +11,22 @@ use Rattle.ms_arena.proofs.books.Books.grow.Goals as goal
 pub grow-requires-clause-held : goal.grow-requires-clause-held
 grow-requires-clause-held g c =
     has_its_start c.self.inside.account.chunks _ c.args.chunk
-    (subst (λ (books : BooksView). current books.state ≡ Some c.args.chunk) (sym c.self.view_is) c.requires.current)
+    (subst (λ (books : BooksView). current books.state ≡ Some c.args.chunk) (sym c.self.view_is) c.requires.may.current_is)
 
 pub raise-requires-clause-fits : goal.raise-requires-clause-fits
-raise-requires-clause-fits g c = omega (arith, books_small _ _ _ c.self.invariant, c.requires.small)
+raise-requires-clause-fits g c = omega (arith, books_small _ _ _ c.self.invariant, c.requires.may.small)
 
 pub invariant_of-self-2 : goal.invariant_of-self-2
 invariant_of-self-2 g c =
-    let found = subst (λ (books : BooksView). current books.state ≡ Some c.args.chunk) (sym c.self.view_is) c.requires.current in
+    let found = subst (λ (books : BooksView). current books.state ≡ Some c.args.chunk) (sym c.self.view_is) c.requires.may.current_is in
     let grown = grows_current _ _ _ _ c.args.total c.args.chunk c.args.may_enlarge c.self.inside.account _ c.grow.new.account c.self.invariant found refl c.in_ok-grow.ensures.grown in
-    let more = subst (λ (books : BooksView). current_top books.state + 2 ≤ c.args.total) (sym c.self.view_is) c.requires.total in
+    let more = subst (λ (books : BooksView). current_top books.state + 2 ≤ c.args.total) (sym c.self.view_is) c.requires.may.more in
     books_grown _ _ _ _ c.args.total (c.held.result - 1) _ c.args.chunk c.self.inside.account c.grow.new.account c.raise.new.tops.items c.self.invariant found grown
     c.held-2.ensures.chunks more (ap (λ (h : ℕ). h - 1) c.held.ensures.count) c.raise.ensures.tops c.raise.ensures.used
 
 pub returns-clause-grown : goal.returns-clause-grown
 returns-clause-grown g c =
-    let found = subst (λ (books : BooksView). current books.state ≡ Some c.args.chunk) (sym c.self.view_is) c.requires.current in
+    let found = subst (λ (books : BooksView). current books.state ≡ Some c.args.chunk) (sym c.self.view_is) c.requires.may.current_is in
     let grown = grows_current _ _ _ _ c.args.total c.args.chunk c.args.may_enlarge c.self.inside.account _ c.grow.new.account c.self.invariant found refl c.in_ok-grow.ensures.grown in
     record {
       span = c.in_ok-grow.field-0;
@@ -38,10 +38,10 @@ returns-clause-grown g c =
 
 pub returns-clause-awaits : goal.returns-clause-awaits
 returns-clause-awaits g c = λ start n starts sum live sound.
-    let found = subst (λ (books : BooksView). current books.state ≡ Some c.args.chunk) (sym c.self.view_is) c.requires.current in
+    let found = subst (λ (books : BooksView). current books.state ≡ Some c.args.chunk) (sym c.self.view_is) c.requires.may.current_is in
     let grown = grows_current _ _ _ _ c.args.total c.args.chunk c.args.may_enlarge c.self.inside.account _ c.grow.new.account c.self.invariant found refl c.in_ok-grow.ensures.grown in
     grown_awaits _ _ _ _ c.args.total n (c.held.result - 1) start c.args.chunk c.self.inside.account c.grow.new.account c.raise.new.tops.items c.self.invariant found grown
-    c.held-2.ensures.chunks (subst (λ (books : BooksView). c.args.total ≡ current_top books.state + n) (sym c.self.view_is) sum) (omega (arith, sum, c.requires.total))
+    c.held-2.ensures.chunks (subst (λ (books : BooksView). c.args.total ≡ current_top books.state + n) (sym c.self.view_is) sum) (omega (arith, sum, c.requires.may.more))
     (subst (λ (books : BooksView). start ≡ c.args.chunk.start + current_top books.state) (sym c.self.view_is) starts)
     (ap (λ (h : ℕ). h - 1) c.held.ensures.count) c.raise.ensures.tops
     live (subst (λ (books : BooksView). IsSound books.state live) (sym c.self.view_is) sound)

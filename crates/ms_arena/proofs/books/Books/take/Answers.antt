@@ -1,4 +1,4 @@
-use Rattle.std.proofs.Common.{◌≡◌, ◌∙◌, Ok, refl, ap, arith, subst, sym, ℕ}
+use Rattle.std.proofs.Common.{rules, ◌≡◌, ◌∙◌, Ok, refl, ap, arith, subst, sym, ℕ}
 use Rattle.std.specs.Option.{option_map, IfSome}
 use Rattle.ms_base.specs.declared.span.Chunk.{Chunk}
 use Rattle.ms_base.specs.Good.{IsSound}
@@ -19,7 +19,7 @@ retire-requires-clause-may g c =
     (subst (λ (books : BooksView). IfSome c.current-former.result (λ (at : Chunk × ℕ). at.1 ≡ current_top books.state)) (sym c.self.view_is) c.current-former.ensures.top)
 
 pub overflow_add-self : goal.overflow_add-self
-overflow_add-self g c = omega (arith, books_small _ _ _ c.self.invariant, c.retire.ensures.few, c.requires.fits, size_small c.args.most)
+overflow_add-self g c = omega (arith, books_small _ _ _ c.self.invariant, c.retire.ensures.few, c.requires.may.fits, size_small c.args.most)
 
 pub invariant_of-self-2 : goal.invariant_of-self-2
 invariant_of-self-2 g c =
@@ -28,7 +28,7 @@ invariant_of-self-2 g c =
     c.retire.new.tops.items c.push_reserved.new.self.items c.retire.new.kept.kept c.self.invariant
     (subst (λ (books : BooksView). option_map (λ (at : Chunk × ℕ). at.0) c.current-former.result ≡ current books.state) (sym c.self.view_is) c.current-former.ensures.chunk)
     (subst (λ (books : BooksView). IfSome c.current-former.result (λ (at : Chunk × ℕ). at.1 ≡ current_top books.state)) (sym c.self.view_is) c.current-former.ensures.top)
-    refl refl c.in_ok-span.ensures.added c.held.ensures.chunks c.requires.some c.requires.fits c.retire.ensures.tops c.push_reserved.ensures.items c.retire.ensures.kept)
+    refl refl c.in_ok-span.ensures.added c.held.ensures.chunks c.requires.may.some c.requires.may.fits c.retire.ensures.tops c.push_reserved.ensures.items c.retire.ensures.kept)
     c.push_reserved.ensures.items c.retire.ensures.used refl
 
 pub returns-clause-taken : goal.returns-clause-taken
@@ -37,7 +37,7 @@ returns-clause-taken g c =
     c.retire.new.tops.items c.push_reserved.new.self.items c.retire.new.kept.kept c.self.invariant
     (subst (λ (books : BooksView). option_map (λ (at : Chunk × ℕ). at.0) c.current-former.result ≡ current books.state) (sym c.self.view_is) c.current-former.ensures.chunk)
     (subst (λ (books : BooksView). IfSome c.current-former.result (λ (at : Chunk × ℕ). at.1 ≡ current_top books.state)) (sym c.self.view_is) c.current-former.ensures.top)
-    refl refl c.in_ok-span.ensures.added c.held.ensures.chunks c.requires.some c.requires.fits c.retire.ensures.tops c.push_reserved.ensures.items c.retire.ensures.kept in
+    refl refl c.in_ok-span.ensures.added c.held.ensures.chunks c.requires.may.some c.requires.may.fits c.retire.ensures.tops c.push_reserved.ensures.items c.retire.ensures.kept in
     record {
       span = c.in_ok-span.span;
       asked = subst (λ (books : BooksView). g.S.ChunkSource.took c.args.source.now (account_in books) c.args.wanted c.args.most c.args.n (Ok c.in_ok-span.span) c.take.new.self) c.self.view_is c.in_ok-span.ensures.took;
@@ -45,11 +45,16 @@ returns-clause-taken g c =
       state = taken.state_is ∙ ap (λ (books : BooksView). with_taken books.state (chunk_at (g.S.ChunkSource.limits c.args.source.now).policy c.in_ok-span.span c.args.n) c.args.n) c.self.view_is;
     }
 
-pub returns-clause-awaits : goal.returns-clause-awaits
-returns-clause-awaits g c = λ live sound.
-    (taken_books _ _ _ _ c.args.wanted c.args.most c.args.n c.current-former.result c.self.inside.account c.in_ok-span.span c.take.new.account
-    c.retire.new.tops.items c.push_reserved.new.self.items c.retire.new.kept.kept c.self.invariant
-    (subst (λ (books : BooksView). option_map (λ (at : Chunk × ℕ). at.0) c.current-former.result ≡ current books.state) (sym c.self.view_is) c.current-former.ensures.chunk)
-    (subst (λ (books : BooksView). IfSome c.current-former.result (λ (at : Chunk × ℕ). at.1 ≡ current_top books.state)) (sym c.self.view_is) c.current-former.ensures.top)
-    refl refl c.in_ok-span.ensures.added c.held.ensures.chunks c.requires.some c.requires.fits c.retire.ensures.tops c.push_reserved.ensures.items c.retire.ensures.kept).awaits
-    live (subst (λ (books : BooksView). IsSound books.state live) (sym c.self.view_is) sound)
+pub returns-clause-leaves : goal.returns-clause-leaves
+returns-clause-leaves g c = record {
+  awaits = λ live sound. (taken_books _ _ _ _ c.args.wanted c.args.most c.args.n c.current-former.result c.self.inside.account c.in_ok-span.span c.take.new.account
+      c.retire.new.tops.items c.push_reserved.new.self.items c.retire.new.kept.kept c.self.invariant
+      (subst (λ (books : BooksView). option_map (λ (at : Chunk × ℕ). at.0) c.current-former.result ≡ current books.state) (sym c.self.view_is) c.current-former.ensures.chunk)
+      (subst (λ (books : BooksView). IfSome c.current-former.result (λ (at : Chunk × ℕ). at.1 ≡ current_top books.state)) (sym c.self.view_is) c.current-former.ensures.top)
+      refl refl c.in_ok-span.ensures.added c.held.ensures.chunks c.requires.may.some c.requires.may.fits c.retire.ensures.tops c.push_reserved.ensures.items c.retire.ensures.kept).awaits
+      live (subst (λ (books : BooksView). IsSound books.state live) (sym c.self.view_is) sound);
+  room = search rules;
+  owner = search rules;
+  space = search rules;
+  unchanged = tt;
+}

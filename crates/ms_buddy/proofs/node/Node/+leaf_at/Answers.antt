@@ -1,6 +1,6 @@
 -- The leaf is in the half where the offset is.
 use Rattle.std.proofs.Common.{rules, arith}
-use Rattle.ms_buddy.proofs.HalvesLemmas.{lower_place, upper_place, size_of-halves}
+use Rattle.ms_buddy.proofs.TreeHalvesLemmas.{lower_place, upper_place, size_of-halves}
 use Rattle.ms_buddy.proofs.SplitLemmas.{at_split, lower_leaf, upper_leaf}
 use Rattle.ms_buddy.proofs.node.Node.+leaf_at.Goals as goal
 

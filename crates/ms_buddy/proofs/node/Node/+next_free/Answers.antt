@@ -1,9 +1,9 @@
 -- The first leaf is that of the lower half, or, where it has none, that of the upper one.
 use Rattle.std.proofs.Common.{rules, arith, sym, ap, ◌∙◌}
 use Rattle.ms_buddy.specs.Tree.{levels_of}
-use Rattle.ms_buddy.proofs.HalvesLemmas.{lower_place, upper_place}
+use Rattle.ms_buddy.proofs.TreeHalvesLemmas.{lower_place, upper_place}
 use Rattle.ms_buddy.proofs.SplitLemmas.{at_split}
-use Rattle.ms_buddy.proofs.LevelLemmas.{found_above, found_below, told_below, none_of_level, none_below_from}
+use Rattle.ms_buddy.proofs.LeafLevelLemmas.{found_above, found_below, told_below, none_of_level, none_below_from}
 use Rattle.ms_buddy.proofs.node.Node.+next_free.Goals as goal
 
 pub returns-then-not-has_level : goal.returns-then-not-has_level

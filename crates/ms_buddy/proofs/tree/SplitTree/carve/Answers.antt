@@ -1,16 +1,22 @@
 -- The free leaves of the tree are the free parts that its lent leaves leave over.
-use Rattle.std.proofs.Common.{arith, refl, sym, ap, ◌∙◌}
+use Rattle.std.proofs.Common.{rules, arith, refl, sym, ap, ◌∙◌}
 use Rattle.ms_buddy.specs.Leaves.{free_of}
-use Rattle.ms_buddy.proofs.FreeLemmas.{free_of-tree}
+use Rattle.ms_buddy.proofs.FreeLeafLemmas.{free_of-tree}
 use Rattle.ms_buddy.proofs.CarveLemmas.{ends_in}
-use Rattle.ms_buddy.proofs.KeptLemmas.{no_room_exactly}
+use Rattle.ms_buddy.proofs.KeptTreeLemmas.{no_room_exactly}
 use Rattle.ms_buddy.proofs.tree.SplitTree.carve.Goals as goal
 
-pub carve-requires-clause-inside : goal.carve-requires-clause-inside
-carve-requires-clause-inside g c = record {
-  low = omega arith;
-  from = omega arith;
-  to = ends_in (record { start = c.args.at; level = c.args.level }) 0 0 (omega arith, c.requires.aligned) (omega arith, refl) (omega arith) (omega arith) c.requires.in_root;
+pub carve-requires-clause-part : goal.carve-requires-clause-part
+carve-requires-clause-part g c = record {
+  place = search rules;
+  is_part = (omega arith, c.requires.aligned);
+  inside = record {
+    low = omega arith;
+    from = omega arith;
+    to = ends_in (record { start = c.args.at; level = c.args.level }) 0 0 (omega arith, c.requires.aligned) (omega arith, refl) (omega arith) (omega arith) c.requires.in_root;
+  };
+  some = c.requires.some;
+  within = c.requires.within;
 }
 
 pub returns-clause-no_room : goal.returns-clause-no_room

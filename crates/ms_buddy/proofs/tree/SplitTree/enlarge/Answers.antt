@@ -1,7 +1,7 @@
 -- The free leaves of the tree are the free parts that its lent leaves leave over.
 use Rattle.std.proofs.Common.{rules, sym, ap, ◌∙◌}
 use Rattle.ms_buddy.specs.Leaves.{free_of}
-use Rattle.ms_buddy.proofs.FreeLemmas.{free_of-tree}
+use Rattle.ms_buddy.proofs.FreeLeafLemmas.{free_of-tree}
 use Rattle.ms_buddy.proofs.tree.SplitTree.enlarge.Goals as goal
 use Rattle.ms_buddy.proofs.tree.SplitTree.enlarge.Goals.{in-Ok, in-Err}
 

@@ -2,8 +2,8 @@
 use Rattle.std.proofs.Common.{sym, ap, ◌∙◌}
 use Rattle.std.specs.List.{list_any}
 use Rattle.ms_buddy.specs.Leaves.{free_of, has_level, is_of}
-use Rattle.ms_buddy.proofs.FreeLemmas.{free_of-tree}
-use Rattle.ms_buddy.proofs.LevelLemmas.{levels_are_those}
+use Rattle.ms_buddy.proofs.FreeLeafLemmas.{free_of-tree}
+use Rattle.ms_buddy.proofs.LeafLevelLemmas.{levels_are_those}
 use Rattle.ms_buddy.proofs.tree.SplitTree.free_levels.Goals as goal
 
 pub returns : goal.returns

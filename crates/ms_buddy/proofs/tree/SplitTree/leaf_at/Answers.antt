@@ -1,8 +1,8 @@
 -- The free leaves of the tree are the free parts that its lent leaves leave over.
 use Rattle.std.proofs.Common.{sym, ap, ◌∙◌}
 use Rattle.ms_buddy.specs.Leaves.{free_of}
-use Rattle.ms_buddy.proofs.FreeLemmas.{free_of-tree}
-use Rattle.ms_buddy.proofs.KeptLemmas.{leaf_is_lent}
+use Rattle.ms_buddy.proofs.FreeLeafLemmas.{free_of-tree}
+use Rattle.ms_buddy.proofs.KeptTreeLemmas.{leaf_is_lent}
 use Rattle.ms_buddy.proofs.tree.SplitTree.leaf_at.Goals as goal
 
 pub returns-clause-leaf : goal.returns-clause-leaf

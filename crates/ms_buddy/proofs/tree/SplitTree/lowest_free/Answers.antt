@@ -1,7 +1,7 @@
 -- From offset 0 on every leaf of the level counts.
 use Rattle.std.proofs.Common.{◌∙◌}
 use Rattle.ms_buddy.specs.Leaves.{free_of}
-use Rattle.ms_buddy.proofs.LevelLemmas.{find-from_start}
+use Rattle.ms_buddy.proofs.LeafLevelLemmas.{find-from_start}
 use Rattle.ms_buddy.proofs.tree.SplitTree.lowest_free.Goals as goal
 
 pub returns : goal.returns

@@ -2,7 +2,7 @@
 use Rattle.std.proofs.Common.{sym, ap, ◌∙◌}
 use Rattle.std.specs.List.{find}
 use Rattle.ms_buddy.specs.Leaves.{free_of, is_of_from}
-use Rattle.ms_buddy.proofs.FreeLemmas.{free_of-tree}
+use Rattle.ms_buddy.proofs.FreeLeafLemmas.{free_of-tree}
 use Rattle.ms_buddy.proofs.tree.SplitTree.next_free.Goals as goal
 
 pub returns : goal.returns

@@ -1,7 +1,7 @@
 use Rattle.std.proofs.Common.{refl, inl}
 use Rattle.ms_base.specs.declared.kind.Space.TheVariants.{NonClass}
 use Rattle.ms_loaders.proofs.ViewLemmas.{view_is_sound}
-use Rattle.ms_loaders.proofs.AllocLemmas.{name_is_refused, allocated, asks_arena}
+use Rattle.ms_loaders.proofs.LoaderAllocLemmas.{name_is_refused, allocated, asks_arena}
 use Rattle.ms_loaders.proofs.loader.Loader.alloc.Goals as goal
 
 pub returns-in-Err-clause-allocates : goal.returns-in-Err-clause-allocates

@@ -2,7 +2,7 @@ use Rattle.std.proofs.Common.{◌≡◌, ◌+◌, [], get_or, ap, refl, ◌∙�
 use Rattle.ms_base.specs.declared.span.Span.{Span}
 use Rattle.ms_buddy.specs.Leaves.{free_of}
 use Rattle.ms_pool.specs.Counting.{parts_of}
-use Rattle.ms_pool.proofs.CountLemmas.{part_room, parts_of-cons, parts_of-none}
+use Rattle.ms_pool.proofs.PoolCountLemmas.{part_room, parts_of-cons, parts_of-none}
 use Rattle.ms_pool.proofs.lender.Lender.free_in_root.Goals as goal
 
 pub loop-leaf-init : goal.loop-leaf-init

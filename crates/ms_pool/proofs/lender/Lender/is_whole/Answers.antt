@@ -1,7 +1,7 @@
 use Rattle.std.proofs.Common.{Bool, ◌&&◌, sym, ap, ◌∙◌}
 use Rattle.std.proofs.lemmas.List.Elements.{recursion_from_All}
 use Rattle.ms_buddy.specs.Leaves.{AreLeaves}
-use Rattle.ms_pool.proofs.WholeLemmas.{by_read, whole_slot}
+use Rattle.ms_pool.proofs.WholeRootLemmas.{by_read, whole_slot}
 use Rattle.ms_pool.proofs.lender.Lender.is_whole.Goals as goal
 
 pub returns-then-lower : goal.returns-then-lower

@@ -20,38 +20,22 @@ loop-root-preserved c = record {
       (omega (arith, c.loop-root-test.true, c.slots_of-first.ensures.end)) c.loop-root.invariant.counted c.lent_in_root-counted.ensures;
 }
 
-pub lent_in_root-counted-requires-clause-room : goal.lent_in_root-counted-requires-clause-room
-lent_in_root-counted-requires-clause-room c =
-    root_fits c.args.space c.args.self.now c.loop-root.root c.loop-root.counted c.requires c.loop-root.invariant.low
-    (omega (arith, c.loop-root-test.true, c.slots_of-first.ensures.end)) c.loop-root.invariant.counted
+pub lent_in_root-counted-requires : goal.lent_in_root-counted-requires
+lent_in_root-counted-requires c =
+    let within = root_within c.args.space c.args.self.now c.loop-root.root c.requires (omega (arith, c.loop-root-test.true, c.slots_of-first.ensures.end)) in
+    record {
+      there = within;
+      leaves = at_tree c.args.self.now.trees.items c.loop-root.root within (recursion_from_All AreLeaves c.args.self.now.trees.items c.requires.leaves);
+      room = root_fits c.args.space c.args.self.now c.loop-root.root c.loop-root.counted c.requires c.loop-root.invariant.low
+          (omega (arith, c.loop-root-test.true, c.slots_of-first.ensures.end)) c.loop-root.invariant.counted;
+    }
 
-pub lent_in_root-counted-requires-clause-leaves : goal.lent_in_root-counted-requires-clause-leaves
-lent_in_root-counted-requires-clause-leaves c =
-    at_tree c.args.self.now.trees.items c.loop-root.root
-    (root_within c.args.space c.args.self.now c.loop-root.root c.requires (omega (arith, c.loop-root-test.true, c.slots_of-first.ensures.end)))
-    (recursion_from_All AreLeaves c.args.self.now.trees.items c.requires.leaves)
-
-pub lent_in_root-counted-requires-clause-there : goal.lent_in_root-counted-requires-clause-there
-lent_in_root-counted-requires-clause-there c =
-    root_within c.args.space c.args.self.now c.loop-root.root c.requires (omega (arith, c.loop-root-test.true, c.slots_of-first.ensures.end))
-
-pub returns-clause-lent : goal.returns-clause-lent
-returns-clause-lent c =
-    lent_are_by_level c.loop-root.counted (held_in c.args.space (ledger_of c.args.self.now))
-    (lent_at_end c.args.space c.args.self.now c.loop-root.root c.loop-root.counted c.requires (omega (arith, c.loop-root-test.false, c.slots_of-first.ensures.end)) c.loop-root.invariant.counted)
-
-pub returns-clause-capacity : goal.returns-clause-capacity
-returns-clause-capacity c =
-    omega (
-      arith,
-      (lent_at_end c.args.space c.args.self.now c.loop-root.root c.loop-root.counted c.requires (omega (arith, c.loop-root-test.false, c.slots_of-first.ensures.end)) c.loop-root.invariant.counted).capacity,
-      capacity_is (held_in c.args.space (ledger_of c.args.self.now)),
-    )
-
-pub returns-clause-fronts : goal.returns-clause-fronts
-returns-clause-fronts c =
-    omega (
-      arith,
-      (lent_at_end c.args.space c.args.self.now c.loop-root.root c.loop-root.counted c.requires (omega (arith, c.loop-root-test.false, c.slots_of-first.ensures.end)) c.loop-root.invariant.counted).fronts,
-      fronts_are (held_in c.args.space (ledger_of c.args.self.now)),
-    )
+pub returns : goal.returns
+returns c =
+    let held = held_in c.args.space (ledger_of c.args.self.now) in
+    let last = lent_at_end c.args.space c.args.self.now c.loop-root.root c.loop-root.counted c.requires (omega (arith, c.loop-root-test.false, c.slots_of-first.ensures.end)) c.loop-root.invariant.counted in
+    record {
+      lent = lent_are_by_level c.loop-root.counted held last;
+      capacity = omega (arith, last.capacity, capacity_is held);
+      fronts = omega (arith, last.fronts, fronts_are held);
+    }

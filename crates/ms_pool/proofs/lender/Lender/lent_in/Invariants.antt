@@ -1,7 +1,7 @@
 use Rattle.std.proofs.Common.{◌≤◌, ◌*◌}
 use Rattle.ms_pool.specs.Ledger.{held_in}
 use Rattle.ms_pool.specs.Keeping.{ledger_of}
-use Rattle.ms_pool.proofs.CountLemmas.{HasCounted}
+use Rattle.ms_pool.proofs.PoolCountLemmas.{HasCounted}
 use Rattle.ms_pool.proofs.LentCountLemmas.{left_from, none_counted}
 use Rattle.ms_pool.proofs.SlotLoopLemmas.{first_slot}
 use Rattle.ms_pool.proofs.lender.Lender.lent_in.Given as goal

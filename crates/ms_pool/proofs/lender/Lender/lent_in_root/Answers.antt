@@ -1,7 +1,7 @@
 use Rattle.std.proofs.Common.{ℕ, ◌+◌, [], get_or, ap, subst, arith, List}
 use Rattle.ms_buddy.specs.Leaves.{LentLeaf, IsLeafAt, free_of}
 use Rattle.ms_pool.proofs.WalkedLemmas.{covers_both}
-use Rattle.ms_pool.proofs.CountLemmas.{walk_begins, walk_is_over, walk_room, walk_step}
+use Rattle.ms_pool.proofs.PoolCountLemmas.{walk_begins, walk_is_over, walk_room, walk_step}
 use Rattle.ms_pool.proofs.lender.Lender.lent_in_root.Goals as goal
 
 pub loop-at-init : goal.loop-at-init

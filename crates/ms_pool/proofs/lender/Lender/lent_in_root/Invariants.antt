@@ -1,7 +1,7 @@
 use Rattle.std.proofs.Common.{◌-◌, [], get_or, map}
 use Rattle.ms_base.specs.Level.{root_words}
 use Rattle.ms_buddy.specs.Leaves.{chunk_of}
-use Rattle.ms_pool.proofs.CountLemmas.{HasCounted}
+use Rattle.ms_pool.proofs.PoolCountLemmas.{HasCounted}
 use Rattle.ms_pool.proofs.WalkedLemmas.{Walked}
 use Rattle.ms_pool.proofs.lender.Lender.lent_in_root.Given as goal
 

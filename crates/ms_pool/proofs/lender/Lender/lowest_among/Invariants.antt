@@ -1,21 +1,11 @@
-use Rattle.std.proofs.Common.{◌≡◌, ◌≤◌, ◌-◌}
-use Rattle.std.specs.List.{find, flat_map, range_with_len}
-use Rattle.ms_base.specs.FreeParts.{free_parts}
-use Rattle.ms_commit.specs.Nodes.{slots_of}
-use Rattle.ms_pool.specs.Ledger.{held_in, state_in}
-use Rattle.ms_pool.specs.Keeping.{ledger_of}
-use Rattle.ms_pool.specs.Searching.{grants}
-use Rattle.ms_pool.proofs.SlotLoopLemmas.{first_slot, end_slot, given_by}
+use Rattle.std.proofs.Common.{◌-◌}
+use Rattle.ms_pool.proofs.SlotLoopLemmas.{end_slot}
+use Rattle.ms_pool.proofs.SkipLemmas.{IsLookedTo}
 use Rattle.ms_pool.proofs.lender.Lender.lowest_among.Given as goal
 
 -- What is found first lies in the slots that are left.
 abbrev pub invariant-loop-root : goal.invariant-loop-root
-invariant-loop-root l = record {
-  low : first_slot l.wish.space ≤ l.slot;
-  high : l.slot ≤ end_slot l.wish.space l.self.nodes;
-  first : find (grants (state_in l.wish.space (ledger_of l.self)) l.wish.words l.wish.committed l.level) (free_parts (held_in l.wish.space (ledger_of l.self)) (slots_of l.wish.space l.self.nodes))
-      ≡ find (grants (state_in l.wish.space (ledger_of l.self)) l.wish.words l.wish.committed l.level) (flat_map (given_by l.self.nodes (held_in l.wish.space (ledger_of l.self))) (range_with_len l.slot (end_slot l.wish.space l.self.nodes - l.slot)));
-}
+invariant-loop-root l = IsLookedTo l.wish.space l.self l.wish.words l.wish.committed l.level l.slot
 
 abbrev pub decreases-loop-root : goal.decreases-loop-root
 decreases-loop-root l = end_slot l.wish.space l.self.nodes - l.slot

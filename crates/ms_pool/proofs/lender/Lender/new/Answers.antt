@@ -7,7 +7,7 @@ use Rattle.ms_buddy.specs.Leaves.{AreLeaves}
 use Rattle.ms_commit.specs.Nodes.{NodesState, AreSound, no_nodes}
 use Rattle.ms_commit.proofs.ModelLemmas.{granule_is_size}
 use Rattle.ms_pool.specs.Ledger.{IsSoundLedger}
-use Rattle.ms_pool.proofs.EmptyLemmas.{empty_is_sound, none_are_sound, starts_empty}
+use Rattle.ms_pool.proofs.EmptyPoolLemmas.{empty_is_sound, none_are_sound, starts_empty}
 use Rattle.ms_pool.proofs.lender.Lender.new.Goals as goal
 
 pub returns-clause-empty : goal.returns-clause-empty

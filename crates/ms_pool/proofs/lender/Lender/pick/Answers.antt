@@ -3,13 +3,14 @@ use Rattle.ms_base.specs.declared.kind.Space.{Space}
 use Rattle.ms_base.specs.declared.span.Span.{Span}
 use Rattle.ms_base.specs.declared.kind.Space.TheVariants.{NonClass, Class}
 use Rattle.ms_base.specs.Part.{is_reserved, node_words, slot_of}
-use Rattle.ms_commit.specs.Nodes.{slots_of}
 use Rattle.ms_base.specs.Pick.{lowest_unreserved}
 use Rattle.ms_base.specs.Spaces.{by_space, class_slots}
+use Rattle.ms_commit.specs.Nodes.{slots_of}
 use Rattle.ms_pool.specs.Ledger.{state_in}
 use Rattle.ms_pool.specs.Keeping.{ledger_of}
-use Rattle.ms_pool.proofs.PickedLemmas.{found_is_reserved, picked_found, picked_new, slot_of_its_root}
+use Rattle.ms_pool.proofs.PickedLemmas.{found_is_reserved, picked_found, picked_new}
 use Rattle.ms_pool.proofs.lender.Lender.pick.Goals as goal
+use Rattle.ms_pool.proofs.ledger.TakenLemmas.{slot_of_root}
 
 pub returns-in-Some-clause-picked : goal.returns-in-Some-clause-picked
 returns-in-Some-clause-picked c =
@@ -54,4 +55,4 @@ returns-in-Some-clause-slot c =
 pub returns-in-Some-new_slot-clause-slot : goal.returns-in-Some-new_slot-clause-slot
 returns-in-Some-new_slot-clause-slot c =
     let h = c.in-Some-new_slot.ensures in
-    rw c.from.ensures (inr (h.space, slot_of_its_root c.in-Some-new_slot.slot ∙ h.lowest, h.granted))
+    rw c.from.ensures (inr (h.space, slot_of_root c.in-Some-new_slot.slot ∙ h.lowest, h.granted))

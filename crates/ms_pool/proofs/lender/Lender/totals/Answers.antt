@@ -4,7 +4,7 @@ use Rattle.ms_commit.specs.Nodes.{slots_of}
 use Rattle.std.proofs.lemmas.List.FromFn.{length-range_with_len}
 use Rattle.ms_pool.specs.Ledger.{opened_in}
 use Rattle.ms_pool.specs.Keeping.{ledger_of}
-use Rattle.ms_pool.proofs.SumsLemmas.{sums_are}
+use Rattle.ms_pool.proofs.PoolSumsLemmas.{sums_are}
 use Rattle.ms_pool.proofs.lender.Lender.totals.Goals.{in-NonClass, in-Class}
 use Rattle.ms_pool.proofs.lender.Lender.totals.Goals as goal
 

@@ -1,7 +1,7 @@
 use Rattle.std.proofs.Common.{sym, subst}
 use Rattle.ms_pool.specs.Calls.{new_account}
 use Rattle.ms_pool.specs.Ledger.{Ledger, Serves}
-use Rattle.ms_pool.proofs.ledger.CloseLemmas.{closed_has_nothing, closed_serves_others}
+use Rattle.ms_pool.proofs.ledger.LedgerCloseLemmas.{closed_has_nothing, closed_serves_others}
 use Rattle.ms_pool.proofs.pool.PoolChunkSource.close.Goals as goal
 
 pub returns-clause-none : goal.returns-clause-none

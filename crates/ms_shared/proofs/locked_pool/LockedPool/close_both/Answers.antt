@@ -2,8 +2,8 @@ use Rattle.std.proofs.Common.{◌<◌, sym, subst, refl, ◌∙◌, arith}
 use Rattle.ms_base.specs.declared.kind.Space.{Space}
 use Rattle.ms_base.specs.declared.kind.Space.TheVariants.{NonClass, Class}
 use Rattle.ms_shared.specs.SeatView.{SeatState, ServesBy, opened_by}
-use Rattle.ms_shared.proofs.CallLemmas.{moves_at, is_call, over_lock, served_by_pool, own_times, serves_then, limits_stay, close_both_counts}
-use Rattle.ms_shared.proofs.CloseLemmas.{closes_both, both_have_nothing, class_has_nothing}
+use Rattle.ms_shared.proofs.LockCallLemmas.{moves_at, is_call, over_lock, served_by_pool, own_times, serves_then, limits_stay, close_both_counts}
+use Rattle.ms_shared.proofs.LockCloseLemmas.{closes_both, both_have_nothing, class_has_nothing}
 use Rattle.ms_shared.proofs.MovesLemmas.{close_both_moves}
 use Rattle.ms_shared.proofs.locked_pool.LockedPool.close_both.Goals as goal
 

@@ -1,7 +1,7 @@
 use Rattle.std.proofs.Common.{◌∙◌}
-use Rattle.ms_shared.proofs.CallLemmas.{moves_at, is_call, over_lock, limits_stay, open_raises}
+use Rattle.ms_shared.proofs.LockCallLemmas.{moves_at, is_call, over_lock, limits_stay, open_raises}
 use Rattle.ms_shared.proofs.MovesLemmas.{open_moves}
-use Rattle.ms_shared.proofs.OpenLemmas.{open_serves, open_others, open_counts, open_elsewhere, new_is}
+use Rattle.ms_shared.proofs.LockOpenLemmas.{open_serves, open_others, open_counts, open_elsewhere, new_is}
 use Rattle.ms_shared.proofs.locked_pool.LockedPool.open.Goals as goal
 
 pub let_go-requires-clause-moves : goal.let_go-requires-clause-moves

@@ -1,7 +1,7 @@
 use Rattle.std.proofs.Common.{◌∙◌}
-use Rattle.ms_shared.proofs.CallLemmas.{moves_at, is_call, over_lock, limits_stay, open_both_raises}
+use Rattle.ms_shared.proofs.LockCallLemmas.{moves_at, is_call, over_lock, limits_stay, open_both_raises}
 use Rattle.ms_shared.proofs.MovesLemmas.{open_both_moves}
-use Rattle.ms_shared.proofs.OpenLemmas.{open_both_serve, class_open_both_serve, open_both_others, open_both_counts, both_new_are}
+use Rattle.ms_shared.proofs.LockOpenLemmas.{open_both_serve, class_open_both_serve, open_both_others, open_both_counts, both_new_are}
 use Rattle.ms_shared.proofs.locked_pool.LockedPool.open_both.Goals as goal
 
 pub let_go-requires-clause-moves : goal.let_go-requires-clause-moves

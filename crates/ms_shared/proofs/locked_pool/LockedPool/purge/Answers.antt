@@ -1,7 +1,7 @@
 use Rattle.std.proofs.Common.{refl, ap, ◌∙◌}
 use Rattle.ms_pool.specs.Ledger.{Ledger, opened_in}
 use Rattle.ms_pool.proofs.ledger.ClosedLemmas.{purged_leaves_served}
-use Rattle.ms_shared.proofs.CallLemmas.{moves_at, is_call, over_lock, served_by_pool, serves_then, counts_stay, limits_stay, tallies_kept}
+use Rattle.ms_shared.proofs.LockCallLemmas.{moves_at, is_call, over_lock, served_by_pool, serves_then, counts_stay, limits_stay, tallies_kept}
 use Rattle.ms_shared.proofs.MovesLemmas.{purge_moves}
 use Rattle.ms_shared.proofs.locked_pool.LockedPool.purge.Goals as goal
 

@@ -1,6 +1,6 @@
 use Rattle.std.proofs.Common.{◌<◌, sym, subst, refl, ◌∙◌, arith}
 use Rattle.ms_shared.specs.SeatView.{SeatState, ServesBy, opened_by}
-use Rattle.ms_shared.proofs.CallLemmas.{moves_at, is_call, over_lock, served_by_pool, own_times, serves_then, limits_stay, close_counts, close_elsewhere}
+use Rattle.ms_shared.proofs.LockCallLemmas.{moves_at, is_call, over_lock, served_by_pool, own_times, serves_then, limits_stay, close_counts, close_elsewhere}
 use Rattle.ms_shared.proofs.MovesLemmas.{close_moves}
 use Rattle.ms_pool.proofs.ledger.ClosedLemmas.{closed_well}
 use Rattle.ms_shared.proofs.locked_pool.LockedPoolChunkSource.close.Goals as goal

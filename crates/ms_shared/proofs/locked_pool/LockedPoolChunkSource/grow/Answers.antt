@@ -3,7 +3,7 @@ use Rattle.std.specs.Prelude.{IfOk}
 use Rattle.ms_base.specs.State.{Limits}
 use Rattle.ms_pool.specs.Lending.{Grows}
 use Rattle.ms_shared.specs.SeatView.{SeatState, ServesBy}
-use Rattle.ms_shared.proofs.CallLemmas.{moves_at, is_call, over_lock, served_by_pool, own_times, serves_then, counts_stay, limits_stay, grow_raises, grew_owner}
+use Rattle.ms_shared.proofs.LockCallLemmas.{moves_at, is_call, over_lock, served_by_pool, own_times, serves_then, counts_stay, limits_stay, grow_raises, grew_owner}
 use Rattle.ms_shared.proofs.MovesLemmas.{kept_moves, grew_tallies}
 use Rattle.ms_shared.proofs.TellsLemmas.{grow_tells}
 use Rattle.ms_pool.proofs.ledger.GrewLemmas.{grew_keeps, grew_serves, grew_serves_others}

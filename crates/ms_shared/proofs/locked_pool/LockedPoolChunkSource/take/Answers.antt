@@ -3,7 +3,7 @@ use Rattle.std.specs.Prelude.{IfOk}
 use Rattle.ms_base.specs.State.{Limits}
 use Rattle.ms_pool.specs.Lending.{Adds}
 use Rattle.ms_shared.specs.SeatView.{SeatState, ServesBy}
-use Rattle.ms_shared.proofs.CallLemmas.{moves_at, is_call, over_lock, served_by_pool, own_times, serves_then, counts_stay, limits_stay, take_raises, took_owner}
+use Rattle.ms_shared.proofs.LockCallLemmas.{moves_at, is_call, over_lock, served_by_pool, own_times, serves_then, counts_stay, limits_stay, take_raises, took_owner}
 use Rattle.ms_shared.proofs.TellsLemmas.{take_tells}
 use Rattle.ms_shared.proofs.MovesLemmas.{kept_moves, take_tallies}
 use Rattle.ms_pool.proofs.ledger.TookLemmas.{MayAsk, took_keeps, took_serves, took_serves_others}

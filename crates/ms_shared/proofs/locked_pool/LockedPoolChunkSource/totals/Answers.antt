@@ -1,5 +1,5 @@
 use Rattle.std.proofs.Common.{refl, ◌∙◌}
-use Rattle.ms_shared.proofs.CallLemmas.{moves_at, is_call, over_lock, served_by_pool, serves_then, counts_stay, limits_stay}
+use Rattle.ms_shared.proofs.LockCallLemmas.{moves_at, is_call, over_lock, served_by_pool, serves_then, counts_stay, limits_stay}
 use Rattle.ms_shared.proofs.MovesLemmas.{same_moves}
 use Rattle.ms_shared.proofs.OwnLemmas.{counts_own}
 use Rattle.ms_shared.proofs.locked_pool.LockedPoolChunkSource.totals.Goals as goal

@@ -1,6 +1,6 @@
 use Rattle.std.proofs.Common.{◌≡◌, ◌+◌, sym, ap, ◌∙◌, subst}
 use Rattle.ms_shared.specs.SeatView.{SeatState, ServesBy, opened_by, without_account, with_account}
-use Rattle.ms_shared.proofs.DealLemmas.{seat_of}
+use Rattle.ms_shared.proofs.SeatDealLemmas.{seat_of}
 use Rattle.ms_shared.proofs.HandLemmas.{from_is, to_is, handed_serves, left_serves, taker_serves, taker_counts, left_counts}
 use Rattle.ms_shared.proofs.shared_pool.SharedPool.hand.Goals as goal
 

@@ -3,8 +3,8 @@ use Rattle.atomic_table.specs.Table.{opening}
 use Rattle.ms_pool.specs.Ledger.{Ledger}
 use Rattle.ms_shared.specs.SeatView.{new_seats}
 use Rattle.ms_shared.specs.LockRule.{IsLocked, Sat, first_view}
-use Rattle.ms_shared.proofs.CutLemmas.{begins, cut, cuts_seats}
-use Rattle.ms_shared.proofs.DealLemmas.{deals_begin, deals_more, deals_end, seen_as}
+use Rattle.ms_shared.proofs.SeatCutLemmas.{begins, cut, cuts_seats}
+use Rattle.ms_shared.proofs.SeatDealLemmas.{deals_begin, deals_more, deals_end, seen_as}
 use Rattle.ms_shared.proofs.shared_pool.SharedPool.new.Goals as goal
 
 pub new-requires : goal.new-requires

@@ -1,5 +1,5 @@
 use Rattle.std.proofs.Common.{◌≡◌, ◌+◌, ◌≤◌, [], vec_len, vec_capacity}
-use Rattle.ms_shared.proofs.DealLemmas.{IsDealing}
+use Rattle.ms_shared.proofs.SeatDealLemmas.{IsDealing}
 use Rattle.ms_shared.proofs.shared_pool.SharedPool.new.Given as goal
 
 abbrev pub invariant-loop : goal.invariant-loop

@@ -1,7 +1,7 @@
 use Rattle.std.proofs.Common.{rules, ◌≡◌, ◌+◌, ◌-◌, sym, ap, ◌∙◌, arith}
 use Rattle.ms_shared.specs.SeatView.{LockState}
 use Rattle.ms_shared.specs.LockRule.{Sat}
-use Rattle.ms_shared.proofs.CutLemmas.{cut, join}
+use Rattle.ms_shared.proofs.SeatCutLemmas.{cut, join}
 use Rattle.ms_shared.proofs.HandLemmas.{cuts_account, cuts_part}
 use Rattle.ms_shared.proofs.shared_pool.SharedPool.pass.Goals as goal
 

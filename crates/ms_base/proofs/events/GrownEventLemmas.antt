@@ -1,0 +1,189 @@
+-- A chunk that grows leaves a good state.
+use Rattle.std.proofs.Common.{Bool, ◌≡◌, ◌≤◌, ◌+◌, ℕ, suc, zero, Some, List, [], ◌∷◌, ◌++◌, length, refl, sym, ap, ◌∙◌, subst, arith, inl, inr}
+use Rattle.std.specs.Prelude.{slice_get, slice_set}
+use Rattle.std.specs.Ordering.{nat_cmp}
+use Rattle.std.specs.List.{Contains}
+use Rattle.std.specs.BTreeMap.{is_at}
+use Rattle.std.proofs.lemmas.Map.Steps.{set_value_same}
+use Rattle.ms_base.specs.declared.kind.Space.{Space}
+use Rattle.ms_base.specs.declared.kind.Space.TheVariants.{NonClass, Class}
+use Rattle.ms_base.specs.declared.span.Chunk.{Chunk}
+use Rattle.ms_base.specs.Spaces.{other_space}
+use Rattle.ms_base.specs.Names.{with_changed}
+use Rattle.ms_base.specs.State.{ArenaState, LoaderState, Machine, PoolState, arena_of, with_arena, chunks_held, slots_in, committed_in, committed_now, pool_of, recommitted}
+use Rattle.ms_base.specs.Live.{runs_in}
+use Rattle.ms_base.specs.Good.{IsSoundLoader, IsGood}
+use Rattle.ms_base.specs.Causes.{granules_missing}
+use Rattle.ms_base.specs.Transition.{with_loader, IsGrown}
+use Rattle.ms_base.specs.SumLaws.{GrowsWell, with_grown}
+use Rattle.ms_base.specs.Event.{Grows, with_chunk_at}
+use Rattle.ms_base.proofs.entries.EntryLemmas.{Split, split_at}
+use Rattle.ms_base.proofs.machine.GoodLemmas.{chunks_split, loader_is_sound}
+use Rattle.ms_base.proofs.machine.ChangeLemmas.{changed, slots_same, recommitted_same}
+use Rattle.ms_base.proofs.granules.GranuleGrowingLemmas.{growing_commits_the_missing, growing_keeps_the_limit, growing_is_clear}
+use Rattle.ms_base.proofs.arena.BlockLemmas.{arena_there, arena_elsewhere}
+use Rattle.ms_base.proofs.arena.GrownLemmas.{grown_is_sound, good_with_grown}
+use Rattle.ms_base.proofs.events.KeptEventLemmas.{sound_with_arena}
+
+-- A place among chunks, with others before and after.
+found_later : (first xs : List Chunk) (place : ℕ) → slice_get (first ++ xs) (length first + place) ≡ slice_get xs place
+found_later [] xs place = let same : 0 + place ≡ place = omega arith in ap (slice_get xs) same
+found_later (c ∷ first) xs place =
+    let more : suc (length first) + place ≡ suc (length first + place) = omega arith in
+    ap (slice_get (c ∷ (first ++ xs))) more ∙ found_later first xs place
+
+found_before : (xs last : List Chunk) (place : ℕ) (chunk : Chunk) → slice_get xs place ≡ Some chunk
+    → slice_get (xs ++ last) place ≡ Some chunk
+found_before [] last place chunk found = absurd (cc)
+found_before (c ∷ xs) last zero chunk found = found
+found_before (c ∷ xs) last (suc place) chunk found = found_before xs last place chunk found
+
+set_later : (first xs : List Chunk) (place : ℕ) (chunk : Chunk)
+    → slice_set (first ++ xs) (length first + place) chunk ≡ first ++ slice_set xs place chunk
+set_later [] xs place chunk = let same : 0 + place ≡ place = omega arith in ap (λ (n : ℕ). slice_set xs n chunk) same
+set_later (c ∷ first) xs place chunk =
+    let more : suc (length first) + place ≡ suc (length first + place) = omega arith in
+    ap (λ (n : ℕ). slice_set (c ∷ (first ++ xs)) n chunk) more ∙ ap (λ (l : List Chunk). c ∷ l)
+    (set_later first xs place chunk)
+
+set_before : (xs last : List Chunk) (place : ℕ) (was chunk : Chunk) → slice_get xs place ≡ Some was
+    → slice_set (xs ++ last) place chunk ≡ slice_set xs place chunk ++ last
+set_before [] last place was chunk found = absurd (cc)
+set_before (c ∷ xs) last zero was chunk found = refl
+set_before (c ∷ xs) last (suc place) was chunk found = ap (λ (l : List Chunk). c ∷ l)
+    (set_before xs last place was chunk found)
+
+pub set_same : (xs : List Chunk) (place : ℕ) (chunk : Chunk) → slice_get xs place ≡ Some chunk
+    → slice_set xs place chunk ≡ xs
+set_same [] place chunk found = absurd (cc)
+set_same (c ∷ xs) zero chunk found = let its : chunk ≡ c = cc in ap (λ (d : Chunk). d ∷ xs) its
+set_same (c ∷ xs) (suc place) chunk found = ap (λ (l : List Chunk). c ∷ l) (set_same xs place chunk found)
+
+is_there : (xs : List Chunk) (place : ℕ) (chunk : Chunk) → slice_get xs place ≡ Some chunk → Contains xs chunk
+is_there [] place chunk found = absurd (cc)
+is_there (c ∷ xs) zero chunk found = (0, omega arith, cc)
+is_there (c ∷ xs) (suc place) chunk found = let rest = is_there xs place chunk found in
+    (suc rest.0, omega (arith, rest.1), rest.2)
+
+pub same_arena : (space : Space) (loader : LoaderState) → with_arena space loader (arena_of space loader) ≡ loader
+same_arena NonClass loader = refl
+same_arena Class loader = refl
+
+-- It is one that the pool holds.
+module _ (space : Space) (old : Machine) (name start total : ℕ) (may_enlarge : Bool) (chunk : Chunk) (new : Machine)
+    (good : IsGood old) (grows : Grows old space name start total may_enlarge chunk new) where
+  abbrev split : Split old.loaders name grows.loader
+  split = split_at old.loaders name grows.loader grows.asked.has
+
+  abbrev first : List Chunk
+  first = chunks_held space split.before
+
+  abbrev last : List Chunk
+  last = chunks_held space split.after
+
+  abbrev own : List Chunk
+  own = (arena_of space grows.loader).chunks
+
+  abbrev place : ℕ
+  place = length first + grows.place
+
+  held_was : chunks_held space old.loaders ≡ first ++ (own ++ last)
+  held_was = ap (chunks_held space) split.is ∙ chunks_split space split.before split.after name grows.loader
+
+  at_place : slice_get (chunks_held space old.loaders) place ≡ Some grows.was
+  at_place = ap (λ (l : List Chunk). slice_get l place) held_was ∙ found_later first (own ++ last) grows.place
+      ∙ found_before own last grows.place grows.was grows.asked.found
+
+  is_held : Contains (chunks_held space old.loaders) grows.was
+  is_held = is_there (chunks_held space old.loaders) place grows.was at_place
+
+  pub grows_well : GrowsWell (pool_of space old) grows.was chunk total
+  grows_well = growing_keeps_the_limit (pool_of space old) grows.was chunk total may_enlarge
+      (good.pools space) is_held grows.answer
+
+-- A chunk that grows leaves a good state: it stays, or it is a greater one of this loader's.
+pub good_with_greater : (space : Space) (old : Machine) (name start total : ℕ) (may_enlarge : Bool) (chunk : Chunk)
+    (new : Machine)
+    → IsGood old → Grows old space name start total may_enlarge chunk new → IsGood new
+good_with_greater space old name start total may_enlarge chunk new good grows = subst IsGood (sym grows.after)
+    (elim well.changes [
+      | inl same ↦ subst IsGood (sym (unchanged same)) good
+      | inr more ↦ subst IsGood (ap recommitted (slots_same space (with_loader old name other)))
+          (good_with_grown space old name loader other grows.place grows.was chunk grows.asked.has grows.asked.found
+          (ap (λ (one : ArenaState). one.chunks) (arena_there space loader greater))
+          (ap (λ (one : ArenaState). one.chunks) (arena_elsewhere space loader greater))
+          (sound_with_arena space loader greater (grown_is_sound arena
+          (runs_in space loader.blocks) grows.place grows.was chunk grows.asked.found more.start
+          (omega (arith, more.front)) (sound.arenas space)) sound)
+          well.placed well.front_rule more.start (growing_is_clear pool grows.was chunk total may_enlarge
+          (good.pools space) (is_held space old name start total may_enlarge chunk new good grows) grows.answer)
+          (few more) good)
+    ])
+  where
+    loader : LoaderState
+    loader = grows.loader
+
+    arena : ArenaState
+    arena = arena_of space loader
+
+    greater : ArenaState
+    greater = with_chunk_at arena grows.place chunk
+
+    other : LoaderState
+    other = with_arena space loader greater
+
+    pool : PoolState
+    pool = pool_of space old
+
+    around : Split old.loaders name loader
+    around = split space old name start total may_enlarge chunk new good grows
+
+    before : List Chunk
+    before = chunks_held space around.before
+
+    after : List Chunk
+    after = chunks_held space around.after
+
+    there : ℕ
+    there = length before + grows.place
+
+    sound : IsSoundLoader loader
+    sound = loader_is_sound old name loader grows.asked.has good
+
+    now : chunks_held space (with_changed old.loaders name other)
+        ≡ slice_set (chunks_held space old.loaders) there chunk
+    now = ap (chunks_held space) (around.changed other) ∙ chunks_split space around.before around.after name other
+        ∙ ap (λ (one : ArenaState). before ++ (one.chunks ++ after)) (arena_there space loader greater)
+        ∙ sym (ap (λ (l : List Chunk). slice_set l there chunk)
+        (held_was space old name start total may_enlarge chunk new good grows) ∙ set_later before
+        (arena.chunks ++ after) grows.place chunk
+        ∙ ap (λ (l : List Chunk). before ++ l) (set_before arena.chunks after grows.place grows.was chunk grows.asked.found))
+
+    well : GrowsWell pool grows.was chunk total
+    well = grows_well space old name start total may_enlarge chunk new good grows
+
+    unchanged : chunk ≡ grows.was → recommitted (with_loader old name other) ≡ old
+    unchanged same =
+        ap (λ (l : List Chunk). recommitted (with_loader old name (with_arena space loader (record arena { chunks = l }))))
+        (ap (slice_set arena.chunks grows.place) same ∙ set_same arena.chunks grows.place grows.was grows.asked.found)
+        ∙ ap (λ (one : LoaderState). recommitted (with_loader old name one)) (same_arena space loader)
+        ∙ ap (λ (l : List (ℕ × LoaderState)). recommitted (record old { loaders = l }))
+        (set_value_same (is_at (nat_cmp name)) old.loaders loader grows.asked.has)
+        ∙ recommitted_same old good
+
+    count : IsGrown grows.was chunk
+        → length (committed_now (with_grown pool there chunk))
+        ≡ length (committed_in space old) + granules_missing pool chunk
+    count more = growing_commits_the_missing pool there grows.was chunk (good.pools space)
+        (at_place space old name start total may_enlarge chunk new good grows) more well.placed well.front_rule.within
+
+    few : IsGrown grows.was chunk
+        → length (committed_now (pool_of space (changed space old name other (slots_in space old))))
+        + length (committed_in (other_space space) old) ≤ old.limits.granules
+    few more = omega (
+      arith,
+      ap (λ (m : Machine). length (committed_now (pool_of space m))) (slots_same space (with_loader old name other)),
+      ap (λ (l : List Chunk). length (committed_now (record pool { held = l }))) now,
+      count more,
+      well.within,
+    )
