@@ -40,4 +40,5 @@ pub record IsOutput (addresses : Bool) (settings : Settings) (text output : List
   pub reads : ReadsAs text trace
   pub own : IsReplay (limits_of settings) trace.lines answers
   pub output_is : output ≡ answers_text addresses answers
-  pub run : settings.workers ≡ 1 → (last : Machine) × Outputs addresses (empty_machine (limits_of settings)) trace.lines output last
+  pub run : settings.workers ≡ 1
+      → (last : Machine) × Outputs addresses (empty_machine (limits_of settings)) trace.lines output last

@@ -1,13 +1,10 @@
 -- Books stay books at each step, and what a step places awaits its block. The functions of `books`
 -- use these.
-use Rattle.std.proofs.Common.{◌≡◌, ◌≤◌, ◌<◌, ◌+◌, ◌-◌, ◌^◌, ℕ, zero, suc, Bool, false, Option, Some, None, List, [], ◌∷◌, ◌++◌, length, refl, sym, ap, ◌∙◌, subst, arith, length-append, length-set, sum}
+use Rattle.std.proofs.Common.{◌≡◌, ◌≤◌, ◌<◌, ◌+◌, ◌-◌, ◌^◌, ℕ, zero, suc, Bool, Option, Some, None, List, [], ◌∷◌, ◌++◌, length, refl, sym, ap, ◌∙◌, subst, arith, length-append, length-set, sum}
 use Rattle.std.specs.Prelude.{slice_get, slice_index, slice_index_or, slice_set}
 use Rattle.std.specs.Option.{option_map, IfSome}
 use Rattle.std.proofs.Math.Nat.{pow-le-pow_right}
 use Rattle.std.proofs.lemmas.Grind.{get_or_default_zero}
-use Rattle.std.proofs.lemmas.Bool.{or_parts, or_from}
-use Rattle.std.proofs.lemmas.Bool.Decides.{nat_tests}
-use Rattle.ms_base.specs.Interval.{meet, meets_any}
 use Rattle.std.proofs.lemmas.List.Sums.{sum_by_push}
 use Rattle.ms_base.specs.declared.kind.Space.{Space}
 use Rattle.ms_base.specs.declared.policy.Policy.{Policy}
@@ -19,7 +16,7 @@ use Rattle.ms_base.specs.State.{ArenaState}
 use Rattle.ms_base.specs.Good.{IsSound}
 use Rattle.ms_base.specs.Place.{current, current_top, last_place, tops_with, with_rest, with_top, with_chunk, with_taken, retired, retired_chunk}
 use Rattle.ms_base.proofs.arena.KeptLemmas.{sound_with_kept}
-use Rattle.ms_base.proofs.arena.RaisedLemmas.{top_within}
+use Rattle.ms_base.proofs.arena.RaisedLemmas.{top_within, place_within}
 use Rattle.ms_base.proofs.arena.TopLemmas.{tops_pushed}
 use Rattle.ms_base.proofs.granules.FrontLemmas.{front_reaches}
 use Rattle.ms_blocks.specs.FreeBlocks.{KeptBlocks, MayBeKept}
@@ -29,11 +26,7 @@ use Rattle.ms_arena.specs.Alloc.{with_current}
 use Rattle.ms_arena.specs.Books.{BooksView, AreBooks, Awaits, AwaitsBlock, IsCurrent, PlacesFree, MayRetire, tops_retired, kept_retired}
 use Rattle.ms_arena.proofs.ChunkLemmas.{Reaches, bounded_at, one_place, reaches, used_small, in_use_below}
 use Rattle.ms_arena.proofs.AwaitLemmas.{awaits_at_top, awaits_in_free, awaits_in_grown, awaits_in_taken, rest_awaits, fits_from}
-
-place_within : {X : Type 0} (xs : List X) (place : ℕ) (x : X) → slice_get xs place ≡ Some x → place < length xs
-place_within [] place x found = absurd (cc)
-place_within (y ∷ xs) zero x found = omega arith
-place_within (y ∷ xs) (suc place) x found = omega (arith, place_within xs place x found)
+use Rattle.ms_base.proofs.arena.FreeBlockLemmas.{part_clear}
 
 -- The words in use are few, and the current chunk has its bounds.
 pub books_small : (space : Space) (state : ArenaState) (counted : ℕ) → AreBooks space state counted → counted < 2 ^ 51
@@ -115,17 +108,6 @@ books_placed_at_top space state counted n place now chunk tops books found withi
   used = summed;
   sound = (top_awaits space state counted n place chunk tops books found within long last is [] books.sound).sound;
 }
-
--- A part of a free block may be kept where the free block might.
-part_clear : (run part : ℕ × ℕ) (runs : List (ℕ × ℕ)) → run.0 ≤ part.0 → part.0 + part.1 ≤ run.0 + run.1
-    → meets_any run runs ≡ false → meets_any part runs ≡ false
-part_clear run part [] low high h = refl
-part_clear run part (r ∷ runs) low high h =
-    let both = or_parts (meet run.0 run.1 r.0 r.1) (meets_any run runs) h in
-    or_from (meet part.0 part.1 r.0 r.1) (meets_any part runs) (narrower run.0 run.1 part.0 part.1 r.0 r.1 low high both.0) (part_clear run part runs low high both.1)
-  where
-    narrower : (a m k n b l : ℕ) → a ≤ k → k + n ≤ a + m → meet a m b l ≡ false → meet k n b l ≡ false
-    narrower a m k n b l h i e = grind (arith, nat_tests)
 
 pub rest_may : (kept : List (ℕ × ℕ)) (run : ℕ × ℕ) (start words : ℕ) → MayBeKept kept run → run.0 ≤ start → start + words ≤ run.0 + run.1
     → 2 ≤ words → MayBeKept kept (start, words)

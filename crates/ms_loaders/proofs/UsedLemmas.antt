@@ -50,6 +50,6 @@ committed_fits m good = omega (
 -- A machine's loader of a name has in use what the loader of that name has.
 pub used_mapped : (loaders : List (ℕ × LoaderView)) (name : ℕ) → used_at (named loaders name) ≡ used_if (named (states_of loaders) name)
 used_mapped loaders name = elim (named loaders name) as (λ found. used_at found ≡ used_if (option_map (λ (loader : LoaderView). loader.state) found)) [
-    | Some loader ↦ refl
-    | None ↦ refl
-  ] ∙ ap used_if (sym (named-mapped (λ (loader : LoaderView). loader.state) loaders name))
+  | Some loader ↦ refl
+  | None ↦ refl
+] ∙ ap used_if (sym (named-mapped (λ (loader : LoaderView). loader.state) loaders name))

@@ -33,7 +33,8 @@ account_in space loader =
 
 -- A loader that has nothing yet but its accounts.
 abbrev pub new_loader : AccountState → AccountState → Kind → LoaderView
-new_loader account class_account kind = record { owner = account.owner; class_owner = class_account.owner; state = empty_loader kind }
+new_loader account class_account kind =
+    record { owner = account.owner; class_owner = class_account.owner; state = empty_loader kind }
 
 -- What is true of every loader: its state is sound, and its chunks are an account's in each space.
 pub record IsSoundView (loader : LoaderView) : Type 0 where
@@ -50,11 +51,14 @@ pub record IsArenaOf (space : Space) (loader : LoaderView) (arena : ArenaView) :
 -- A loader with a new block of zeros in a space, or as it was, by what its arena answered.
 abbrev pub AfterAlloc : Space → LoaderView → ℕ → ArenaView → Result Block Refusal → LoaderView → Type 0
 AfterAlloc space old name arena (Ok block) new =
-    IsTrue (is_in space block.start) × (new ≡ with_state old (with_allocated space old.state arena.books name (zeroed block.start block.words)))
+    IsTrue (is_in space block.start)
+    × (new ≡ with_state old (with_allocated space old.state arena.books name (zeroed block.start block.words)))
 AfterAlloc space old name arena (Err refusal) new = new ≡ old
 
 -- The name is new, and the arena of the space is asked.
-pub record AsksArena {S : Type 0} (grew : GrowRelation S) (took : TakeRelation S) (policy : Policy) (space : Space) (old : LoaderView) (name words : ℕ) (before : S) (answer : Result Block Refusal) (new : LoaderView) (after : S) : Type 0 where
+pub record AsksArena {S : Type 0} (grew : GrowRelation S) (took : TakeRelation S) (policy : Policy) (space : Space)
+    (old : LoaderView) (name words : ℕ) (before : S) (answer : Result Block Refusal) (new : LoaderView)
+    (after : S) : Type 0 where
   pub unused : named old.state.blocks name ≡ None
   pub was : ArenaView
   pub is : ArenaView
@@ -68,7 +72,8 @@ abbrev pub NameRefused : LoaderView → ℕ → ℕ → Refusal → Type 0
 NameRefused loader name words BlockExists = (found : LiveBlock) × (named loader.state.blocks name ≡ Some found)
 NameRefused loader name words refusal = (named loader.state.blocks name ≡ None) × PlaceRefused words refusal
 
-pub record IsNotAsked {S : Type 0} (old : LoaderView) (name words : ℕ) (before : S) (answer : Result Block Refusal) (new : LoaderView) (after : S) : Type 0 where
+pub record IsNotAsked {S : Type 0} (old : LoaderView) (name words : ℕ) (before : S) (answer : Result Block Refusal)
+    (new : LoaderView) (after : S) : Type 0 where
   pub refusal : Refusal
   pub answer_is : answer ≡ Err refusal
   pub cause : NameRefused old name words refusal
@@ -76,9 +81,11 @@ pub record IsNotAsked {S : Type 0} (old : LoaderView) (name words : ℕ) (before
   pub source : after ≡ before
 
 -- An allocation of so many words in a space, under a name.
-abbrev pub AllocatesBlock : {S : Type 0} → GrowRelation S → TakeRelation S → Policy → Space → LoaderView → ℕ → ℕ → S → Result Block Refusal → LoaderView → S → Type 0
+abbrev pub AllocatesBlock : {S : Type 0} → GrowRelation S → TakeRelation S → Policy → Space → LoaderView → ℕ → ℕ → S
+    → Result Block Refusal → LoaderView → S → Type 0
 AllocatesBlock grew took policy space old name words before answer new after =
-    IsNotAsked old name words before answer new after ⊎ AsksArena grew took policy space old name words before answer new after
+    IsNotAsked old name words before answer new after
+    ⊎ AsksArena grew took policy space old name words before answer new after
 
 -- A word of the block is the value.
 pub record HasWord (loader : LoaderState) (block index value : ℕ) : Type 0 where

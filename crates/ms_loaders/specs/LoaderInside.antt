@@ -21,7 +21,8 @@ Contents = Space → List (ℕ × List ℕ)
 
 -- A named block with its contents, which the arena of its space has.
 abbrev pub live_at : Contents → Block → LiveBlock
-live_at contents block = record { start = block.start; contents = unwrap_or (named (contents (space_at block.start)) block.start) [] }
+live_at contents block =
+    record { start = block.start; contents = unwrap_or (named (contents (space_at block.start)) block.start) [] }
 
 -- The named blocks with their contents.
 abbrev pub blocks_of : Contents → List (ℕ × Block) → List (ℕ × LiveBlock)
@@ -61,4 +62,5 @@ pub record IsLoader (a : Inside) : Type 0 where
   pub arena : IsArena NonClass a.arena.kind a.arena
   pub class_arena : IsArena Class a.arena.kind a.class_arena
   pub names : AreNamed a.names.entries
-  pub matched : (space : Space) → IsPermutation (named_runs space a.names.entries) (live_runs (by_space space a.arena a.class_arena))
+  pub matched : (space : Space)
+      → IsPermutation (named_runs space a.names.entries) (live_runs (by_space space a.arena a.class_arena))

@@ -20,4 +20,5 @@ pub record MaySettle (ledger : Ledger) (loaders : List (ℕ × LoaderView)) : Ty
   pub distinct : AreDistinct (owners_of loaders)
   pub opened : length loaders ≤ ledger.opened
   pub class_opened : length loaders ≤ ledger.class_opened
-  pub no_other : open_accounts ledger ≤ accounts_in loaders → All (λ (loan : Loan). IsTrue (is_among (owners_of loaders) loan.owner)) ledger.loans
+  pub no_other : open_accounts ledger ≤ accounts_in loaders
+      → All (λ (loan : Loan). IsTrue (is_among (owners_of loaders) loan.owner)) ledger.loans

@@ -19,7 +19,8 @@ states_of loaders = map (λ (entry : ℕ × LoaderView). (entry.0, entry.1.state
 
 -- The accounts of loaders, two of each.
 abbrev pub accounts_of : List (ℕ × LoaderView) → List AccountState
-accounts_of loaders = flat_map (λ (loader : LoaderView). account_in NonClass loader ∷ account_in Class loader ∷ []) (values_of loaders)
+accounts_of loaders =
+    flat_map (λ (loader : LoaderView). account_in NonClass loader ∷ account_in Class loader ∷ []) (values_of loaders)
 
 abbrev pub owners_of : List (ℕ × LoaderView) → List ℕ
 owners_of loaders = map (λ (account : AccountState). account.owner) (accounts_of loaders)

@@ -21,7 +21,6 @@ use Rattle.ms_base.specs.declared.refusal.Refusal.TheVariants.{OutOfMemory, Load
 use Rattle.ms_base.specs.Names.{AreNamed, named, with_new}
 use Rattle.ms_base.proofs.entries.EntryLemmas.{gap_at, same_name}
 use Rattle.ms_base.proofs.entries.LookupLemmas.{named_new_same, named_new_other}
-use Rattle.ms_base.specs.State.{LoaderState}
 use Rattle.ms_loaders.specs.Loader.{LoaderView}
 use Rattle.ms_loaders.specs.Loaders.{InsertRefused}
 use Rattle.ms_loaders.specs.System.{states_of}

@@ -1,16 +1,13 @@
 -- What an allocation over the lock tells a loader: the answer is one that the loader's own lines allow,
 -- or the allocation was refused for want.
-use Rattle.std.proofs.Common.{◌≡◌, ◌+◌, ◌≤◌, ℕ, ◌⊎◌, Bool, true, false, cond, Option, Some, None, Result, Ok, Err, List, [], ◌∷◌, ◌++◌, refl, sym, ap, ◌∙◌, subst, inl, inr, arith, option_map}
+use Rattle.std.proofs.Common.{◌≡◌, ◌+◌, ◌≤◌, ℕ, ◌⊎◌, Bool, true, false, cond, Option, Some, None, Result, Ok, Err, List, [], ◌∷◌, ◌++◌, refl, sym, ap, ◌∙◌, subst, inl, inr, arith}
 use Rattle.std.specs.Prelude.{nat_le, nat_lt}
-use Rattle.std.specs.Ordering.{nat_cmp}
 use Rattle.std.specs.List.{AllByRecursion, filter, list_any, list_all, zip}
-use Rattle.std.specs.BTreeMap.{is_at}
 use Rattle.std.proofs.lemmas.Bool.{and_parts, and_from, or_parts, or_from, or_cases, leb-true, le-leb}
 use Rattle.std.proofs.lemmas.Bool.Decides.{nat_tests}
 use Rattle.std.proofs.lemmas.List.{append_assoc, length-replicate}
 use Rattle.std.proofs.lemmas.List.Folds.{list_any-append, list_all-append}
 use Rattle.std.proofs.lemmas.List.Elements.{recursion_from_All}
-use Rattle.std.proofs.lemmas.Map.Made.{lookup-map_values}
 use Rattle.ms_base.specs.declared.kind.Space.{Space}
 use Rattle.ms_base.specs.declared.kind.Space.TheVariants.{NonClass, Class}
 use Rattle.ms_base.specs.declared.policy.Policy.{Policy}
@@ -30,7 +27,7 @@ use Rattle.ms_base.specs.Names.{named, with_new, with_changed}
 use Rattle.ms_base.specs.Live.{block_words, run_of, runs_of, runs_in}
 use Rattle.ms_base.specs.Place.{placed, current}
 use Rattle.ms_base.specs.Asks.{asks_growth}
-use Rattle.ms_base.specs.State.{ArenaState, LoaderState, arena_of}
+use Rattle.ms_base.specs.State.{ArenaState, arena_of}
 use Rattle.ms_base.specs.Transition.{zeroed}
 use Rattle.ms_base.specs.WordLaws.{alloc_in}
 use Rattle.ms_base.specs.Alone.{OwnLoader, IsAllocWant, CanAlloc, Adds, AnswersAlloc, OwnReply}
@@ -47,8 +44,7 @@ use Rattle.ms_loaders.specs.Loader.{LoaderView, IsSoundView, NameRefused, Alloca
 use Rattle.ms_loaders.specs.System.{states_of}
 use Rattle.ms_shared.specs.SeatView.{SeatState}
 use Rattle.ms_shared.specs.LockCalls.{TakeTallies, TookOver, GrewOver}
-use Rattle.ms_run.specs.Own.{own_of, own_in}
-use Rattle.ms_loaders.proofs.UnloadLemmas.{state_of}
+use Rattle.ms_run.specs.Own.{own_in}
 use Rattle.ms_run.proofs.TouchLemmas.{own_missing, own_found}
 
 abbrev own_part : LoaderView → OwnLoader

@@ -4,7 +4,7 @@ use Rattle.std.proofs.Common.{◌≡◌, ◌≢◌, ◌≤◌, ◌+◌, ℕ, Boo
 use Rattle.std.specs.Prelude.{◌==◌, IsTrue}
 use Rattle.std.specs.Ordering.{nat_cmp}
 use Rattle.std.specs.declared.cmp.Ordering.TheVariants.{Less}
-use Rattle.std.specs.List.{AllByRecursion, flat_map, count_by}
+use Rattle.std.specs.List.{AllByRecursion, flat_map}
 use Rattle.std.specs.List.Sorted.{IsStrictlySortedBy}
 use Rattle.std.specs.Map.{keys_of, values_of}
 use Rattle.std.specs.BTreeMap.{is_at}
@@ -31,7 +31,7 @@ use Rattle.ms_shared.specs.Entries.{Entry, Has, only, all_but}
 use Rattle.ms_shared.specs.SeatView.{SeatState, ServesBy, opened_by, without_account, with_account}
 use Rattle.ms_shared.proofs.HandLemmas.{handed_serves, left_serves, taker_serves}
 use Rattle.ms_run.specs.Dealing.{Loaded, AreBeside, IsHanded}
-use Rattle.ms_loaders.proofs.ServedLemmas.{times, one_if, all_joined, is_it, times_split, it_is, all_parts}
+use Rattle.ms_loaders.proofs.ServedLemmas.{times, all_joined, is_it, times_split, it_is, all_parts}
 use Rattle.ms_loaders.proofs.FitLemmas.{owner_of}
 use Rattle.ms_loaders.proofs.UnloadLemmas.{both_all}
 

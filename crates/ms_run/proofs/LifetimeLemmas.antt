@@ -17,7 +17,6 @@ use Rattle.ms_shared.specs.Entries.{Entry, Has, refreshed, fresh}
 use Rattle.ms_shared.specs.SeatView.{ServesBy, IsKnown, view_after}
 use Rattle.ms_shared.proofs.RecordLemmas.{has_record}
 use Rattle.ms_shared.proofs.LockCallLemmas.{served_by_pool}
-use Rattle.ms_loaders.proofs.CloseLemmas.{among_more}
 
 -- What stands in two lists together stands in one of them.
 has_either : (xs ys : List Entry) (owner : ℕ) (chunks : List Chunk) → Has (xs ++ ys) owner chunks → Has xs owner chunks ⊎ Has ys owner chunks

@@ -1,5 +1,5 @@
 -- What a loader's own lines are told where it is made and unloaded. For `new_loader` and `unload`.
-use Rattle.std.proofs.Common.{◌≡◌, ℕ, Bool, true, false, Option, Some, None, List, [], refl, sym, ap, subst}
+use Rattle.std.proofs.Common.{◌≡◌, ℕ, Bool, true, false, Option, Some, None, List, [], refl, sym, subst}
 use Rattle.ms_base.specs.declared.kind.Kind.{Kind}
 use Rattle.ms_base.specs.declared.step.Step.TheVariants.{New, Unload}
 use Rattle.ms_base.specs.declared.step.Reply.TheVariants.{Ok as Done, Refused}
@@ -12,9 +12,7 @@ use Rattle.ms_base.proofs.events.SeenEntryLemmas.{named_without_same}
 use Rattle.ms_loaders.specs.Loader.{LoaderView}
 use Rattle.ms_loaders.specs.Loaders.{InsertRefused}
 use Rattle.ms_loaders.specs.System.{states_of}
-use Rattle.ms_loaders.proofs.MappedLemmas.{found-mapped, missing-mapped}
-use Rattle.ms_run.specs.Own.{own_of, own_in}
-use Rattle.ms_loaders.proofs.UnloadLemmas.{state_of}
+use Rattle.ms_run.specs.Own.{own_in}
 use Rattle.ms_run.proofs.TouchLemmas.{own_missing, own_found}
 
 own_loader : LoaderState → OwnLoader

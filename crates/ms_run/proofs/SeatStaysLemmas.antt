@@ -1,15 +1,11 @@
 -- What an allocation over the lock leaves a seat: it serves the loaders still, and no other owner gets a
 -- first chunk.
-use Rattle.std.proofs.Common.{◌≡◌, ◌≢◌, ◌+◌, ◌-◌, ℕ, suc, ◌⊎◌, Bool, true, false, cond, ◌||◌, Option, Some, None, Result, Ok, Err, List, [], ◌∷◌, ◌++◌, map, length, refl, sym, ap, ◌∙◌, subst, inl, inr, arith, append-nil}
+use Rattle.std.proofs.Common.{◌≡◌, ◌≢◌, ◌-◌, ℕ, suc, ◌⊎◌, Bool, true, false, cond, Option, Some, None, Result, Ok, Err, List, [], ◌∷◌, ◌++◌, map, length, refl, sym, ap, ◌∙◌, subst, inl, inr, arith, append-nil}
 use Rattle.std.specs.Prelude.{◌==◌}
 use Rattle.std.specs.Ordering.{nat_cmp}
-use Rattle.std.specs.List.{AllByRecursion, count_by, filter, flat_map, list_any}
-use Rattle.std.specs.Map.{values_of}
+use Rattle.std.specs.List.{AllByRecursion, filter}
 use Rattle.std.specs.BTreeMap.{is_at}
-use Rattle.std.proofs.lemmas.Bool.{eq-eqb}
-use Rattle.std.proofs.lemmas.List.{map-append}
-use Rattle.std.proofs.lemmas.List.Concat.{flat_map-append}
-use Rattle.std.proofs.lemmas.List.Sums.{sum_by-cons, sum_by-append}
+use Rattle.std.proofs.lemmas.List.Sums.{sum_by-cons}
 use Rattle.std.proofs.lemmas.List.Elements.{recursion_from_All, All-from_recursion}
 use Rattle.ms_base.specs.declared.kind.Space.{Space}
 use Rattle.ms_base.specs.declared.kind.Space.TheVariants.{NonClass, Class}
@@ -27,9 +23,8 @@ use Rattle.ms_base.specs.Asks.{asks_growth, wanted_level, total_asked, may_enlar
 use Rattle.ms_base.specs.Level.{level_that_holds}
 use Rattle.ms_base.specs.State.{ArenaState, arena_of}
 use Rattle.ms_base.specs.Transition.{zeroed}
-use Rattle.ms_base.proofs.entries.EntryLemmas.{Split, split_at, values_split}
+use Rattle.ms_base.proofs.entries.EntryLemmas.{Split, split_at}
 use Rattle.ms_base.proofs.entries.LookupLemmas.{named_changed_other}
-use Rattle.ms_base.proofs.runs.ApartLemmas.{list_any-with}
 use Rattle.ms_base.proofs.arena.BlockLemmas.{arena_elsewhere}
 use Rattle.ms_pool.specs.Account.{AccountState}
 use Rattle.ms_pool.specs.Ledger.{Loan, Ledger, chunks_of, is_owned_by}
@@ -47,7 +42,7 @@ use Rattle.ms_shared.specs.SeatView.{SeatState, ServesBy, OverLock, opened_by}
 use Rattle.ms_shared.specs.LockCalls.{TookOver, GrewOver}
 use Rattle.ms_shared.proofs.RecordLemmas.{has_record}
 use Rattle.ms_run.specs.Manned.{IsManned}
-use Rattle.ms_loaders.proofs.ServedLemmas.{times, one_if, all_joined, owners_split, is_it, times_split, it_is, all_parts, own_is_among, accounts_split}
+use Rattle.ms_loaders.proofs.ServedLemmas.{times, all_joined, owners_split, is_it, times_split, it_is, all_parts, own_is_among, accounts_split}
 use Rattle.ms_loaders.proofs.FitLemmas.{chunk_of, owner_of}
 
 -- All that the seat knows of an owner is that it holds no chunk.

@@ -1,14 +1,11 @@
 -- A write, a read or a free of a block tells what its loader's own requests know of it, and leaves the
 -- loader's accounts and words in use; for blocks.rt.
-use Rattle.std.proofs.Common.{◌≡◌, ◌≢◌, ℕ, suc, true, false, cond, inl, inr, Some, None, Ok, Err, Result, IfOk, IfErr, List, [], ◌∷◌, ◌++◌, map, length, option_map, refl, sym, ap, ◌∙◌, subst}
+use Rattle.std.proofs.Common.{◌≡◌, ◌≢◌, ℕ, false, inl, inr, Some, None, List, [], ◌∷◌, ◌++◌, map, length, option_map, refl, sym, ap, ◌∙◌, subst}
 use Rattle.std.specs.Prelude.{IsTrue}
 use Rattle.std.specs.Ordering.{nat_cmp}
 use Rattle.std.specs.BTreeMap.{is_at}
-use Rattle.std.specs.List.{All, flat_map}
-use Rattle.std.specs.Map.{values_of}
-use Rattle.std.proofs.lemmas.List.Concat.{flat_map-append}
+use Rattle.std.specs.List.{All}
 use Rattle.std.proofs.lemmas.Map.Made.{lookup-map_values}
-use Rattle.std.proofs.lemmas.Map.Steps.{set_value_same}
 use Rattle.ms_base.specs.declared.kind.Space.{Space}
 use Rattle.ms_base.specs.declared.kind.Space.TheVariants.{NonClass, Class}
 use Rattle.ms_base.specs.declared.span.Chunk.{Chunk}
@@ -22,7 +19,7 @@ use Rattle.ms_base.specs.Names.{named, with_new, with_changed}
 use Rattle.ms_base.specs.Spaces.{by_space, space_at}
 use Rattle.ms_base.specs.State.{LoaderState, arena_of}
 use Rattle.ms_base.specs.Transition.{with_freed}
-use Rattle.ms_base.proofs.entries.EntryLemmas.{Split, split_at, values_split}
+use Rattle.ms_base.proofs.entries.EntryLemmas.{Split, split_at}
 use Rattle.ms_base.proofs.entries.LookupLemmas.{named_changed_same, named_changed_other}
 use Rattle.ms_pool.specs.Account.{AccountState}
 use Rattle.ms_loaders.specs.Loader.{LoaderView, with_state, account_in, HasWord, WritesWord, FreesBlock, LacksWord, LacksName}
@@ -31,10 +28,9 @@ use Rattle.ms_loaders.specs.Used.{used_by, used_at}
 use Rattle.ms_shared.specs.SeatView.{ServesBy}
 use Rattle.ms_run.specs.Own.{own_of, own_in}
 use Rattle.ms_run.specs.Manned.{IsManned, KeepsSeats}
-use Rattle.ms_loaders.proofs.CallLemmas.{write_keeps, freed_keeps, free_keeps, same_loaders}
+use Rattle.ms_loaders.proofs.CallLemmas.{write_keeps, free_keeps, same_loaders}
 use Rattle.ms_loaders.proofs.UnloadLemmas.{state_of}
 use Rattle.ms_loaders.proofs.ServedLemmas.{accounts_split, length_changed}
-use Rattle.ms_loaders.proofs.LoaderLemmas.{ok_then, err_then}
 
 abbrev own_state : LoaderState → OwnLoader
 own_state loader = record { kind = loader.kind; blocks = loader.blocks }

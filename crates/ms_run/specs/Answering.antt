@@ -15,7 +15,8 @@ use Rattle.ms_run.specs.Manned.{IsManned}
 
 -- The reply to a loader's step is its own, the other loaders stay, a purge is done; the seat then serves
 -- the loaders that there are.
-pub record IsAnswered (loaders : List (ℕ × LoaderView)) (step : Step) (reply : Reply) (seat : SeatView) (after : List (ℕ × LoaderView)) : Type 0 where
+pub record IsAnswered (loaders : List (ℕ × LoaderView)) (step : Step) (reply : Reply) (seat : SeatView)
+    (after : List (ℕ × LoaderView)) : Type 0 where
   pub manned : IsManned seat after
   pub own : (name : ℕ) → loader_of step ≡ Some name
       → (refused : Bool) × OwnReply (own_in (states_of loaders) name) step refused reply (own_in (states_of after) name)

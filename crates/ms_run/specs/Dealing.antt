@@ -23,13 +23,16 @@ pub record AreBeside (from : SeatView) (loaders : Loaded) (to : SeatView) (other
   pub manned : IsManned from loaders
   pub to_manned : IsManned to others
   pub names : AreNamed loaders
-  pub apart : (number : ℕ) → count_by (λ other. other == number) (owners_of loaders) + count_by (λ other. other == number) (owners_of others) ≤ 1
+  pub apart : (number : ℕ) → count_by (λ other. other == number) (owners_of loaders)
+      + count_by (λ other. other == number) (owners_of others) ≤ 1
 
 -- The loader of a name went over, where there was one.
 pub record IsHanded (name : ℕ) (loaders others after others_after : Loaded) : Type 0 where
   pub gone : named after name ≡ None
-  pub there : ((named loaders name ≢ None) × (named others_after name ≡ named loaders name)) ⊎ ((named loaders name ≡ None) × (named others_after name ≡ named others name))
-  pub stay : (other : ℕ) → name ≢ other → (named after other ≡ named loaders other) × (named others_after other ≡ named others other)
+  pub there : ((named loaders name ≢ None) × (named others_after name ≡ named loaders name))
+      ⊎ ((named loaders name ≡ None) × (named others_after name ≡ named others name))
+  pub stay : (other : ℕ) → name ≢ other
+      → (named after other ≡ named loaders other) × (named others_after other ≡ named others other)
 
 -- The name is of the place.
 abbrev pub is_placed : Place → ℕ → ℕ → Bool
@@ -50,7 +53,8 @@ pub record AreSeats (shared : LockState) (seats : List SeatState) (loaders : Loa
   pub free : All (λ (seat : SeatState). (seat.id ≡ shared.id) × IsManned seat.knows []) others
 
 -- The share of a place: it has the tasks and the loaders of it.
-pub record IsShareAt (place : Place) (shared : LockState) (lines : List Line) (loaders : Loaded) (at : ℕ) (share : Share) : Type 0 where
+pub record IsShareAt (place : Place) (shared : LockState) (lines : List Line) (loaders : Loaded) (at : ℕ)
+    (share : Share) : Type 0 where
   pub ready : IsReady shared share
   pub apart : (name : ℕ) → place (Some name) ≢ at → named share.loaders name ≡ None
   pub here : (name : ℕ) → place (Some name) ≡ at → named share.loaders name ≡ named loaders name
@@ -63,7 +67,8 @@ AreSharesFrom place shared lines loaders at (share ∷ shares) =
     IsShareAt place shared lines loaders at share × AreSharesFrom place shared lines loaders (suc at) shares
 
 -- There are so many shares; where all places are of them, each has what is its own.
-pub record AreDealtTo (place : Place) (shared : LockState) (count : ℕ) (lines : List Line) (loaders : Loaded) (shares : List Share) : Type 0 where
+pub record AreDealtTo (place : Place) (shared : LockState) (count : ℕ) (lines : List Line) (loaders : Loaded)
+    (shares : List Share) : Type 0 where
   pub count_is : length shares ≡ count
   pub each : ((name : ℕ) → place (Some name) < count) → AreSharesFrom place shared lines loaders 0 shares
 
@@ -73,7 +78,8 @@ TaskLists = List (Vec Task Global)
 
 -- Each share's list has the tasks of the lines that go to it.
 abbrev pub AreListed : Place → List Line → TaskLists → Type 0
-AreListed place lines lists = (at : ℕ) (list : Vec Task Global) → slice_get lists at ≡ Some list → list.items ≡ tasks_at place at lines
+AreListed place lines lists =
+    (at : ℕ) (list : Vec Task Global) → slice_get lists at ≡ Some list → list.items ≡ tasks_at place at lines
 
 abbrev pub AreEmpty : TaskLists → Type 0
 AreEmpty lists = (at : ℕ) (list : Vec Task Global) → slice_get lists at ≡ Some list → list.items ≡ []
@@ -82,4 +88,5 @@ AreEmpty lists = (at : ℕ) (list : Vec Task Global) → slice_get lists at ≡ 
 abbrev pub AreAdded : List Task → Place → TaskLists → TaskLists → Type 0
 AreAdded tasks place lists new =
     (at : ℕ) (list : Vec Task Global) → slice_get new at ≡ Some list
-    → (was : Vec Task Global) × (slice_get lists at ≡ Some was) × (list.items ≡ was.items ++ filter (λ (task : Task). place (loader_of task.step) == at) tasks)
+    → (was : Vec Task Global) × (slice_get lists at ≡ Some was)
+    × (list.items ≡ was.items ++ filter (λ (task : Task). place (loader_of task.step) == at) tasks)

@@ -21,7 +21,8 @@ pub record IsJoined (old part new : List (ℕ × LoaderView)) : Type 0 where
 -- The loaders of each share come, in the order of the shares.
 abbrev pub AreJoined : List (ℕ × LoaderView) → List Share → List (ℕ × LoaderView) → Type 0
 AreJoined old [] new = new ≡ old
-AreJoined old (share ∷ shares) new = (mid : List (ℕ × LoaderView)) × IsJoined old share.loaders mid × AreJoined mid shares new
+AreJoined old (share ∷ shares) new =
+    (mid : List (ℕ × LoaderView)) × IsJoined old share.loaders mid × AreJoined mid shares new
 
 abbrev pub seat_of : Share → SeatState
 seat_of share = share.seat

@@ -15,7 +15,8 @@ use Rattle.ms_shared.specs.Entries.{Has}
 pub record IsManned (seat : SeatView) (loaders : List (ℕ × LoaderView)) : Type 0 where
   pub served : All (ServesBy seat) (accounts_of loaders)
   pub distinct : AreDistinct (owners_of loaders)
-  pub no_other : (owner : ℕ) (chunks : List Chunk) → Has seat.served owner chunks → (chunks ≡ []) ⊎ IsTrue (is_among (owners_of loaders) owner)
+  pub no_other : (owner : ℕ) (chunks : List Chunk) → Has seat.served owner chunks
+      → (chunks ≡ []) ⊎ IsTrue (is_among (owners_of loaders) owner)
   pub opened : (space : Space) → opened_by seat space ≡ length loaders
 
 -- A change of loaders that any seat serves after it as before: whatever seat served them serves them.

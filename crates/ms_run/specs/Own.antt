@@ -30,7 +30,8 @@ own_in loaders name = own_of (named loaders name)
 -- refused for want.
 abbrev pub OwnRun : Option OwnLoader → List Said → Option OwnLoader → Type 0
 OwnRun before said after =
-    (refused : List Bool) × OwnReplies before (map (λ (s : Said). s.0) said) refused (map (λ (s : Said). s.1) said) after
+    (refused : List Bool)
+    × OwnReplies before (map (λ (s : Said). s.0) said) refused (map (λ (s : Said). s.1) said) after
 
 -- Each purge is done.
 abbrev pub ArePurged : List Said → Type 0

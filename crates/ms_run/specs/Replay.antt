@@ -1,6 +1,5 @@
 -- What a replay answers, whatever the number of workers and their order (this project's choice).
 use Rattle.std.specs.Prelude.{◌≡◌, ℕ, ⊤, List, [], ◌∷◌, ◌++◌, Option, Some, None}
-use Rattle.std.specs.List.{All}
 use Rattle.ms_base.specs.declared.step.Step.{Step}
 use Rattle.ms_base.specs.declared.step.Reply.{Reply}
 use Rattle.ms_base.specs.declared.step.Reply.TheVariants.{Ok as Done}
@@ -48,7 +47,8 @@ Answers old (line ∷ lines) (answer ∷ answers) new =
 abbrev pub AreSaid : List Line → List Answer → List Said → Type 0
 AreSaid [] [] [] = ⊤
 AreSaid (line ∷ lines) (answer ∷ answers) (s ∷ said) =
-    (step_of line.command ≡ Some s.0) × (answer.line ≡ line.number) × (answer.reply ≡ s.1) × (answer.report ≡ None) × AreSaid lines answers said
+    (step_of line.command ≡ Some s.0) × (answer.line ≡ line.number) × (answer.reply ≡ s.1) × (answer.report ≡ None)
+    × AreSaid lines answers said
 AreSaid _ _ _ = ⊥
 
 -- A phase from one good state to another with the same limits. The replies to each loader's lines
@@ -72,9 +72,11 @@ pub record IsEnd (state : Machine) (line : Line) (answer : Answer) : Type 0 wher
 -- The lines of a trace are answered phase by phase.
 pub data Replays (first : Machine) : List Line → List Answer → Machine → Type 0 where
   starts : Replays first [] [] first
-  runs : (lines later : List Line) (answers others : List Answer) (old new : Machine) → Replays first lines answers old → IsPhase old later others new
+  runs : (lines later : List Line) (answers others : List Answer) (old new : Machine)
+      → Replays first lines answers old → IsPhase old later others new
       → Replays first (lines ++ later) (answers ++ others) new
-  ends : (lines : List Line) (answers : List Answer) (state : Machine) (line : Line) (answer : Answer) → Replays first lines answers state → IsEnd state line answer
+  ends : (lines : List Line) (answers : List Answer) (state : Machine) (line : Line) (answer : Answer)
+      → Replays first lines answers state → IsEnd state line answer
       → Replays first (lines ++ line ∷ []) (answers ++ answer ∷ []) state
 
 -- A whole trace is, from a machine on that has nothing.

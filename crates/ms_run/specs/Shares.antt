@@ -42,7 +42,8 @@ pub record IsWorked (share done : Share) : Type 0 where
   pub manned : IsManned done.seat.knows done.loaders
   pub tasks : done.tasks.items ≡ share.tasks.items
   pub replies : vec_len done.replies ≡ vec_len share.tasks
-  pub own : (name : ℕ) → OwnRun (own_in (states_of share.loaders) name) (own_said name (said_in share.tasks.items done.replies.items))
+  pub own : (name : ℕ)
+      → OwnRun (own_in (states_of share.loaders) name) (own_said name (said_in share.tasks.items done.replies.items))
       (own_in (states_of done.loaders) name)
   pub purges : ArePurged (said_in share.tasks.items done.replies.items)
   pub moved : IsMoved share.meter (used_in share.loaders) done.meter (used_in done.loaders)
@@ -73,23 +74,27 @@ tasks_at place at lines = filter (λ (task : Task). place (loader_of task.step) 
 -- A loader is in no share but the one that its lines go to.
 abbrev pub AreApart : Place → List Share → Type 0
 AreApart place shares =
-    (at : ℕ) (share : Share) (name : ℕ) → slice_get shares at ≡ Some share → place (Some name) ≢ at → named share.loaders name ≡ None
+    (at : ℕ) (share : Share) (name : ℕ) → slice_get shares at ≡ Some share → place (Some name) ≢ at
+    → named share.loaders name ≡ None
 
 -- Each loader is in the share that its lines go to, and is there as it was.
 abbrev pub AreHere : Place → List Share → List (ℕ × LoaderView) → Type 0
 AreHere place shares loaders =
-    (at : ℕ) (share : Share) (name : ℕ) → slice_get shares at ≡ Some share → place (Some name) ≡ at → named share.loaders name ≡ named loaders name
+    (at : ℕ) (share : Share) (name : ℕ) → slice_get shares at ≡ Some share → place (Some name) ≡ at
+    → named share.loaders name ≡ named loaders name
 
 -- Each share has the tasks of the lines that go to it.
 abbrev pub HaveTasks : Place → List Share → List Line → Type 0
-HaveTasks place shares lines = (at : ℕ) (share : Share) → slice_get shares at ≡ Some share → share.tasks.items ≡ tasks_at place at lines
+HaveTasks place shares lines =
+    (at : ℕ) (share : Share) → slice_get shares at ≡ Some share → share.tasks.items ≡ tasks_at place at lines
 
 -- All go to one of so many shares.
 abbrev pub AreWithin : Place → ℕ → Type 0
 AreWithin place count = (name : Option ℕ) → place name < count
 
 -- A phase's lines and loaders are dealt to shares.
-pub record AreDealt (place : Place) (shared : LockState) (shares : List Share) (lines : List Line) (loaders : List (ℕ × LoaderView)) : Type 0 where
+pub record AreDealt (place : Place) (shared : LockState) (shares : List Share) (lines : List Line)
+    (loaders : List (ℕ × LoaderView)) : Type 0 where
   pub ready : All (IsReady shared) shares
   pub count : shared.seats ≡ length shares
   pub within : AreWithin place (length shares)
@@ -104,14 +109,17 @@ AreSteps lines = All (λ (line : Line). (step : Step) × (step_of line.command �
 -- Each share has a reply to each of its tasks, which are those of the lines that go to it.
 abbrev pub AreAnswered : Place → List Share → List Line → Type 0
 AreAnswered place shares lines =
-    (at : ℕ) (share : Share) → slice_get shares at ≡ Some share → (share.tasks.items ≡ tasks_at place at lines) × (vec_len share.replies ≡ vec_len share.tasks)
+    (at : ℕ) (share : Share) → slice_get shares at ≡ Some share
+    → (share.tasks.items ≡ tasks_at place at lines) × (vec_len share.replies ≡ vec_len share.tasks)
 
 -- What was said in a phase is, for each share, what was said in it.
 abbrev pub AreMerged : Place → List Share → List Said → Type 0
 AreMerged place shares said =
-    (at : ℕ) (share : Share) → slice_get shares at ≡ Some share → filter (λ (s : Said). place (loader_of s.0) == at) said ≡ said_in share.tasks.items share.replies.items
+    (at : ℕ) (share : Share) → slice_get shares at ≡ Some share
+    → filter (λ (s : Said). place (loader_of s.0) == at) said ≡ said_in share.tasks.items share.replies.items
 
 -- The loaders of all shares are together, each as it is in its share.
 abbrev pub IsGathered : Place → List Share → List (ℕ × LoaderState) → Type 0
 IsGathered place shares loaders =
-    (at : ℕ) (share : Share) (name : ℕ) → slice_get shares at ≡ Some share → place (Some name) ≡ at → named loaders name ≡ named (states_of share.loaders) name
+    (at : ℕ) (share : Share) (name : ℕ) → slice_get shares at ≡ Some share → place (Some name) ≡ at
+    → named loaders name ≡ named (states_of share.loaders) name

@@ -50,7 +50,8 @@ Needs policy words need = NeedsBy (keeps policy) (granules_for (granule_of polic
 abbrev pub TakeTells : Limits → Space → ℕ → Result Span Refusal → Type 0
 TakeTells limits space words (Err (CommitLimit committed limit need)) =
     (limit ≡ limits.granules) × (limit < committed + need) × Needs limits.policy words need
-TakeTells limits space words (Err (ReserveLimit nodes limit)) = (nodes ≡ limit) × (limit ≡ by_space space limits.nodes limits.class_nodes)
+TakeTells limits space words (Err (ReserveLimit nodes limit)) =
+    (nodes ≡ limit) × (limit ≡ by_space space limits.nodes limits.class_nodes)
 TakeTells limits space words _ = Unit {0}
 
 -- There is no room in place: the chunk that starts there is of this level, and smaller than what was
@@ -66,18 +67,21 @@ pub record HasNoRoom (account : AccountState) (start total level : ℕ) : Type 0
 -- What a refusal of `grow` tells: the limit of granules, which those committed and needed pass, or
 -- that there is no room in place.
 abbrev pub GrowTells : Limits → AccountState → ℕ → ℕ → Result Span Refusal → Type 0
-GrowTells limits account start total (Err (CommitLimit committed limit need)) = (limit ≡ limits.granules) × (limit < committed + need)
+GrowTells limits account start total (Err (CommitLimit committed limit need)) =
+    (limit ≡ limits.granules) × (limit < committed + need)
 GrowTells limits account start total (Err (NoRoom level)) = HasNoRoom account start total level
 GrowTells limits account start total _ = Unit {0}
 
 -- A chunk is lent or refused.
-pub record TookOver (old : SeatState) (account : AccountState) (wanted most words : ℕ) (result : Result Span Refusal) (new : SeatState) : Type 0 where
+pub record TookOver (old : SeatState) (account : AccountState) (wanted most words : ℕ) (result : Result Span Refusal)
+    (new : SeatState) : Type 0 where
   pub event : OverLock (λ before after. Took before account wanted most words result after) old new
   pub tallies : TakeTallies result old.knows.tallies new.knows.tallies
   pub tells : TakeTells old.knows.limits account.space words result
 
 -- A chunk grows or is refused it.
-pub record GrewOver (old : SeatState) (account : AccountState) (start total : ℕ) (may_enlarge : Bool) (result : Result Span Refusal) (new : SeatState) : Type 0 where
+pub record GrewOver (old : SeatState) (account : AccountState) (start total : ℕ) (may_enlarge : Bool)
+    (result : Result Span Refusal) (new : SeatState) : Type 0 where
   pub event : OverLock (λ before after. Grew before account start total may_enlarge result after) old new
   pub tallies : GrowTallies result old.knows.tallies new.knows.tallies
   pub tells : GrowTells old.knows.limits account start total result
@@ -89,12 +93,14 @@ ClosedOver old account new = OverLock (λ before after. Closed before account af
 -- The sums tell at least the account's own chunks, by level, in words and in words of fronts, and the
 -- open accounts that the seat counts.
 pub record CountsOwn (seat : SeatState) (account : AccountState) (totals : PoolTotals) : Type 0 where
-  pub lent : (level : ℕ) → level < 13 → count_by (λ chunk. chunk.level == level) account.chunks ≤ slice_index totals.lent level
+  pub lent : (level : ℕ) → level < 13
+      → count_by (λ chunk. chunk.level == level) account.chunks ≤ slice_index totals.lent level
   pub capacity : capacity_of account.chunks ≤ totals.capacity
   pub fronts : fronts_of account.chunks ≤ totals.fronts
   pub accounts : opened_by seat.knows account.space ≤ totals.accounts
 
 -- The sums of an account's space are told, of the pool as it then is.
-pub record TotalledOver (old : SeatState) (account : AccountState) (totals : PoolTotals) (new : SeatState) : Type 0 where
+pub record TotalledOver (old : SeatState) (account : AccountState) (totals : PoolTotals)
+    (new : SeatState) : Type 0 where
   pub event : OverLock (λ before after. Totalled before account totals after) old new
   pub own : CountsOwn old account totals

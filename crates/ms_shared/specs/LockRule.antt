@@ -51,11 +51,13 @@ pub record IsLocked (made : ℕ) (limits : Limits) (state : State (Option Ledger
   pub home : length state.homes ≡ 1
   pub lock : sum_by has_pool state.views ≡ slice_index state.words 0
   pub free : slice_index state.words 0 ≡ 0 → get_elem? state.homes 0 ≡ some (some (Some pool))
-  pub out : (seat : ℕ) (view : LockView) (taken : Ledger) → get_elem? state.views seat ≡ some view → view.taken ≡ Some taken → taken ≡ pool
+  pub out : (seat : ℕ) (view : LockView) (taken : Ledger) → get_elem? state.views seat ≡ some view
+      → view.taken ≡ Some taken → taken ≡ pool
   pub fits : (seat : ℕ) (view : LockView) → get_elem? state.views seat ≡ some view → Fits pool view
   pub once : (owner : ℕ) → sum_by (λ view. times owner view.knows.served) state.views ≡ once_given owner pool.given
   pub opened : (space : Space) → sum_by (λ view. opened_by view.knows space) state.views ≡ opened_in pool space
-  pub tallies : (kind : TallyKind) → tally_of kind pool.tallies ≡ sum_by (λ view. tally_of kind view.knows.tallies) state.views % 2 ^ 64
+  pub tallies : (kind : TallyKind)
+      → tally_of kind pool.tallies ≡ sum_by (λ view. tally_of kind view.knows.tallies) state.views % 2 ^ 64
   pub limits_are : pool.limits ≡ limits
   pub parts : sum_by (λ view. view.parts) state.views ≡ made * 2
 
@@ -90,7 +92,8 @@ pub record Moves (view : SeatView) (old new : Ledger) : Type 0 where
   pub counted : (space : Space) → opened_in old space ≤ opened_by view space + opened_in new space
   pub limits : new.limits ≡ old.limits
   pub tallies : (kind : TallyKind)
-      → (tally_of kind new.tallies ≡ tally_of kind old.tallies) ⊎ (tally_of kind new.tallies ≡ one_more (tally_of kind old.tallies))
+      → (tally_of kind new.tallies ≡ tally_of kind old.tallies)
+      ⊎ (tally_of kind new.tallies ≡ one_more (tally_of kind old.tallies))
 
 -- The view once the pool is put back as another.
 abbrev pub after : LockView → Ledger → Ledger → LockView
@@ -114,7 +117,8 @@ taken_of view = some_pool view.taken
 
 -- The pool is back in the slot, as it is now.
 abbrev pub LetsGo : Step (Option Ledger) → Sat → ℕ → Sat → Type 0
-LetsGo step old stored new = (pool : Ledger) → old.1 ≡ (0, Some pool) ∷ [] → new ≡ (after old.0 (taken_of old.0) pool, [])
+LetsGo step old stored new =
+    (pool : Ledger) → old.1 ≡ (0, Some pool) ∷ [] → new ≡ (after old.0 (taken_of old.0) pool, [])
 
 -- The first view, of all seats, and how it is cut: all that it knows goes with the first two parts.
 abbrev pub first_view : ℕ → Ledger → LockView

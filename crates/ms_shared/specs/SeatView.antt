@@ -151,7 +151,8 @@ pub record SeatState : Type 0 where
 -- The seats of a new lock: the first knows all of the pool, the others know its limits alone.
 abbrev pub new_seats : TableId → ℕ → Ledger → List SeatState
 new_seats id made pool =
-    record { id = id; knows = knows_all pool } ∷ replicate (made - 1) (record { id = id; knows = knows_limits pool.limits })
+    record { id = id; knows = knows_all pool }
+    ∷ replicate (made - 1) (record { id = id; knows = knows_limits pool.limits })
 
 -- All seats of a lock and the pool that it gives out: the records that seats know are the pool's,
 -- each owner number given out is served by one seat, once, and counts and tallies are the sums of the
@@ -160,7 +161,8 @@ pub record Gathers (seats : List SeatState) (pool : Ledger) : Type 0 where
   pub served : All (λ seat. AreRecords pool seat.knows.served) seats
   pub once : (owner : ℕ) → sum_by (λ seat. times owner seat.knows.served) seats ≡ once_given owner pool.given
   pub opened : (space : Space) → opened_in pool space ≡ sum_by (λ seat. opened_by seat.knows space) seats
-  pub tallies : (kind : TallyKind) → tally_of kind pool.tallies ≡ sum_by (λ seat. tally_of kind seat.knows.tallies) seats % 2 ^ 64
+  pub tallies : (kind : TallyKind)
+      → tally_of kind pool.tallies ≡ sum_by (λ seat. tally_of kind seat.knows.tallies) seats % 2 ^ 64
 
 -- A call over the lock is one event on the pool that the seat finds: by its relation the pool becomes
 -- another, and the seat knows then what its records, counts and tallies have become.

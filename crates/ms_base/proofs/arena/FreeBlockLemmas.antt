@@ -18,7 +18,7 @@ use Rattle.ms_base.proofs.arena.KeptLemmas.{Fits, IsTakenOut, sound_with_live, s
 narrower_clear : (a m k n b l : ℕ) → a ≤ k → k + n ≤ a + m → meet a m b l ≡ false → meet k n b l ≡ false
 narrower_clear a m k n b l h i e = grind (arith, nat_tests)
 
-part_clear : (run part : ℕ × ℕ) (runs : List (ℕ × ℕ)) → run.0 ≤ part.0 → part.0 + part.1 ≤ run.0 + run.1
+pub part_clear : (run part : ℕ × ℕ) (runs : List (ℕ × ℕ)) → run.0 ≤ part.0 → part.0 + part.1 ≤ run.0 + run.1
     → meets_any run runs ≡ false → meets_any part runs ≡ false
 part_clear run part [] low high h = refl
 part_clear run part (r ∷ runs) low high h =

@@ -97,7 +97,7 @@ grown_is_sound arena live place was is found same higher sound = record {
 }
 
 -- A grown chunk meets none of the others: it is as large as it was, or its other half met none.
-clear_from_runs : (chunk : Chunk) (others : List Chunk) → meets_any (words_of chunk) (map words_of others) ≡ false
+pub clear_from_runs : (chunk : Chunk) (others : List Chunk) → meets_any (words_of chunk) (map words_of others) ≡ false
     → meets_chunk others chunk.start chunk.level ≡ false
 clear_from_runs chunk [] h = refl
 clear_from_runs chunk (c ∷ others) h =
@@ -105,11 +105,11 @@ clear_from_runs chunk (c ∷ others) h =
     or_from (meet c.start (size_of c.level) chunk.start (size_of chunk.level)) (meets_chunk others chunk.start chunk.level)
     (meet_turned c.start (size_of c.level) chunk.start (size_of chunk.level) ∙ both.0) (clear_from_runs chunk others both.1)
 
-both_halves : (a m s z t : ℕ) → 1 ≤ m → t ≡ z + z → meet a m s z ≡ false → meet a m (s + z) z ≡ false
+pub both_halves : (a m s z t : ℕ) → 1 ≤ m → t ≡ z + z → meet a m s z ≡ false → meet a m (s + z) z ≡ false
     → meet a m s t ≡ false
 both_halves a m s z t some whole h k = grind (arith, nat_tests)
 
-parent_clear : (others : List Chunk) (start level parent : ℕ) → size_of parent ≡ size_of level + size_of level
+pub parent_clear : (others : List Chunk) (start level parent : ℕ) → size_of parent ≡ size_of level + size_of level
     → meets_chunk others start level ≡ false → meets_chunk others (start + size_of level) level ≡ false
     → meets_chunk others start parent ≡ false
 parent_clear [] start level parent whole h k = refl
@@ -119,7 +119,7 @@ parent_clear (c ∷ others) start level parent whole h k =
     or_from (meet c.start (size_of c.level) start (size_of parent)) (meets_chunk others start parent)
     (both_halves c.start (size_of c.level) start (size_of level) (size_of parent) (omega (arith, pow_pos (19 - c.level))) whole low.0 high.0) (parent_clear others start level parent whole low.1 high.1)
 
-parent_size : (level parent : ℕ) → level ≤ 12 → level ≡ parent + 1 → size_of parent ≡ size_of level + size_of level
+pub parent_size : (level parent : ℕ) → level ≤ 12 → level ≡ parent + 1 → size_of parent ≡ size_of level + size_of level
 parent_size level parent low is = ap (λ (n : ℕ). 2 ^ n) exponent ∙ pow-add 2 1 (19 - level) ∙ double (size_of level)
   where
     exponent : 19 - parent ≡ 1 + (19 - level)

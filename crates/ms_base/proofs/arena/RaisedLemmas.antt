@@ -84,7 +84,7 @@ few_tops [] (suc place) top n few in' = omega (arith, few_tops [] place top (n -
 few_tops (t ∷ tops) zero top n few in' = few
 few_tops (t ∷ tops) (suc place) top n few in' = omega (arith, few_tops tops place top (n - 1) (omega arith) (omega arith))
 
-place_within : {X : Type 0} (xs : List X) (place : ℕ) (x : X) → slice_get xs place ≡ Some x → place < length xs
+pub place_within : {X : Type 0} (xs : List X) (place : ℕ) (x : X) → slice_get xs place ≡ Some x → place < length xs
 place_within [] place x found = absurd (cc)
 place_within (y ∷ xs) zero x found = omega arith
 place_within (y ∷ xs) (suc place) x found = omega (arith, place_within xs place x found)

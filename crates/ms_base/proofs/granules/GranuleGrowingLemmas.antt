@@ -56,7 +56,7 @@ each_passes test (c ∷ held) zero was found all = let its : c ≡ was = cc in a
 each_passes test (c ∷ held) (suc place) was found all = each_passes test held place was found (and_parts (test c) (list_all test held) all).1
 
 -- A greater front from the same start meets what the smaller one met.
-meets_further : (granule : ℕ) (was is : Chunk) (k : ℕ) → is.start ≡ was.start → was.front ≤ is.front
+pub meets_further : (granule : ℕ) (was is : Chunk) (k : ℕ) → is.start ≡ was.start → was.front ≤ is.front
     → meets_front granule was k ≡ true → meets_front granule is k ≡ true
 meets_further granule was is k same higher meets =
     let bounds = meets_bounds was.start was.front (k * granule) granule meets in

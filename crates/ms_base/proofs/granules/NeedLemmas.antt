@@ -186,7 +186,7 @@ given_some f (l ∷ levels) level there some none = elim (l == level) as (λ b. 
   | false ↦ λ other there. given_some f levels level there some (append_none (f l) (flat_map f levels) none).1
 ] refl there
 
-mapped : (f : ℕ → ℕ) (xs : List ℕ) (k : ℕ) → list_any (is_number k) xs ≡ true
+pub mapped : (f : ℕ → ℕ) (xs : List ℕ) (k : ℕ) → list_any (is_number k) xs ≡ true
     → list_any (is_number (f k)) (map f xs) ≡ true
 mapped f [] k there = absurd (cc)
 mapped f (x ∷ xs) k there = elim (x == k) as (λ b. (x == k) ≡ b → (b || list_any (is_number k) xs) ≡ true → list_any (is_number (f k)) (map f (x ∷ xs)) ≡ true) [
@@ -197,13 +197,13 @@ mapped f (x ∷ xs) k there = elim (x == k) as (λ b. (x == k) ≡ b → (b || l
     alike : (a b : ℕ) → a ≡ b → (a == b) ≡ true
     alike a b e = grind (arith, e)
 
-down_has : (p level : ℕ) → level ≤ p → list_any (is_number level) (levels_down p) ≡ true
+pub down_has : (p level : ℕ) → level ≤ p → list_any (is_number level) (levels_down p) ≡ true
 down_has p level h =
     let back : p - (p - level) ≡ level = omega arith in
     subst (λ (k : ℕ). list_any (is_number k) (levels_down p) ≡ true) back
     (mapped (λ below. p - below) (range_with_len 0 (p + 1)) (p - level) (in_range 0 (p + 1) (p - level) (omega arith) (omega arith)))
 
-up_has : (p m level : ℕ) → p ≤ level → level ≤ m → list_any (is_number level) (levels_up p m) ≡ true
+pub up_has : (p m level : ℕ) → p ≤ level → level ≤ m → list_any (is_number level) (levels_up p m) ≡ true
 up_has p m level h k = in_range p (m + 1 - p) level h (omega arith)
 
 pub found_is_enough : (pool : PoolState) (p m words : ℕ) → p ≤ m → has_committed_room pool m words ≡ true

@@ -40,7 +40,7 @@ pub record IsAddable (space : Space) (m : Machine) (chunk : Chunk) : Type 0 wher
   pub slot : MayReserve space m (slot_of chunk.start)
 
 -- The slots of chunks stay reserved with another.
-still_reserved : (slots : List ℕ) (slot : ℕ) (held : List Chunk)
+pub still_reserved : (slots : List ℕ) (slot : ℕ) (held : List Chunk)
     → list_all (λ (chunk : Chunk). is_reserved slots (slot_of chunk.start)) held ≡ true
     → list_all (λ (chunk : Chunk). is_reserved (insert_key nat_cmp slots slot) (slot_of chunk.start)) held ≡ true
 still_reserved slots slot [] h = refl

@@ -30,7 +30,7 @@ committed_elsewhere : (space : Space) (m : Machine) (slots : List ℕ)
 committed_elsewhere NonClass m slots = refl
 committed_elsewhere Class m slots = refl
 
-both_counts : (count : Space → ℕ) (space : Space) (limit : ℕ) → count space + count (other_space space) ≤ limit
+pub both_counts : (count : Space → ℕ) (space : Space) (limit : ℕ) → count space + count (other_space space) ≤ limit
     → count NonClass + count Class ≤ limit
 both_counts count NonClass limit h = h
 both_counts count Class limit h = omega (arith, h)

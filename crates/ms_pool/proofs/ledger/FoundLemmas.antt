@@ -1,6 +1,6 @@
 -- Where a free part is large enough the searches find one; so a new root is taken only where a node
 -- may be reserved, and it meets no chunk.
-use Rattle.std.proofs.Common.{◌≡◌, ◌≢◌, ◌≤◌, ◌+◌, ◌-◌, ◌*◌, ℕ, zero, suc, Bool, true, false, cond, not, ◌&&◌, ◌||◌, List, [], ◌∷◌, ◌++◌, length, map, min, refl, sym, ap, ◌∙◌, subst, arith, inl, inr}
+use Rattle.std.proofs.Common.{◌≡◌, ◌≢◌, ◌≤◌, ◌+◌, ◌-◌, ◌*◌, ℕ, zero, suc, Bool, true, false, cond, not, ◌&&◌, ◌||◌, List, [], ◌∷◌, ◌++◌, length, min, refl, sym, ap, ◌∙◌, arith, inl, inr}
 use Rattle.std.specs.Prelude.{◌==◌, nat_le, Some}
 use Rattle.std.specs.Option.{unwrap_or}
 use Rattle.std.specs.List.{AllByRecursion, Any, filter, find, flat_map, list_any, list_all, range_with_len}
@@ -19,7 +19,8 @@ use Rattle.ms_base.specs.State.{PoolState}
 use Rattle.ms_base.specs.Causes.{has_room}
 use Rattle.ms_base.specs.Laws.{is_number}
 use Rattle.ms_base.specs.Pick.{candidates, found_at, levels_up, levels_down, lowest_unreserved}
-use Rattle.ms_base.proofs.granules.GranuleLemmas.{in_range, ends_in_node}
+use Rattle.ms_base.proofs.granules.GranuleLemmas.{ends_in_node}
+use Rattle.ms_base.proofs.granules.NeedLemmas.{down_has, up_has}
 
 -- What an element of a list gives is among what all give.
 some_given : {X : Type 0} (p : X → Bool) (f : ℕ → List X) (levels : List ℕ) (level : ℕ)
@@ -33,26 +34,6 @@ some_given p f (l ∷ levels) level there some = list_any-append p (f l) (flat_m
     either : (b : Bool) {c : Bool} → c ≡ true → (b || c) ≡ true
     either true e = refl
     either false e = e
-
-mapped : (f : ℕ → ℕ) (xs : List ℕ) (k : ℕ) → list_any (is_number k) xs ≡ true → list_any (is_number (f k)) (map f xs) ≡ true
-mapped f [] k there = absurd (cc)
-mapped f (x ∷ xs) k there = elim (or_cases (x == k) (list_any (is_number k) xs) there) [
-  | inl here ↦ ap (λ b. b || list_any (is_number (f k)) (map f xs)) (eq-eqb (f x) (f k) (ap f (eqb-true x k here)))
-  | inr later ↦ either (f x == f k) (mapped f xs k later)
-]
-  where
-    either : (b : Bool) {c : Bool} → c ≡ true → (b || c) ≡ true
-    either true e = refl
-    either false e = e
-
-down_has : (p level : ℕ) → level ≤ p → list_any (is_number level) (levels_down p) ≡ true
-down_has p level h =
-    let back : p - (p - level) ≡ level = omega arith in
-    subst (λ (k : ℕ). list_any (is_number k) (levels_down p) ≡ true) back
-    (mapped (λ below. p - below) (range_with_len 0 (p + 1)) (p - level) (in_range 0 (p + 1) (p - level) (omega arith) (omega arith)))
-
-up_has : (p m level : ℕ) → p ≤ level → level ≤ m → list_any (is_number level) (levels_up p m) ≡ true
-up_has p m level h k = in_range p (m + 1 - p) level h (omega arith)
 
 filter_some : (p : Span → Bool) (parts : List Span) → list_any p parts ≡ true → list_any p (filter p parts) ≡ true
 filter_some p [] there = there

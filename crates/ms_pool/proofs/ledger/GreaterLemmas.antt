@@ -1,9 +1,8 @@
 -- A chunk that is grown: what it is, and that it takes in no other, among whatever chunks.
-use Rattle.std.proofs.Common.{◌≡◌, ◌≤◌, ◌<◌, ◌+◌, ◌-◌, ◌*◌, ℕ, suc, Bool, true, false, ◌&&◌, List, [], ◌∷◌, ◌++◌, map, refl, sym, ap, ◌∙◌, subst, arith, inl, inr}
+use Rattle.std.proofs.Common.{◌≡◌, ◌≤◌, ◌<◌, ◌+◌, ◌*◌, ℕ, Bool, true, false, ◌&&◌, List, [], ◌∷◌, ◌++◌, map, refl, sym, ap, ◌∙◌, subst, arith, inl, inr}
 use Rattle.std.specs.Prelude.{◌⊎◌, nat_le, nat_lt, Result, Ok, Err, if◌then◌else◌}
 use Rattle.std.specs.List.{Contains}
 use Rattle.std.proofs.lemmas.Bool.{and_parts, or_parts, or_from, leb-true, ltb-true}
-use Rattle.std.proofs.lemmas.Bool.Decides.{nat_tests}
 use Rattle.std.proofs.lemmas.List.{map-append}
 use Rattle.ms_base.specs.declared.span.Chunk.{Chunk}
 use Rattle.ms_base.specs.declared.refusal.Refusal.{Refusal}
@@ -19,8 +18,7 @@ use Rattle.ms_base.specs.PoolSteps.{grown, is_free, may_become_parent, within_li
 use Rattle.ms_base.specs.Transition.{IsGrown}
 use Rattle.ms_base.specs.SumLaws.{GrowsWell}
 use Rattle.ms_base.specs.Good.{IsSoundPool}
-use Rattle.ms_base.proofs.arena.GrownLemmas.{GrowsClear}
-use Rattle.ms_base.proofs.free.HalvesLemmas.{size_some, size_of_halves}
+use Rattle.ms_base.proofs.arena.GrownLemmas.{GrowsClear, clear_from_runs, parent_clear, parent_size}
 use Rattle.ms_base.proofs.granules.GranuleGrowingLemmas.{growing_keeps_the_limit, growing_is_clear}
 use Rattle.ms_base.proofs.machine.BackedLemmas.{middle_is_clear}
 use Rattle.ms_base.proofs.runs.ApartLemmas.{apart-rest_of, apart-with, list_any-rest_of, meet_turned}
@@ -98,15 +96,6 @@ grown_reaches pool was is total may_enlarge front answered =
         }
     go false false false e f g is_answer = absurd (cc)
 
--- A grown chunk meets none of the others: it is as large as it was, or its other half met none.
-clear_from_runs : (chunk : Chunk) (others : List Chunk) → meets_any (words_of chunk) (map words_of others) ≡ false
-    → meets_chunk others chunk.start chunk.level ≡ false
-clear_from_runs chunk [] h = refl
-clear_from_runs chunk (c ∷ others) h =
-    let both = or_parts (meet chunk.start (size_of chunk.level) c.start (size_of c.level)) (meets_any (words_of chunk) (map words_of others)) h in
-    or_from (meet c.start (size_of c.level) chunk.start (size_of chunk.level)) (meets_chunk others chunk.start chunk.level)
-    (meet_turned c.start (size_of c.level) chunk.start (size_of chunk.level) ∙ both.0) (clear_from_runs chunk others both.1)
-
 pub runs_from_clear : (chunk : Chunk) (others : List Chunk) → meets_chunk others chunk.start chunk.level ≡ false
     → meets_any (words_of chunk) (map words_of others) ≡ false
 runs_from_clear chunk [] h = refl
@@ -114,28 +103,6 @@ runs_from_clear chunk (c ∷ others) h =
     let both = or_parts (meet c.start (size_of c.level) chunk.start (size_of chunk.level)) (meets_chunk others chunk.start chunk.level) h in
     or_from (meet chunk.start (size_of chunk.level) c.start (size_of c.level)) (meets_any (words_of chunk) (map words_of others))
     (meet_turned chunk.start (size_of chunk.level) c.start (size_of c.level) ∙ both.0) (runs_from_clear chunk others both.1)
-
-both_halves : (a m s z t : ℕ) → 1 ≤ m → t ≡ z + z → meet a m s z ≡ false → meet a m (s + z) z ≡ false → meet a m s t ≡ false
-both_halves a m s z t some whole h k = grind (arith, nat_tests)
-
-parent_clear : (others : List Chunk) (start level parent : ℕ) → size_of parent ≡ size_of level + size_of level
-    → meets_chunk others start level ≡ false → meets_chunk others (start + size_of level) level ≡ false
-    → meets_chunk others start parent ≡ false
-parent_clear [] start level parent whole h k = refl
-parent_clear (c ∷ others) start level parent whole h k =
-    let low = or_parts (meet c.start (size_of c.level) start (size_of level)) (meets_chunk others start level) h in
-    let high = or_parts (meet c.start (size_of c.level) (start + size_of level) (size_of level)) (meets_chunk others (start + size_of level) level) k in
-    or_from (meet c.start (size_of c.level) start (size_of parent)) (meets_chunk others start parent)
-    (both_halves c.start (size_of c.level) start (size_of level) (size_of parent) (size_some c.level) whole low.0 high.0) (parent_clear others start level parent whole low.1 high.1)
-
-parent_size : (level parent : ℕ) → level ≤ 12 → level ≡ parent + 1 → size_of parent ≡ size_of level + size_of level
-parent_size level parent low is = ap size_of above ∙ size_of_halves (12 - level) (omega arith) ∙ ap (λ (k : ℕ). size_of k + size_of k) same
-  where
-    above : parent ≡ 12 - suc (12 - level)
-    above = omega arith
-
-    same : 12 - (12 - level) ≡ level
-    same = omega arith
 
 pub grown_meets_none : (b : List Chunk) (was is : Chunk) (a : List Chunk) → was.level ≤ 12 → is.start ≡ was.start
     → are_apart (map words_of (b ++ was ∷ a)) ≡ true

@@ -1,6 +1,6 @@
 -- Growing a chunk: the ledger stays sound, the account is served with the greater chunk, and all
 -- others still.
-use Rattle.std.proofs.Common.{◌≡◌, ◌≢◌, ◌≤◌, ◌+◌, ◌*◌, ℕ, Bool, true, false, ◌||◌, Some, List, [], ◌∷◌, ◌++◌, length, map, refl, sym, ap, ◌∙◌, subst, arith, inl, inr, length-set}
+use Rattle.std.proofs.Common.{◌≡◌, ◌≢◌, ◌≤◌, ◌+◌, ℕ, Bool, true, false, ◌||◌, Some, List, [], ◌∷◌, ◌++◌, length, map, refl, sym, ap, ◌∙◌, subst, arith, inl, inr, length-set}
 use Rattle.std.specs.Prelude.{Ok, slice_get, slice_set}
 use Rattle.std.specs.List.{Contains, list_any, list_all}
 use Rattle.std.specs.List.Sorted.{IsPermutation, IsStrictlyIncreasing}
@@ -21,7 +21,6 @@ use Rattle.ms_base.specs.Causes.{granules_missing}
 use Rattle.ms_base.specs.PoolSteps.{grown}
 use Rattle.ms_base.proofs.arena.GrownLemmas.{GrowsClear}
 use Rattle.ms_base.proofs.granules.GranuleCountLemmas.{meets_front, count_with_front, committed_in_slots}
-use Rattle.ms_base.proofs.granules.FreeGranuleLemmas.{meets_bounds, bounds_meet}
 use Rattle.ms_base.proofs.machine.HeldLemmas.{held_rest, held_with}
 use Rattle.ms_base.proofs.runs.ApartLemmas.{list_any-with}
 use Rattle.ms_base.proofs.arena.BlockLemmas.{not_in_other}
@@ -35,17 +34,11 @@ use Rattle.ms_pool.proofs.ledger.LoanOrderLemmas.{start_of}
 use Rattle.ms_pool.proofs.ledger.AccountLemmas.{own_clear}
 use Rattle.ms_pool.proofs.ledger.GreaterLemmas.{IsGreater, IsReached, grown_is_greater, grown_reaches, grown_is_apart, grown_meets_none}
 use Rattle.ms_pool.proofs.ledger.LoanAtLemmas.{IsLoan, Parted, parted_at, loan_of, contains_at, replaced, replaced_at, order_replaced, owners_replaced, swapped, swapped_at, owned_by-replaced}
+use Rattle.ms_base.proofs.granules.GranuleGrowingLemmas.{meets_further}
 
 -- The chunk of a loan in a space, and what holds of it.
 middle : (b : List Chunk) (chunk : Chunk) (a : List Chunk) → Contains (b ++ chunk ∷ a) chunk
 middle b chunk a = Contains-append_right b (chunk ∷ a) chunk (0, omega arith, refl)
-
--- A greater front from the same start meets what the smaller one met.
-meets_further : (granule : ℕ) (was is : Chunk) (k : ℕ) → is.start ≡ was.start → was.front ≤ is.front
-    → meets_front granule was k ≡ true → meets_front granule is k ≡ true
-meets_further granule was is k same higher meets =
-    let bounds = meets_bounds was.start was.front (k * granule) granule meets in
-    bounds_meet is.start is.front (k * granule) granule (omega (arith, bounds.0, same)) (omega (arith, bounds.1, same, higher))
 
 turned : (old new rest : Bool) → (old ≡ true → new ≡ true) → (new || rest) ≡ ((old || rest) || new)
 turned true new rest f = let e = f refl in rw e refl

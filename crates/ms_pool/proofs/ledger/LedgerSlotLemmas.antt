@@ -6,7 +6,7 @@ use Rattle.std.specs.declared.cmp.Ordering.TheVariants.{Less, Equal, Greater}
 use Rattle.std.specs.List.{All, AllByRecursion, list_all, flat_map, filter}
 use Rattle.std.specs.List.Sorted.{IsStrictlyIncreasing, IsStrictlySortedBy}
 use Rattle.std.specs.BTreeSet.{insert_key}
-use Rattle.std.proofs.lemmas.Bool.{and_parts, and_from, or_cases, both_ways, eqb-true, lt-ltb, le-leb}
+use Rattle.std.proofs.lemmas.Bool.{or_cases, both_ways, eqb-true, lt-ltb, le-leb}
 use Rattle.std.proofs.lemmas.Bool.Decides.{nat_tests}
 use Rattle.std.proofs.lemmas.List.Elements.{recursion_from_All}
 use Rattle.std.proofs.lemmas.List.FromFn.{length-range_with_len}
@@ -22,10 +22,11 @@ use Rattle.ms_base.specs.Pick.{granule_in, has_committed}
 use Rattle.ms_base.specs.Causes.{node_limit}
 use Rattle.ms_base.specs.PoolSteps.{slots_with}
 use Rattle.ms_base.proofs.granules.GranuleCountLemmas.{committed_in_slots, committed_with_slot, not_there}
-use Rattle.ms_base.proofs.machine.SlotLemmas.{length_with, reserved_with, reserved_still, slots_rise_with}
+use Rattle.ms_base.proofs.machine.SlotLemmas.{length_with, reserved_with, slots_rise_with}
 use Rattle.ms_pool.specs.Ledger.{Loan, Ledger, IsSoundLedger, state_in}
 use Rattle.ms_pool.proofs.ledger.SoundLemmas.{changed}
 use Rattle.ms_pool.proofs.ledger.TakenLemmas.{HasSlot}
+use Rattle.ms_base.proofs.machine.AddedLemmas.{still_reserved}
 
 -- What holds of all slots holds of a reserved one.
 at_reserved : (P : ℕ → Type 0) (slots : List ℕ) (slot : ℕ) → is_reserved slots slot ≡ true → AllByRecursion P slots → P slot
@@ -77,17 +78,6 @@ starts_in NonClass start slot = below start slot
     below : (start : ℕ) → IsSlotOf NonClass (slot_of start) → is_in NonClass start ≡ true
     below start slot = lt-ltb start 67108864 (omega arith)
 starts_in Class start slot = le-leb 67108864 start (omega (arith, slot.0))
-
--- The slots of chunks stay reserved with another.
-still_reserved : (slots : List ℕ) (slot : ℕ) (held : List Chunk)
-    → list_all (λ (chunk : Chunk). is_reserved slots (slot_of chunk.start)) held ≡ true
-    → list_all (λ (chunk : Chunk). is_reserved (insert_key nat_cmp slots slot) (slot_of chunk.start)) held ≡ true
-still_reserved slots slot [] h = refl
-still_reserved slots slot (c ∷ held) h =
-    let both = and_parts (is_reserved slots (slot_of c.start)) (list_all (λ (d : Chunk). is_reserved slots (slot_of d.start)) held) h in
-    let more = insert_key nat_cmp slots slot in
-    and_from (is_reserved more (slot_of c.start)) (list_all (λ (d : Chunk). is_reserved more (slot_of d.start)) held)
-    (reserved_still slots slot (slot_of c.start) both.0) (still_reserved slots slot held both.1)
 
 -- The slots of the space, with that of a chunk.
 pub record AreWithSlot (space : Space) (old : Ledger) (slots : List ℕ) (slot : ℕ) : Type 0 where

@@ -15,6 +15,7 @@ use Rattle.ms_base.proofs.machine.GoodLemmas.{IsSoundBut, each_space}
 use Rattle.ms_base.proofs.granules.CommittedLemmas.{committed_settles}
 use Rattle.ms_pool.specs.Ledger.{Loan, Ledger, IsSoundLedger, held_in, committed_of, state_in, recommitted}
 use Rattle.ms_pool.proofs.ledger.LoanLemmas.{chunks_in}
+use Rattle.ms_base.proofs.machine.ChangeLemmas.{both_counts}
 
 -- Where loans and owners stand.
 pub record IsOrderly (ledger : Ledger) : Type 0 where
@@ -62,11 +63,6 @@ ledger_is_sound old mid sound same orderly spaces few = record {
 -- The ledger with other loans and other slots of a space, before the granules follow.
 abbrev pub changed : Space → Ledger → List Loan → List ℕ → Ledger
 changed space old loans slots = record old { loans = loans; slots = by_space space slots old.slots }
-
-both_counts : (count : Space → ℕ) (space : Space) (limit : ℕ) → count space + count (other_space space) ≤ limit
-    → count NonClass + count Class ≤ limit
-both_counts count NonClass limit h = h
-both_counts count Class limit h = omega (arith, h)
 
 -- Where only one space changes, the other keeps its granules, and these count against one limit.
 slots_there : (space : Space) (old : Ledger) (loans : List Loan) (slots : List ℕ)
