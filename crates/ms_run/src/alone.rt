@@ -34,7 +34,7 @@ pub fn answer_all<G: Gate>(
 }
 
 /// Answers a line: one that asks a step between the gate's two calls. The words in use are counted on
-/// for the gate.
+/// for a gate that looks at them.
 fn answer_line<G: Gate>(
     gate: &G,
     system: &mut System,
@@ -50,16 +50,19 @@ fn answer_line<G: Gate>(
         return answer_between(system, line, answers);
     };
     gate.before(0, line.number);
-    let before = used_by(system, &step);
+    let looks = gate.looks();
+    let before = if looks { used_by(system, &step) } else { 0 };
     let reply = system.step(step);
     answers.push(Answer {
         line: line.number,
         reply,
         report: None,
     })?;
-    *used = used
-        .wrapping_add(used_by(system, &step))
-        .wrapping_sub(before);
+    if looks {
+        *used = used
+            .wrapping_add(used_by(system, &step))
+            .wrapping_sub(before);
+    }
     gate.after(0, line.number, *used);
     Ok(())
 }

@@ -10,6 +10,12 @@ pub trait Gate {
     /// before the phase, and what all workers got in use since less what they gave back, modulo 2^64.
     /// With one worker they are the system's.
     fn after(&self, worker: usize, line: u32, used: u64);
+
+    /// Tells whether `after` looks at the words in use. Where it doesn't, one worker needn't count them
+    /// and tells 0.
+    fn looks(&self) -> bool {
+        true
+    }
 }
 
 /// A gate that holds nobody: both its calls return at once. This project's choice.
@@ -19,4 +25,8 @@ impl Gate for NoGate {
     fn before(&self, _worker: usize, _line: u32) {}
 
     fn after(&self, _worker: usize, _line: u32, _used: u64) {}
+
+    fn looks(&self) -> bool {
+        false
+    }
 }
