@@ -28,8 +28,11 @@ use std::marker::Model;
 /// names are this project's choice.
 #[derive(Drop)]
 pub struct Loader {
+    // Its arena in the space that is not the class space.
     arena: Arena,
+    // Its arena in the class space.
     class_arena: Arena,
+    // Its live blocks by name, 0 to 2^32 - 1: each where it starts, and its words.
     names: Names,
 }
 

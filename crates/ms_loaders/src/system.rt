@@ -32,9 +32,13 @@ use std::marker::Model;
 /// one pool.
 #[derive(Drop)]
 pub struct System {
+    // Where loaders, blocks and replies come from.
     alloc: Global,
+    // The pool's policy, by which granules have 8192 words, or 2048 under `aggressive`.
     policy: Policy,
+    // What is reserved, committed and lent, of both spaces.
     pool: Pool,
+    // The loaders by name, at most 65536, whose accounts are all that the pool has open.
     loaders: Loaders,
 }
 
@@ -268,6 +272,7 @@ impl System {
             Ok(reply) => reply,
             Err(refusal) => Reply::Refused(refusal),
         };
+        // That the state is good is learnt here.
         let _ = &self.loaders;
         reply
     }
@@ -346,6 +351,7 @@ impl System {
             };
             replies.push_reserved(reply);
         }
+        // That the state is good is learnt here.
         let _ = &self.loaders;
         Ok(replies)
     }

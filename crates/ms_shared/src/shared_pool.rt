@@ -198,6 +198,7 @@ impl SharedPool {
         for _ in rt.forever() {
             if shared.compare_exchange::<Tries>(seat, 0, 0, 1) == 0 {
                 let pool = shared.exchange(seat, 0, None).unwrap();
+                // What is true of every pool is learnt here.
                 let _ = pool.committed();
                 return pool;
             }
