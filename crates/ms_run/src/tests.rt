@@ -362,6 +362,18 @@ unload 1\nsync\nalloc 2 2 4\nwrite 2 2 0 9\nfree 2 2\nread 2 1 0\n";
     Ok(())
 }
 
+#[test]
+fn what_a_phase_gives_back_goes_off_the_running_amount(rt: HostRuntime) -> Result<(), Fail> {
+    // The second phase's meter ends at 18446744073709551606, to which the running 10 comes.
+    let text = "new 1 standard\nalloc 1 1 10\nreport\nunload 1\n";
+    for workers in [1, 2, 4, 8] {
+        let (last, most) = watched(&rt, settings(workers, 64, 8192, 0), text)?;
+        assert_eq!(rt; last, 0);
+        assert_eq!(rt; most, 10);
+    }
+    Ok(())
+}
+
 /// The words in use that each report tells, of both spaces.
 fn reported(alloc: Global, replies: &Replies) -> Result<Vec<(u64, u64)>, Fail> {
     let mut used = Vec::new(alloc);
