@@ -15,12 +15,12 @@ use Rattle.ms_base.specs.Good.{IsGood}
 use Rattle.ms_base.proofs.machine.SumLemmas.{used_below, few_slots, committed_within_slots}
 use Rattle.ms_loaders.specs.Loader.{LoaderView}
 use Rattle.ms_loaders.specs.System.{states_of}
-use Rattle.ms_loaders.specs.Used.{used_at, used_if}
+use Rattle.ms_loaders.specs.Used.{used_by, used_at, used_if}
 use Rattle.ms_loaders.proofs.MappedLemmas.{named-mapped}
 
 -- A loader's words in use, in both spaces.
 abbrev pub used_in_both : LoaderView → ℕ
-used_in_both loader = used_of loader.state.arena + used_of loader.state.class_arena
+used_in_both loader = used_by loader.state
 
 pub used_is : (loaders : List (ℕ × LoaderView)) → sum_by used_in_both (values_of loaders)
     ≡ sum_by (λ (loader : LoaderState). used_of loader.arena) (values_of (states_of loaders)) + sum_by (λ (loader : LoaderState). used_of loader.class_arena) (values_of (states_of loaders))
