@@ -1,16 +1,18 @@
--- What `Books::take` makes of an allocation as a whole. `start_in_taken` uses it.
-use Rattle.std.proofs.Common.{◌≡◌, ℕ, Result, Ok, Err, List, refl, ap, ◌∙◌, subst}
+-- What `Books::take` and `Books::grow` make of an allocation as a whole. `start_in_taken` and
+-- `start_in_grown` use it.
+use Rattle.std.proofs.Common.{◌≡◌, ℕ, Bool, Result, Ok, Err, List, refl, ap, ◌∙◌, subst, arith}
 use Rattle.std.specs.Result.{IfOk, IfErr}
 use Rattle.ms_base.specs.declared.policy.Policy.{Policy}
 use Rattle.ms_base.specs.declared.kind.Kind.{Kind}
 use Rattle.ms_base.specs.declared.span.Block.{Block}
+use Rattle.ms_base.specs.declared.span.Chunk.{Chunk}
 use Rattle.ms_base.specs.declared.refusal.Refusal.{Refusal}
 use Rattle.ms_base.specs.Level.{level_that_holds}
 use Rattle.ms_base.specs.State.{ArenaState}
 use Rattle.ms_base.specs.Asks.{wanted_level}
 use Rattle.ms_arena.specs.Arena.{block_at, with_books, with_zeros}
-use Rattle.ms_arena.specs.Alloc.{TakeRelation, Takes}
-use Rattle.ms_arena.specs.Books.{BooksView, HasTaken, account_in, arena_over, answer_at, arena_then}
+use Rattle.ms_arena.specs.Alloc.{GrowRelation, TakeRelation, Takes}
+use Rattle.ms_arena.specs.Books.{AwaitsBlock, BooksView, HasGrown, HasTaken, Leaves, account_in, arena_over, answer_at, arena_then}
 
 -- A chunk was taken, or refused.
 pub takes_from : {S : Type 0} (took : TakeRelation S) (policy : Policy) (old : BooksView) (kind : Kind) (live : List (ℕ × List ℕ)) (wanted most n : ℕ) (before : S) (result : Result ℕ Refusal) (new : ArenaState) (after : S)
@@ -33,4 +35,15 @@ takes_from took policy old kind live wanted most n before (Err refusal) new afte
   asked = subst (λ (l : ℕ). took before (account_in old) l (level_that_holds n) n (Err refusal) after) wants
       (subst (λ (l : ℕ). took before (account_in old) wanted l n (Err refusal) after) holds refused);
   follows = (refl, refl);
+}
+
+-- Books whose current chunk grew leave what a placement does.
+pub grown_leaves : {S : Type 0} (grew : GrowRelation S) (policy : Policy) (old : BooksView) (chunk : Chunk) (total : ℕ) (may : Bool) (before : S) (new : BooksView) (after : S) (n start : ℕ)
+    → HasGrown grew policy old chunk total may before new after → AwaitsBlock old.state new.state start n → Leaves old n (Ok start) new
+grown_leaves grew policy old chunk total may before new after n start grown awaits = record {
+  awaits = awaits;
+  room = omega (arith, ap (λ (books : BooksView). books.room) grown.state);
+  owner = ap (λ (books : BooksView). books.owner) grown.state;
+  space = ap (λ (books : BooksView). books.space) grown.state;
+  unchanged = tt;
 }

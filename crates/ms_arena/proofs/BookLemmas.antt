@@ -119,6 +119,7 @@ rest_may kept run start words may low high some = record {
 
 -- The account's chunks once the current one grew.
 pub record GrowsCurrent (policy : Policy) (state : ArenaState) (chunk : Chunk) (total : ℕ) (old new : AccountState) : Type 0 where
+  pub found : current state ≡ Some chunk
   pub after : new ≡ record old { chunks = slice_set state.chunks (last_place state) (reaching policy chunk total) }
   pub reach : Reaches chunk (reaching policy chunk total) total
 
@@ -126,6 +127,7 @@ pub grows_current : (policy : Policy) (space : Space) (state : ArenaState) (coun
     → AreBooks space state counted → current state ≡ Some chunk → old.chunks ≡ state.chunks → Grows policy chunk.start total may old span new
     → GrowsCurrent policy state chunk total old new
 grows_current policy space state counted total chunk may old span new books found chunks grows = record {
+  found = found;
   after = grows.after ∙ ap (λ (l : List Chunk). record old { chunks = slice_set l grows.place (reaching policy grows.chunk total) }) chunks
       ∙ ap (λ (p : ℕ). record old { chunks = slice_set state.chunks p (reaching policy grows.chunk total) }) place
       ∙ ap (λ (c : Chunk). record old { chunks = slice_set state.chunks (last_place state) (reaching policy c total) }) same;
@@ -142,15 +144,19 @@ grows_current policy space state counted total chunk may old span new books foun
     same : grows.chunk ≡ chunk
     same = let both = sym here ∙ ap (slice_get state.chunks) place ∙ found in cc
 
+-- What is current by the view of books is so by their parts.
+pub current_in : (books now : BooksView) (chunk : Chunk) → books ≡ now → current now.state ≡ Some chunk → current books.state ≡ Some chunk
+current_in books now chunk same found = ap (λ (b : BooksView). current b.state) same ∙ found
+
 -- A block at its top.
 pub grown_awaits : (policy : Policy) (space : Space) (state : ArenaState) (counted total n place start : ℕ) (chunk : Chunk) (old new : AccountState) (tops : List ℕ)
-    → AreBooks space state counted → current state ≡ Some chunk → GrowsCurrent policy state chunk total old new → AreChunks new.space new.chunks
+    → AreBooks space state counted → GrowsCurrent policy state chunk total old new → AreChunks new.space new.chunks
     → total ≡ current_top state + n → 2 ≤ n → start ≡ chunk.start + current_top state → place ≡ last_place state → tops ≡ tops_with state.tops place total
     → AwaitsBlock state (record { chunks = new.chunks; tops = tops; kept = state.kept }) start n
-grown_awaits policy space state counted total n place start chunk old new tops books found grows are sum long starts last is = λ live sound.
+grown_awaits policy space state counted total n place start chunk old new tops books grows are sum long starts last is = λ live sound.
     subst (λ (s : ArenaState). Awaits s live (start, n)) (sym same)
     (awaits_in_grown new.space state live chunk (reaching policy chunk total) n total start (subst (AreChunks new.space) chunks are)
-    found grows.reach.start grows.reach.higher grows.reach.reaches sum long starts sound)
+    grows.found grows.reach.start grows.reach.higher grows.reach.reaches sum long starts sound)
   where
     chunks : new.chunks ≡ slice_set state.chunks (last_place state) (reaching policy chunk total)
     chunks = ap (λ (a : AccountState). a.chunks) grows.after
@@ -163,25 +169,34 @@ grown_awaits policy space state counted total n place start chunk old new tops b
         ∙ ap (λ (l : List Chunk). let s : ArenaState = record { chunks = l; tops = tops_with state.tops (last_place (with_current state (reaching policy chunk total))) total; kept = state.kept } in s) chunks
 
 pub books_grown : (policy : Policy) (space : Space) (state : ArenaState) (counted total place now : ℕ) (chunk : Chunk) (old new : AccountState) (tops : List ℕ)
-    → AreBooks space state counted → current state ≡ Some chunk → GrowsCurrent policy state chunk total old new → AreChunks new.space new.chunks
+    → AreBooks space state counted → GrowsCurrent policy state chunk total old new → AreChunks new.space new.chunks
     → current_top state + 2 ≤ total → place ≡ last_place state → tops ≡ tops_with state.tops place total → now ≡ sum tops
     → AreBooks new.space (record { chunks = new.chunks; tops = tops; kept = state.kept }) now
-books_grown policy space state counted total place now chunk old new tops books found grows are more last is summed = record {
+books_grown policy space state counted total place now chunk old new tops books grows are more last is summed = record {
   chunks = are;
-  each = ap length is ∙ length_raised state.tops place total (omega (arith, place_within state.chunks (last_place state) chunk found, last, books.each))
+  each = ap length is ∙ length_raised state.tops place total (omega (arith, place_within state.chunks (last_place state) chunk grows.found, last, books.each))
       ∙ books.each ∙ sym (length-set state.chunks (last_place state) (reaching policy chunk total)) ∙ sym (ap (λ (a : AccountState). length a.chunks) grows.after);
   used = summed;
-  sound = (grown_awaits policy space state counted total (total - current_top state) place (chunk.start + current_top state) chunk old new tops books found grows are
+  sound = (grown_awaits policy space state counted total (total - current_top state) place (chunk.start + current_top state) chunk old new tops books grows are
       (omega (arith, more)) (omega (arith, more)) refl last is [] books.sound).sound;
 }
 
+-- The current chunk and its top, if there is one.
+pub record IsFormer (state : ArenaState) (former : Option (Chunk × ℕ)) : Type 0 where
+  pub found : option_map (λ (at : Chunk × ℕ). at.0) former ≡ current state
+  pub top : IfSome former (λ (at : Chunk × ℕ). at.1 ≡ current_top state)
+
+pub former_of : (books now : BooksView) (former : Option (Chunk × ℕ)) → books ≡ now → option_map (λ (at : Chunk × ℕ). at.0) former ≡ current now.state
+    → IfSome former (λ (at : Chunk × ℕ). at.1 ≡ current_top now.state) → IsFormer books.state former
+former_of books now former same found top = subst (λ (b : BooksView). IsFormer b.state former) (sym same) (record { found = found; top = top })
+
 -- The current chunk may retire, and what the arena is then.
 pub may_retire : (space : Space) (state : ArenaState) (counted : ℕ) (former : Option (Chunk × ℕ)) → AreBooks space state counted
-    → option_map (λ (at : Chunk × ℕ). at.0) former ≡ current state → IfSome former (λ at. at.1 ≡ current_top state)
-    → MayRetire state.tops state.kept former
-may_retire space state counted None books found top = tt
-may_retire space state counted (Some at) books found top =
-    let its = sym found in
+    → IsFormer state former → MayRetire state.tops state.kept former
+may_retire space state counted None books was = tt
+may_retire space state counted (Some at) books was =
+    let its = sym was.found in
+    let top = was.top in
     let bounds = bounded_at space state.chunks (last_place state) at.0 books.chunks its in
     record {
       last = omega (arith, books.each, place_within state.chunks (last_place state) at.0 its);
@@ -215,13 +230,12 @@ pub record Taken (policy : Policy) (state new : ArenaState) (span : Span) (n : �
   pub awaits : AwaitsBlock state new span.start n
 
 pub taken_books : (policy : Policy) (space : Space) (state : ArenaState) (counted wanted most n : ℕ) (former : Option (Chunk × ℕ)) (old : AccountState) (span : Span) (new : AccountState) (tops tops' : List ℕ) (kept : List (ℕ × ℕ))
-    → AreBooks space state counted → option_map (λ (at : Chunk × ℕ). at.0) former ≡ current state → IfSome former (λ at. at.1 ≡ current_top state)
-    → old.chunks ≡ state.chunks → old.space ≡ space → Adds policy wanted most n old span new → AreChunks new.space new.chunks → 2 ≤ n → n ≤ size_of most
+    → AreBooks space state counted → IsFormer state former → old.chunks ≡ state.chunks → old.space ≡ space → Adds policy wanted most n old span new → AreChunks new.space new.chunks → 2 ≤ n → n ≤ size_of most
     → tops ≡ tops_retired state.tops former → tops' ≡ tops ++ n ∷ [] → kept ≡ kept_retired state.kept former
     → Taken policy state (record { chunks = new.chunks; tops = tops'; kept = kept }) span n
-taken_books policy space state counted wanted most n former old span new tops tops' kept books found top chunks spaces adds are long fits retires pushed keeps = record {
+taken_books policy space state counted wanted most n former old span new tops tops' kept books was_current chunks spaces adds are long fits retires pushed keeps = record {
   state_is = same;
-  each = omega (arith, ap length pushed, length-append tops (n ∷ []), ap length retires, length_retired state.tops state.kept former (may_retire space state counted former books found top), books.each, ap length new_chunks, length-append state.chunks (chunk ∷ []));
+  each = omega (arith, ap length pushed, length-append tops (n ∷ []), ap length retires, length_retired state.tops state.kept former (may_retire space state counted former books was_current), books.each, ap length new_chunks, length-append state.chunks (chunk ∷ []));
   awaits = λ live sound. subst (λ (s : ArenaState). Awaits s live (span.start, n)) (sym same)
       (awaits_in_taken space state live chunk n books.chunks (subst (AreChunks space) new_chunks (subst (λ (one : Space). AreChunks one new.chunks) (ap (λ (a : AccountState). a.space) adds.after ∙ spaces) are)) long reach sound);
 }
@@ -238,10 +252,10 @@ taken_books policy space state counted wanted most n former old span new tops to
     was : ◌≡◌ {A = ArenaState} (record { chunks = state.chunks; tops = tops; kept = kept }) (retired state)
     was = ap (λ (l : List ℕ). let s : ArenaState = record { chunks = state.chunks; tops = l; kept = kept } in s) retires
         ∙ ap (λ (l : List (ℕ × ℕ)). let s : ArenaState = record { chunks = state.chunks; tops = tops_retired state.tops former; kept = l } in s) keeps
-        ∙ retired_is state former books.each found top
+        ∙ retired_is state former books.each was_current.found was_current.top
 
     place : last_place (record { chunks = state.chunks ++ chunk ∷ []; tops = tops; kept = kept }) ≡ length tops
-    place = omega (arith, length-append state.chunks (chunk ∷ []), ap length retires, length_retired state.tops state.kept former (may_retire space state counted former books found top), books.each)
+    place = omega (arith, length-append state.chunks (chunk ∷ []), ap length retires, length_retired state.tops state.kept former (may_retire space state counted former books was_current), books.each)
 
     pushed_is : tops' ≡ tops_with tops (last_place (record { chunks = state.chunks ++ chunk ∷ []; tops = tops; kept = kept })) n
     pushed_is = pushed ∙ sym (tops_pushed tops n) ∙ ap (λ (p : ℕ). tops_with tops p n) (sym place)

@@ -1,6 +1,6 @@
 -- The books of an arena as the code keeps them: its account, a top for each chunk, and its free
 -- blocks, beside the room for more.
-use Rattle.std.specs.Prelude.{◌≡◌, ℕ, ◌+◌, ◌-◌, ◌^◌, ◌≤◌, ◌<◌, Bool, sum, List, [], ◌++◌, length, slice_index, Option, Some, None, Result, Ok, Err, IfOk, OnErr, IsTrue, IsFalse}
+use Rattle.std.specs.Prelude.{◌≡◌, ℕ, ◌+◌, ◌-◌, ◌^◌, ◌≤◌, ◌<◌, Bool, sum, List, [], ◌++◌, length, slice_index, Vec, vec_len, vec_capacity, Option, Some, None, Result, Ok, Err, IfOk, OnErr, IsTrue, IsFalse}
 use Rattle.ms_base.specs.declared.policy.Policy.{Policy}
 use Rattle.ms_base.specs.declared.kind.Kind.{Kind}
 use Rattle.ms_base.specs.declared.kind.Space.{Space}
@@ -10,7 +10,7 @@ use Rattle.ms_base.specs.declared.span.Block.{Block}
 use Rattle.ms_base.specs.declared.refusal.Refusal.{Refusal}
 use Rattle.ms_base.specs.Interval.{meets_any}
 use Rattle.ms_base.specs.Level.{size_of}
-use Rattle.ms_base.specs.State.{ArenaState}
+use Rattle.ms_base.specs.State.{ArenaState, Limits}
 use Rattle.ms_base.specs.Good.{IsSound, is_in_use}
 use Rattle.ms_base.specs.Names.{named, without}
 use Rattle.ms_base.specs.Place.{best_fit, current, current_top, tops_with, with_rest, with_top, with_taken}
@@ -18,6 +18,7 @@ use Rattle.ms_base.specs.Asks.{asks_growth, may_enlarge, total_asked}
 use Rattle.ms_blocks.specs.FreeBlocks.{MayBeKept}
 use Rattle.ms_pool.specs.Account.{AccountState, AreChunks}
 use Rattle.ms_pool.specs.Lending.{chunk_at, reaching}
+use Rattle.ms_pool.specs.Source.{LeavesRest}
 use Rattle.ms_arena.specs.Arena.{ArenaView, IsSoundArena, with_books, with_zeros, block_at}
 use Rattle.ms_arena.specs.Alloc.{TakeRelation, GrowRelation, with_current}
 
@@ -120,6 +121,14 @@ pub record PlacesFree (old : List (ℕ × ℕ)) (n start : ℕ) (new : List (ℕ
   pub enough : n ≤ words
   pub after : new ≡ with_rest (without old start) (start + n) (words - n)
 
+-- Once tops have risen, the sum that is kept is theirs and has grown by so many words at most; there
+-- are as many tops, and room for as many.
+pub record StayCounted {Z : Type 0} (most : ℕ) (old : Vec ℕ Z) (was : ℕ) (new : Vec ℕ Z) (now : ℕ) : Type 0 where
+  pub used : now ≡ sum new.items
+  pub few : now ≤ was + most
+  pub len : vec_len new ≡ vec_len old
+  pub capacity : vec_capacity new ≡ vec_capacity old
+
 -- The chunk that was current may retire: it has a top, its front is not far, and its committed rest,
 -- if it has two words, may be a free block.
 pub record MayRetireAt (tops : List ℕ) (kept : List (ℕ × ℕ)) (chunk : Chunk) (top : ℕ) : Type 0 where
@@ -150,6 +159,29 @@ pub record AsksFor (state : ArenaState) (kind : Kind) (space : Space) (n : ℕ) 
   pub may_is : may ≡ may_enlarge kind space state chunk
   pub asks : IsTrue (asks_growth kind space state (Some chunk) n)
   pub ends : chunk.start + total < 2 ^ 32
+
+-- A place for a block of n words may be looked for: the source serves the account of the books, which
+-- may place it.
+pub record MayLook {S : Type 0} (serves : S → AccountState → Type 0) (source : S) (books : BooksView)
+    (n : ℕ) : Type 0 where
+  pub served : serves source (account_in books)
+  pub may : MayPlace books 0 n
+
+-- One was looked for: the source serves the account still, and leaves the rest; the books keep to what
+-- a placement leaves.
+pub record HasLooked {S : Type 0} (serves : S → AccountState → Type 0) (opened : S → Space → ℕ)
+    (limits : S → Limits) (old : BooksView) (n : ℕ) (before : S) (result : Result ℕ Refusal) (new : BooksView)
+    (after : S) : Type 0 where
+  pub served : serves after (account_in new)
+  pub rest : LeavesRest serves opened limits old.owner before after
+  pub leaves : Leaves old n result new
+
+-- What is said of an arena, the answer to a request for n words and the arena then, is so whatever blocks
+-- are live.
+abbrev pub ForAllLive : BooksView → Kind → ℕ → Result ℕ Refusal → ArenaState
+    → (ArenaView → Result Block Refusal → ArenaView → Type 0) → Type 0
+ForAllLive old kind n result new relation = (live : List (ℕ × List ℕ)) → let arena = arena_over old kind live in
+    relation arena (answer_at result n) (arena_then arena new result n)
 
 -- What is kept true of an arena: it is sound, and there is room to free each live block.
 pub record IsArena (arena : ArenaView) (spare : ℕ) : Type 0 where

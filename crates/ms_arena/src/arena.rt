@@ -20,11 +20,11 @@ ghost use Rattle.ms_base.specs.Names.{named};
 ghost use Rattle.ms_base.specs.Place.{placed, current};
 ghost use Rattle.ms_base.specs.Asks.{asks_growth};
 ghost use Rattle.ms_base.specs.Totals.{used_of};
-ghost use Rattle.ms_pool.specs.Account.{AccountState};
+ghost use Rattle.ms_pool.specs.Source.{LeavesRest};
 ghost use Rattle.ms_arena.specs.Arena.{IsSoundArena, IsNotLive, IsAskable, Places, PlaceRefused, ReadsWord, WritesWord, WordRefused, FreesBlock, account_of, new_arena};
 ghost use Rattle.ms_arena.specs.Alloc.{Allocates, Serves, AsksChunk, Takes, Grows};
 ghost use Rattle.ms_arena.specs.ArenaSums.{AreSums};
-ghost use Rattle.ms_arena.specs.Books.{AsksFor, Leaves, MayPlace, account_in, arena_over, answer_at, arena_then};
+ghost use Rattle.ms_arena.specs.Books.{AsksFor, ForAllLive, HasLooked, MayLook, arena_over};
 
 use crate::books::Books;
 use crate::rows::Rows;
@@ -102,10 +102,7 @@ impl Arena {
     pub fn alloc<S: ChunkSource>(&mut self, source: &mut S, words: u64) -> Result<Block, Refusal>
         requires { S.serves source.old (account_of self.old) }
         ensures served { S.serves source.new (account_of self.new) }
-        ensures others { (other : AccountState) → other.owner ≢ self.old.owner
-            → S.serves source.old other → S.serves source.new other }
-        ensures counted { S.opened source.new ≡ S.opened source.old }
-        ensures limits { S.limits source.new ≡ S.limits source.old }
+        ensures rest { LeavesRest S.serves S.opened S.limits self.old.owner source.old source.new }
         ensures fresh { IfOk result (λ block. named self.old.live block.start ≡ None) }
         ensures allocates { Allocates S.grew S.took (S.limits source.old).policy self.old words
             source.old result self.new source.new }
@@ -251,17 +248,11 @@ fn start_of<S: ChunkSource>(
     kind: Kind,
     n: u64,
 ) -> Result<u64, Refusal>
-    requires served { S.serves source.old (account_in books.old) }
-    requires may { MayPlace books.old 0 n }
-    ensures served { S.serves source.new (account_in books.new) }
-    ensures others { (other : AccountState) → other.owner ≢ books.old.owner
-        → S.serves source.old other → S.serves source.new other }
-    ensures counted { S.opened source.new ≡ S.opened source.old }
-    ensures limits { S.limits source.new ≡ S.limits source.old }
-    ensures serves { (live : List (ℕ × List ℕ)) → let arena = arena_over books.old kind live in
+    requires { MayLook S.serves source.old books.old n }
+    ensures looked { HasLooked S.serves S.opened S.limits books.old n source.old result books.new source.new }
+    ensures serves { ForAllLive books.old kind n result books.new.state (λ arena answer new.
         Serves S.grew S.took (S.limits source.old).policy arena n (placed books.old.state n)
-        source.old (answer_at result n) (arena_then arena books.new.state result n) source.new }
-    ensures leaves { Leaves books.old n result books.new }
+        source.old answer new source.new) }
 {
     match books.place(n) {
         Some(start) => Ok(start),
@@ -276,18 +267,11 @@ fn start_in_chunk<S: ChunkSource>(
     kind: Kind,
     n: u64,
 ) -> Result<u64, Refusal>
-    requires served { S.serves source.old (account_in books.old) }
-    requires may { MayPlace books.old 0 n }
-    ensures served { S.serves source.new (account_in books.new) }
-    ensures others { (other : AccountState) → other.owner ≢ books.old.owner
-        → S.serves source.old other → S.serves source.new other }
-    ensures counted { S.opened source.new ≡ S.opened source.old }
-    ensures limits { S.limits source.new ≡ S.limits source.old }
-    ensures asks { (live : List (ℕ × List ℕ)) → let arena = arena_over books.old kind live in
+    requires { MayLook S.serves source.old books.old n }
+    ensures looked { HasLooked S.serves S.opened S.limits books.old n source.old result books.new source.new }
+    ensures asks { ForAllLive books.old kind n result books.new.state (λ arena answer new.
         AsksChunk S.grew S.took (S.limits source.old).policy arena n (current arena.books)
-        (asks_growth kind arena.space arena.books (current arena.books) n)
-        source.old (answer_at result n) (arena_then arena books.new.state result n) source.new }
-    ensures leaves { Leaves books.old n result books.new }
+        (asks_growth kind arena.space arena.books (current arena.books) n) source.old answer new source.new) }
 {
     match growth_asked(books, kind, n) {
         Some((chunk, total, may_enlarge)) => {
@@ -307,18 +291,11 @@ fn start_in_grown<S: ChunkSource>(
     total: u64,
     may_enlarge: bool,
 ) -> Result<u64, Refusal>
-    requires served { S.serves source.old (account_in books.old) }
-    requires may { MayPlace books.old 0 n }
+    requires may { MayLook S.serves source.old books.old n }
     requires asks { AsksFor books.old.state kind books.old.space n chunk total may_enlarge }
-    ensures served { S.serves source.new (account_in books.new) }
-    ensures others { (other : AccountState) → other.owner ≢ books.old.owner
-        → S.serves source.old other → S.serves source.new other }
-    ensures counted { S.opened source.new ≡ S.opened source.old }
-    ensures limits { S.limits source.new ≡ S.limits source.old }
-    ensures grows { (live : List (ℕ × List ℕ)) → let arena = arena_over books.old kind live in
-        Grows S.grew S.took (S.limits source.old).policy arena chunk n
-        source.old (answer_at result n) (arena_then arena books.new.state result n) source.new }
-    ensures leaves { Leaves books.old n result books.new }
+    ensures looked { HasLooked S.serves S.opened S.limits books.old n source.old result books.new source.new }
+    ensures grows { ForAllLive books.old kind n result books.new.state (λ arena answer new.
+        Grows S.grew S.took (S.limits source.old).policy arena chunk n source.old answer new source.new) }
 {
     let start = chunk.start + (total - n);
     match books.grow(source, chunk, total, may_enlarge) {
@@ -334,17 +311,10 @@ fn start_in_taken<S: ChunkSource>(
     kind: Kind,
     n: u64,
 ) -> Result<u64, Refusal>
-    requires served { S.serves source.old (account_in books.old) }
-    requires may { MayPlace books.old 0 n }
-    ensures served { S.serves source.new (account_in books.new) }
-    ensures others { (other : AccountState) → other.owner ≢ books.old.owner
-        → S.serves source.old other → S.serves source.new other }
-    ensures counted { S.opened source.new ≡ S.opened source.old }
-    ensures limits { S.limits source.new ≡ S.limits source.old }
-    ensures takes { (live : List (ℕ × List ℕ)) → let arena = arena_over books.old kind live in
-        Takes S.took (S.limits source.old).policy arena n
-        source.old (answer_at result n) (arena_then arena books.new.state result n) source.new }
-    ensures leaves { Leaves books.old n result books.new }
+    requires { MayLook S.serves source.old books.old n }
+    ensures looked { HasLooked S.serves S.opened S.limits books.old n source.old result books.new source.new }
+    ensures takes { ForAllLive books.old kind n result books.new.state (λ arena answer new.
+        Takes S.took (S.limits source.old).policy arena n source.old answer new source.new) }
 {
     let Some(most) = level_for(n) else {
         return Err(Refusal::TooLarge);

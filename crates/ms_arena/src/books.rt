@@ -7,7 +7,7 @@
 //! top lies past its front, and the words in use are the sum of the tops.
 //! Only `make_room` takes memory, for free blocks and for the next chunk's top; `grow` and `take`
 //! wait as their source does. In HotSpot's metaspaceArena.cpp a chunk has its top itself.
-ghost use Rattle.std.specs.Prelude.{◌≡◌, ◌≢◌, ℕ, ◌+◌, ◌*◌, ◌^◌, ◌<◌, ◌≤◌, Some, None, Ok, Err, IfOk, OnOk, OnErr, IfErr, IfSome, IfNone, [], length, sum, slice_index, vec_len, vec_capacity};
+ghost use Rattle.std.specs.Prelude.{◌≡◌, ◌≢◌, ℕ, ◌+◌, ◌*◌, ◌^◌, ◌<◌, ◌≤◌, Some, None, Ok, Err, IfOk, OnOk, OnErr, IfErr, IfSome, IfNone, [], length, sum, slice_index};
 ghost use Rattle.std.specs.Option.{option_map};
 ghost use Rattle.ms_base.specs.Level.{size_of};
 ghost use Rattle.ms_base.specs.Asks.{next_level};
@@ -16,8 +16,9 @@ ghost use Rattle.ms_base.specs.State.{empty_arena};
 ghost use Rattle.ms_base.specs.Place.{placed, current, current_top, with_rest, tops_with, best_fit};
 ghost use Rattle.ms_base.specs.Totals.{used_of, kept_of};
 ghost use Rattle.ms_blocks.specs.FreeBlocks.{MayBeKept, run_of};
-ghost use Rattle.ms_pool.specs.Account.{AccountState, AreChunks};
-ghost use Rattle.ms_arena.specs.Books.{BooksView, Awaits, AwaitsBlock, HasGrown, HasTaken, Leaves, MayGrow, MayPlace, IsCurrent, PlacesFree, MayRetire, tops_retired, kept_retired, account_in};
+ghost use Rattle.ms_pool.specs.Account.{AreChunks};
+ghost use Rattle.ms_pool.specs.Source.{LeavesRest};
+ghost use Rattle.ms_arena.specs.Books.{BooksView, Awaits, AwaitsBlock, HasGrown, HasTaken, Leaves, MayGrow, MayPlace, IsCurrent, PlacesFree, MayRetire, StayCounted, tops_retired, kept_retired, account_in};
 
 use ms_base::{Block, Chunk, Kind, Level, Refusal, growth};
 use ms_blocks::FreeBlocks;
@@ -188,10 +189,7 @@ impl Books {
         requires served { S.serves source.old (account_in self.old) }
         requires may { MayGrow self.old.state chunk total }
         ensures served { S.serves source.new (account_in self.new) }
-        ensures others { (other : AccountState) → other.owner ≢ self.old.owner
-            → S.serves source.old other → S.serves source.new other }
-        ensures counted { S.opened source.new ≡ S.opened source.old }
-        ensures limits { S.limits source.new ≡ S.limits source.old }
+        ensures rest { LeavesRest S.serves S.opened S.limits self.old.owner source.old source.new }
         ensures grown { OnOk result (HasGrown S.grew (S.limits source.old).policy self.old chunk
             total may_enlarge source.old self.new source.new) }
         ensures awaits { (start n : ℕ) → OnOk result
@@ -223,10 +221,7 @@ impl Books {
         requires levels { wanted ≤ most }
         requires may { MayPlace self.old most n }
         ensures served { S.serves source.new (account_in self.new) }
-        ensures others { (other : AccountState) → other.owner ≢ self.old.owner
-            → S.serves source.old other → S.serves source.new other }
-        ensures counted { S.opened source.new ≡ S.opened source.old }
-        ensures limits { S.limits source.new ≡ S.limits source.old }
+        ensures rest { LeavesRest S.serves S.opened S.limits self.old.owner source.old source.new }
         ensures taken { IfOk result (λ start. HasTaken S.took (S.limits source.old).policy self.old
             wanted most n source.old start self.new.state source.new) }
         ensures leaves { Leaves self.old n result self.new }
@@ -277,12 +272,9 @@ fn retire(tops: &mut Vec<u64>, used: &mut u64, kept: &mut FreeBlocks, former: Op
     requires small { used.old < 2 ^ 52 }
     requires may { MayRetire tops.old.items kept.old.kept former }
     ensures tops { tops.new.items ≡ tops_retired tops.old.items former }
-    ensures used { used.new ≡ sum tops.new.items }
-    ensures few { used.new ≤ used.old + 2 ^ 19 }
+    ensures counted { StayCounted (2 ^ 19) tops.old used.old tops.new used.new }
     ensures kept { kept.new.kept ≡ kept_retired kept.old.kept former }
     ensures room { kept.old.room ≤ kept.new.room + 1 }
-    ensures len { vec_len tops.new ≡ vec_len tops.old }
-    ensures capacity { vec_capacity tops.new ≡ vec_capacity tops.old }
 {
     let Some((chunk, top)) = former else {
         return;
@@ -299,10 +291,7 @@ fn raise(tops: &mut Vec<u64>, used: &mut u64, place: usize, top: u64)
     requires summed { used.old ≡ sum tops.old.items }
     requires fits { used.old + top < 2 ^ 64 }
     ensures tops { tops.new.items ≡ tops_with tops.old.items place top }
-    ensures used { used.new ≡ sum tops.new.items }
-    ensures few { used.new ≤ used.old + top }
-    ensures len { vec_len tops.new ≡ vec_len tops.old }
-    ensures capacity { vec_capacity tops.new ≡ vec_capacity tops.old }
+    ensures counted { StayCounted top tops.old used.old tops.new used.new }
 {
     *used += top - tops[place];
     tops[place] = top;

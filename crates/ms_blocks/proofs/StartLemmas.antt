@@ -7,7 +7,8 @@ use Rattle.ms_base.specs.declared.span.Block.{Block}
 use Rattle.ms_base.specs.Names.{named, with_new, without}
 use Rattle.ms_blocks.specs.Rank.{ranks_before, with_ranked, first_fit, without_fit}
 use Rattle.ms_blocks.specs.FreeBlocks.{by_start, StartsDiffer}
-use Rattle.ms_blocks.proofs.KeptEntryLemmas.{with_new-with_new, named-with_new, named-with_new_other, unnamed_is_other, unnamed_before, without-with_new, all-with_new}
+use Rattle.ms_blocks.proofs.KeptEntryLemmas.{with_new-with_new, named-with_new, named-with_new_other, unnamed_is_other}
+use Rattle.ms_blocks.proofs.KeptEntryLemmas.{unnamed_before, without-with_new, all-with_new}
 
 -- A block added at its rank is a run added at its start.
 pub by_start-with_ranked : (blocks : List Block) (block : Block) → named (by_start blocks) block.start ≡ None

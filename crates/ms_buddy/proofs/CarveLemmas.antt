@@ -79,14 +79,16 @@ upper_may part level start half front may h size above = record {
 -- A part lies in no part past its start, and in none that ends before it does.
 fits_not_above : (part other : Span) (middle high : ℕ) → part.start < middle → LiesIn middle high other
     → lies_in (words_of part) (words_of other) ≡ false
-fits_not_above part other middle high h lies = apart other.start part.start (nat_le (part.start + size_of part.level) (other.start + size_of other.level)) (omega (arith, lies.from))
+fits_not_above part other middle high h lies =
+    apart other.start part.start (nat_le (part.start + size_of part.level) (other.start + size_of other.level)) (omega (arith, lies.from))
   where
     apart : (a b : ℕ) (c : Bool) → b < a → (nat_le a b && c) ≡ false
     apart a b c h = grind (arith, nat_tests)
 
 fits_not_below : (part other : Span) (low middle : ℕ) → middle < part.start + size_of part.level
     → LiesIn low middle other → lies_in (words_of part) (words_of other) ≡ false
-fits_not_below part other low middle h lies = apart (nat_le other.start part.start) (part.start + size_of part.level) (other.start + size_of other.level) (omega (arith, lies.to))
+fits_not_below part other low middle h lies =
+    apart (nat_le other.start part.start) (part.start + size_of part.level) (other.start + size_of other.level) (omega (arith, lies.to))
   where
     apart : (c : Bool) (a b : ℕ) → b < a → (c && nat_le a b) ≡ false
     apart c a b h = grind (arith, nat_tests)
@@ -115,7 +117,8 @@ pub whole_fits_not : {A : Type 0} (part : Span) (level start half : ℕ) (lower 
     → AtHalves level start half lower upper → level < 12 → IsInside level start part
     → part.level ≡ level → fits_in part (free_in_halves level start lower upper) ≡ false
 whole_fits_not part level start half lower upper s low inside e =
-    list_any-append (λ (other : Span). lies_in (words_of part) (words_of other)) (free_in (level + 1) start lower) (free_in (level + 1) (start + size_of (level + 1)) upper)
+    list_any-append (λ (other : Span). lies_in (words_of part) (words_of other))
+    (free_in (level + 1) start lower) (free_in (level + 1) (start + size_of (level + 1)) upper)
     ∙ rw (
       none_fit_below part (level + 1) start lower s.low_tree (omega (arith, size_of-halves level low, size_of-some (level + 1), ap size_of e, inside.from)),
       none_fit_above part (level + 1) (start + size_of (level + 1)) upper s.high_tree (omega (arith, size_of-some (level + 1), ap size_of e, inside.to)),
@@ -126,7 +129,8 @@ pub lower_fits : {A : Type 0} (part : Span) (level start half : ℕ) (lower uppe
     → AtHalves level start half lower upper → part.start < start + half
     → fits_in part (free_in_halves level start lower upper) ≡ fits_in part (free_in (level + 1) start lower)
 lower_fits part level start half lower upper s h =
-    list_any-append (λ (other : Span). lies_in (words_of part) (words_of other)) (free_in (level + 1) start lower) (free_in (level + 1) (start + size_of (level + 1)) upper)
+    list_any-append (λ (other : Span). lies_in (words_of part) (words_of other))
+    (free_in (level + 1) start lower) (free_in (level + 1) (start + size_of (level + 1)) upper)
     ∙ or_false (fits_in part (free_in (level + 1) start lower)) (fits_in part (free_in (level + 1) (start + size_of (level + 1)) upper))
     (none_fit_above part (level + 1) (start + size_of (level + 1)) upper s.high_tree (omega (arith, s.size)))
 
@@ -134,7 +138,8 @@ pub upper_fits : {A : Type 0} (part : Span) (level start half : ℕ) (lower uppe
     → AtHalves level start half lower upper → start + half ≤ part.start
     → fits_in part (free_in_halves level start lower upper) ≡ fits_in part (free_in (level + 1) (start + half) upper)
 upper_fits part level start half lower upper s h =
-    list_any-append (λ (other : Span). lies_in (words_of part) (words_of other)) (free_in (level + 1) start lower) (free_in (level + 1) (start + size_of (level + 1)) upper)
+    list_any-append (λ (other : Span). lies_in (words_of part) (words_of other))
+    (free_in (level + 1) start lower) (free_in (level + 1) (start + size_of (level + 1)) upper)
     ∙ rw (none_fit_below part (level + 1) start lower s.low_tree (omega (arith, s.size, size_of-some part.level)))
     (ap (λ (n : ℕ). fits_in part (free_in (level + 1) (start + n) upper)) (sym s.size))
 
@@ -180,7 +185,9 @@ leaf_in_lower : (added : LentLeaf) (middle high : ℕ) (xs ys : List LentLeaf) �
     → with_leaf added (xs ++ ys) ≡ with_leaf added xs ++ ys
 leaf_in_lower added middle high [] ys h all = leaf_before added middle high ys h all
 leaf_in_lower added middle high (x ∷ xs) ys h all =
-    elim (nat_lt x.start added.start) as (λ b. cond b (x ∷ with_leaf added (xs ++ ys)) (added ∷ x ∷ (xs ++ ys)) ≡ cond b (x ∷ with_leaf added xs) (added ∷ x ∷ xs) ++ ys) [
+    elim (nat_lt x.start added.start) as (λ b.
+    cond b (x ∷ with_leaf added (xs ++ ys)) (added ∷ x ∷ (xs ++ ys))
+    ≡ cond b (x ∷ with_leaf added xs) (added ∷ x ∷ xs) ++ ys) [
       | true ↦ ap (λ (zs : List LentLeaf). x ∷ zs) (leaf_in_lower added middle high xs ys h all)
       | false ↦ refl
     ]
@@ -190,7 +197,8 @@ leaf_in_upper : (added : LentLeaf) (low middle : ℕ) (xs ys : List LentLeaf) �
     → with_leaf added (xs ++ ys) ≡ xs ++ with_leaf added ys
 leaf_in_upper added low middle [] ys h all = refl
 leaf_in_upper added low middle (x ∷ xs) ys h all =
-    rw (below x.start added.start (omega (arith, all.0.to, size_of-some x.level))) (ap (λ (zs : List LentLeaf). x ∷ zs) (leaf_in_upper added low middle xs ys h all.1))
+    rw (below x.start added.start (omega (arith, all.0.to, size_of-some x.level)))
+    (ap (λ (zs : List LentLeaf). x ∷ zs) (leaf_in_upper added low middle xs ys h all.1))
   where
     below : (a b : ℕ) → a < b → nat_lt a b ≡ true
     below a b h = grind (arith, nat_tests)
@@ -202,7 +210,8 @@ pub lower_added : {A : Type 0} (added : LentLeaf) (level start half : ℕ) (lowe
 lower_added added level start half lower upper now s h e =
     ap (λ (xs : List LentLeaf). xs ++ lent_in (level + 1) (start + size_of (level + 1)) upper) e
     ∙ sym (leaf_in_lower added (start + size_of (level + 1)) (start + size_of (level + 1) + size_of (level + 1)) (lent_in (level + 1) start lower)
-    (lent_in (level + 1) (start + size_of (level + 1)) upper) (omega (arith, s.size)) (lent_lies_in (level + 1) (start + size_of (level + 1)) upper s.high_tree))
+    (lent_in (level + 1) (start + size_of (level + 1)) upper)
+    (omega (arith, s.size)) (lent_lies_in (level + 1) (start + size_of (level + 1)) upper s.high_tree))
 
 pub upper_added : {A : Type 0} (added : LentLeaf) (level start half : ℕ) (lower upper now : Node A)
     → AtHalves level start half lower upper → start + half ≤ added.start

@@ -1,6 +1,7 @@
 -- A part of two halves can become its parent exactly where it can in the half where it is, or where
 -- it is the lower half and the upper half is free. For enlarging.
-use Rattle.std.proofs.Common.{◌≡◌, ◌<◌, ◌≤◌, ℕ, ◌+◌, ◌-◌, ◌*◌, ◌/◌, ◌%◌, Bool, true, false, ◌&&◌, ◌||◌, List, [], ◌∷◌, refl, sym, ap, subst, ◌∙◌, inl, inr, arith}
+use Rattle.std.proofs.Common.{◌≡◌, ◌<◌, ◌≤◌, ℕ, ◌+◌, ◌-◌, ◌*◌, ◌/◌, ◌%◌, Bool, true, false, ◌&&◌, ◌||◌, List, [], ◌∷◌}
+use Rattle.std.proofs.Common.{refl, sym, ap, subst, ◌∙◌, inl, inr, arith}
 use Rattle.std.proofs.lemmas.Nat.{div-add-mod', mod-mul-add}
 use Rattle.std.proofs.lemmas.Bool.{cases_lt}
 use Rattle.std.specs.Prelude.{◌==◌, nat_lt, IsTrue, IsFalse, Option, Some, None, Result, Ok, Err, IfOk, OnSome}
@@ -67,7 +68,8 @@ deep_lower_can part level start half lower upper s place h k from below =
       s.size,
       size_of-some part.level,
       parent_size,
-      ends_in (record { start = part.start; level = part.level - 1 }) (level + 1) start (leader_parent part k e) (half_place.level_fits, half_place.aligned) (omega arith) from (omega (arith, s.size)),
+      ends_in (record { start = part.start; level = part.level - 1 }) (level + 1) start (leader_parent part k e)
+          (half_place.level_fits, half_place.aligned) (omega arith) from (omega (arith, s.size)),
     )
       where
         parent_size : size_of part.level + size_of part.level ≡ size_of (part.level - 1)
@@ -87,10 +89,11 @@ lent_part_level part level start node e = of_list (lent_in level start node) (le
     of_list : (leaves : List LentLeaf) → AllByRecursion (λ leaf. level ≤ leaf.level) leaves → is_lent leaves part ≡ true
         → level ≤ part.level
     of_list [] all e = absurd (cc)
-    of_list (leaf ∷ leaves) all e = elim (is_same part (span_of leaf)) as (λ b. is_same part (span_of leaf) ≡ b → (b || is_lent leaves part) ≡ true → level ≤ part.level) [
-      | true ↦ λ f e. omega (arith, all.0, equal (leaf.start == part.start) leaf.level part.level f)
-      | false ↦ λ f e. of_list leaves all.1 e
-    ] refl e
+    of_list (leaf ∷ leaves) all e = elim (is_same part (span_of leaf)) as (λ b.
+        is_same part (span_of leaf) ≡ b → (b || is_lent leaves part) ≡ true → level ≤ part.level) [
+          | true ↦ λ f e. omega (arith, all.0, equal (leaf.start == part.start) leaf.level part.level f)
+          | false ↦ λ f e. of_list leaves all.1 e
+        ] refl e
 
 pub lower_can : {A : Type 0} (part : Span) (level start half : ℕ) (lower upper : Node A)
     → AtHalves level start half lower upper → IsPlace level start
@@ -131,24 +134,32 @@ deeper_differ part [] all = refl
 deeper_differ part (other ∷ others) all = rw (differ (other.start == part.start) other.level part.level all.0) (deeper_differ part others all.1)
 
 -- A node that isn't free is none of its free leaves.
-not_free_whole : {A : Type 0} (level middle : ℕ) (node : Node A) → is_free node ≡ false → list_any (is_same (record { start = middle; level = level })) (free_in level middle node) ≡ false
+not_free_whole : {A : Type 0} (level middle : ℕ) (node : Node A) → is_free node ≡ false
+    → list_any (is_same (record { start = middle; level = level })) (free_in level middle node) ≡ false
 not_free_whole level middle Free e = absurd (cc)
 not_free_whole level middle (Lent owner front) e = refl
 not_free_whole level middle (Split' levels p lower q upper) e =
     deeper_differ (record { start = middle; level = level }) (free_in level middle (Split' levels p lower q upper))
     (all_joined (λ other. level < other.level) (free_in (level + 1) middle lower) (free_in (level + 1) (middle + size_of (level + 1)) upper)
-    (all_weaker (λ other. level + 1 ≤ other.level) (λ other. level < other.level) (λ other h. omega arith) (free_in (level + 1) middle lower) (free_levels (level + 1) middle lower))
-    (all_weaker (λ other. level + 1 ≤ other.level) (λ other. level < other.level) (λ other h. omega arith) (free_in (level + 1) (middle + size_of (level + 1)) upper) (free_levels (level + 1) (middle + size_of (level + 1)) upper)))
+    (all_weaker (λ other. level + 1 ≤ other.level) (λ other. level < other.level)
+    (λ other h. omega arith) (free_in (level + 1) middle lower) (free_levels (level + 1) middle lower))
+    (all_weaker (λ other. level + 1 ≤ other.level) (λ other. level < other.level)
+    (λ other h. omega arith) (free_in (level + 1) (middle + size_of (level + 1)) upper)
+    (free_levels (level + 1) (middle + size_of (level + 1)) upper)))
 
 -- A leaf of a split's own level is none of its lent leaves.
-pub split_not_lent : {A : Type 0} (part : Span) (level start : ℕ) (node : Node A) (levels : ℕ) (p : _) (lower : Node A) (q : _) (upper : Node A) → node ≡ Split' levels p lower q upper → part.level ≡ level
+pub split_not_lent : {A : Type 0} (part : Span) (level start : ℕ) (node : Node A) (levels : ℕ)
+    (p : _) (lower : Node A) (q : _) (upper : Node A) → node ≡ Split' levels p lower q upper → part.level ≡ level
     → IsFalse (is_lent (lent_in level start node) part)
 split_not_lent part level start node levels p lower q upper e f =
     subst (λ (other : Node _). is_lent (lent_in level start other) part ≡ false) (sym e)
     (deeper (lent_in level start (Split' levels p lower q upper))
     (all_joined (λ leaf. part.level < leaf.level) (lent_in (level + 1) start lower) (lent_in (level + 1) (start + size_of (level + 1)) upper)
-    (all_weaker (λ leaf. level + 1 ≤ leaf.level) (λ leaf. part.level < leaf.level) (λ leaf h. omega (arith, f)) (lent_in (level + 1) start lower) (lent_levels (level + 1) start lower))
-    (all_weaker (λ leaf. level + 1 ≤ leaf.level) (λ leaf. part.level < leaf.level) (λ leaf h. omega (arith, f)) (lent_in (level + 1) (start + size_of (level + 1)) upper) (lent_levels (level + 1) (start + size_of (level + 1)) upper))))
+    (all_weaker (λ leaf. level + 1 ≤ leaf.level) (λ leaf. part.level < leaf.level)
+    (λ leaf h. omega (arith, f)) (lent_in (level + 1) start lower) (lent_levels (level + 1) start lower))
+    (all_weaker (λ leaf. level + 1 ≤ leaf.level) (λ leaf. part.level < leaf.level)
+    (λ leaf h. omega (arith, f)) (lent_in (level + 1) (start + size_of (level + 1)) upper)
+    (lent_levels (level + 1) (start + size_of (level + 1)) upper))))
   where
     deeper : (leaves : List LentLeaf) → AllByRecursion (λ leaf. part.level < leaf.level) leaves
         → is_lent leaves part ≡ false
@@ -161,11 +172,18 @@ pub follower_cannot : {A : Type 0} (part : Span) (level start half : ℕ) (lower
     → IsTrue (is_lent (lent_in_halves level start lower upper) part) → part.level ≡ level + 1 → start < part.start
     → can_enlarge part free ≡ false
 follower_cannot part level start half lower upper free s place low lent child above =
-    not_leader (nat_lt 0 part.level) (part.start % size_of (part.level - 1)) (list_any (is_same (record { start = buddy_start part.start part.level; level = part.level })) free) remainder
+    not_leader (nat_lt 0 part.level) (part.start % size_of (part.level - 1))
+    (list_any (is_same (record { start = buddy_start part.start part.level; level = part.level })) free) remainder
   where
     past : start + half ≤ part.start
     past = elim (cases_lt part.start (start + half)) [
-      | inl below ↦ absurd (omega (arith, above, ap size_of child, (lent_part_lies_in part (level + 1) start lower s.low_tree (lower_lent part level start half lower upper s below lent)).to))
+      | inl below ↦ absurd (omega (
+        arith,
+        above,
+        ap size_of child,
+        (lent_part_lies_in part (level + 1) start lower s.low_tree
+            (lower_lent part level start half lower upper s below lent)).to,
+      ))
       | inr k ↦ k
     ]
 
@@ -200,7 +218,9 @@ pub leader_cannot : {A : Type 0} (part : Span) (level start half : ℕ) (lower u
     → AtHalves level start half lower upper → part.level ≡ level + 1 → part.start ≡ start
     → is_free upper ≡ false → can_enlarge part (free_in_halves level start lower upper) ≡ false
 leader_cannot part level start half lower upper s child e f =
-    alike part (free_in_halves level start lower upper) [] (λ leads. upper_is_free (record { start = buddy_start part.start part.level; level = part.level }) level start half lower upper s (omega (arith, buddy leads))
+    alike part (free_in_halves level start lower upper) [] (λ leads.
+    upper_is_free (record { start = buddy_start part.start part.level; level = part.level }) level start half lower upper s
+    (omega (arith, buddy leads))
     ∙ subst (λ (n : ℕ). list_any (is_same (record { start = n; level = part.level })) (free_in (level + 1) (start + half) upper) ≡ false) (sym (buddy leads))
     (subst (λ (l : ℕ). list_any (is_same (record { start = start + half; level = l })) (free_in (level + 1) (start + half) upper) ≡ false) (sym child)
     (not_free_whole (level + 1) (start + half) upper f)))
@@ -227,10 +247,15 @@ pub starts_here : {A : Type 0} (part : Span) (level start half : ℕ) (lower upp
     → AtHalves level start half lower upper
     → IsTrue (is_lent (lent_in_halves level start lower upper) part) → part.start ≤ start → part.start ≡ start
 starts_here part level start half lower upper s lent h =
-    omega (arith, (lent_part_lies_in part (level + 1) start lower s.low_tree (lower_lent part level start half lower upper s (omega (arith, s.size, size_of-some (level + 1))) lent)).from)
+    omega (
+      arith,
+      (lent_part_lies_in part (level + 1) start lower s.low_tree
+          (lower_lent part level start half lower upper s (omega (arith, s.size, size_of-some (level + 1))) lent)).from,
+    )
 
 -- A lent part of two halves with that start and a half's level is not in a split.
-pub split_not_leader : {A : Type 0} (part : Span) (level start half : ℕ) (lower upper : Node A) (levels : ℕ) (p : _) (low : Node A) (q : _) (high : Node A) → AtHalves level start half lower upper
+pub split_not_leader : {A : Type 0} (part : Span) (level start half : ℕ) (lower upper : Node A)
+    (levels : ℕ) (p : _) (low : Node A) (q : _) (high : Node A) → AtHalves level start half lower upper
     → IsTrue (is_lent (lent_in_halves level start lower upper) part) → part.start ≤ start → part.level ≡ level + 1
     → lower ≡ Split' levels p low q high → ⊥
 split_not_leader part level start half lower upper levels p low q high s lent h child e =

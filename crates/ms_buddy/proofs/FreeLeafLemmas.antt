@@ -1,6 +1,7 @@
 -- The free leaves of a node, from its low to its high address, are the free parts that its lent
 -- leaves leave over. For each contract that names the free leaves.
-use Rattle.std.proofs.Common.{◌≡◌, ◌<◌, ◌≤◌, ℕ, zero, suc, ◌+◌, ◌-◌, Bool, true, false, cond, ◌&&◌, ◌||◌, List, [], ◌∷◌, ◌++◌, map, refl, sym, ap, subst, ◌∙◌, arith}
+use Rattle.std.proofs.Common.{◌≡◌, ◌<◌, ◌≤◌, ℕ, zero, suc, ◌+◌, ◌-◌, Bool, true, false, cond, ◌&&◌, ◌||◌, List, [], ◌∷◌}
+use Rattle.std.proofs.Common.{◌++◌, map, refl, sym, ap, subst, ◌∙◌, arith}
 use Rattle.std.specs.Prelude.{IsFalse}
 use Rattle.std.specs.List.{AllByRecursion, list_any}
 use Rattle.std.proofs.lemmas.List.{map-append}
@@ -114,9 +115,13 @@ node_meets level start (Lent owner front) a n tree e h k = rw (meets start (size
     meets : (b m a n : ℕ) → 0 < m → a ≤ b → b + m ≤ a + n → meet b m a n ≡ true
     meets b m a n some h k = grind (arith, nat_tests)
 node_meets level start (Split' levels p lower q upper) a n tree e h k =
-    ap (λ (held : List Chunk). meets_run held a n) (map-append chunk_of (lent_in (level + 1) start lower) (lent_in (level + 1) (start + size_of (level + 1)) upper))
-    ∙ list_any-append (λ (chunk : Chunk). meet chunk.start (size_of chunk.level) a n) (map chunk_of (lent_in (level + 1) start lower)) (map chunk_of (lent_in (level + 1) (start + size_of (level + 1)) upper))
-    ∙ one_of (is_free lower) (is_free upper) (meets_run (map chunk_of (lent_in (level + 1) start lower)) a n) (meets_run (map chunk_of (lent_in (level + 1) (start + size_of (level + 1)) upper)) a n)
+    ap (λ (held : List Chunk). meets_run held a n)
+    (map-append chunk_of (lent_in (level + 1) start lower) (lent_in (level + 1) (start + size_of (level + 1)) upper))
+    ∙ list_any-append (λ (chunk : Chunk). meet chunk.start (size_of chunk.level) a n)
+    (map chunk_of (lent_in (level + 1) start lower)) (map chunk_of (lent_in (level + 1) (start + size_of (level + 1)) upper))
+    ∙ one_of (is_free lower) (is_free upper)
+    (meets_run (map chunk_of (lent_in (level + 1) start lower)) a n)
+    (meets_run (map chunk_of (lent_in (level + 1) (start + size_of (level + 1)) upper)) a n)
     tree.1
     (λ f. node_meets (level + 1) start lower a n tree.2 f h (omega (arith, size_of-halves level tree.0)))
     (λ f. node_meets (level + 1) (start + size_of (level + 1)) upper a n tree.3 f (omega arith) (omega (arith, size_of-halves level tree.0)))
@@ -172,7 +177,8 @@ free_walk (suc below) start (Split' levels p lower q upper) h tree =
     (node_meets (12 - suc below) start (Split' levels p lower q upper) start (size_of (12 - suc below)) tree refl (omega arith) (omega arith))
     (subst (λ (x : ℕ). free_within (map chunk_of (lent_in x start lower)) below start ≡ free_in x start lower) (sym (next_level below (omega arith)))
     (free_walk below start lower (omega arith) (subst (λ (x : ℕ). IsTree x lower) (next_level below (omega arith)) tree.2)))
-    (subst (λ (x : ℕ). free_within (map chunk_of (lent_in x (start + size_of (12 - suc below + 1)) upper)) below (start + size_of (12 - suc below + 1)) ≡ free_in x (start + size_of (12 - suc below + 1)) upper)
+    (subst (λ (x : ℕ). free_within (map chunk_of (lent_in x (start + size_of (12 - suc below + 1)) upper)) below
+    (start + size_of (12 - suc below + 1)) ≡ free_in x (start + size_of (12 - suc below + 1)) upper)
     (sym (next_level below (omega arith)))
     (free_walk below (start + size_of (12 - suc below + 1)) upper (omega arith) (subst (λ (x : ℕ). IsTree x upper) (next_level below (omega arith)) tree.3)))
 

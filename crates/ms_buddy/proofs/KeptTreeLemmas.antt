@@ -1,6 +1,6 @@
 -- What is true of the lent leaves of each tree, and what the callers of a split tree learn of it.
 use Rattle.std.proofs.Common.{◌≡◌, ◌<◌, ◌≤◌, ℕ, ◌+◌, Bool, true, false, ◌&&◌, ◌||◌, cond, List, [], ◌∷◌, ◌++◌, Some, refl, ap, subst, arith}
-use Rattle.std.specs.Prelude.{◌==◌, ◌≢◌, ◌↔◌, IsTrue, IsFalse, Result, Ok, Err, OnOk, IfErr}
+use Rattle.std.specs.Prelude.{◌==◌, ◌≢◌, ◌↔◌, IsTrue, IsFalse, Result, Ok, Err}
 use Rattle.std.specs.List.{AllByRecursion, find}
 use Rattle.std.proofs.lemmas.Bool.Decides.{nat_tests}
 use Rattle.ms_base.specs.declared.span.Span.{Span}
@@ -12,7 +12,7 @@ use Rattle.ms_buddy.specs.declared.node.Node.{Node}
 use Rattle.ms_buddy.specs.declared.node.Node.TheVariants.{Free, Lent, Split'}
 use Rattle.ms_buddy.specs.declared.node.Leaf.{Leaf}
 use Rattle.ms_buddy.specs.declared.node.Leaf.TheVariants.{Free as FreeLeaf, Lent as LentTo}
-use Rattle.ms_buddy.specs.Leaves.{LentLeaf, AreInOrder, AreLeaves, IsCarveRefusal, IsLeafAt, fits_in, is_lent, is_same, leaf_of, span_of}
+use Rattle.ms_buddy.specs.Leaves.{LentLeaf, AreInOrder, AreLeaves, CarveAnswers, IsCarveRefusal, IsLeafAt, fits_in, is_lent, is_same, leaf_of, span_of}
 use Rattle.ms_buddy.specs.Tree.{IsPlace, IsTree, lent_in}
 use Rattle.ms_buddy.proofs.TreeHalvesLemmas.{lower_place, upper_place}
 use Rattle.ms_buddy.proofs.WalkLemmas.{LeafIn, all_joined, all_weaker, lent_lies_in}
@@ -36,7 +36,8 @@ lent_in_order level start (Split' levels p lower q upper) tree =
     in_order_joined (start + size_of (level + 1)) (lent_in (level + 1) start lower) (lent_in (level + 1) (start + size_of (level + 1)) upper)
     (all_weaker (LeafIn start (start + size_of (level + 1))) (λ leaf. leaf.start + size_of leaf.level ≤ start + size_of (level + 1)) (λ leaf lies. lies.to)
     (lent_in (level + 1) start lower) (lent_lies_in (level + 1) start lower tree.2))
-    (all_weaker (LeafIn (start + size_of (level + 1)) (start + size_of (level + 1) + size_of (level + 1))) (λ leaf. start + size_of (level + 1) ≤ leaf.start) (λ leaf lies. lies.from)
+    (all_weaker (LeafIn (start + size_of (level + 1)) (start + size_of (level + 1) + size_of (level + 1)))
+    (λ leaf. start + size_of (level + 1) ≤ leaf.start) (λ leaf lies. lies.from)
     (lent_in (level + 1) (start + size_of (level + 1)) upper) (lent_lies_in (level + 1) (start + size_of (level + 1)) upper tree.3))
     (lent_in_order (level + 1) start lower tree.2) (lent_in_order (level + 1) (start + size_of (level + 1)) upper tree.3)
 
@@ -54,14 +55,16 @@ lent_fronts : {A : Type 0} (level start : ℕ) (node : Node A) → IsTree level 
 lent_fronts level start Free tree = tt
 lent_fronts level start (Lent owner front) tree = (tree, tt)
 lent_fronts level start (Split' levels p lower q upper) tree =
-    all_joined (λ leaf. (0 < leaf.front) × (leaf.front ≤ size_of leaf.level)) (lent_in (level + 1) start lower) (lent_in (level + 1) (start + size_of (level + 1)) upper)
+    all_joined (λ leaf. (0 < leaf.front) × (leaf.front ≤ size_of leaf.level))
+    (lent_in (level + 1) start lower) (lent_in (level + 1) (start + size_of (level + 1)) upper)
     (lent_fronts (level + 1) start lower tree.2) (lent_fronts (level + 1) (start + size_of (level + 1)) upper tree.3)
 
 -- The lent leaves of a tree are parts of the root in order, with fronts that fit.
 pub are_leaves : {A : Type 0} (node : Node A) → IsTree 0 node → AreLeaves (lent_in 0 0 node)
 are_leaves node tree = record {
   parts = lent_parts 0 0 node tree root_place;
-  in_root = all_weaker (LeafIn 0 root_words) (λ leaf. leaf.start + size_of leaf.level ≤ root_words) (λ leaf lies. lies.to) (lent_in 0 0 node) (lent_lies_in 0 0 node tree);
+  in_root = all_weaker (LeafIn 0 root_words) (λ leaf. leaf.start + size_of leaf.level ≤ root_words)
+      (λ leaf lies. lies.to) (lent_in 0 0 node) (lent_lies_in 0 0 node tree);
   fronts = lent_fronts 0 0 node tree;
   in_order = lent_in_order 0 0 node tree;
 }
@@ -75,7 +78,9 @@ found_is_lent : (test : LentLeaf → Bool) (lent : List LentLeaf) (leaf : LentLe
 found_is_lent test [] leaf e = absurd (cc)
 found_is_lent test (first ∷ lent) leaf e =
     elim (test first) as (λ b. cond b (Some first) (find test lent) ≡ Some leaf → is_lent (first ∷ lent) (span_of leaf) ≡ true) [
-      | true ↦ λ e. subst (λ (other : LentLeaf). (is_same (span_of other) (span_of first) || is_lent lent (span_of other)) ≡ true) (taken first leaf e) (here first.start first.level (is_lent lent (span_of first)))
+      | true ↦ λ e. subst
+          (λ (other : LentLeaf). (is_same (span_of other) (span_of first) || is_lent lent (span_of other)) ≡ true)
+          (taken first leaf e) (here first.start first.level (is_lent lent (span_of first)))
       | false ↦ λ e. or_true (is_same (span_of leaf) (span_of first)) (is_lent lent (span_of leaf)) (found_is_lent test lent leaf e)
     ] e
   where
@@ -102,11 +107,12 @@ contrary b e f = absurd (cc)
 
 -- There is no room exactly where the part lies in no free leaf.
 pub no_room_exactly : (part : Span) (free : List Span) (result : Result (Unit {0}) Refusal)
-    → OnOk result (IsTrue (fits_in part free))
-    → IfErr result (λ refusal. IsCarveRefusal part free refusal)
-    → (result ≡ Err (NoRoom part.level)) ↔ IsFalse (fits_in part free)
-no_room_exactly part free (Ok value) room refusal = (λ e. absurd (cc), λ e. absurd (contrary (fits_in part free) room e))
-no_room_exactly part free (Err refused) room refusal = (λ e. forth refused (same_refused (Err refused) refused (NoRoom part.level) refl e) refusal, λ e. ap Err (back refused refusal e))
+    → CarveAnswers part free result → (result ≡ Err (NoRoom part.level)) ↔ IsFalse (fits_in part free)
+no_room_exactly part free (Ok value) answers = (λ e. absurd (cc), λ e. absurd (contrary (fits_in part free) answers.room e))
+no_room_exactly part free (Err refused) answers = (
+  λ e. forth refused (same_refused (Err refused) refused (NoRoom part.level) refl e) answers.refusal,
+  λ e. ap Err (back refused answers.refusal e),
+)
   where
     forth : (r : Refusal) → r ≡ NoRoom part.level → IsCarveRefusal part free r → IsFalse (fits_in part free)
     forth r e h = (subst (λ (r : Refusal). IsCarveRefusal part free r) e h).1

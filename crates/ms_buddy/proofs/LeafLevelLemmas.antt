@@ -1,6 +1,7 @@
 -- The levels that a split keeps are those of the free leaves below it, and what a walk for a free
 -- leaf of a level skips has none.
-use Rattle.std.proofs.Common.{◌≡◌, ◌<◌, ◌≤◌, ℕ, ◌+◌, ◌^◌, Bool, true, false, cond, ◌&&◌, ◌||◌, List, [], ◌∷◌, Option, Some, None, refl, sym, ap, ◌∙◌, inl, inr, arith, max, bit_or}
+use Rattle.std.proofs.Common.{◌≡◌, ◌<◌, ◌≤◌, ℕ, ◌+◌, ◌^◌, Bool, true, false, cond, ◌&&◌, ◌||◌, List, [], ◌∷◌, Option}
+use Rattle.std.proofs.Common.{Some, None, refl, sym, ap, ◌∙◌, inl, inr, arith, max, bit_or}
 use Rattle.std.specs.Prelude.{◌==◌, nat_le}
 use Rattle.std.specs.Int.{bit_at}
 use Rattle.std.specs.List.{list_any, find}
@@ -53,10 +54,12 @@ levels_are_those level start wanted (Split' levels p lower q upper) tree =
 none_from : (level from : ℕ) (parts : List Span) → list_any (is_of level) parts ≡ false
     → find (is_of_from level from) parts ≡ None
 none_from level from [] none = refl
-none_from level from (part ∷ parts) none = elim (part.level == level) as (λ b. (b || list_any (is_of level) parts) ≡ false → cond (b && nat_le from part.start) (Some part) (find (is_of_from level from) parts) ≡ None) [
-  | true ↦ λ e. absurd (cc)
-  | false ↦ λ e. none_from level from parts e
-] none
+none_from level from (part ∷ parts) none = elim (part.level == level) as (λ b.
+    (b || list_any (is_of level) parts) ≡ false
+    → cond (b && nat_le from part.start) (Some part) (find (is_of_from level from) parts) ≡ None) [
+      | true ↦ λ e. absurd (cc)
+      | false ↦ λ e. none_from level from parts e
+    ] none
 
 pub none_of_level : {A : Type 0} (level start wanted from : ℕ) (node : Node A) (levels : ℕ) → IsTree level node
     → levels_of level node ≡ levels → has_level levels wanted ≡ false
@@ -86,7 +89,8 @@ pub none_below_from : {A : Type 0} (level start wanted from : ℕ) (lower : Node
 none_below_from level start wanted from lower tree h =
     find-none (is_of_from wanted from) (free_in level start lower)
     (all_weaker (LiesIn start (start + size_of level)) (λ part. is_of_from wanted from part ≡ false)
-    (λ part lies. not_from (part.level == wanted) from part.start (omega (arith, lies.to, size_of-some part.level))) (free_in level start lower) (free_lies_in level start lower tree))
+    (λ part lies. not_from (part.level == wanted) from part.start (omega (arith, lies.to, size_of-some part.level)))
+    (free_in level start lower) (free_lies_in level start lower tree))
   where
     not_from : (c : Bool) (a b : ℕ) → b < a → (c && nat_le a b) ≡ false
     not_from c a b h = grind (arith, nat_tests)
@@ -106,7 +110,8 @@ pub found_below : {A : Type 0} (level start half wanted from : ℕ) (node lower 
     → AtSplit level start half node lower upper
     → find (is_of_from wanted from) (free_in (level + 1) start lower) ≡ Some part
     → Some part ≡ find (is_of_from wanted from) (free_in level start node)
-found_below level start half wanted from node lower upper part s e = sym (ap (find (is_of_from wanted from)) s.free ∙ lower_first level start wanted from lower upper part e)
+found_below level start half wanted from node lower upper part s e =
+    sym (ap (find (is_of_from wanted from)) s.free ∙ lower_first level start wanted from lower upper part e)
 
 -- What is told of a half behind its box.
 pub told_below : {A : Type 0} (level start wanted from : ℕ) (lower next : Node A) (found told : Option Span)

@@ -1,6 +1,7 @@
 -- A split and its halves: what is asked of a node is asked of the half where the part is, and what
 -- happens to the half happens to the node. For each walk down the tree.
-use Rattle.std.proofs.Common.{◌≡◌, ◌<◌, ◌≤◌, ℕ, ◌+◌, ◌-◌, Bool, true, false, not, cond, ◌&&◌, ◌||◌, List, [], ◌∷◌, ◌++◌, Option, Some, None, refl, sym, ap, subst, ◌∙◌, arith}
+use Rattle.std.proofs.Common.{◌≡◌, ◌<◌, ◌≤◌, ℕ, ◌+◌, ◌-◌, Bool, true, false, not, cond, ◌&&◌, ◌||◌, List, [], ◌∷◌, ◌++◌}
+use Rattle.std.proofs.Common.{Option, Some, None, refl, sym, ap, subst, ◌∙◌, arith}
 use Rattle.std.specs.Prelude.{◌==◌, nat_le, nat_lt, IsTrue, IsFalse, IfSome}
 use Rattle.std.specs.List.{AllByRecursion, find}
 use Rattle.std.proofs.lemmas.List.{map-append}
@@ -16,7 +17,8 @@ use Rattle.ms_buddy.specs.declared.node.Leaf.TheVariants.{Free as FreeLeaf, Lent
 use Rattle.ms_buddy.specs.Leaves.{LentLeaf, IsLeafAt, leaf_of, span_of, is_same, is_lent, covers, with_front, with_parent, without_leaf}
 use Rattle.ms_buddy.specs.Tree.{AreHalves, MayHaveFront, is_free, IsTree, lent_in, free_in, lent_in_halves, free_in_halves}
 use Rattle.ms_buddy.proofs.TreeHalvesLemmas.{size_of-some, lower_place, upper_place}
-use Rattle.ms_buddy.proofs.WalkLemmas.{NonePass, any-none, filter-none, map-none, find-none, none_above, none_below, none_covers_below, none_lent_covers_below, LiesIn, LeafIn, lent_lies_in}
+use Rattle.ms_buddy.proofs.WalkLemmas.{NonePass, any-none, filter-none, map-none, find-none, none_above, none_below}
+use Rattle.ms_buddy.proofs.WalkLemmas.{none_covers_below, none_lent_covers_below, LiesIn, LeafIn, lent_lies_in}
 
 -- What is known of two halves of a part, which have that many words each.
 pub record AtHalves {A : Type 0} (level start half : ℕ) (lower upper : Node A) : Type 0 where
@@ -37,6 +39,10 @@ pub halves_at : {A : Type 0} (level start half levels : ℕ) (lower upper : Node
     → half ≡ size_of (level + 1) → AtHalves level start half lower upper
 halves_at level start half levels lower upper halves size =
     record { low_tree = halves.lower_tree; high_tree = halves.upper_tree; size = size }
+
+pub trees_at : {A : Type 0} (level start : ℕ) (lower upper : Node A)
+    → IsTree (level + 1) lower × IsTree (level + 1) upper → AtHalves level start (size_of (level + 1)) lower upper
+trees_at level start lower upper trees = record { low_tree = trees.0; high_tree = trees.1; size = refl }
 
 pub at_split : {A : Type 0} (level start half : ℕ) (node : Node A) (levels : ℕ) (p : _) (lower : Node A) (q : _) (upper : Node A)
     → node ≡ Split' levels p lower q upper → IsTree level node → half ≡ size_of (level + 1)
@@ -73,10 +79,11 @@ lent_part_lies_in part level start node tree e = of_list (lent_in level start no
     of_list : (xs : List LentLeaf) → AllByRecursion (LeafIn start (start + size_of level)) xs → is_lent xs part ≡ true
         → LiesIn start (start + size_of level) part
     of_list [] all e = absurd (cc)
-    of_list (leaf ∷ xs) all e = elim (is_same part (span_of leaf)) as (λ b. is_same part (span_of leaf) ≡ b → (b || is_lent xs part) ≡ true → LiesIn start (start + size_of level) part) [
-      | true ↦ λ f e. moved leaf f all.0
-      | false ↦ λ f e. of_list xs all.1 e
-    ] refl e
+    of_list (leaf ∷ xs) all e = elim (is_same part (span_of leaf)) as (λ b.
+        is_same part (span_of leaf) ≡ b → (b || is_lent xs part) ≡ true → LiesIn start (start + size_of level) part) [
+          | true ↦ λ f e. moved leaf f all.0
+          | false ↦ λ f e. of_list xs all.1 e
+        ] refl e
 
 -- A part that is lent in two halves is lent in the half where it starts.
 pub lower_lent : {A : Type 0} (part : Span) (level start half : ℕ) (lower upper : Node A)
@@ -87,7 +94,8 @@ lower_lent part level start half lower upper s h e =
     or_left (is_lent (lent_in (level + 1) start lower) part) (is_lent (lent_in (level + 1) (start + size_of (level + 1)) upper) part)
     (any-none (λ leaf. is_same part (span_of leaf)) (lent_in (level + 1) (start + size_of (level + 1)) upper)
     (none_above part (level + 1) (start + size_of (level + 1)) upper s.high_tree (omega (arith, s.size))))
-    (sym (list_any-append (λ (leaf : LentLeaf). is_same part (span_of leaf)) (lent_in (level + 1) start lower) (lent_in (level + 1) (start + size_of (level + 1)) upper)) ∙ e)
+    (sym (list_any-append (λ (leaf : LentLeaf). is_same part (span_of leaf))
+    (lent_in (level + 1) start lower) (lent_in (level + 1) (start + size_of (level + 1)) upper)) ∙ e)
   where
     or_left : (x y : Bool) → y ≡ false → (x || y) ≡ true → x ≡ true
     or_left true y e f = refl
@@ -99,7 +107,8 @@ pub upper_lent : {A : Type 0} (part : Span) (level start half : ℕ) (lower uppe
     → IsTrue (is_lent (lent_in (level + 1) (start + half) upper) part)
 upper_lent part level start half lower upper s h e =
     or_right (is_lent (lent_in (level + 1) start lower) part) (is_lent (lent_in (level + 1) (start + half) upper) part)
-    (any-none (λ leaf. is_same part (span_of leaf)) (lent_in (level + 1) start lower) (none_below part (level + 1) start lower s.low_tree (omega (arith, s.size))))
+    (any-none (λ leaf. is_same part (span_of leaf)) (lent_in (level + 1) start lower)
+    (none_below part (level + 1) start lower s.low_tree (omega (arith, s.size))))
     (sym (list_any-append (λ (leaf : LentLeaf). is_same part (span_of leaf)) (lent_in (level + 1) start lower) (lent_in (level + 1) (start + half) upper))
     ∙ ap (λ (n : ℕ). is_lent (lent_in (level + 1) start lower ++ lent_in (level + 1) (start + n) upper) part) s.size ∙ e)
   where
@@ -200,7 +209,8 @@ pub lower_leaf : {A : Type 0} (offset level start : ℕ) (lower upper : Node A) 
     → IsLeafAt offset part leaf (lent_in_halves level start lower upper) (free_in_halves level start lower upper)
 lower_leaf offset level start lower upper part FreeLeaf e = lower_found offset level start lower upper part e
 lower_leaf offset level start lower upper part (LentTo owner front) e =
-    find-append (λ (leaf : LentLeaf). covers offset (span_of leaf)) (lent_in (level + 1) start lower) (lent_in (level + 1) (start + size_of (level + 1)) upper) ∙ rw e refl
+    find-append (λ (leaf : LentLeaf). covers offset (span_of leaf))
+    (lent_in (level + 1) start lower) (lent_in (level + 1) (start + size_of (level + 1)) upper) ∙ rw e refl
 
 pub upper_leaf : {A : Type 0} (offset level start half : ℕ) (lower upper : Node A) (part : Span) (leaf : Leaf)
     → IsTree (level + 1) lower → half ≡ size_of (level + 1) → start + half ≤ offset
@@ -210,7 +220,8 @@ upper_leaf offset level start half lower upper part FreeLeaf tree size h e = upp
 upper_leaf offset level start half lower upper part (LentTo owner front) tree size h e =
     find-append (λ (leaf : LentLeaf). covers offset (span_of leaf)) (lent_in (level + 1) start lower) (lent_in (level + 1) (start + size_of (level + 1)) upper)
     ∙ rw (
-      find-none (λ leaf. covers offset (span_of leaf)) (lent_in (level + 1) start lower) (none_lent_covers_below offset (level + 1) start lower tree (omega (arith, size))),
+      find-none (λ leaf. covers offset (span_of leaf)) (lent_in (level + 1) start lower)
+          (none_lent_covers_below offset (level + 1) start lower tree (omega (arith, size))),
       subst (λ (n : ℕ). find (λ leaf. covers offset (span_of leaf)) (lent_in (level + 1) (start + n) upper) ≡ Some (leaf_of part owner front)) size e,
     ) refl
 

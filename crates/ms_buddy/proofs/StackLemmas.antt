@@ -1,5 +1,6 @@
 -- The stack of the walk over the free leaves: what a pop and a push do to it. For the iterator.
-use Rattle.std.proofs.Common.{◌≡◌, ◌<◌, ◌≤◌, ℕ, ◌+◌, true, false, List, [], ◌∷◌, ◌++◌, length, Option, Some, None, refl, sym, ap, subst, ◌∙◌, arith, append_assoc}
+use Rattle.std.proofs.Common.{◌≡◌, ◌<◌, ◌≤◌, ℕ, ◌+◌, true, false, List, [], ◌∷◌, ◌++◌, length, Option, Some, None, refl}
+use Rattle.std.proofs.Common.{sym, ap, subst, ◌∙◌, arith, append_assoc}
 use Rattle.std.proofs.lemmas.Bool.{false≢true}
 use Rattle.std.proofs.lemmas.List.{append-nil, length_push}
 use Rattle.ms_base.specs.declared.span.Span.{Span}
@@ -120,7 +121,8 @@ past_split visits rest one now visit low high half turn s nodes low_level low_st
       (omega (arith, turn.top.low, low_level, length_push rest (Some high)))
       (rw (low_level, low_start) (lower_place visit.level visit.start turn.top.place s.low))
       (rw low_level s.halves.low_tree));
-  left = ap left_of whole ∙ left_of-push (rest ++ Some high ∷ []) low ∙ ap (λ (parts : List Span). free_in low.level low.start low.node.now ++ parts) (left_of-push rest high)
+  left = ap left_of whole ∙ left_of-push (rest ++ Some high ∷ []) low
+      ∙ ap (λ (parts : List Span). free_in low.level low.start low.node.now ++ parts) (left_of-push rest high)
       ∙ sym (append_assoc (free_in low.level low.start low.node.now) (free_in high.level high.start high.node.now) (left_of rest))
       ∙ ap (λ (parts : List Span). parts ++ left_of rest) (halves ∙ sym s.free) ∙ sym turn.left;
   fewer = omega (arith, turn.nodes, nodes, ap nodes_left whole, nodes_left-push (rest ++ Some high ∷ []) low, nodes_left-push rest high);

@@ -41,10 +41,12 @@ lent_lies_in level start (Lent owner front) tree = (record { from = omega arith;
 lent_lies_in level start (Split' levels p lower q upper) tree =
     all_joined (LeafIn start (start + size_of level)) (lent_in (level + 1) start lower) (lent_in (level + 1) (start + size_of (level + 1)) upper)
     (all_weaker (LeafIn start (start + size_of (level + 1))) (LeafIn start (start + size_of level))
-    (λ leaf lies. wider start (start + size_of (level + 1)) start (start + size_of level) (span_of leaf) (omega arith) (omega (arith, size_of-halves level tree.0)) lies)
+    (λ leaf lies. wider start (start + size_of (level + 1)) start (start + size_of level)
+    (span_of leaf) (omega arith) (omega (arith, size_of-halves level tree.0)) lies)
     (lent_in (level + 1) start lower) (lent_lies_in (level + 1) start lower tree.2))
     (all_weaker (LeafIn (start + size_of (level + 1)) (start + size_of (level + 1) + size_of (level + 1))) (LeafIn start (start + size_of level))
-    (λ leaf lies. wider (start + size_of (level + 1)) (start + size_of (level + 1) + size_of (level + 1)) start (start + size_of level) (span_of leaf) (omega arith) (omega (arith, size_of-halves level tree.0)) lies)
+    (λ leaf lies. wider (start + size_of (level + 1)) (start + size_of (level + 1) + size_of (level + 1))
+    start (start + size_of level) (span_of leaf) (omega arith) (omega (arith, size_of-halves level tree.0)) lies)
     (lent_in (level + 1) (start + size_of (level + 1)) upper) (lent_lies_in (level + 1) (start + size_of (level + 1)) upper tree.3))
 
 -- So do its free leaves.
@@ -58,7 +60,8 @@ free_lies_in level start (Split' levels p lower q upper) tree =
     (λ part lies. wider start (start + size_of (level + 1)) start (start + size_of level) part (omega arith) (omega (arith, size_of-halves level tree.0)) lies)
     (free_in (level + 1) start lower) (free_lies_in (level + 1) start lower tree.2))
     (all_weaker (LiesIn (start + size_of (level + 1)) (start + size_of (level + 1) + size_of (level + 1))) (LiesIn start (start + size_of level))
-    (λ part lies. wider (start + size_of (level + 1)) (start + size_of (level + 1) + size_of (level + 1)) start (start + size_of level) part (omega arith) (omega (arith, size_of-halves level tree.0)) lies)
+    (λ part lies. wider (start + size_of (level + 1)) (start + size_of (level + 1) + size_of (level + 1))
+    start (start + size_of level) part (omega arith) (omega (arith, size_of-halves level tree.0)) lies)
     (free_in (level + 1) (start + size_of (level + 1)) upper) (free_lies_in (level + 1) (start + size_of (level + 1)) upper tree.3))
 
 -- No element passes the test.
@@ -155,8 +158,10 @@ lent_levels level start Free = tt
 lent_levels level start (Lent owner front) = (omega arith, tt)
 lent_levels level start (Split' levels p lower q upper) =
     all_joined (λ leaf. level ≤ leaf.level) (lent_in (level + 1) start lower) (lent_in (level + 1) (start + size_of (level + 1)) upper)
-    (all_weaker (λ leaf. level + 1 ≤ leaf.level) (λ leaf. level ≤ leaf.level) (λ leaf h. omega arith) (lent_in (level + 1) start lower) (lent_levels (level + 1) start lower))
-    (all_weaker (λ leaf. level + 1 ≤ leaf.level) (λ leaf. level ≤ leaf.level) (λ leaf h. omega arith) (lent_in (level + 1) (start + size_of (level + 1)) upper) (lent_levels (level + 1) (start + size_of (level + 1)) upper))
+    (all_weaker (λ leaf. level + 1 ≤ leaf.level) (λ leaf. level ≤ leaf.level) (λ leaf h. omega arith)
+    (lent_in (level + 1) start lower) (lent_levels (level + 1) start lower))
+    (all_weaker (λ leaf. level + 1 ≤ leaf.level) (λ leaf. level ≤ leaf.level) (λ leaf h. omega arith)
+    (lent_in (level + 1) (start + size_of (level + 1)) upper) (lent_levels (level + 1) (start + size_of (level + 1)) upper))
 
 pub free_levels : {A : Type 0} (level start : ℕ) (node : Node A)
     → AllByRecursion (λ part. level ≤ part.level) (free_in level start node)
@@ -164,5 +169,7 @@ free_levels level start Free = (omega arith, tt)
 free_levels level start (Lent owner front) = tt
 free_levels level start (Split' levels p lower q upper) =
     all_joined (λ part. level ≤ part.level) (free_in (level + 1) start lower) (free_in (level + 1) (start + size_of (level + 1)) upper)
-    (all_weaker (λ part. level + 1 ≤ part.level) (λ part. level ≤ part.level) (λ part h. omega arith) (free_in (level + 1) start lower) (free_levels (level + 1) start lower))
-    (all_weaker (λ part. level + 1 ≤ part.level) (λ part. level ≤ part.level) (λ part h. omega arith) (free_in (level + 1) (start + size_of (level + 1)) upper) (free_levels (level + 1) (start + size_of (level + 1)) upper))
+    (all_weaker (λ part. level + 1 ≤ part.level) (λ part. level ≤ part.level) (λ part h. omega arith)
+    (free_in (level + 1) start lower) (free_levels (level + 1) start lower))
+    (all_weaker (λ part. level + 1 ≤ part.level) (λ part. level ≤ part.level) (λ part h. omega arith)
+    (free_in (level + 1) (start + size_of (level + 1)) upper) (free_levels (level + 1) (start + size_of (level + 1)) upper))

@@ -1,6 +1,7 @@
 -- The lent leaves of a root chunk, in order of address, and what each call does to them. Free
 -- leaves are not kept: they are the free parts of the root that the lent leaves leave over.
 use Rattle.std.specs.Prelude.{◌≡◌, ℕ, ◌+◌, ◌-◌, ◌<◌, ◌≤◌, Bool, not, cond, ◌&&◌, ◌==◌, nat_le, nat_lt, List, [], ◌∷◌, map, Some, IsTrue, IsFalse}
+use Rattle.std.specs.Prelude.{◌↔◌, Result, IsOk, OnOk, IfErr}
 use Rattle.std.specs.Int.{bit_at}
 use Rattle.std.specs.List.{AllByRecursion, list_any, filter, find}
 use Rattle.ms_base.specs.declared.span.Chunk.{Chunk}
@@ -92,6 +93,18 @@ abbrev pub IsCarveRefusal : Span → List Span → Refusal → Type 0
 IsCarveRefusal part free (NoRoom level) = (level ≡ part.level) × IsFalse (fits_in part free)
 IsCarveRefusal part free OutOfMemory = IsTrue (fits_in part free) × IsFalse (list_any (is_same part) free)
 IsCarveRefusal part free _ = ⊥
+
+-- What lending a part answers, by the leaves that are free before: it is lent only where it lies in
+-- one of them, and a refusal tells why.
+pub record CarveAnswers {A : Type 0} (part : Span) (free : List Span) (result : Result A Refusal) : Type 0 where
+  pub room : OnOk result (IsTrue (fits_in part free))
+  pub refusal : IfErr result (λ refusal. IsCarveRefusal part free refusal)
+
+-- What enlarging a leaf answers, by the leaves that are free before: it becomes its parent exactly
+-- where it can, and a refusal tells its level.
+pub record EnlargeAnswers {A : Type 0} (part : Span) (free : List Span) (result : Result A Refusal) : Type 0 where
+  pub room : IsOk result ↔ IsTrue (can_enlarge part free)
+  pub refusal : IfErr result (λ refusal. refusal ≡ NoRoom part.level)
 
 -- One more leaf, in its place.
 abbrev pub with_leaf : LentLeaf → List LentLeaf → List LentLeaf

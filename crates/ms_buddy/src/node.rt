@@ -9,7 +9,7 @@ ghost use Rattle.std.specs.Prelude.{◌≡◌, ℕ, ◌+◌, ◌*◌, ◌<◌, �
 ghost use Rattle.std.specs.List.{find};
 ghost use Rattle.ms_base.specs.declared.sizes.TheConstants.{ROOT_WORDS};
 ghost use Rattle.ms_base.specs.Level.{size_of};
-ghost use Rattle.ms_buddy.specs.Leaves.{IsCarveRefusal, IsLeafAt, can_enlarge, covers, fits_in, has_level, is_lent, is_of_from, leaf_of, with_front, with_leaf, with_parent, without_leaf};
+ghost use Rattle.ms_buddy.specs.Leaves.{CarveAnswers, EnlargeAnswers, IsLeafAt, covers, has_level, is_lent, is_of_from, leaf_of, with_front, with_leaf, with_parent, without_leaf};
 ghost use Rattle.ms_buddy.specs.Tree.{AreHalves, IsEnlarged, IsPlace, MayBeLent, MayHaveFront, is_free, IsTree, lent_in, free_in, levels_of, lent_in_halves, free_in_halves};
 
 use crate::levels::{bit_of, has_level};
@@ -199,8 +199,7 @@ impl<A: Allocator> Node<A> {
         ensures split { is_free self.new ≡ is_free self.old }
         ensures lent { OnOk result (lent_in level start self.new
             ≡ with_parent span front (lent_in level start self.old)) }
-        ensures room { IsOk result ↔ IsTrue (can_enlarge span (free_in level start self.old)) }
-        ensures refusal { IfErr result (λ refusal. refusal ≡ Refusal.NoRoom span.level) }
+        ensures answers { EnlargeAnswers span (free_in level start self.old) result }
         ensures unchanged { OnErr result (self.new ≡ self.old) }
     {
         match self {
@@ -270,9 +269,7 @@ impl<A: Allocator + Clone> Node<A> {
         ensures split { OnOk result (is_free self.new ≡ false) }
         ensures lent { OnOk result (lent_in level start self.new
             ≡ with_leaf (leaf_of span owner front) (lent_in level start self.old)) }
-        ensures room { OnOk result (IsTrue (fits_in span (free_in level start self.old))) }
-        ensures refusal { IfErr result
-            (λ refusal. IsCarveRefusal span (free_in level start self.old) refusal) }
+        ensures answers { CarveAnswers span (free_in level start self.old) result }
         ensures unchanged { OnErr result (self.new ≡ self.old) }
     {
         match self {
@@ -327,9 +324,7 @@ fn enlarge_in_half<A: Allocator>(
         (λ owner. IsEnlarged level start owner front lower.new upper.new
         (with_parent span front (lent_in_halves level start lower.old upper.old))) }
     ensures fits { IfOk result (λ owner. OnSome owner (front ≤ size_of level)) }
-    ensures room { IsOk result
-        ↔ IsTrue (can_enlarge span (free_in_halves level start lower.old upper.old)) }
-    ensures refusal { IfErr result (λ refusal. refusal ≡ Refusal.NoRoom span.level) }
+    ensures answers { EnlargeAnswers span (free_in_halves level start lower.old upper.old) result }
     ensures unchanged { OnErr result
         ((levels.new ≡ levels.old) × (lower.new ≡ lower.old) × (upper.new ≡ upper.old)) }
 {
@@ -371,9 +366,7 @@ fn merged_leader<A: Allocator>(
     ensures lent { IfOk result
         (λ owner. (front : ℕ) → IsEnlarged level start owner front lower.now upper.now
         (with_parent span front (lent_in_halves level start lower.now upper.now))) }
-    ensures room { IsOk result
-        ↔ IsTrue (can_enlarge span (free_in_halves level start lower.now upper.now)) }
-    ensures refusal { IfErr result (λ refusal. refusal ≡ Refusal.NoRoom span.level) }
+    ensures answers { EnlargeAnswers span (free_in_halves level start lower.now upper.now) result }
 {
     let no_room = Err(Refusal::NoRoom { level: span.level });
     if span.start > start {
@@ -411,10 +404,7 @@ fn carve_in_half<A: Allocator + Clone>(
     ensures split { OnOk result (IsFalse (is_free lower.new && is_free upper.new)) }
     ensures lent { OnOk result (lent_in_halves level start lower.new upper.new
         ≡ with_leaf (leaf_of span owner front) (lent_in_halves level start lower.old upper.old)) }
-    ensures room { OnOk result
-        (IsTrue (fits_in span (free_in_halves level start lower.old upper.old))) }
-    ensures refusal { IfErr result
-        (λ refusal. IsCarveRefusal span (free_in_halves level start lower.old upper.old) refusal) }
+    ensures answers { CarveAnswers span (free_in_halves level start lower.old upper.old) result }
     ensures unchanged { OnErr result
         ((levels.new ≡ levels.old) × (lower.new ≡ lower.old) × (upper.new ≡ upper.old)) }
 {

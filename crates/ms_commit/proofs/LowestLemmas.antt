@@ -86,7 +86,8 @@ lowest_here words first end index between range some fits before = record {
     inside : (first ≤ 64 * index + place) × (64 * index + place < end)
     inside = of_tests first (64 * index + place) end
         (sym (range place lies.0)
-        ∙ second (is_one (get_or words index 0) place) (is_one between place) (sym (is_one-and (get_or words index 0) between place) ∙ ap (λ bit. bit == 1) lies.1))
+        ∙ second (is_one (get_or words index 0) place) (is_one between place)
+        (sym (is_one-and (get_or words index 0) between place) ∙ ap (λ bit. bit == 1) lies.1))
 
 -- What holds where none is found.
 pub IfNone_then : {X : Type 0} {P Q : Type 0} (r : Option X) → IfNone r P → (P → Q) → IfNone r Q

@@ -1,6 +1,7 @@
 -- Sets as filters of the numbers below a bound: what adding and taking out a range does to them,
 -- to their sizes and to their members.
-use Rattle.std.proofs.Common.{◌≡◌, ◌≤◌, ◌<◌, ℕ, zero, suc, ◌+◌, ◌-◌, Bool, true, false, cond, ◌&&◌, ◌||◌, not, List, [], ◌∷◌, ◌++◌, length, refl, sym, ap, ap₂, ◌∙◌, inl, inr, arith}
+use Rattle.std.proofs.Common.{◌≡◌, ◌≤◌, ◌<◌, ℕ, zero, suc, ◌+◌, ◌-◌, Bool, true, false, cond, ◌&&◌, ◌||◌, not, List, []}
+use Rattle.std.proofs.Common.{◌∷◌, ◌++◌, length, refl, sym, ap, ap₂, ◌∙◌, inl, inr, arith}
 use Rattle.std.specs.Prelude.{◌==◌, nat_lt, nat_le}
 use Rattle.std.specs.List.{All, filter, range_with_len}
 use Rattle.std.specs.List.Sorted.{IsStrictlyIncreasing}
@@ -14,7 +15,8 @@ use Rattle.std.proofs.lemmas.List.FromFn.{length-range_with_len, get_or-range_wi
 use Rattle.std.proofs.lemmas.List.Kept.{IsStrictlyIncreasing-filter}
 use Rattle.ms_base.specs.Committed.{is_among}
 use Rattle.ms_commit.specs.NumberSet.{is_in_range, with_range, without_range, count_within, count_missing, IsSetBelow}
-use Rattle.ms_commit.proofs.RangeLemmas.{and_true, and_false, or_true, or_false, filter-cut, filter-filter, filter_agree_in, filter_all_in, filter_none_in, filter-window, is_among-filter, is_among-range}
+use Rattle.ms_commit.proofs.RangeLemmas.{and_true, and_false, or_true, or_false, filter-cut, filter-filter}
+use Rattle.ms_commit.proofs.RangeLemmas.{filter_agree_in, filter_all_in, filter_none_in, filter-window, is_among-filter, is_among-range}
 use Rattle.ms_commit.proofs.CountLemmas.{length-kept}
 
 -- A range rises.

@@ -1,15 +1,17 @@
 -- An allocation of a system that is refused is refused for a cause that its machine knows, and the
--- machine stays as it was. Used by `System::allocate` and `allocate_class`.
+-- machine stays as it was. Used by `System::allocate`.
 use Rattle.std.proofs.Common.{◌≡◌, ℕ, Bool, true, false, Some, None, Result, Ok, Err, List, length, refl, ap, ◌∙◌, subst, inl, inr, if◌then◌else◌}
 use Rattle.std.specs.Ordering.{nat_cmp}
 use Rattle.std.specs.BTreeMap.{is_at}
 use Rattle.std.proofs.lemmas.Map.Steps.{set_value_same}
 use Rattle.ms_base.specs.declared.kind.Kind.{Kind}
 use Rattle.ms_base.specs.declared.kind.Space.{Space}
+use Rattle.ms_base.specs.declared.kind.Space.TheVariants.{NonClass, Class}
 use Rattle.ms_base.specs.declared.span.Chunk.{Chunk}
 use Rattle.ms_base.specs.declared.span.Block.{Block}
 use Rattle.ms_base.specs.declared.refusal.Refusal.{Refusal}
-use Rattle.ms_base.specs.declared.refusal.Refusal.TheVariants.{ZeroWords, TooLarge, CommitLimit, ReserveLimit, OutOfMemory, BlockExists}
+use Rattle.ms_base.specs.declared.refusal.Refusal.TheVariants.{ZeroWords, TooLarge, CommitLimit, ReserveLimit, OutOfMemory, BlockExists, NoLoader}
+use Rattle.ms_base.specs.declared.step.Reply.TheVariants.{Refused}
 use Rattle.ms_base.specs.Level.{level_that_holds}
 use Rattle.ms_base.specs.Names.{named, with_changed}
 use Rattle.ms_base.specs.Live.{block_words}
@@ -17,20 +19,21 @@ use Rattle.ms_base.specs.Asks.{wanted_level}
 use Rattle.ms_base.specs.Pick.{chunk_picked}
 use Rattle.ms_base.specs.Causes.{meets_reserve_limit, meets_commit_limit, committed_count, node_limit, granules_needed, ReserveCause, CommitCause}
 use Rattle.ms_base.specs.PoolSteps.{taken}
-use Rattle.ms_base.specs.State.{ArenaState, PoolState, arena_of, chunks_held, pool_of}
-use Rattle.ms_base.specs.Transition.{LacksBlock, IsServable, AllocCause}
+use Rattle.ms_base.specs.State.{ArenaState, PoolState, Machine, arena_of, chunks_held, pool_of}
+use Rattle.ms_base.specs.Transition.{LacksBlock, IsServable, AllocCause, Transition}
 use Rattle.ms_base.proofs.free.AlikeLemmas.{permuted_are_alike}
 use Rattle.ms_base.proofs.free.OrderLemmas.{taken_alike}
 use Rattle.ms_pool.specs.Ledger.{Ledger, held_in, state_in}
 use Rattle.ms_pool.specs.Calls.{Took, Grew}
 use Rattle.ms_arena.specs.Arena.{IsAskable, PlaceRefused}
 use Rattle.ms_loaders.specs.Loader.{LoaderView, IsSoundView, NameRefused, AllocatesBlock}
+use Rattle.ms_base.specs.WordLaws.{alloc_in}
 use Rattle.ms_loaders.specs.System.{states_of, machine_of, AreTogether}
 use Rattle.ms_loaders.proofs.OutcomeLemmas.{SameBut, IsNotMade, TakeCause}
 use Rattle.ms_loaders.proofs.AskedLemmas.{outcome}
 use Rattle.ms_loaders.proofs.FitLemmas.{fits}
 use Rattle.ms_loaders.proofs.ServedLemmas.{apart_of, own_sound}
-use Rattle.ms_loaders.proofs.StepLemmas.{has_loader}
+use Rattle.ms_loaders.proofs.StepLemmas.{has_loader, lacks_loader}
 
 -- The refusals, as answers.
 abbrev reserve : ℕ → ℕ → Result Chunk Refusal
@@ -154,9 +157,20 @@ alloc_is_refused space old new loaders name block words was is refusal found (in
     how = outcome asks.was words old (Err refusal) asks.is new (apart_of space was asks.was sound asks.arena) asks.allocates
 
 -- As the call's answer tells it.
+alloc_refuses : (space : Space) (old new : Machine) (name block words : ℕ) (refusal : Refusal) → AllocCause old space name block words refusal × (new ≡ old)
+    → Transition old (alloc_in space name block words) (Refused refusal) new
+alloc_refuses NonClass old new name block words refusal its = its
+alloc_refuses Class old new name block words refusal its = its
+
 pub alloc_answers_why : (space : Space) (old new : Ledger) (loaders : List (ℕ × LoaderView)) (name block words : ℕ) (was is : LoaderView) (answer : Result Block Refusal) (refusal : Refusal)
     → answer ≡ Err refusal → named loaders name ≡ Some was → AllocatesBlock Grew Took old.limits.policy space was block words old answer is new → AreTogether old loaders
-    → AllocCause (machine_of old loaders) space name block words refusal × (machine_of new (with_changed loaders name is) ≡ machine_of old loaders)
+    → Transition (machine_of old loaders) (alloc_in space name block words) (Refused refusal) (machine_of new (with_changed loaders name is))
 alloc_answers_why space old new loaders name block words was is answer refusal err found allocates its =
-    alloc_is_refused space old new loaders name block words was is refusal found (subst (λ (a : Result Block Refusal). AllocatesBlock Grew Took old.limits.policy space was block words old a is new) err allocates)
-    (own_sound old loaders name was found its) its
+    alloc_refuses space (machine_of old loaders) (machine_of new (with_changed loaders name is)) name block words refusal
+    (alloc_is_refused space old new loaders name block words was is refusal found (subst (λ (a : Result Block Refusal). AllocatesBlock Grew Took old.limits.policy space was block words old a is new) err allocates)
+    (own_sound old loaders name was found its) its)
+
+pub alloc_finds_none : (space : Space) (ledger : Ledger) (loaders : List (ℕ × LoaderView)) (name block words : ℕ) → named loaders name ≡ None
+    → Transition (machine_of ledger loaders) (alloc_in space name block words) (Refused NoLoader) (machine_of ledger loaders)
+alloc_finds_none space ledger loaders name block words none =
+    alloc_refuses space (machine_of ledger loaders) (machine_of ledger loaders) name block words NoLoader (lacks_loader ledger loaders name none, refl)

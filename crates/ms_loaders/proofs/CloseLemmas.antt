@@ -105,7 +105,8 @@ among_more number b a x y there = list_any-with (λ other. other == number) b x 
     either false true e = refl
     either false false e = e
 
-few : (x y number : ℕ) → x < y → is_it number x + is_it number y ≤ 1
+-- Of two numbers one at most is it.
+pub few : (x y number : ℕ) → x < y → is_it number x + is_it number y ≤ 1
 few x y number less = elim (cases_eq x number) [
   | inl same ↦ omega (arith, ap one_if (eq-eqb x number same), ap one_if (ne_eqb y number (λ e. omega (arith, e, same, less))))
   | inr differ ↦ omega (arith, ap one_if (ne_eqb x number differ), at_most (y == number))

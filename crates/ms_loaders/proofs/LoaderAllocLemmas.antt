@@ -1,5 +1,5 @@
 -- What a loader's allocation does to it, from what the arena of the space answers.
-use Rattle.std.proofs.Common.{◌≡◌, ℕ, true, None, Result, Ok, Err, List, replicate, refl, sym, ap, ◌∙◌, subst, IfOk, OnErr, inr}
+use Rattle.std.proofs.Common.{◌≡◌, ℕ, true, None, Result, Ok, Err, replicate, refl, sym, ap, ◌∙◌, subst, OnOk, OnErr, inl, inr}
 use Rattle.std.specs.BTreeMap.{BTreeMap}
 use Rattle.ms_base.specs.declared.kind.Space.{Space}
 use Rattle.ms_base.specs.declared.kind.Space.TheVariants.{NonClass, Class}
@@ -13,12 +13,12 @@ use Rattle.ms_base.specs.Transition.{with_allocated, zeroed}
 use Rattle.ms_base.proofs.entries.NameLemmas.{rises_with_new}
 use Rattle.ms_base.proofs.entries.LookupLemmas.{named_new_same}
 use Rattle.ms_arena.specs.Arena.{ArenaView, IsSoundArena}
-use Rattle.ms_arena.specs.Alloc.{TakeRelation, GrowRelation, Allocates}
+use Rattle.ms_arena.specs.Alloc.{TakeRelation, GrowRelation}
 use Rattle.ms_loaders.specs.Loader.{with_state, IsArenaOf, AfterAlloc, NameRefused, AllocatesBlock}
 use Rattle.ms_loaders.specs.LoaderInside.{live_at, blocks_of, IsLoader, view_of}
-use Rattle.ms_loaders.specs.Naming.{EnterRefused, no_block, settled}
+use Rattle.ms_loaders.specs.Naming.{EnterRefused, AsksNamed, AllocatesNamed}
 use Rattle.ms_loaders.specs.declared.loader.Loader.TheInside.{Inside}
-use Rattle.ms_loaders.proofs.MappedLemmas.{found-mapped, missing-mapped, new_then_without, new_then_changed}
+use Rattle.ms_loaders.proofs.MappedLemmas.{found-mapped, missing-mapped}
 use Rattle.ms_loaders.proofs.LoaderChangeLemmas.{ChangesIn, made_matches, made_blocks}
 use Rattle.ms_loaders.proofs.ViewLemmas.{arena_in, is_arena, matches_of}
 use Rattle.ms_loaders.proofs.MadeLemmas.{Makes, allocation_makes}
@@ -39,26 +39,22 @@ its_arena NonClass a its = record { owner = refl; space_is = its.arena.space_is;
 its_arena Class a its = record { owner = refl; space_is = its.class_arena.space_is; kind = its.class_arena.kind_is; books = refl }
 
 -- What becomes of a loader that asked its arena.
-pub record IsAsked (space : Space) (a : Inside) (name : ℕ) (arena : ArenaView) (answer : Result Block Refusal) (new : Inside) : Type 0 where
+record IsAsked (space : Space) (a : Inside) (name : ℕ) (arena : ArenaView) (answer : Result Block Refusal) (new : Inside) : Type 0 where
+  loader : IsLoader new
+  follows : AfterAlloc space (view_of a) name arena answer (view_of new)
+  unchanged : OnErr answer (view_of new ≡ view_of a)
+
+-- What becomes of a loader that was asked for a block.
+pub record IsAllocated {S : Type 0} (grew : GrowRelation S) (took : TakeRelation S) (policy : Policy) (space : Space) (a : Inside) (name words : ℕ) (before : S)
+    (answer : Result Block Refusal) (new : Inside) (after : S) : Type 0 where
   pub loader : IsLoader new
-  pub follows : AfterAlloc space (view_of a) name arena answer (view_of new)
+  pub allocates : AllocatesBlock grew took policy space (view_of a) name words before answer (view_of new) after
   pub unchanged : OnErr answer (view_of new ≡ view_of a)
 
--- The names after an answer: the block's is made, or nothing is.
-pub names_after : List (ℕ × Block) → ℕ → Result Block Refusal → List (ℕ × Block)
-names_after names name (Ok block) = with_new names name block
-names_after names name (Err refusal) = names
-
-pub settled_is : (names : List (ℕ × Block)) (name : ℕ) (answer : Result Block Refusal) → named names name ≡ None
-    → settled (with_new names name no_block) name answer ≡ names_after names name answer
-unfolding names_after
-settled_is names name (Ok block) none = new_then_changed names name no_block block
-settled_is names name (Err refusal) none = new_then_without names name no_block none
-
-module _ (space : Space) (a : Inside) (its : IsLoader a) (name : ℕ) (arena : ArenaView) (names : BTreeMap ℕ Block) (unused : named a.names.entries name ≡ None) (sound : IsSoundArena arena) where
-  made : (block : Block) → names.entries ≡ with_new a.names.entries name block → named (arena_in space a).live block.start ≡ None
+module _ (space : Space) (a : Inside) (its : IsLoader a) (name : ℕ) (arena : ArenaView) (names : BTreeMap ℕ Block) where
+  made : (block : Block) → named a.names.entries name ≡ None → IsSoundArena arena → names.entries ≡ with_new a.names.entries name block → named (arena_in space a).live block.start ≡ None
       → Makes (arena_in space a) block arena → IsAsked space a name arena (Ok block) (with_arena_at space a arena names)
-  made block names_are fresh makes = record {
+  made block unused sound names_are fresh makes = record {
     loader = replaced space a arena names its (ap (λ (v : ArenaView). v.space) makes.is) (ap (λ (v : ArenaView). v.kind) makes.is) sound
         (rw names_are (rises_with_new a.names.entries name block its.names))
         (rw names_are (made_matches space (contents_at a) (contents_at (with_arena_at space a arena names)) a.names.entries name block changes unused fresh inside (matches_of a its)));
@@ -96,35 +92,43 @@ module _ (space : Space) (a : Inside) (its : IsLoader a) (name : ℕ) (arena : A
       view_same NonClass same = rw (same, names_are) refl
       view_same Class same = rw (same, names_are) refl
 
-  pub asked : {S : Type 0} (grew : GrowRelation S) (took : TakeRelation S) (policy : Policy) (words : ℕ) (before : S) (answer : Result Block Refusal) (after : S)
-      → names.entries ≡ names_after a.names.entries name answer → IfOk answer (λ block. named (arena_in space a).live block.start ≡ None)
-      → Allocates grew took policy (arena_in space a) words before answer arena after → OnErr answer (arena ≡ arena_in space a)
+  asked : {S : Type 0} (grew : GrowRelation S) (took : TakeRelation S) (policy : Policy) (words : ℕ) (before : S) (answer : Result Block Refusal) (after : S)
+      → AsksNamed grew took policy a.names.entries (arena_in space a) name words before answer names.entries arena after → OnOk answer (IsSoundArena arena)
       → IsAsked space a name arena answer (with_arena_at space a arena names)
-  unfolding names_after
-  asked grew took policy words before (Ok block) after names_are fresh allocates same =
-      made block names_are fresh (allocation_makes grew took policy (arena_in space a) words before block arena after allocates)
-  asked grew took policy words before (Err refusal) after names_are fresh allocates same = none refusal names_are same
+  asked grew took policy words before (Ok block) after asks sound =
+      made block asks.unused sound asks.names_are asks.fresh (allocation_makes grew took policy (arena_in space a) words before block arena after asks.allocates)
+  asked grew took policy words before (Err refusal) after asks sound = none refusal asks.names_are asks.unchanged
 
--- The whole of an allocation that asks, from its steps: the name is entered, the arena answers, and the
--- name is settled.
-pub allocated : {S : Type 0} (space : Space) (a : Inside) (its : IsLoader a) (name words : ℕ) (entered : List (ℕ × Block)) (arena : ArenaView) (names : BTreeMap ℕ Block)
-    (grew : GrowRelation S) (took : TakeRelation S) (policy : Policy) (before : S) (answer : Result Block Refusal) (after : S)
-    → named a.names.entries name ≡ None → entered ≡ with_new a.names.entries name no_block → names.entries ≡ settled entered name answer → IsSoundArena arena
-    → IfOk answer (λ block. named (arena_in space a).live block.start ≡ None) → Allocates grew took policy (arena_in space a) words before answer arena after
-    → OnErr answer (arena ≡ arena_in space a) → IsAsked space a name arena answer (with_arena_at space a arena names)
-allocated space a its name words entered arena names grew took policy before answer after unused enters settles sound fresh allocates same =
-    asked space a its name arena names unused sound grew took policy words before answer after
-    (settles ∙ ap (λ (es : List (ℕ × Block)). settled es name answer) enters ∙ settled_is a.names.entries name answer unused) fresh allocates same
-
-pub asks_arena : {S : Type 0} (space : Space) (a : Inside) (its : IsLoader a) (name words : ℕ) (arena : ArenaView) (new : Inside)
-    (grew : GrowRelation S) (took : TakeRelation S) (policy : Policy) (before : S) (answer : Result Block Refusal) (after : S)
-    → named a.names.entries name ≡ None → Allocates grew took policy (arena_in space a) words before answer arena after → IsAsked space a name arena answer new
-    → AllocatesBlock grew took policy space (view_of a) name words before answer (view_of new) after
-asks_arena space a its name words arena new grew took policy before answer after unused allocates done = inr (record {
-  unused = missing-mapped (live_at (contents_at a)) a.names.entries name unused;
-  was = arena_in space a;
-  is = arena;
-  arena = its_arena space a its;
-  allocates = allocates;
-  follows = done.follows;
-})
+  -- The whole of an allocation, from what it does to names and arena.
+  pub allocated : {S : Type 0} {grew : GrowRelation S} {took : TakeRelation S} {policy : Policy} {words : ℕ} {before : S} {answer : Result Block Refusal} {after : S}
+      → AllocatesNamed grew took policy a.names.entries (arena_in space a) name words before answer names.entries arena after → OnOk answer (IsSoundArena arena)
+      → IsAllocated grew took policy space a name words before answer (with_arena_at space a arena names) after
+  allocated {words} (inl not) sound = record {
+    loader = done.loader;
+    allocates = inl (record {
+      refusal = not.refusal;
+      answer_is = not.answer_is;
+      cause = name_is_refused a name words not.refusal not.cause;
+      loader = done.unchanged;
+      source = not.source;
+    });
+    unchanged = subst (λ (r : Result Block Refusal). OnErr r (view_of (with_arena_at space a arena names) ≡ view_of a)) (sym not.answer_is) done.unchanged;
+  }
+    where
+      done : IsAsked space a name arena (Err not.refusal) (with_arena_at space a arena names)
+      done = none not.refusal not.names_stay not.arena
+  allocated {grew} {took} {policy} {words} {before} {answer} {after} (inr asks) sound = record {
+    loader = done.loader;
+    allocates = inr (record {
+      unused = missing-mapped (live_at (contents_at a)) a.names.entries name asks.unused;
+      was = arena_in space a;
+      is = arena;
+      arena = its_arena space a its;
+      allocates = asks.allocates;
+      follows = done.follows;
+    });
+    unchanged = done.unchanged;
+  }
+    where
+      done : IsAsked space a name arena answer (with_arena_at space a arena names)
+      done = asked grew took policy words before answer after asks sound

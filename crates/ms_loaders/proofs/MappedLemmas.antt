@@ -1,12 +1,11 @@
 -- Entries whose values are mapped: the names stay, and each change of the entries is one of the mapped
 -- ones. For a loader's blocks and a system's loaders.
-use Rattle.std.proofs.Common.{◌≡◌, ℕ, true, false, cond, Some, None, List, [], ◌∷◌, map, refl, ap, ◌∙◌, option_map, arith}
-use Rattle.std.specs.Ordering.{nat_cmp, match_ordering, is_eq}
+use Rattle.std.proofs.Common.{◌≡◌, ℕ, true, false, cond, Some, None, List, [], ◌∷◌, map, refl, ap, ◌∙◌, option_map}
+use Rattle.std.specs.Ordering.{nat_cmp, match_ordering}
 use Rattle.std.specs.declared.cmp.Ordering.TheVariants.{Less, Equal, Greater}
 use Rattle.std.specs.List.{AllByRecursion}
 use Rattle.std.specs.Map.{keys_of, values_of}
 use Rattle.std.specs.BTreeMap.{is_at}
-use Rattle.std.proofs.lemmas.Bool.Decides.{nat_tests}
 use Rattle.std.proofs.lemmas.Map.Made.{lookup-map_values}
 use Rattle.ms_base.specs.Names.{named, with_new, with_changed, without, AreNamed}
 
@@ -78,37 +77,7 @@ changed_where {X} {Y} f g (e ∷ es) name x y found value all =
       | false ↦ λ found all. ap (λ (z : Y). (e.0, z) ∷ mapped g es) all.0 ∙ ap (λ (l : List (ℕ × Y)). (e.0, f e.1) ∷ l) (changed_where f g es name x y found value all.1)
     ] found all
 
--- A name that was just made and is taken out, or gets its value.
-at_itself : (name : ℕ) → is_at (nat_cmp name) name ≡ true
-at_itself name = grind (arith, nat_tests)
-
-pub new_then_without : {X : Type 0} (entries : List (ℕ × X)) (name : ℕ) (x : X) → named entries name ≡ None → without (with_new entries name x) name ≡ entries
-new_then_without [] name x none = rw (at_itself name) refl
-new_then_without {X} (e ∷ es) name x none =
-    elim (nat_cmp name e.0) as (λ o. nat_cmp name e.0 ≡ o → cond (is_eq o) (Some e.1) (named es name) ≡ None → without (match_ordering o ((name, x) ∷ e ∷ es) ((e.0, x) ∷ es) (e ∷ with_new es name x)) name ≡ e ∷ es) [
-      | Less ↦ λ p none. rw (at_itself name) refl
-      | Equal ↦ λ p none. absurd (cc)
-      | Greater ↦ λ p none. rw p (ap (λ (l : List (ℕ × X)). e ∷ l) (new_then_without es name x none))
-    ] refl none
-
-pub new_then_changed : {X : Type 0} (entries : List (ℕ × X)) (name : ℕ) (x y : X) → with_changed (with_new entries name x) name y ≡ with_new entries name y
-new_then_changed [] name x y = rw (at_itself name) refl
-new_then_changed {X} (e ∷ es) name x y =
-    elim (nat_cmp name e.0) as (λ o. nat_cmp name e.0 ≡ o → with_changed (match_ordering o ((name, x) ∷ e ∷ es) ((e.0, x) ∷ es) (e ∷ with_new es name x)) name y ≡ match_ordering o ((name, y) ∷ e ∷ es) ((e.0, y) ∷ es) (e ∷ with_new es name y)) [
-      | Less ↦ λ p. rw (at_itself name) refl
-      | Equal ↦ λ p. rw p refl
-      | Greater ↦ λ p. rw p (ap (λ (l : List (ℕ × X)). e ∷ l) (new_then_changed es name x y))
-    ] refl
-
--- Nothing changes at a name that none has.
-pub changed_missing : {X : Type 0} (entries : List (ℕ × X)) (name : ℕ) (x : X) → named entries name ≡ None → with_changed entries name x ≡ entries
-changed_missing [] name x none = refl
-changed_missing {X} (e ∷ es) name x none =
-    elim (is_at (nat_cmp name) e.0) as (λ b. cond b (Some e.1) (named es name) ≡ None → cond b ((e.0, x) ∷ es) (e ∷ with_changed es name x) ≡ e ∷ es) [
-      | true ↦ λ none. absurd (cc)
-      | false ↦ λ none. ap (λ (l : List (ℕ × X)). e ∷ l) (changed_missing es name x none)
-    ] none
-
+-- Nothing changes where none has the name.
 pub without_missing : {X : Type 0} (entries : List (ℕ × X)) (name : ℕ) → named entries name ≡ None → without entries name ≡ entries
 without_missing [] name none = refl
 without_missing {X} (e ∷ es) name none =

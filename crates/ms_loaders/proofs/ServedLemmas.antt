@@ -31,6 +31,7 @@ use Rattle.ms_pool.specs.Account.{AccountState}
 use Rattle.ms_pool.specs.Ledger.{Loan, Ledger, Serves, IsSoundLedger, opened_in, with_loan}
 use Rattle.ms_pool.specs.Calls.{Took, Grew}
 use Rattle.ms_arena.specs.Arena.{ArenaView}
+use Rattle.ms_arena.specs.Alloc.{TakeRelation, GrowRelation}
 use Rattle.ms_loaders.specs.Loader.{LoaderView, account_in, IsSoundView, AllocatesBlock, AfterAlloc, IsArenaOf}
 use Rattle.ms_loaders.specs.System.{accounts_of, owners_of, AreDistinct, AreServed, AreTogether}
 use Rattle.ms_loaders.proofs.OutcomeLemmas.{Outcome}
@@ -64,13 +65,13 @@ times_split number b a x y =
 pub it_is : (number : ℕ) → is_it number number ≡ 1
 it_is number = ap one_if (eq-eqb number number refl)
 
--- Accounts of other owners are served still.
-pub served_still : (old new : Ledger) (owner : ℕ) → ((other : AccountState) → other.owner ≢ owner → Serves old other → Serves new other)
-    → (accounts : List AccountState) → times owner (map owner_of accounts) ≡ 0 → AllByRecursion (Serves old) accounts → AllByRecursion (Serves new) accounts
-served_still old new owner each [] none all = tt
-served_still old new owner each (account ∷ accounts) none all = (
+-- Accounts of other owners are served still, by whatever was and is to serve.
+pub served_still : (P Q : AccountState → Type 0) (owner : ℕ) → ((other : AccountState) → other.owner ≢ owner → P other → Q other)
+    → (accounts : List AccountState) → times owner (map owner_of accounts) ≡ 0 → AllByRecursion P accounts → AllByRecursion Q accounts
+served_still P Q owner each [] none all = tt
+served_still P Q owner each (account ∷ accounts) none all = (
   each account (differs account.owner owner (omega (arith, none, sum_by-cons (is_it owner) account.owner (map owner_of accounts)))) all.0,
-  served_still old new owner each accounts (omega (arith, none, sum_by-cons (is_it owner) account.owner (map owner_of accounts))) all.1,
+  served_still P Q owner each accounts (omega (arith, none, sum_by-cons (is_it owner) account.owner (map owner_of accounts))) all.1,
 )
   where
     differs : (a b : ℕ) → is_it b a ≡ 0 → a ≢ b
@@ -90,38 +91,36 @@ pub record KeepsOther (space : Space) (was is : LoaderView) : Type 0 where
   pub class_owner : is.class_owner ≡ was.class_owner
   pub elsewhere : (arena_of (other_space space) is.state).chunks ≡ (arena_of (other_space space) was.state).chunks
 
--- Its accounts are served.
-served_in : (space : Space) (old new : Ledger) (b a : List AccountState) (was is : LoaderView) → KeepsOther space was is
+pub same_account : (one : Space) (was is : LoaderView) → by_space one is.owner is.class_owner ≡ by_space one was.owner was.class_owner
+    → (arena_of one is.state).chunks ≡ (arena_of one was.state).chunks → account_in one was ≡ account_in one is
+same_account one was is owner chunks =
+    ap (λ (n : ℕ). record { owner = n; space = one; chunks = (arena_of one was.state).chunks }) (sym owner)
+    ∙ ap (λ (l : List Chunk). record { owner = by_space one is.owner is.class_owner; space = one; chunks = l }) (sym chunks)
+
+-- Its accounts are served, and those of the loaders round it.
+pub served_in : (P Q : AccountState → Type 0) (space : Space) (b a : List AccountState) (was is : LoaderView) → KeepsOther space was is
     → AreDistinct (map owner_of b ++ was.owner ∷ was.class_owner ∷ map owner_of a)
-    → ((other : AccountState) → other.owner ≢ (account_in space was).owner → Serves old other → Serves new other) → Serves new (account_in space is)
-    → AllByRecursion (Serves old) (b ++ account_in NonClass was ∷ account_in Class was ∷ a) → AllByRecursion (Serves new) (b ++ account_in NonClass is ∷ account_in Class is ∷ a)
-served_in NonClass old new b a was is keeps distinct each own all =
-    let parts = all_parts (Serves old) b a (account_in NonClass was) (account_in Class was) all in
+    → ((other : AccountState) → other.owner ≢ (account_in space was).owner → P other → Q other) → Q (account_in space is)
+    → AllByRecursion P (b ++ account_in NonClass was ∷ account_in Class was ∷ a) → AllByRecursion Q (b ++ account_in NonClass is ∷ account_in Class is ∷ a)
+served_in P Q NonClass b a was is keeps distinct each own all =
+    let parts = all_parts P b a (account_in NonClass was) (account_in Class was) all in
     let count = times_split was.owner (map owner_of b) (map owner_of a) was.owner was.class_owner in
-    all_joined (Serves new) b a (account_in NonClass is) (account_in Class is)
-    (served_still old new was.owner each b (omega (arith, distinct was.owner, count, it_is was.owner)) parts.0) own
-    (subst (λ (account : AccountState). Serves new account) (same_account Class was is keeps.class_owner keeps.elsewhere)
-    (served_still old new was.owner each (account_in Class was ∷ []) (omega (arith, distinct was.owner, count, it_is was.owner, sum_by-cons (is_it was.owner) was.class_owner [])) (parts.2, tt)).0)
-    (served_still old new was.owner each a (omega (arith, distinct was.owner, count, it_is was.owner)) parts.3)
-  where
-    same_account : (one : Space) (was is : LoaderView) → by_space one is.owner is.class_owner ≡ by_space one was.owner was.class_owner → (arena_of one is.state).chunks ≡ (arena_of one was.state).chunks → account_in one was ≡ account_in one is
-    same_account one was is owner chunks =
-        ap (λ (n : ℕ). record { owner = n; space = one; chunks = (arena_of one was.state).chunks }) (sym owner)
-        ∙ ap (λ (l : List Chunk). record { owner = by_space one is.owner is.class_owner; space = one; chunks = l }) (sym chunks)
-served_in Class old new b a was is keeps distinct each own all =
-    let parts = all_parts (Serves old) b a (account_in NonClass was) (account_in Class was) all in
+    all_joined Q b a (account_in NonClass is) (account_in Class is)
+    (served_still P Q was.owner each b (omega (arith, distinct was.owner, count, it_is was.owner)) parts.0) own
+    (subst Q (same_account Class was is keeps.class_owner keeps.elsewhere)
+    (served_still P Q was.owner each (account_in Class was ∷ [])
+    (omega (arith, distinct was.owner, count, it_is was.owner, sum_by-cons (is_it was.owner) was.class_owner [])) (parts.2, tt)).0)
+    (served_still P Q was.owner each a (omega (arith, distinct was.owner, count, it_is was.owner)) parts.3)
+served_in P Q Class b a was is keeps distinct each own all =
+    let parts = all_parts P b a (account_in NonClass was) (account_in Class was) all in
     let count = times_split was.class_owner (map owner_of b) (map owner_of a) was.owner was.class_owner in
-    all_joined (Serves new) b a (account_in NonClass is) (account_in Class is)
-    (served_still old new was.class_owner each b (omega (arith, distinct was.class_owner, count, it_is was.class_owner)) parts.0)
-    (subst (λ (account : AccountState). Serves new account) (same_account NonClass was is keeps.owner keeps.elsewhere)
-    (served_still old new was.class_owner each (account_in NonClass was ∷ []) (omega (arith, distinct was.class_owner, count, it_is was.class_owner, sum_by-cons (is_it was.class_owner) was.owner [])) (parts.1, tt)).0)
+    all_joined Q b a (account_in NonClass is) (account_in Class is)
+    (served_still P Q was.class_owner each b (omega (arith, distinct was.class_owner, count, it_is was.class_owner)) parts.0)
+    (subst Q (same_account NonClass was is keeps.owner keeps.elsewhere)
+    (served_still P Q was.class_owner each (account_in NonClass was ∷ [])
+    (omega (arith, distinct was.class_owner, count, it_is was.class_owner, sum_by-cons (is_it was.class_owner) was.owner [])) (parts.1, tt)).0)
     own
-    (served_still old new was.class_owner each a (omega (arith, distinct was.class_owner, count, it_is was.class_owner)) parts.3)
-  where
-    same_account : (one : Space) (was is : LoaderView) → by_space one is.owner is.class_owner ≡ by_space one was.owner was.class_owner → (arena_of one is.state).chunks ≡ (arena_of one was.state).chunks → account_in one was ≡ account_in one is
-    same_account one was is owner chunks =
-        ap (λ (n : ℕ). record { owner = n; space = one; chunks = (arena_of one was.state).chunks }) (sym owner)
-        ∙ ap (λ (l : List Chunk). record { owner = by_space one is.owner is.class_owner; space = one; chunks = l }) (sym chunks)
+    (served_still P Q was.class_owner each a (omega (arith, distinct was.class_owner, count, it_is was.class_owner)) parts.3)
 
 -- No other owner is lent a chunk.
 grown_have : (owners : List ℕ) (loans : List Loan) (chunk : Chunk) → AllByRecursion (HasOwner owners) loans
@@ -171,15 +170,15 @@ own_is_among space loaders name v found = ap (λ (l : List ℕ). is_among l own)
         ∙ either (v.owner == v.class_owner) (list_any-with (λ other. other == v.class_owner) (owners_of split.before) v.class_owner (owners_of split.after)
         ∙ ap (λ b. b || list_any (λ other. other == v.class_owner) (owners_of split.before ++ owners_of split.after)) (eq-eqb v.class_owner v.class_owner refl))
 
--- What an allocation keeps of its loader.
-pub block_keeps : (space : Space) (policy : Policy) (was is : LoaderView) (name words : ℕ) (old new : Ledger) (answer : Result Block Refusal)
-    → AllocatesBlock Grew Took policy space was name words old answer is new → KeepsOther space was is
-block_keeps space policy was is name words old new answer (inl refused) = record {
+-- What an allocation keeps of its loader, over any source.
+pub block_keeps : {S : Type 0} (grew : GrowRelation S) (took : TakeRelation S) (policy : Policy) (space : Space) (was is : LoaderView) (name words : ℕ) (old new : S)
+    (answer : Result Block Refusal) → AllocatesBlock grew took policy space was name words old answer is new → KeepsOther space was is
+block_keeps grew took policy space was is name words old new answer (inl refused) = record {
   owner = ap (λ (v : LoaderView). v.owner) refused.loader;
   class_owner = ap (λ (v : LoaderView). v.class_owner) refused.loader;
   elsewhere = ap (λ (v : LoaderView). (arena_of (other_space space) v.state).chunks) refused.loader;
 }
-block_keeps space policy was is name words old new answer (inr asks) = go answer asks.follows
+block_keeps grew took policy space was is name words old new answer (inr asks) = go answer asks.follows
   where
     go : (a : Result Block Refusal) → AfterAlloc space was name asks.is a is → KeepsOther space was is
     go (Ok block) follows = record {
@@ -228,7 +227,7 @@ together_after space old new loaders name block words was is answer found alloca
   names = rises_with_changed loaders name is its.names;
   served = record {
     served = All-from_recursion (Serves new) (accounts_of (with_changed loaders name is)) (subst (λ (l : List AccountState). AllByRecursion (Serves new) l) (sym now)
-        (served_in space old new (accounts_of split.before) (accounts_of split.after) was is keeps (rw (ap owners_of split.is ∙ owners_split split.before split.after name was) at its.served.distinct) each own
+        (served_in (Serves old) (Serves new) space (accounts_of split.before) (accounts_of split.after) was is keeps (rw (ap owners_of split.is ∙ owners_split split.before split.after name was) at its.served.distinct) each own
         (rw (ap accounts_of split.is ∙ accounts_split split.before split.after name was) at (recursion_from_All (Serves old) (accounts_of loaders) its.served.served))));
     distinct = subst AreDistinct (sym owners_same) its.served.distinct;
     no_other = All-from_recursion _ new.loans (subst (λ (owners : List ℕ). AllByRecursion (HasOwner owners) new.loans) (sym owners_same)
@@ -242,7 +241,7 @@ together_after space old new loaders name block words was is answer found alloca
     split = split_at loaders name was found
 
     keeps : KeepsOther space was is
-    keeps = block_keeps space old.limits.policy was is block words old new answer allocates
+    keeps = block_keeps Grew Took old.limits.policy space was is block words old new answer allocates
 
     now : accounts_of (with_changed loaders name is) ≡ accounts_of split.before ++ account_in NonClass is ∷ account_in Class is ∷ accounts_of split.after
     now = ap accounts_of (split.changed is) ∙ accounts_split split.before split.after name is

@@ -11,6 +11,7 @@ use Rattle.ms_base.specs.declared.kind.Space.TheVariants.{NonClass, Class}
 use Rattle.ms_base.specs.declared.span.Chunk.{Chunk}
 use Rattle.ms_base.specs.declared.span.Block.{Block}
 use Rattle.ms_base.specs.declared.refusal.Refusal.{Refusal}
+use Rattle.ms_base.specs.declared.step.Reply.TheVariants.{At}
 use Rattle.ms_base.specs.Level.{size_of}
 use Rattle.ms_base.specs.Front.{front_for}
 use Rattle.ms_base.specs.Spaces.{by_space}
@@ -20,7 +21,7 @@ use Rattle.ms_base.specs.Place.{last_place}
 use Rattle.ms_base.specs.PoolSteps.{slots_with}
 use Rattle.ms_base.specs.State.{ArenaState, LoaderState, Machine, arena_of, chunks_held, slots_in, with_slots, recommitted as machine_recommitted}
 use Rattle.ms_base.specs.Good.{IsGood}
-use Rattle.ms_base.specs.Transition.{HasLoader, LacksLoader, with_loader, with_allocated, zeroed, Change, MayChange, Allocates}
+use Rattle.ms_base.specs.Transition.{HasLoader, LacksLoader, with_loader, with_allocated, zeroed, Change, MayChange, Allocates, Transition}
 use Rattle.ms_base.specs.SumLaws.{GrowsWell}
 use Rattle.ms_base.proofs.entries.EntryLemmas.{split_at}
 use Rattle.ms_base.proofs.runs.ApartLemmas.{All-middle_of}
@@ -31,6 +32,7 @@ use Rattle.ms_pool.specs.Ledger.{Loan, Ledger, held_in, state_in, with_loan}
 use Rattle.ms_pool.specs.Calls.{tallied, Took, Grew}
 use Rattle.ms_arena.specs.Arena.{ArenaView}
 use Rattle.ms_loaders.specs.Loader.{LoaderView, IsSoundView, IsArenaOf, AllocatesBlock}
+use Rattle.ms_base.specs.WordLaws.{alloc_in}
 use Rattle.ms_loaders.specs.System.{states_of, machine_of, AreTogether}
 use Rattle.ms_loaders.proofs.MappedLemmas.{found-mapped, missing-mapped, changed-mapped}
 use Rattle.ms_loaders.proofs.OutcomeLemmas.{GrownBy, LentBy, IsMade, picked_is}
@@ -205,11 +207,16 @@ alloc_is_served space old new loaders name block words was is made found (inr as
     state = ap state_of asks.follows.1 ∙ ap (λ (n : ℕ). with_allocated space was.state asks.is.books block (zeroed made.start n)) how.words_are
 
 -- As the call's answer tells it.
+alloc_serves : (space : Space) (old new : Machine) (name block words start : ℕ) → Allocates old space name block words start new → IsGood new
+    → Transition old (alloc_in space name block words) (At start) new
+alloc_serves NonClass old new name block words start its good = (its, good)
+alloc_serves Class old new name block words start its good = (its, good)
+
 pub alloc_answers_at : (space : Space) (old new : Ledger) (loaders : List (ℕ × LoaderView)) (name block words : ℕ) (was is : LoaderView) (answer : Result Block Refusal) (made : Block)
     → answer ≡ Ok made → named loaders name ≡ Some was → AllocatesBlock Grew Took old.limits.policy space was block words old answer is new → AreTogether old loaders → AreTogether new (with_changed loaders name is)
-    → Allocates (machine_of old loaders) space name block words made.start (machine_of new (with_changed loaders name is)) × IsGood (machine_of new (with_changed loaders name is))
-alloc_answers_at space old new loaders name block words was is answer made ok found allocates before now = (
-  alloc_is_served space old new loaders name block words was is made found (subst (λ (a : Result Block Refusal). AllocatesBlock Grew Took old.limits.policy space was block words old a is new) ok allocates)
-      (own_sound old loaders name was found before) before now,
-  machine_is_good new (with_changed loaders name is) now,
-)
+    → Transition (machine_of old loaders) (alloc_in space name block words) (At made.start) (machine_of new (with_changed loaders name is))
+alloc_answers_at space old new loaders name block words was is answer made ok found allocates before now =
+    alloc_serves space (machine_of old loaders) (machine_of new (with_changed loaders name is)) name block words made.start
+    (alloc_is_served space old new loaders name block words was is made found (subst (λ (a : Result Block Refusal). AllocatesBlock Grew Took old.limits.policy space was block words old a is new) ok allocates)
+    (own_sound old loaders name was found before) before now)
+    (machine_is_good new (with_changed loaders name is) now)

@@ -26,10 +26,13 @@ pub record LoaderView : Type 0 where
 abbrev pub with_state : LoaderView → LoaderState → LoaderView
 with_state loader state = record loader { state = state }
 
--- A loader's account in a space.
+-- A loader's owner in a space, and its account there.
+abbrev pub owner_in : Space → LoaderView → ℕ
+owner_in space loader = by_space space loader.owner loader.class_owner
+
 abbrev pub account_in : Space → LoaderView → AccountState
 account_in space loader =
-    record { owner = by_space space loader.owner loader.class_owner; space = space; chunks = (arena_of space loader.state).chunks }
+    record { owner = owner_in space loader; space = space; chunks = (arena_of space loader.state).chunks }
 
 -- A loader that has nothing yet but its accounts.
 abbrev pub new_loader : AccountState → AccountState → Kind → LoaderView
@@ -43,7 +46,7 @@ pub record IsSoundView (loader : LoaderView) : Type 0 where
 
 -- The loader's arena of a space, but for its live blocks.
 pub record IsArenaOf (space : Space) (loader : LoaderView) (arena : ArenaView) : Type 0 where
-  pub owner : arena.owner ≡ by_space space loader.owner loader.class_owner
+  pub owner : arena.owner ≡ owner_in space loader
   pub space_is : arena.space ≡ space
   pub kind : arena.kind ≡ loader.state.kind
   pub books : arena.books ≡ arena_of space loader.state

@@ -1,21 +1,46 @@
--- How an allocation enters a name and settles it.
-use Rattle.std.specs.Prelude.{◌≡◌, ℕ, List, Some, None, Result, Ok, Err}
+-- How an allocation enters a name, and what it does to names, arena and source.
+use Rattle.std.specs.Prelude.{◌≡◌, ℕ, ◌⊎◌, List, Some, None, Result, Ok, Err, IfOk, OnErr}
+use Rattle.ms_base.specs.declared.policy.Policy.{Policy}
 use Rattle.ms_base.specs.declared.span.Block.{Block}
 use Rattle.ms_base.specs.declared.refusal.Refusal.{Refusal}
 use Rattle.ms_base.specs.declared.refusal.Refusal.TheVariants.{BlockExists}
-use Rattle.ms_base.specs.Names.{named, with_changed, without}
-use Rattle.ms_arena.specs.Arena.{PlaceRefused}
-
--- What a name is entered with until its block is known.
-abbrev pub no_block : Block
-no_block = record { start = 0; words = 0 }
+use Rattle.ms_base.specs.Names.{named, with_new}
+use Rattle.ms_arena.specs.Arena.{ArenaView, PlaceRefused}
+use Rattle.ms_arena.specs.Alloc.{TakeRelation, GrowRelation, Allocates}
 
 -- Why a name is not entered, in the order of the checks.
 abbrev pub EnterRefused : List (ℕ × Block) → ℕ → ℕ → Refusal → Type 0
 EnterRefused names name words BlockExists = (found : Block) × (named names name ≡ Some found)
 EnterRefused names name words refusal = (named names name ≡ None) × PlaceRefused words refusal
 
--- The name has the block that was answered, or is gone.
-abbrev pub settled : List (ℕ × Block) → ℕ → Result Block Refusal → List (ℕ × Block)
-settled names name (Ok block) = with_changed names name block
-settled names name (Err refusal) = without names name
+-- The names after an answer: the block has its name, or all is as it was.
+abbrev pub names_after : List (ℕ × Block) → ℕ → Result Block Refusal → List (ℕ × Block)
+names_after names name (Ok block) = with_new names name block
+names_after names name (Err refusal) = names
+
+-- The name is not entered: nothing changes, and no arena is asked.
+pub record IsNotNamed {S : Type 0} (names : List (ℕ × Block)) (was : ArenaView) (name words : ℕ) (before : S)
+    (answer : Result Block Refusal) (others : List (ℕ × Block)) (is : ArenaView) (after : S) : Type 0 where
+  pub refusal : Refusal
+  pub answer_is : answer ≡ Err refusal
+  pub cause : EnterRefused names name words refusal
+  pub names_stay : others ≡ names
+  pub arena : is ≡ was
+  pub source : after ≡ before
+
+-- The name is new, the arena is asked, and the block that it answers gets the name.
+pub record AsksNamed {S : Type 0} (grew : GrowRelation S) (took : TakeRelation S) (policy : Policy)
+    (names : List (ℕ × Block)) (was : ArenaView) (name words : ℕ) (before : S) (answer : Result Block Refusal)
+    (others : List (ℕ × Block)) (is : ArenaView) (after : S) : Type 0 where
+  pub unused : named names name ≡ None
+  pub names_are : others ≡ names_after names name answer
+  pub fresh : IfOk answer (λ block. named was.live block.start ≡ None)
+  pub allocates : Allocates grew took policy was words before answer is after
+  pub unchanged : OnErr answer (is ≡ was)
+
+-- An allocation of so many words in an arena, under a name.
+abbrev pub AllocatesNamed : {S : Type 0} → GrowRelation S → TakeRelation S → Policy → List (ℕ × Block) → ArenaView
+    → ℕ → ℕ → S → Result Block Refusal → List (ℕ × Block) → ArenaView → S → Type 0
+AllocatesNamed grew took policy names was name words before answer others is after =
+    IsNotNamed names was name words before answer others is after
+    ⊎ AsksNamed grew took policy names was name words before answer others is after

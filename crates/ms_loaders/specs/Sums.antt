@@ -2,7 +2,8 @@
 use Rattle.std.specs.Prelude.{◌≡◌, ◌+◌, length, map}
 use Rattle.ms_base.specs.declared.kind.Space.{Space}
 use Rattle.ms_base.specs.State.{LoaderState, arena_of}
-use Rattle.ms_base.specs.Totals.{SpaceSums, Sums, LoaderRow as RowSums, capacity_of, fronts_of, used_of, kept_of, live_in}
+use Rattle.ms_base.specs.Totals.{SpaceSums, Sums, LoaderRow as RowSums}
+use Rattle.ms_base.specs.Totals.{capacity_of, fronts_of, used_of, kept_of, live_in}
 use Rattle.ms_arena.specs.declared.totals.ArenaTotals.{ArenaTotals}
 use Rattle.ms_loaders.specs.declared.totals.SpaceTotals.{SpaceTotals}
 use Rattle.ms_loaders.specs.declared.totals.LoaderRow.{LoaderRow}

@@ -9,7 +9,7 @@
 //! transitions. Apart because everything above speaks of steps and replies, and nothing below does:
 //! the pool knows accounts, the arena knows no names. Stands on `ms_pool` and `ms_arena`, by their
 //! contracts alone. What takes memory: `System::new`, `new_loader`, `step`, `run` and `totals`, a
-//! loader's `alloc` and `calloc`, `Loaders::insert`; nothing waits, but for a source that does.
+//! loader's `allocate`, `alloc` and `calloc`, `Loaders::insert`; nothing waits, but for a source that does.
 #![tactic(auto)]
 
 mod collecting;

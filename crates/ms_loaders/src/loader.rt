@@ -5,20 +5,21 @@
 //!     arenas    [ live | live | free ..  ]       [ live | ..      ]   the class space's
 //!
 //! Kept true: the named blocks that lie in a space are the live blocks of its arena, one to one; a
-//! block's space is decided by where it starts. Stands on `ms_arena`. Only `alloc` and `calloc` take
-//! memory; they wait as their source does. After each change of an arena `account` is called: it
-//! costs nothing, and tells what is true of every arena.
-ghost use Rattle.std.specs.Prelude.{◌≡◌, ◌≢◌, ◌+◌, ◌<◌, ◌^◌, IfOk, IfErr, OnOk, OnErr, []};
+//! block's space is decided by where it starts. Stands on `ms_arena`. Only `allocate`, `alloc` and
+//! `calloc` take memory; they wait as their source does. After each change of an arena `account` is
+//! called: it costs nothing, and tells what is true of every arena.
+ghost use Rattle.std.specs.Prelude.{◌≡◌, ◌+◌, ◌<◌, ◌^◌, IfOk, IfErr, OnOk, OnErr, []};
 ghost use Rattle.ms_base.specs.declared.kind.Space.TheVariants.{NonClass, Class};
 ghost use Rattle.ms_base.specs.Spaces.{is_in};
 ghost use Rattle.ms_base.specs.Totals.{used_of};
-ghost use Rattle.ms_pool.specs.Account.{AccountState};
-ghost use Rattle.ms_loaders.specs.Loader.{account_in, new_loader, with_state, IsSoundView, AllocatesBlock, HasWord, WritesWord, FreesBlock, LacksWord, LacksName};
+ghost use Rattle.ms_pool.specs.Source.{LeavesRest};
+ghost use Rattle.ms_loaders.specs.Loader.{owner_in, account_in, new_loader, with_state, IsSoundView, AllocatesBlock};
+ghost use Rattle.ms_loaders.specs.Loader.{HasWord, WritesWord, FreesBlock, LacksWord, LacksName};
 ghost use Rattle.ms_loaders.specs.Sums.{AreSumsIn};
 
-use crate::naming::{Names, enter, settle};
+use crate::naming::{Names, allocate_in};
 use ms_arena::{Arena, ArenaTotals};
-use ms_base::{Block, Kind, NODE_WORDS, Refusal, SLOTS};
+use ms_base::{Block, Kind, NODE_WORDS, Refusal, SLOTS, Space};
 use ms_pool::{Account, ChunkSource};
 use std::alloc::Global;
 use std::collections::BTreeMap;
@@ -73,9 +74,35 @@ impl Loader {
         }
     }
 
-    /// Allocates a block of so many words, at least two, under a new name; its words are 0. Refused
-    /// with `BlockExists` where the name is used, then as the arena refuses; a refusal leaves the
-    /// loader as it was. Takes memory.
+    /// Allocates a block of so many words, at least two, in a space, under a new name; its words are 0.
+    /// Refused with `BlockExists` where the name is used, then as the arena of the space refuses; a
+    /// refusal leaves the loader as it was. Takes memory.
+    pub fn allocate<S: ChunkSource>(
+        &mut self,
+        source: &mut S,
+        space: Space,
+        name: u32,
+        words: u64,
+    ) -> Result<Block, Refusal>
+        requires { S.serves source.old (account_in space self.old) }
+        ensures served { S.serves source.new (account_in space self.new) }
+        ensures rest { LeavesRest S.serves S.opened S.limits (owner_in space self.old) source.old source.new }
+        ensures allocates { AllocatesBlock S.grew S.took (S.limits source.old).policy space self.old
+            name words source.old result self.new source.new }
+        ensures unchanged { OnErr result (self.new ≡ self.old) }
+        ensures sound { IsSoundView self.new }
+    {
+        match space {
+            Space::NonClass => {
+                allocate_in(&mut self.names, &mut self.arena, source, name, words)
+            }
+            Space::Class => {
+                allocate_in(&mut self.names, &mut self.class_arena, source, name, words)
+            }
+        }
+    }
+
+    /// Allocates a block outside the class space, as `allocate` does. Takes memory.
     pub fn alloc<S: ChunkSource>(
         &mut self,
         source: &mut S,
@@ -84,27 +111,16 @@ impl Loader {
     ) -> Result<Block, Refusal>
         requires { S.serves source.old (account_in NonClass self.old) }
         ensures served { S.serves source.new (account_in NonClass self.new) }
-        ensures others { (other : AccountState) → other.owner ≢ self.old.owner
-            → S.serves source.old other → S.serves source.new other }
-        ensures counted { S.opened source.new ≡ S.opened source.old }
-        ensures limits { S.limits source.new ≡ S.limits source.old }
+        ensures rest { LeavesRest S.serves S.opened S.limits self.old.owner source.old source.new }
         ensures allocates { AllocatesBlock S.grew S.took (S.limits source.old).policy NonClass self.old
             name words source.old result self.new source.new }
         ensures unchanged { OnErr result (self.new ≡ self.old) }
         ensures sound { IsSoundView self.new }
     {
-        match enter(&mut self.names, name, words) {
-            Ok(()) => {}
-            Err(refusal) => return Err(refusal),
-        }
-        // The name stands before the arena is asked, since entering it takes memory; it is taken out
-        // again where the arena refuses, so a refusal leaves no name.
-        let answer = self.arena.alloc(source, words);
-        let _ = self.arena.account();
-        settle(&mut self.names, name, answer)
+        self.allocate(source, Space::NonClass, name, words)
     }
 
-    /// Allocates a block of the class space, as `alloc` does one of the other space. Takes memory.
+    /// Allocates a block of the class space, as `allocate` does. Takes memory.
     pub fn calloc<S: ChunkSource>(
         &mut self,
         source: &mut S,
@@ -113,22 +129,13 @@ impl Loader {
     ) -> Result<Block, Refusal>
         requires { S.serves source.old (account_in Class self.old) }
         ensures served { S.serves source.new (account_in Class self.new) }
-        ensures others { (other : AccountState) → other.owner ≢ self.old.class_owner
-            → S.serves source.old other → S.serves source.new other }
-        ensures counted { S.opened source.new ≡ S.opened source.old }
-        ensures limits { S.limits source.new ≡ S.limits source.old }
+        ensures rest { LeavesRest S.serves S.opened S.limits self.old.class_owner source.old source.new }
         ensures allocates { AllocatesBlock S.grew S.took (S.limits source.old).policy Class self.old
             name words source.old result self.new source.new }
         ensures unchanged { OnErr result (self.new ≡ self.old) }
         ensures sound { IsSoundView self.new }
     {
-        match enter(&mut self.names, name, words) {
-            Ok(()) => {}
-            Err(refusal) => return Err(refusal),
-        }
-        let answer = self.class_arena.alloc(source, words);
-        let _ = self.class_arena.account();
-        settle(&mut self.names, name, answer)
+        self.allocate(source, Space::Class, name, words)
     }
 
     /// Reads a word of a named block, by its index from 0 on. Refused with `NoBlock`, and with

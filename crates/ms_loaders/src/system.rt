@@ -5,7 +5,7 @@
 //! refusal changes nothing, but that want of memory for a new loader uses its owner numbers up.
 //! After each change of the pool `committed` is called: it reads two counters, and tells what is true
 //! of every pool. Takes memory for loaders, chunks, blocks and replies; nothing waits.
-ghost use Rattle.std.specs.Prelude.{◌≡◌, ◌≢◌, ◌+◌, ◌↔◌, IfOk, OnOk, OnErr, IfErr, [], Err, length};
+ghost use Rattle.std.specs.Prelude.{◌≡◌, ◌≢◌, ◌+◌, ◌↔◌, IfOk, OnOk, OnErr, IfErr, [], Ok, Err, length};
 ghost use Rattle.ms_base.specs.State.{empty_machine, limits_of};
 ghost use Rattle.ms_base.specs.Totals.{committed_words, used_words, over_spaces, sums_of};
 ghost use Rattle.ms_base.specs.Good.{IsGood};
@@ -13,6 +13,7 @@ ghost use Rattle.ms_base.specs.Transition.{Transition, LacksLoader};
 ghost use Rattle.ms_base.specs.Run.{Run};
 ghost use Rattle.ms_base.specs.Names.{named};
 ghost use Rattle.ms_base.specs.SumLaws.{HoldsNothing};
+ghost use Rattle.ms_base.specs.WordLaws.{alloc_in};
 ghost use Rattle.ms_loaders.specs.System.{reply_of};
 ghost use Rattle.ms_loaders.specs.Sums.{sums_in};
 ghost use Rattle.ms_loaders.specs.Used.{used_if};
@@ -104,35 +105,17 @@ impl System {
         }
     }
 
-    /// Allocates a block of zeros.
-    fn allocate(&mut self, name: u16, block: u32, words: u64) -> Result<u64, Refusal>
-        ensures served { IfOk result
-            (λ start. Transition self.old (Step.Alloc name block words) (Reply.At start) self.new) }
-        ensures refused { IfErr result
-            (λ refusal. Transition self.old (Step.Alloc name block words) (Reply.Refused refusal) self.new) }
-    {
-        let Some(loader) = self.loaders.get_mut(name) else {
-            return Err(Refusal::NoLoader);
-        };
-        let answer = loader.alloc(&mut self.pool, block, words);
-        let _ = self.pool.committed();
-        match answer {
-            Ok(made) => Ok(made.start),
-            Err(refusal) => Err(refusal),
-        }
-    }
-
-    /// Allocates a block of zeros in the class space.
-    fn allocate_class(&mut self, name: u16, block: u32, words: u64) -> Result<u64, Refusal>
-        ensures served { IfOk result
-            (λ start. Transition self.old (Step.Calloc name block words) (Reply.At start) self.new) }
+    /// Allocates a block of zeros in a space.
+    fn allocate(&mut self, space: Space, name: u16, block: u32, words: u64) -> Result<u64, Refusal>
+        ensures served { IfOk result (λ start.
+            Transition self.old (alloc_in space name block words) (Reply.At start) self.new) }
         ensures refused { IfErr result (λ refusal.
-            Transition self.old (Step.Calloc name block words) (Reply.Refused refusal) self.new) }
+            Transition self.old (alloc_in space name block words) (Reply.Refused refusal) self.new) }
     {
         let Some(loader) = self.loaders.get_mut(name) else {
             return Err(Refusal::NoLoader);
         };
-        let answer = loader.calloc(&mut self.pool, block, words);
+        let answer = loader.allocate(&mut self.pool, space, block, words);
         let _ = self.pool.committed();
         match answer {
             Ok(made) => Ok(made.start),
@@ -282,51 +265,30 @@ impl System {
         ensures { Transition self.old step (reply_of result) self.new }
     {
         match step {
-            Step::New { loader, kind } => {
-                self.new_loader(loader, kind)?;
-                Ok(Reply::Ok)
-            }
+            Step::New { loader, kind } => done(self.new_loader(loader, kind)),
             Step::Alloc {
                 loader,
                 block,
                 words,
-            } => {
-                let start = self.allocate(loader, block, words)?;
-                Ok(Reply::At(start))
-            }
+            } => Ok(Reply::At(self.allocate(Space::NonClass, loader, block, words)?)),
             Step::Calloc {
                 loader,
                 block,
                 words,
-            } => {
-                let start = self.allocate_class(loader, block, words)?;
-                Ok(Reply::At(start))
-            }
+            } => Ok(Reply::At(self.allocate(Space::Class, loader, block, words)?)),
             Step::Write {
                 loader,
                 block,
                 index,
                 value,
-            } => {
-                self.write(loader, block, index, value)?;
-                Ok(Reply::Ok)
-            }
+            } => done(self.write(loader, block, index, value)),
             Step::Read {
                 loader,
                 block,
                 index,
-            } => {
-                let value = self.read(loader, block, index)?;
-                Ok(Reply::Value(value))
-            }
-            Step::Free { loader, block } => {
-                self.free(loader, block)?;
-                Ok(Reply::Ok)
-            }
-            Step::Unload { loader } => {
-                self.unload(loader)?;
-                Ok(Reply::Ok)
-            }
+            } => Ok(Reply::Value(self.read(loader, block, index)?)),
+            Step::Free { loader, block } => done(self.free(loader, block)),
+            Step::Unload { loader } => done(self.unload(loader)),
             Step::Purge => {
                 let _ = self.purge();
                 Ok(Reply::Ok)
@@ -354,5 +316,16 @@ impl System {
         // That the state is good is learnt here.
         let _ = &self.loaders;
         Ok(replies)
+    }
+}
+
+/// The reply to a step that answers no number, with a refusal as an error.
+fn done(answer: Result<(), Refusal>) -> Result<Reply, Refusal>
+    ensures ok { OnOk answer (result ≡ Ok Reply.Ok) }
+    ensures refused { IfErr answer (λ refusal. result ≡ Err refusal) }
+{
+    match answer {
+        Ok(()) => Ok(Reply::Ok),
+        Err(refusal) => Err(refusal),
     }
 }

@@ -17,18 +17,16 @@ use crate::{Reply, Step, System};
 use ms_base::{Kind, Policy, Refusal, Settings};
 use std::process::Abort;
 
-/// Settings with so many nodes, so many granules that may be committed, and so many nodes of the
+/// Settings with 64 nodes, of which so many granules may be committed, and with so many nodes of the
 /// class space.
-fn settings_of(nodes: u32, max_granules: u64, policy: Policy, class_nodes: u32) -> Settings
-    requires nodes_some { 1 ≤ nodes }
-    requires nodes_few { nodes ≤ 64 }
-    requires granules_some { 1 ≤ max_granules }
-    requires granules_few { max_granules ≤ 40960 }
-    requires class_nodes_few { class_nodes ≤ 16 }
+pub fn settings_of(max_granules: u64, policy: Policy, class_nodes: u32) -> Settings
+    requires some { 1 ≤ max_granules }
+    requires few { max_granules ≤ 40960 }
+    requires class_few { class_nodes ≤ 16 }
 {
     Settings {
         workers: 1,
-        nodes,
+        nodes: 64,
         max_granules,
         policy,
         class_nodes,
@@ -62,7 +60,7 @@ fn made(loader: u16, kind: Kind) -> (Step, Reply) {
     (Step::New { loader, kind }, Reply::Ok)
 }
 
-fn alloc(loader: u16, block: u32, words: u64) -> Step {
+pub fn alloc(loader: u16, block: u32, words: u64) -> Step {
     Step::Alloc {
         loader,
         block,

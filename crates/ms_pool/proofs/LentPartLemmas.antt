@@ -51,6 +51,22 @@ abbrev pub with_front_of : Lender → NodesState → Chunk → NodesState
 with_front_of lender nodes chunk = with_granules nodes (chunk.start / granule_of lender.policy)
     ((chunk.start + chunk.front - 1) / granule_of lender.policy + 1 - chunk.start / granule_of lender.policy)
 
+-- What a kept lender's space has committed, and holds in its slots; a front leaves the slots.
+pub committed_before : (lender : Lender) → IsKept lender → (space : Space)
+    → granules_in space lender.nodes ≡ committed_with lender.policy (granules_in space lender.nodes) (chunks_in space (ledger_of lender).loans) (slots_of space lender.nodes)
+committed_before lender kept NonClass = (kept.sound.spaces NonClass).committed
+committed_before lender kept Class = (kept.sound.spaces Class).committed
+
+pub held_before : (lender : Lender) → IsKept lender → (space : Space)
+    → AreHeld lender.policy (slots_of space lender.nodes) (chunks_in space (ledger_of lender).loans)
+held_before lender kept NonClass = (kept.sound.spaces NonClass).held
+held_before lender kept Class = (kept.sound.spaces Class).held
+
+pub with_front_stays : (lender : Lender) (nodes : NodesState) (chunk : Chunk) (space : Space) (slot : ℕ) → is_reserved (slots_of space nodes) slot ≡ true
+    → is_reserved (slots_of space (with_front_of lender nodes chunk)) slot ≡ true
+with_front_stays lender nodes chunk NonClass slot there = there
+with_front_stays lender nodes chunk Class slot there = there
+
 lends_in : (space : Space) (lender : Lender) (loan : Loan) (mid : NodesState) → IsKept lender → ReservesOne lender.nodes mid (slot_of loan.chunk.start) → AreSound mid
     → AreSound (with_front_of lender mid loan.chunk) → IsPart loan.chunk.start loan.chunk.level → 1 ≤ loan.chunk.front → loan.chunk.front ≤ size_of loan.chunk.level
     → LendsIn space lender.policy lender.nodes (with_front_of lender mid loan.chunk) (ledger_of lender).loans loan
@@ -60,26 +76,14 @@ lends_in space lender loan mid kept one sound_mid sound placed some within = rec
   sound = sound;
   added = ap (λ (granules : List ℕ). with_range granules (loan.chunk.start / granule_of lender.policy)
       ((loan.chunk.start + loan.chunk.front - 1) / granule_of lender.policy + 1 - loan.chunk.start / granule_of lender.policy)) one.granules;
-  was = committed_was space;
-  held = held_in_slots space;
-  still = λ slot there. moved space slot (one.still space slot there);
-  own = λ here. moved space (slot_of loan.chunk.start) (own_in_space space mid loan.chunk.start sound_mid one.own here);
+  was = committed_before lender kept space;
+  held = held_before lender kept space;
+  still = λ slot there. with_front_stays lender mid loan.chunk space slot (one.still space slot there);
+  own = λ here. with_front_stays lender mid loan.chunk space (slot_of loan.chunk.start) (own_in_space space mid loan.chunk.start sound_mid one.own here);
   placed = placed;
   some = some;
   within = within;
 }
-  where
-    moved : (s : Space) (slot : ℕ) → is_reserved (slots_of s mid) slot ≡ true → is_reserved (slots_of s (with_front_of lender mid loan.chunk)) slot ≡ true
-    moved NonClass slot e = e
-    moved Class slot e = e
-
-    committed_was : (s : Space) → granules_in s lender.nodes ≡ committed_with lender.policy (granules_in s lender.nodes) (chunks_in s (ledger_of lender).loans) (slots_of s lender.nodes)
-    committed_was NonClass = (kept.sound.spaces NonClass).committed
-    committed_was Class = (kept.sound.spaces Class).committed
-
-    held_in_slots : (s : Space) → AreHeld lender.policy (slots_of s lender.nodes) (chunks_in s (ledger_of lender).loans)
-    held_in_slots NonClass = (kept.sound.spaces NonClass).held
-    held_in_slots Class = (kept.sound.spaces Class).held
 
 pub lent_ledger : (space : Space) (lender : Lender) (owner : ℕ) (chunk : Chunk) → IsKept lender → AreSound (with_reserved lender.nodes (slot_of chunk.start))
     → AreSound (with_front_of lender (with_reserved lender.nodes (slot_of chunk.start)) chunk) → IsPart chunk.start chunk.level → 1 ≤ chunk.front → chunk.front ≤ size_of chunk.level

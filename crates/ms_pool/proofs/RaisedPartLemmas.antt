@@ -12,7 +12,6 @@ use Rattle.ms_base.specs.Level.{size_of}
 use Rattle.ms_base.specs.Part.{IsPart, is_reserved, slot_of}
 use Rattle.ms_base.specs.Policy.{granule_of, keeps}
 use Rattle.ms_base.specs.Spaces.{class_slots, is_in}
-use Rattle.ms_base.specs.Held.{AreHeld}
 use Rattle.ms_base.specs.Committed.{committed_with, granules_of, is_among, is_committed_now}
 use Rattle.ms_base.proofs.granules.FreeGranuleLemmas.{meets_bounds, bounds_meet}
 use Rattle.ms_commit.specs.Nodes.{NodesState, AreSound, granules_in, slots_of, with_slot, with_granules}
@@ -24,7 +23,7 @@ use Rattle.ms_pool.specs.Growing.{HasNoMore, with_greater_loan}
 use Rattle.ms_pool.specs.Releasing.{is_lent_in}
 use Rattle.ms_pool.proofs.ledger.LoanLemmas.{chunks_in}
 use Rattle.ms_pool.proofs.LendLemmas.{LendsIn, any_with, committed_once_lent}
-use Rattle.ms_pool.proofs.LentPartLemmas.{built, built_of, with_front_of, Shows}
+use Rattle.ms_pool.proofs.LentPartLemmas.{built, built_of, with_front_of, committed_before, held_before, with_front_stays, Shows}
 use Rattle.ms_pool.proofs.OpenLemmas.{own_in_space, reserved_of_space}
 use Rattle.ms_pool.specs.Placing.{IsLentThere, MayBeReplaced}
 
@@ -160,26 +159,15 @@ raises_in space other lender owner greater kept there sound placed some within =
   new_size = kept.granule;
   sound = sound;
   added = refl;
-  was = committed_was other;
-  held = held_in_slots other;
-  still = λ slot e. moved other slot e;
-  own = λ here. moved other (slot_of greater.start) (own_in_space other lender.nodes greater.start kept.nodes (reserved_of_space space lender.nodes (slot_of greater.start) there) here);
+  was = committed_before lender kept other;
+  held = held_before lender kept other;
+  still = λ slot e. with_front_stays lender lender.nodes greater other slot e;
+  own = λ here. with_front_stays lender lender.nodes greater other (slot_of greater.start)
+      (own_in_space other lender.nodes greater.start kept.nodes (reserved_of_space space lender.nodes (slot_of greater.start) there) here);
   placed = placed;
   some = some;
   within = within;
 }
-  where
-    moved : (s : Space) (slot : ℕ) → is_reserved (slots_of s lender.nodes) slot ≡ true → is_reserved (slots_of s (with_front_of lender lender.nodes greater)) slot ≡ true
-    moved NonClass slot e = e
-    moved Class slot e = e
-
-    committed_was : (s : Space) → granules_in s lender.nodes ≡ committed_with lender.policy (granules_in s lender.nodes) (chunks_in s (ledger_of lender).loans) (slots_of s lender.nodes)
-    committed_was NonClass = (kept.sound.spaces NonClass).committed
-    committed_was Class = (kept.sound.spaces Class).committed
-
-    held_in_slots : (s : Space) → AreHeld lender.policy (slots_of s lender.nodes) (chunks_in s (ledger_of lender).loans)
-    held_in_slots NonClass = (kept.sound.spaces NonClass).held
-    held_in_slots Class = (kept.sound.spaces Class).held
 
 -- The grown chunk's slot is that of the chunk.
 pub reserved_too : (space : Space) (lender : Lender) (chunk greater : Chunk) → IsLentThere lender space chunk → MayBeReplaced lender space chunk greater

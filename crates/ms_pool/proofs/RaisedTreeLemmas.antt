@@ -1,5 +1,5 @@
 -- What the loans are once a leaf of a root has grown: its front, or into its parent.
-use Rattle.std.proofs.Common.{◌≡◌, ◌<◌, ◌≤◌, ℕ, ◌+◌, ◌-◌, ◌*◌, Bool, true, false, cond, ◌&&◌, ◌||◌, ◌==◌, eqb-true, eq-eqb, List, [], ◌∷◌, ◌++◌, length, get_or, set, map, refl, sym, ap, ap₂, ◌∙◌, arith, inl, inr}
+use Rattle.std.proofs.Common.{◌≡◌, ◌<◌, ◌≤◌, ℕ, ◌+◌, ◌-◌, ◌*◌, Bool, true, false, cond, ◌&&◌, ◌||◌, ◌==◌, eqb-true, eq-eqb, List, [], ◌∷◌, length, get_or, set, map, refl, sym, ap, ap₂, ◌∙◌, arith, inl, inr}
 use Rattle.std.specs.Prelude.{◌⊎◌}
 use Rattle.std.specs.List.{AllByRecursion}
 use Rattle.std.proofs.lemmas.Bool.{and_parts}
@@ -14,7 +14,7 @@ use Rattle.ms_pool.specs.Ledger.{Loan}
 use Rattle.ms_pool.specs.Keeping.{loan_at, loans_from}
 use Rattle.ms_pool.specs.Growing.{with_greater_loan}
 use Rattle.ms_pool.proofs.FreeRootLemmas.{at_tree}
-use Rattle.ms_pool.proofs.RootLemmas.{EndsBy, StartsFrom, AtRoot, at_root}
+use Rattle.ms_pool.proofs.RootLemmas.{EndsBy, StartsFrom, changed_at_root}
 
 -- A lent leaf is the only one that starts where it does.
 IsOnce : Span → LentLeaf → Type 0
@@ -104,20 +104,13 @@ raised_loans : (trees : List (List LentLeaf)) (root : ℕ) (part : Span) (greate
     → greater.start ≡ root * root_words + part.start → part.start < root_words → is_lent (get_or trees root []) part ≡ true → Becomes root part greater change
     → loans_from 0 (set trees root (changed_at part change (get_or trees root []))) ≡ with_greater_loan greater (loans_from 0 trees)
 raised_loans trees root part greater change within all e low lent becomes =
-    cut.changed (changed_at part change tree)
-    ∙ ap₂ (λ (b : List Loan) (rest : List Loan). b ++ rest) (sym (same_before (root * root_words) greater cut.before (omega (arith, e)) cut.low))
-    (ap₂ (λ (o : List Loan) (a : List Loan). o ++ a)
+    changed_at_root trees root (changed_at part change tree) (with_greater_loan greater) within all (map-append _)
+    (λ before ends. same_before (root * root_words) greater before (omega (arith, e)) ends)
+    (λ after starts. same_after ((root + 1) * root_words) greater after (omega (arith, e, low)) starts)
     (own_raised root part greater change tree e becomes (starts_once part tree (at_tree trees root within all).in_order lent))
-    (sym (same_after ((root + 1) * root_words) greater cut.after (omega (arith, e, low)) cut.high))
-    ∙ sym (map-append _ (map (loan_at root) tree) cut.after))
-    ∙ sym (map-append _ cut.before (map (loan_at root) tree ++ cut.after))
-    ∙ sym (ap (with_greater_loan greater) cut.whole)
   where
     tree : List LentLeaf
     tree = get_or trees root []
-
-    cut : AtRoot trees 0 root root
-    cut = at_root trees 0 root root (omega arith) within all
 
 -- A greater front, and the parent.
 made_of : ℕ → ℕ → ℕ → ℕ → Loan

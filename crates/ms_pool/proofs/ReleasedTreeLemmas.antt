@@ -1,6 +1,6 @@
 -- Where a lent chunk lies among the trees, and what the loans are once its leaf is released. The
 -- proof of `release` uses them.
-use Rattle.std.proofs.Common.{◌≡◌, ◌<◌, ◌≤◌, ℕ, suc, ◌+◌, ◌*◌, ◌/◌, ◌%◌, Bool, true, false, cond, not, ◌&&◌, ◌||◌, ◌==◌, eqb-true, List, [], ◌∷◌, ◌++◌, length, get_or, set, map, refl, sym, ap, ap₂, subst, ◌∙◌, arith, inl, inr}
+use Rattle.std.proofs.Common.{◌≡◌, ◌<◌, ◌≤◌, ℕ, suc, ◌+◌, ◌*◌, ◌/◌, ◌%◌, Bool, true, false, cond, not, ◌&&◌, ◌||◌, ◌==◌, eqb-true, List, [], ◌∷◌, length, get_or, set, map, refl, sym, ap, ap₂, subst, ◌∙◌, arith, inl, inr}
 use Rattle.std.specs.List.{AllByRecursion, list_any}
 use Rattle.std.proofs.lemmas.Bool.{or_cases, and_parts}
 use Rattle.std.proofs.lemmas.Bool.Decides.{nat_tests}
@@ -14,7 +14,7 @@ use Rattle.ms_buddy.proofs.TreeHalvesLemmas.{size_of-some}
 use Rattle.ms_pool.specs.Ledger.{Loan}
 use Rattle.ms_pool.specs.Keeping.{loan_at, loans_from}
 use Rattle.ms_pool.specs.Releasing.{is_at, is_lent_in, without_loan}
-use Rattle.ms_pool.proofs.RootLemmas.{EndsBy, StartsFrom, AtRoot, at_root}
+use Rattle.ms_pool.proofs.RootLemmas.{EndsBy, StartsFrom, changed_at_root}
 
 -- The chunk's place in a root.
 abbrev pub place_in : Chunk → Span
@@ -66,18 +66,13 @@ pub released_loans : (trees : List (List LentLeaf)) (root : ℕ) (chunk : Chunk)
     → chunk.start ≡ root * root_words + part.start → chunk.level ≡ part.level → part.start < root_words
     → loans_from 0 (set trees root (without_leaf part (get_or trees root []))) ≡ without_loan chunk (loans_from 0 trees)
 released_loans trees root chunk part within all e f low =
-    cut.changed (without_leaf part tree)
-    ∙ ap₂ (λ (b : List Loan) (a : List Loan). b ++ a) (sym (none_before root chunk cut.before (omega (arith, e)) cut.low))
-    (ap₂ (λ (o : List Loan) (a : List Loan). o ++ a) (own_without root chunk part tree e f) (sym (none_after ((root + 1) * root_words) chunk cut.after (omega (arith, e, low)) cut.high))
-    ∙ sym (filter-append _ (map (loan_at root) tree) cut.after))
-    ∙ sym (filter-append _ cut.before (map (loan_at root) tree ++ cut.after))
-    ∙ sym (ap (without_loan chunk) cut.whole)
+    changed_at_root trees root (without_leaf part tree) (without_loan chunk) within all (filter-append _)
+    (λ before ends. none_before root chunk before (omega (arith, e)) ends)
+    (λ after starts. none_after ((root + 1) * root_words) chunk after (omega (arith, e, low)) starts)
+    (own_without root chunk part tree e f)
   where
     tree : List LentLeaf
     tree = get_or trees root []
-
-    cut : AtRoot trees 0 root root
-    cut = at_root trees 0 root root (omega arith) within all
 
 -- Where the chunk's leaf is.
 pub record HasLeaf (trees : List (List LentLeaf)) (first : ℕ) (chunk : Chunk) : Type 0 where

@@ -1,6 +1,6 @@
 -- The loans of the trees, split at one root: those of the roots before it, its own, and those of the
 -- roots after it. What changes one tree changes its own loans alone.
-use Rattle.std.proofs.Common.{◌≡◌, ◌<◌, ◌≤◌, ℕ, zero, suc, ◌+◌, ◌*◌, List, [], ◌∷◌, ◌++◌, length, get_or, set, map, refl, sym, ap, subst, ◌∙◌, arith, append_assoc}
+use Rattle.std.proofs.Common.{◌≡◌, ◌<◌, ◌≤◌, ℕ, zero, suc, ◌+◌, ◌*◌, List, [], ◌∷◌, ◌++◌, length, get_or, set, map, refl, sym, ap, ap₂, subst, ◌∙◌, arith, append_assoc}
 use Rattle.std.specs.List.{AllByRecursion}
 use Rattle.ms_base.specs.Level.{size_of, root_words}
 use Rattle.ms_base.proofs.free.PickLemmas.{both_joined}
@@ -76,3 +76,23 @@ at_root (t ∷ trees) first (suc i) root e within all =
           rest.low;
       high = rest.high;
     }
+
+-- A change of loans, one by one, that leaves those of other roots is a change of the root's own loans.
+pub changed_at_root : (trees : List (List LentLeaf)) (root : ℕ) (leaves : List LentLeaf) (change : List Loan → List Loan) → root < length trees → AllByRecursion AreLeaves trees
+    → ((before after : List Loan) → change (before ++ after) ≡ change before ++ change after)
+    → ((before : List Loan) → AllByRecursion (EndsBy (root * root_words)) before → change before ≡ before)
+    → ((after : List Loan) → AllByRecursion (StartsFrom ((root + 1) * root_words)) after → change after ≡ after)
+    → map (loan_at root) leaves ≡ change (map (loan_at root) (get_or trees root []))
+    → loans_from 0 (set trees root leaves) ≡ change (loans_from 0 trees)
+changed_at_root trees root leaves change within all joins low high own =
+    cut.changed leaves
+    ∙ ap₂ (λ (b : List Loan) (rest : List Loan). b ++ rest) (sym (low cut.before cut.low))
+    (ap₂ (λ (o : List Loan) (a : List Loan). o ++ a) own (sym (high cut.after cut.high)) ∙ sym (joins tree cut.after))
+    ∙ sym (joins cut.before (tree ++ cut.after))
+    ∙ sym (ap change cut.whole)
+  where
+    tree : List Loan
+    tree = map (loan_at root) (get_or trees root [])
+
+    cut : AtRoot trees 0 root root
+    cut = at_root trees 0 root root (omega arith) within all

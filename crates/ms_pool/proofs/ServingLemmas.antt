@@ -1,17 +1,18 @@
 -- Accounts at places: one is taken out, a call is made for it, and it is put back; one comes last. The
 -- desk of the tests uses these.
 use Rattle.std.proofs.Common.{◌≡◌, ◌≢◌, ◌⊎◌, ◌<◌, ◌+◌, ℕ, Some, None, Option, List, [], ◌∷◌, ◌++◌, length, get_or, sym, ap, ◌∙◌, subst, arith, inl, inr}
-use Rattle.std.specs.Prelude.{slice_set, Result, Ok, Err, IfOk}
+use Rattle.std.specs.Prelude.{slice_set, Result, Ok, Err, IfOk, OnErr}
 use Rattle.std.proofs.lemmas.Bool.{cases_eq, cases_lt}
 use Rattle.std.proofs.lemmas.List.{get_or_past, get_or_append_left, get_or-set_same, get_or-set_other, length-append}
 use Rattle.std.proofs.Math.Seq.{get_or-append_seam}
 use Rattle.ms_base.specs.declared.kind.Space.{Space}
+use Rattle.ms_base.specs.declared.span.Span.{Span}
 use Rattle.ms_base.specs.declared.refusal.Refusal.{Refusal}
 use Rattle.ms_pool.specs.Account.{AccountState}
 use Rattle.ms_pool.specs.Ledger.{Ledger, Serves}
 use Rattle.ms_pool.proofs.ledger.LedgerCloseLemmas.{both_closed_serves_others}
 use Rattle.ms_pool.specs.Calls.{ClosedBoth, Opened, OpenedBoth}
-use Rattle.ms_pool.specs.Serving.{AreServed, HasNone, StandsAt}
+use Rattle.ms_pool.specs.Serving.{AreServed, HasNone, StandsAt, StandsAtDesk}
 
 -- What stands at a place once another entry was put in.
 at_changed : (accounts : List (Option AccountState)) (place other : ℕ) (entry : Option AccountState) (another : AccountState)
@@ -57,6 +58,21 @@ all_served_still old new accounts owner all none keeps = record {
   served = λ place account stands. keeps account (none place account stands) (all.served place account stands);
   apart = all.apart;
 }
+
+-- A call for the account at the desk, which leaves its owner's number, keeps it and all others served.
+pub stands_still : (old new : Ledger) (was now : AccountState) (accounts : List (Option AccountState)) → StandsAtDesk old was accounts → now.owner ≡ was.owner
+    → Serves new now → ((other : AccountState) → other.owner ≢ was.owner → Serves old other → Serves new other) → StandsAtDesk new now accounts
+stands_still old new was now accounts stood same served keeps = record {
+  served = served;
+  others = all_served_still old new accounts was.owner stood.others stood.apart keeps;
+  apart = subst (λ (owner : ℕ). HasNone owner accounts) (sym same) stood.apart;
+}
+
+-- The owner's number is left both where the call is served and where it is refused.
+pub same_owner : (was now : AccountState) (result : Result Span Refusal) (Served : Span → Type 0) → ((span : Span) → Served span → now.owner ≡ was.owner)
+    → IfOk result Served → OnErr result (now ≡ was) → now.owner ≡ was.owner
+same_owner was now (Ok span) Served keeps served unchanged = keeps span served
+same_owner was now (Err refusal) Served keeps served unchanged = ap (λ (account : AccountState). account.owner) unchanged
 
 -- An account is put back.
 pub back_is_served : (ledger : Ledger) (accounts : List (Option AccountState)) (place : ℕ) (account : AccountState) → place < length accounts

@@ -153,7 +153,7 @@ picked_there lender space wanted most words span chunk kept asks picked open_ ma
   asks = asks;
   is = is;
   slot = slot;
-  well = is_well_picked space lender wanted most words chunk kept asks.levels asks.real asks.some asks.fits is slot;
+  well = is_well_picked space lender wanted most words chunk kept asks.may.levels asks.real asks.may.some asks.may.fits is slot;
 }
   where
     is : chunk ≡ chunk_picked (state_in space (ledger_of lender)) wanted most words
@@ -189,11 +189,11 @@ takes_there lender account now wanted most words chunk kept at_ same served chun
 }
   where
     ok : taken (state_in account.space (ledger_of lender)) wanted most words ≡ Ok chunk
-    ok = taken_ok account.space lender wanted most words chunk kept at_.asks.levels at_.asks.real at_.asks.some at_.asks.fits at_.is room within
+    ok = taken_ok account.space lender wanted most words chunk kept at_.asks.may.levels at_.asks.real at_.asks.may.some at_.asks.may.fits at_.is room within
 
     good : TakenWell (ledger_of lender) account wanted most words chunk
     good = taken_well (ledger_of lender) account wanted most words chunk kept.sound (subst (Serves (ledger_of lender)) (sym same) served) chunks
-        at_.asks.levels at_.asks.real at_.asks.some at_.asks.fits ok
+        at_.asks.may.levels at_.asks.real at_.asks.may.some at_.asks.may.fits ok
 
 pub adds_there : (lender : Lender) (account : AccountState) (wanted most words : ℕ) (span : Span) (chunk : Chunk) → chunk ≡ chunk_at lender.policy span words
     → TakesThere lender account wanted most words chunk → Adds lender.policy wanted most words account span (with_chunk account chunk)

@@ -17,6 +17,12 @@ abbrev pub chunk_at : Policy → Span → ℕ → Chunk
 chunk_at policy span words =
     record { start = span.start; level = span.level; front = front_for policy (size_of span.level) words }
 
+-- What a chunk may be asked for: a wanted level, the most that serves, and words that the latter has.
+pub record MayTake (wanted most words : ℕ) : Type 0 where
+  pub levels : wanted ≤ most
+  pub some : 1 ≤ words
+  pub fits : words ≤ size_of most
+
 -- A chunk of a level from the one wanted up to the most that serves is added last, with a front for
 -- the words.
 pub record Adds (policy : Policy) (wanted most words : ℕ) (old : AccountState) (span : Span)

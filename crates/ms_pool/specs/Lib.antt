@@ -1,6 +1,7 @@
 pub mod Account
 pub mod Trees
 pub mod Lending
+pub mod Source
 pub mod Tallies
 pub mod Ledger
 pub mod Calls

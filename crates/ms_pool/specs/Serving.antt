@@ -16,3 +16,11 @@ pub record AreServed (ledger : Ledger) (accounts : List (Option AccountState)) :
   pub served : (place : ℕ) (account : AccountState) → StandsAt accounts place account → Serves ledger account
   pub apart : (place other : ℕ) (account another : AccountState) → StandsAt accounts place account
       → StandsAt accounts other another → other ≢ place → another.owner ≢ account.owner
+
+-- An account stands at the desk, out of its place: the pool serves it and each account at a place, and
+-- none of those has its owner's number.
+pub record StandsAtDesk (ledger : Ledger) (account : AccountState)
+    (accounts : List (Option AccountState)) : Type 0 where
+  pub served : Serves ledger account
+  pub others : AreServed ledger accounts
+  pub apart : HasNone account.owner accounts

@@ -13,7 +13,8 @@ ghost use Rattle.ms_base.specs.Front.{front_for};
 ghost use Rattle.ms_base.specs.Pick.{lowest_unreserved};
 ghost use Rattle.ms_commit.specs.Nodes.{AreInReserved, AreSound, all_slots, granules_with, slots_of, with_granules};
 ghost use Rattle.ms_pool.specs.Account.{has_chunk_at};
-ghost use Rattle.ms_pool.specs.Lending.{Adds, Grows, span_of};
+ghost use Rattle.ms_pool.specs.Lending.{Adds, Grows, MayTake, span_of};
+ghost use Rattle.ms_pool.specs.Source.{ServesBoth};
 ghost use Rattle.ms_pool.specs.Ledger.{Serves, opened_in, state_in, with_lent, with_grown};
 ghost use Rattle.ms_pool.specs.Calls.{Closed, ClosedBoth, Grew, Took};
 ghost use Rattle.ms_pool.specs.Keeping.{IsKept, IsOpen, IsRunOf, ledger_of, with_reserved};
@@ -40,9 +41,7 @@ impl Lender {
     ) -> Result<Span, Refusal>
         requires kept { IsKept self.old }
         requires served { Serves (ledger_of self.old) account.old }
-        requires levels { wanted ≤ most }
-        requires some { 1 ≤ words }
-        requires fits { words ≤ size_of most }
+        requires asks { MayTake wanted most words }
         ensures kept { IsKept self.new }
         ensures added { IfOk result
             (λ span. Adds self.old.policy wanted most words account.old span account.new) }
@@ -76,9 +75,7 @@ impl Lender {
     /// Picks the part for a chunk; `None` where the reserve limit is met.
     fn pick(&self, space: Space, wanted: Level, most: Level, words: u64) -> Option<Span>
         requires kept { IsKept self.now }
-        requires levels { wanted ≤ most }
-        requires some { 1 ≤ words }
-        requires fits { words ≤ size_of most }
+        requires asks { MayTake wanted most words }
         ensures picked { IfSome result
             (λ span. span ≡ part_picked (state_in space (ledger_of self.now)) wanted most words) }
         ensures slot { IfSome result (λ span. IsOpen space self.now.nodes (slot_of span.start)) }
@@ -292,10 +289,7 @@ impl Lender {
     /// Takes all chunks of the accounts of both spaces back; the first is not the class space's.
     pub(crate) fn close_both(&mut self, account: &Account, class_account: &Account)
         requires kept { IsKept self.old }
-        requires served { Serves (ledger_of self.old) account.now }
-        requires class_served { Serves (ledger_of self.old) class_account.now }
-        requires space { account.now.space ≡ NonClass }
-        requires class_space { class_account.now.space ≡ Class }
+        requires both { ServesBoth Serves (ledger_of self.old) account.now class_account.now }
         requires counted { 0 < (ledger_of self.old).opened }
         requires class_counted { 0 < (ledger_of self.old).class_opened }
         ensures closed { ClosedBoth (ledger_of self.old) account.now class_account.now (ledger_of self.new) }

@@ -5,7 +5,8 @@ ghost use Rattle.ms_base.specs.Level.{size_of};
 ghost use Rattle.ms_base.specs.State.{limits_of};
 ghost use Rattle.ms_base.specs.Totals.{pool_sums};
 ghost use Rattle.ms_pool.specs.Account.{has_chunk_at};
-ghost use Rattle.ms_pool.specs.Lending.{Adds, Grows};
+ghost use Rattle.ms_pool.specs.Lending.{Adds, Grows, MayTake};
+ghost use Rattle.ms_pool.specs.Source.{ServesBoth};
 ghost use Rattle.ms_pool.specs.Tallies.{AreTallies};
 ghost use Rattle.ms_pool.specs.Ledger.{Serves, IsSoundLedger, empty_ledger, opened_in, state_in};
 ghost use Rattle.ms_pool.specs.Calls.{Opened, OpenedBoth, Took, Grew, Closed, ClosedBoth, Purged, Totalled, sums_in};
@@ -96,9 +97,7 @@ impl Pool {
         words: u64,
     ) -> Result<Span, Refusal>
         requires served { Serves self.old account.old }
-        requires levels { wanted ≤ most }
-        requires some { 1 ≤ words }
-        requires fits { words ≤ size_of most }
+        requires asks { MayTake wanted most words }
         ensures added { IfOk result
             (λ span. Adds self.old.limits.policy wanted most words account.old span account.new) }
         ensures unchanged { OnErr result (account.new ≡ account.old) }
@@ -139,10 +138,7 @@ impl Pool {
     /// Takes all chunks of the accounts of both spaces back, by one event; the first is not the
     /// class space's. Takes no memory.
     pub fn close_both(&mut self, account: Account, class_account: Account)
-        requires served { Serves self.old account }
-        requires class_served { Serves self.old class_account }
-        requires space { account.space ≡ NonClass }
-        requires class_space { class_account.space ≡ Class }
+        requires both { ServesBoth Serves self.old account class_account }
         requires counted { 0 < self.old.opened }
         requires class_counted { 0 < self.old.class_opened }
         ensures { ClosedBoth self.old account class_account self.new }

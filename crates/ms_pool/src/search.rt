@@ -19,6 +19,7 @@ ghost use Rattle.ms_base.specs.Part.{is_reserved};
 ghost use Rattle.ms_base.specs.Spaces.{by_space, first_class_slot};
 ghost use Rattle.ms_commit.specs.Nodes.{all_slots};
 ghost use Rattle.ms_pool.specs.Ledger.{state_in};
+ghost use Rattle.ms_pool.specs.Lending.{MayTake};
 ghost use Rattle.ms_pool.specs.Keeping.{IsKept, ledger_of};
 ghost use Rattle.ms_pool.specs.Searching.{least_granule, are_among, first_at, first_down, first_found, first_in, first_in_slot, first_up};
 
@@ -41,9 +42,7 @@ impl Lender {
     /// Finds the part that the searches find first.
     pub(crate) fn found(&self, space: Space, wanted: Level, most: Level, words: u64) -> Option<Span>
         requires kept { IsKept self.now }
-        requires levels { wanted ≤ most }
-        requires some { 1 ≤ words }
-        requires fits { words ≤ size_of most }
+        requires asks { MayTake wanted most words }
         ensures { result ≡ first_found (state_in space (ledger_of self.now)) wanted most words }
     {
         // That a level is at most 12 is learnt here.

@@ -11,7 +11,8 @@ ghost use Rattle.ms_base.specs.declared.refusal.Refusal.{Refusal};
 ghost use Rattle.ms_base.specs.Level.{size_of};
 ghost use Rattle.ms_base.specs.State.{Limits};
 ghost use Rattle.ms_pool.specs.Account.{AccountState, has_chunk_at};
-ghost use Rattle.ms_pool.specs.Lending.{Adds, Grows};
+ghost use Rattle.ms_pool.specs.Lending.{Adds, Grows, MayTake};
+ghost use Rattle.ms_pool.specs.Source.{LeavesRest};
 ghost use Rattle.ms_pool.specs.Calls.{new_account};
 ghost use Rattle.ms_pool.specs.declared.totals.PoolTotals.{PoolTotals};
 
@@ -50,14 +51,9 @@ pub trait ChunkSource {
         words: u64,
     ) -> Result<Span, Refusal>
         requires served { serves self.old account.old }
-        requires levels { wanted ≤ most }
-        requires some { 1 ≤ words }
-        requires fits { words ≤ size_of most }
+        requires asks { MayTake wanted most words }
         ensures served { serves self.new account.new }
-        ensures others { (other : AccountState) → other.owner ≢ account.old.owner
-            → serves self.old other → serves self.new other }
-        ensures counted { opened self.new ≡ opened self.old }
-        ensures limits { limits self.new ≡ limits self.old }
+        ensures rest { LeavesRest serves opened limits account.old.owner self.old self.new }
         ensures added { IfOk result
             (λ span. Adds (limits self.old).policy wanted most words account.old span account.new) }
         ensures unchanged { OnErr result (account.new ≡ account.old) }
@@ -77,10 +73,7 @@ pub trait ChunkSource {
         requires served { serves self.old account.old }
         requires held { IsTrue (has_chunk_at account.old.chunks start) }
         ensures served { serves self.new account.new }
-        ensures others { (other : AccountState) → other.owner ≢ account.old.owner
-            → serves self.old other → serves self.new other }
-        ensures counted { opened self.new ≡ opened self.old }
-        ensures limits { limits self.new ≡ limits self.old }
+        ensures rest { LeavesRest serves opened limits account.old.owner self.old self.new }
         ensures grown { IfOk result
             (λ span. Grows (limits self.old).policy start total may_enlarge account.old span account.new) }
         ensures unchanged { OnErr result (account.new ≡ account.old) }

@@ -3,6 +3,7 @@
 //! and of what they are answered; the calls are those that arenas make. The desk asks again where a
 //! growth is refused, so the tests hold whichever growth is.
 mod accounts;
+mod answers;
 mod class_space;
 mod closing;
 mod desk;

@@ -36,7 +36,7 @@ use Rattle.ms_run.specs.declared.share.Task.{Task}
 use Rattle.ms_run.specs.declared.share.Share.{Share}
 use Rattle.ms_run.specs.Manned.{IsManned}
 use Rattle.ms_run.specs.Shares.{Place, IsReady, tasks_of, task_of, tasks_at, AreDealt, AreWithin}
-use Rattle.ms_run.specs.Dealing.{Loaded, AreBeside, IsHanded, AreHanded, AreSeats, IsShareAt, AreSharesFrom, AreDealtTo, is_placed, TaskLists, AreListed, AreEmpty, AreAdded}
+use Rattle.ms_run.specs.Dealing.{Loaded, AreBeside, AreCrews, IsHanded, AreHanded, AreSeats, IsShareAt, AreSharesFrom, AreDealtTo, is_placed, TaskLists, AreListed, AreEmpty, AreAdded}
 
 -- The loader of a name went over, or is where it was.
 abbrev pub IsEither : Loaded → Loaded → Loaded → ℕ → Type 0
@@ -339,12 +339,12 @@ is_ready place shared lines at seat loaders share made own manned = record {
 pub dealing_on : (place : Place) (shared : LockState) (count : ℕ) (lines : List Line) (loaders : Loaded) (first first' : SeatState) (left left' : Loaded)
     (seat : SeatState) (others : Loaded) (next : SeatState) (rest : List SeatState) (shares shares' : List Share) (share : Share) (at : ℕ)
     → IsDealing place shared count lines loaders first left (next ∷ rest) shares → at ≡ length shares + 1
-    → first'.id ≡ shared.id → seat.id ≡ shared.id → AreBeside first'.knows left' seat.knows others → AreHanded place at left left' others
+    → AreCrews shared first' left' seat others → AreHanded place at left left' others
     → IsMade place lines at seat others share → shares' ≡ shares ++ share ∷ [] → IsDealing place shared count lines loaders first' left' rest shares'
-dealing_on place shared count lines loaders first first' left left' seat others next rest shares shares' share at its at_is own seat_own beside handed made added = record {
-  own = own;
-  manned = beside.manned;
-  names = beside.names;
+dealing_on place shared count lines loaders first first' left left' seat others next rest shares shares' share at its at_is crews handed made added = record {
+  own = crews.own;
+  manned = crews.beside.manned;
+  names = crews.beside.names;
   free = All-from_recursion (λ (s : SeatState). (s.id ≡ shared.id) × IsManned s.knows []) rest
       (recursion_from_All (λ (s : SeatState). (s.id ≡ shared.id) × IsManned s.knows []) (next ∷ rest) its.free).1;
   count_is = omega (arith, its.count_is, long);
@@ -370,7 +370,7 @@ dealing_on place shared count lines loaders first first' left left' seat others 
 
     is_there : IsShareAt place shared lines loaders at share
     is_there = record {
-      ready = is_ready place shared lines at seat others share made seat_own beside.to_manned;
+      ready = is_ready place shared lines at seat others share made crews.to_own crews.beside.to_manned;
       apart = λ name differs. ap (λ (l : Loaded). named l name) made.loaders_are ∙ (handed.apart name differs).0;
       here = λ name is. ap (λ (l : Loaded). named l name) made.loaders_are ∙ (handed.here name is).0 ∙ its.there name (inr (omega (arith, is, at_is)));
       tasks = made.tasks;

@@ -4,14 +4,13 @@ use Rattle.std.proofs.Common.{◌≡◌, ◌≢◌, ◌≤◌, ◌+◌, ℕ, Boo
 use Rattle.std.specs.Prelude.{◌==◌, IsTrue}
 use Rattle.std.specs.Ordering.{nat_cmp}
 use Rattle.std.specs.declared.cmp.Ordering.TheVariants.{Less}
-use Rattle.std.specs.List.{AllByRecursion, flat_map}
+use Rattle.std.specs.List.{AllByRecursion}
 use Rattle.std.specs.List.Sorted.{IsStrictlySortedBy}
-use Rattle.std.specs.Map.{keys_of, values_of}
+use Rattle.std.specs.Map.{keys_of}
 use Rattle.std.specs.BTreeMap.{is_at}
 use Rattle.std.proofs.lemmas.Bool.{eqb-true}
 use Rattle.std.proofs.lemmas.List.{length-append, map-append}
-use Rattle.std.proofs.lemmas.List.Concat.{flat_map-append}
-use Rattle.std.proofs.lemmas.List.Sums.{sum_by-append, sum_by-cons}
+use Rattle.std.proofs.lemmas.List.Sums.{sum_by-append}
 use Rattle.std.proofs.lemmas.List.Elements.{recursion_from_All, All-from_recursion}
 use Rattle.std.proofs.lemmas.Map.Keys.{sorted_from_strictly_increasing}
 use Rattle.ms_base.specs.declared.kind.Space.{Space}
@@ -19,7 +18,7 @@ use Rattle.ms_base.specs.declared.kind.Space.TheVariants.{NonClass, Class}
 use Rattle.ms_base.specs.declared.span.Chunk.{Chunk}
 use Rattle.ms_base.specs.Committed.{is_among}
 use Rattle.ms_base.specs.Names.{AreNamed, named, with_new, without}
-use Rattle.ms_base.proofs.entries.EntryLemmas.{Split, split_at, Gap, gap_at, same_name, rises_without, values_split, values_joined}
+use Rattle.ms_base.proofs.entries.EntryLemmas.{Split, split_at, Gap, gap_at, same_name, rises_without}
 use Rattle.ms_base.proofs.entries.LookupLemmas.{named_new_same, named_new_other, named_without_other}
 use Rattle.ms_base.proofs.runs.ApartLemmas.{list_any-with}
 use Rattle.ms_pool.specs.Account.{AccountState}
@@ -31,35 +30,12 @@ use Rattle.ms_shared.specs.Entries.{Entry, Has, only, all_but}
 use Rattle.ms_shared.specs.SeatView.{SeatState, ServesBy, opened_by, without_account, with_account}
 use Rattle.ms_shared.proofs.HandLemmas.{handed_serves, left_serves, taker_serves}
 use Rattle.ms_run.specs.Dealing.{Loaded, AreBeside, IsHanded}
-use Rattle.ms_loaders.proofs.ServedLemmas.{times, all_joined, is_it, times_split, it_is, all_parts}
+use Rattle.ms_loaders.proofs.CloseLemmas.{accounts_joined}
+use Rattle.ms_loaders.proofs.ServedLemmas.{accounts_split, all_joined, all_parts, is_it, it_is, owners_split, served_still, times, times_split}
 use Rattle.ms_loaders.proofs.FitLemmas.{owner_of}
 use Rattle.ms_loaders.proofs.UnloadLemmas.{both_all}
 
-accounts_split : (b a : Loaded) (name : ℕ) (v : LoaderView)
-    → accounts_of (b ++ (name, v) ∷ a) ≡ accounts_of b ++ account_in NonClass v ∷ account_in Class v ∷ accounts_of a
-accounts_split b a name v =
-    ap (flat_map (λ (loader : LoaderView). account_in NonClass loader ∷ account_in Class loader ∷ [])) (values_split b a name v)
-    ∙ flat_map-append (λ (loader : LoaderView). account_in NonClass loader ∷ account_in Class loader ∷ []) (values_of b) (v ∷ values_of a)
-
-accounts_joined : (b a : Loaded) → accounts_of (b ++ a) ≡ accounts_of b ++ accounts_of a
-accounts_joined b a = ap (flat_map (λ (loader : LoaderView). account_in NonClass loader ∷ account_in Class loader ∷ [])) (values_joined b a)
-    ∙ flat_map-append (λ (loader : LoaderView). account_in NonClass loader ∷ account_in Class loader ∷ []) (values_of b) (values_of a)
-
-owners_split : (b a : Loaded) (name : ℕ) (v : LoaderView) → owners_of (b ++ (name, v) ∷ a) ≡ owners_of b ++ v.owner ∷ v.class_owner ∷ owners_of a
-owners_split b a name v = ap (map owner_of) (accounts_split b a name v) ∙ map-append owner_of (accounts_of b) (account_in NonClass v ∷ account_in Class v ∷ accounts_of a)
-
 -- Accounts that a seat serves still.
-still_by : (old new : SeatView) (owner : ℕ) → ((other : AccountState) → other.owner ≢ owner → ServesBy old other → ServesBy new other)
-    → (accounts : List AccountState) → times owner (map owner_of accounts) ≡ 0 → AllByRecursion (ServesBy old) accounts → AllByRecursion (ServesBy new) accounts
-still_by old new owner each [] none all = tt
-still_by old new owner each (account ∷ accounts) none all = (
-  each account (differs account.owner owner (omega (arith, none, sum_by-cons (is_it owner) account.owner (map owner_of accounts)))) all.0,
-  still_by old new owner each accounts (omega (arith, none, sum_by-cons (is_it owner) account.owner (map owner_of accounts))) all.1,
-)
-  where
-    differs : (a b : ℕ) → is_it b a ≡ 0 → a ≢ b
-    differs a b none same = omega (arith, none, it_is b, ap (is_it b) same)
-
 each_by : (old new : SeatView) → ((other : AccountState) → ServesBy old other → ServesBy new other)
     → (accounts : List AccountState) → AllByRecursion (ServesBy old) accounts → AllByRecursion (ServesBy new) accounts
 each_by old new each [] all = tt
@@ -173,9 +149,9 @@ module _ (name : ℕ) (v : LoaderView) (loaders others : Loaded) (from to : Seat
   still : (accounts : List AccountState) → times v.owner (map owner_of accounts) ≡ 0 → times v.class_owner (map owner_of accounts) ≡ 0
       → AllByRecursion (ServesBy from) accounts → AllByRecursion (ServesBy (without_account v.class_owner Class (without_account v.owner NonClass from))) accounts
   still accounts none none_class all =
-      still_by (without_account v.owner NonClass from) (without_account v.class_owner Class (without_account v.owner NonClass from)) v.class_owner
+      served_still (ServesBy (without_account v.owner NonClass from)) (ServesBy (without_account v.class_owner Class (without_account v.owner NonClass from))) v.class_owner
       (λ other differs serves. left_serves (without_account v.owner NonClass from) v.class_owner Class other differs serves) accounts none_class
-      (still_by from (without_account v.owner NonClass from) v.owner (λ other differs serves. left_serves from v.owner NonClass other differs serves) accounts none all)
+      (served_still (ServesBy from) (ServesBy (without_account v.owner NonClass from)) v.owner (λ other differs serves. left_serves from v.owner NonClass other differs serves) accounts none all)
 
   left_no_other : (owner : ℕ) (chunks : List Chunk) → Has (all_but v.class_owner (all_but v.owner from.served)) owner chunks
       → (chunks ≡ []) ⊎ IsTrue (is_among (owners_of (without loaders name)) owner)

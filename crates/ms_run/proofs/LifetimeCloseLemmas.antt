@@ -1,7 +1,11 @@
 -- A seat and its loaders where both accounts of a loader are closed. For `unload`, and for `new_loader`
 -- where memory for the loader is refused.
-use Rattle.std.proofs.Common.{◌≡◌, ◌≢◌, ◌+◌, ◌<◌, ℕ, true, Some, List, [], ◌∷◌, ◌++◌, map, length, sym, ap, ◌∙◌, subst, ◌⊎◌, inl, inr, ⊎_elim, IsTrue, arith}
+use Rattle.std.proofs.Common.{◌≡◌, ◌≢◌, ◌+◌, ◌<◌, ℕ, true, cond, Some, None, List, refl, [], ◌∷◌, ◌++◌, map, length, sym, ap, ◌∙◌, subst, ◌⊎◌, inl, inr, ⊎_elim, IsTrue, arith}
+use Rattle.std.specs.BTreeMap.{is_at}
 use Rattle.std.specs.List.{AllByRecursion}
+use Rattle.std.specs.Ordering.{nat_cmp, match_ordering, is_eq}
+use Rattle.std.specs.declared.cmp.Ordering.TheVariants.{Less, Equal, Greater}
+use Rattle.std.proofs.lemmas.Bool.Decides.{nat_tests}
 use Rattle.std.proofs.lemmas.Bool.{cases_eq}
 use Rattle.std.proofs.lemmas.List.{length-append, map-append}
 use Rattle.std.proofs.lemmas.List.Sums.{sum_by-append}
@@ -9,7 +13,7 @@ use Rattle.std.proofs.lemmas.List.Elements.{recursion_from_All, All-from_recursi
 use Rattle.ms_base.specs.declared.kind.Space.{Space}
 use Rattle.ms_base.specs.declared.kind.Space.TheVariants.{NonClass, Class}
 use Rattle.ms_base.specs.Committed.{is_among}
-use Rattle.ms_base.specs.Names.{named, without}
+use Rattle.ms_base.specs.Names.{named, with_new, without}
 use Rattle.ms_base.proofs.entries.EntryLemmas.{Split, split_at}
 use Rattle.ms_pool.specs.Account.{AccountState}
 use Rattle.ms_pool.specs.Ledger.{Ledger, chunks_of, others_than}
@@ -131,3 +135,18 @@ module _ (loaders : List (ℕ × LoaderView)) (name : ℕ) (v : LoaderView) (fou
       no_other = none_now;
       opened = λ space. omega (arith, closes.counted space, its.opened space, long);
     }
+
+at_itself : (name : ℕ) → is_at (nat_cmp name) name ≡ true
+at_itself name = grind (arith, nat_tests)
+
+-- A name that was just made and is taken out again leaves what was.
+pub new_then_without : {X : Type 0} (entries : List (ℕ × X)) (name : ℕ) (x : X) → named entries name ≡ None
+    → without (with_new entries name x) name ≡ entries
+new_then_without [] name x none = rw (at_itself name) refl
+new_then_without {X} (e ∷ es) name x none =
+    elim (nat_cmp name e.0) as (λ o. nat_cmp name e.0 ≡ o → cond (is_eq o) (Some e.1) (named es name) ≡ None
+    → without (match_ordering o ((name, x) ∷ e ∷ es) ((e.0, x) ∷ es) (e ∷ with_new es name x)) name ≡ e ∷ es) [
+      | Less ↦ λ p none. rw (at_itself name) refl
+      | Equal ↦ λ p none. absurd (cc)
+      | Greater ↦ λ p none. rw p (ap (λ (l : List (ℕ × X)). e ∷ l) (new_then_without es name x none))
+    ] refl none

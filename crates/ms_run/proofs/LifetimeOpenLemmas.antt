@@ -1,8 +1,8 @@
 -- A seat and its loaders where both accounts of a loader are opened, or are refused. For `new_loader`.
-use Rattle.std.proofs.Common.{◌≡◌, ◌+◌, ◌<◌, ◌≤◌, ℕ, Bool, true, false, None, List, [], ◌∷◌, ◌++◌, map, length, sym, ap, ◌∙◌, subst, ◌⊎◌, inl, inr, ⊎_elim, arith}
-use Rattle.std.specs.Prelude.{◌==◌, Ok, Err}
+use Rattle.std.proofs.Common.{◌≡◌, ◌+◌, ◌≤◌, ℕ, true, None, List, [], ◌∷◌, ◌++◌, map, length, sym, ap, ◌∙◌, subst, ◌⊎◌, inl, inr, ⊎_elim, arith}
+use Rattle.std.specs.Prelude.{Ok, Err}
 use Rattle.std.specs.List.{AllByRecursion}
-use Rattle.std.proofs.lemmas.Bool.{eq-eqb, ne_eqb, cases_lt, cases_eq}
+use Rattle.std.proofs.lemmas.Bool.{ne_eqb, cases_lt, cases_eq}
 use Rattle.std.proofs.lemmas.List.{length-append, map-append}
 use Rattle.std.proofs.lemmas.List.Sums.{sum_by-append}
 use Rattle.std.proofs.lemmas.List.Elements.{recursion_from_All, All-from_recursion}
@@ -21,7 +21,7 @@ use Rattle.ms_loaders.specs.Loader.{LoaderView, new_loader}
 use Rattle.ms_loaders.specs.System.{accounts_of, owners_of}
 use Rattle.ms_loaders.proofs.FitLemmas.{owner_of}
 use Rattle.ms_loaders.proofs.ServedLemmas.{accounts_split, times, is_it, one_if, times_split, all_joined}
-use Rattle.ms_loaders.proofs.CloseLemmas.{accounts_joined}
+use Rattle.ms_loaders.proofs.CloseLemmas.{accounts_joined, few}
 use Rattle.ms_shared.specs.SeatView.{SeatState, ServesBy, OverLock, opened_by, view_after}
 use Rattle.ms_run.specs.Manned.{IsManned}
 use Rattle.ms_run.proofs.LifetimeLemmas.{IsNew, NoOther, no_other_then, all_served, below_given, among_new}
@@ -90,16 +90,6 @@ module _ (old new : SeatState) (loaders : List (ℕ × LoaderView)) (name : ℕ)
 
   all_before : AllByRecursion (ServesBy old.knows) (accounts_of loaders)
   all_before = recursion_from_All (ServesBy old.knows) (accounts_of loaders) its.served
-
-  few : (x y number : ℕ) → x < y → is_it number x + is_it number y ≤ 1
-  few x y number less = elim (cases_eq x number) [
-    | inl same ↦ omega (arith, ap one_if (eq-eqb x number same), ap one_if (ne_eqb y number (λ e. omega (arith, e, same, less))))
-    | inr differ ↦ omega (arith, ap one_if (ne_eqb x number differ), at_most (y == number))
-  ]
-    where
-      at_most : (b : Bool) → one_if b ≤ 1
-      at_most true = omega arith
-      at_most false = omega arith
 
   distinct_now : (number : ℕ) → times number (map owner_of first ++ (pool.given + 1) ∷ (pool.given + 2) ∷ map owner_of last) ≤ 1
   distinct_now number = elim (cases_lt pool.given number) [

@@ -1,11 +1,8 @@
 -- What an allocation over the lock leaves a seat: it serves the loaders still, and no other owner gets a
 -- first chunk.
-use Rattle.std.proofs.Common.{◌≡◌, ◌≢◌, ◌-◌, ℕ, suc, ◌⊎◌, Bool, true, false, cond, Option, Some, None, Result, Ok, Err, List, [], ◌∷◌, ◌++◌, map, length, refl, sym, ap, ◌∙◌, subst, inl, inr, arith, append-nil}
+use Rattle.std.proofs.Common.{◌≡◌, ◌≢◌, ◌-◌, ℕ, ◌⊎◌, Bool, true, false, cond, Option, Some, None, Result, Ok, Err, List, [], ◌∷◌, ◌++◌, map, refl, sym, ap, ◌∙◌, subst, inl, inr, arith, append-nil}
 use Rattle.std.specs.Prelude.{◌==◌}
-use Rattle.std.specs.Ordering.{nat_cmp}
 use Rattle.std.specs.List.{AllByRecursion, filter}
-use Rattle.std.specs.BTreeMap.{is_at}
-use Rattle.std.proofs.lemmas.List.Sums.{sum_by-cons}
 use Rattle.std.proofs.lemmas.List.Elements.{recursion_from_All, All-from_recursion}
 use Rattle.ms_base.specs.declared.kind.Space.{Space}
 use Rattle.ms_base.specs.declared.kind.Space.TheVariants.{NonClass, Class}
@@ -14,27 +11,26 @@ use Rattle.ms_base.specs.declared.span.Chunk.{Chunk}
 use Rattle.ms_base.specs.declared.span.Span.{Span}
 use Rattle.ms_base.specs.declared.span.Block.{Block}
 use Rattle.ms_base.specs.declared.refusal.Refusal.{Refusal}
-use Rattle.ms_base.specs.Spaces.{other_space, by_space}
+use Rattle.ms_base.specs.Spaces.{by_space}
 use Rattle.ms_base.specs.Committed.{is_among}
-use Rattle.ms_base.specs.Names.{named, with_new, with_changed}
+use Rattle.ms_base.specs.Names.{named, with_changed}
 use Rattle.ms_base.specs.Live.{block_words}
 use Rattle.ms_base.specs.Place.{placed, current}
 use Rattle.ms_base.specs.Asks.{asks_growth, wanted_level, total_asked, may_enlarge}
 use Rattle.ms_base.specs.Level.{level_that_holds}
-use Rattle.ms_base.specs.State.{ArenaState, arena_of}
-use Rattle.ms_base.specs.Transition.{zeroed}
+use Rattle.ms_base.specs.State.{ArenaState}
 use Rattle.ms_base.proofs.entries.EntryLemmas.{Split, split_at}
 use Rattle.ms_base.proofs.entries.LookupLemmas.{named_changed_other}
-use Rattle.ms_base.proofs.arena.BlockLemmas.{arena_elsewhere}
 use Rattle.ms_pool.specs.Account.{AccountState}
 use Rattle.ms_pool.specs.Ledger.{Loan, Ledger, chunks_of, is_owned_by}
 use Rattle.ms_pool.specs.Calls.{GrewFrom}
+use Rattle.ms_pool.specs.Source.{LeavesRest}
 use Rattle.ms_pool.proofs.ledger.KeepsLemmas.{Keeps, keeps_where_tallied}
 use Rattle.ms_pool.proofs.ledger.TookLemmas.{took_keeps}
 use Rattle.ms_pool.proofs.ledger.GrewLemmas.{grow_refused_raises}
 use Rattle.ms_arena.specs.Arena.{ArenaView, account_of}
 use Rattle.ms_arena.specs.Alloc.{Takes, Grows, AfterGrow, AsksChunk, Serves, Allocates}
-use Rattle.ms_loaders.specs.Loader.{LoaderView, account_in, AllocatesBlock, AfterAlloc}
+use Rattle.ms_loaders.specs.Loader.{LoaderView, account_in, owner_in, AllocatesBlock}
 use Rattle.ms_loaders.specs.System.{accounts_of, owners_of, AreDistinct}
 use Rattle.ms_shared.specs.declared.lock_rule.SeatView.{SeatView}
 use Rattle.ms_shared.specs.Entries.{Entry, Has, refreshed, fresh}
@@ -42,8 +38,8 @@ use Rattle.ms_shared.specs.SeatView.{SeatState, ServesBy, OverLock, opened_by}
 use Rattle.ms_shared.specs.LockCalls.{TookOver, GrewOver}
 use Rattle.ms_shared.proofs.RecordLemmas.{has_record}
 use Rattle.ms_run.specs.Manned.{IsManned}
-use Rattle.ms_loaders.proofs.ServedLemmas.{times, all_joined, owners_split, is_it, times_split, it_is, all_parts, own_is_among, accounts_split}
-use Rattle.ms_loaders.proofs.FitLemmas.{chunk_of, owner_of}
+use Rattle.ms_loaders.proofs.ServedLemmas.{KeepsOther, block_keeps, length_changed, served_in, owners_split, all_parts, own_is_among, accounts_split}
+use Rattle.ms_loaders.proofs.FitLemmas.{chunk_of}
 
 -- All that the seat knows of an owner is that it holds no chunk.
 abbrev pub HasNone : SeatView → ℕ → Type 0
@@ -176,81 +172,6 @@ block_stays space policy was is name words old new answer (inl refused) = stays_
 block_stays space policy was is name words old new answer (inr asks) =
     subst (λ (owner : ℕ). Stays owner old new) asks.arena.owner (arena_stays policy asks.was words old answer asks.is new asks.allocates)
 
--- A loader after its allocation in a space: its owners are the same, and its chunks of the other space.
-record KeepsOther (space : Space) (was is : LoaderView) : Type 0 where
-  owner : is.owner ≡ was.owner
-  class_owner : is.class_owner ≡ was.class_owner
-  elsewhere : (arena_of (other_space space) is.state).chunks ≡ (arena_of (other_space space) was.state).chunks
-
-same_keeps : (space : Space) (was is : LoaderView) → is ≡ was → KeepsOther space was is
-same_keeps space was is same = subst (KeepsOther space was) (sym same) (record { owner = refl; class_owner = refl; elsewhere = refl })
-
-block_keeps : (space : Space) (policy : Policy) (was is : LoaderView) (name words : ℕ) (old new : SeatState) (answer : Result Block Refusal)
-    → AllocatesBlock GrewOver TookOver policy space was name words old answer is new → KeepsOther space was is
-block_keeps space policy was is name words old new answer (inl refused) = same_keeps space was is refused.loader
-block_keeps space policy was is name words old new answer (inr asks) = go answer asks.follows
-  where
-    go : (a : Result Block Refusal) → AfterAlloc space was name asks.is a is → KeepsOther space was is
-    go (Ok block) follows = record {
-      owner = ap (λ (v : LoaderView). v.owner) follows.1;
-      class_owner = ap (λ (v : LoaderView). v.class_owner) follows.1;
-      elsewhere = ap (λ (v : LoaderView). (arena_of (other_space space) v.state).chunks) follows.1
-          ∙ ap (λ (a : ArenaState). a.chunks) (arena_elsewhere space (record was.state { blocks = with_new was.state.blocks name (zeroed block.start block.words) }) asks.is.books);
-    }
-    go (Err refusal) follows = same_keeps space was is follows
-
--- The accounts of loaders before, at and after a name.
--- Accounts of other owners are served still.
-served_still : (old new : SeatView) (owner : ℕ) → ((other : AccountState) → other.owner ≢ owner → ServesBy old other → ServesBy new other)
-    → (accounts : List AccountState) → times owner (map owner_of accounts) ≡ 0 → AllByRecursion (ServesBy old) accounts → AllByRecursion (ServesBy new) accounts
-served_still old new owner each [] none all = tt
-served_still old new owner each (account ∷ accounts) none all = (
-  each account (differs account.owner owner (omega (arith, none, sum_by-cons (is_it owner) account.owner (map owner_of accounts)))) all.0,
-  served_still old new owner each accounts (omega (arith, none, sum_by-cons (is_it owner) account.owner (map owner_of accounts))) all.1,
-)
-  where
-    differs : (a b : ℕ) → is_it b a ≡ 0 → a ≢ b
-    differs a b none same = omega (arith, none, it_is b, ap (is_it b) same)
-
-same_account : (one : Space) (was is : LoaderView) → by_space one is.owner is.class_owner ≡ by_space one was.owner was.class_owner
-    → (arena_of one is.state).chunks ≡ (arena_of one was.state).chunks → account_in one was ≡ account_in one is
-same_account one was is owner chunks =
-    ap (λ (n : ℕ). record { owner = n; space = one; chunks = (arena_of one was.state).chunks }) (sym owner)
-    ∙ ap (λ (l : List Chunk). record { owner = by_space one is.owner is.class_owner; space = one; chunks = l }) (sym chunks)
-
--- Its accounts are served, and those of the loaders round it.
-served_in : (space : Space) (old new : SeatView) (b a : List AccountState) (was is : LoaderView) → KeepsOther space was is
-    → AreDistinct (map owner_of b ++ was.owner ∷ was.class_owner ∷ map owner_of a)
-    → ((other : AccountState) → other.owner ≢ (account_in space was).owner → ServesBy old other → ServesBy new other) → ServesBy new (account_in space is)
-    → AllByRecursion (ServesBy old) (b ++ account_in NonClass was ∷ account_in Class was ∷ a) → AllByRecursion (ServesBy new) (b ++ account_in NonClass is ∷ account_in Class is ∷ a)
-served_in NonClass old new b a was is keeps distinct each own all =
-    let parts = all_parts (ServesBy old) b a (account_in NonClass was) (account_in Class was) all in
-    let count = times_split was.owner (map owner_of b) (map owner_of a) was.owner was.class_owner in
-    all_joined (ServesBy new) b a (account_in NonClass is) (account_in Class is)
-    (served_still old new was.owner each b (omega (arith, distinct was.owner, count, it_is was.owner)) parts.0) own
-    (subst (λ (account : AccountState). ServesBy new account) (same_account Class was is keeps.class_owner keeps.elsewhere)
-    (served_still old new was.owner each (account_in Class was ∷ [])
-    (omega (arith, distinct was.owner, count, it_is was.owner, sum_by-cons (is_it was.owner) was.class_owner [])) (parts.2, tt)).0)
-    (served_still old new was.owner each a (omega (arith, distinct was.owner, count, it_is was.owner)) parts.3)
-served_in Class old new b a was is keeps distinct each own all =
-    let parts = all_parts (ServesBy old) b a (account_in NonClass was) (account_in Class was) all in
-    let count = times_split was.class_owner (map owner_of b) (map owner_of a) was.owner was.class_owner in
-    all_joined (ServesBy new) b a (account_in NonClass is) (account_in Class is)
-    (served_still old new was.class_owner each b (omega (arith, distinct was.class_owner, count, it_is was.class_owner)) parts.0)
-    (subst (λ (account : AccountState). ServesBy new account) (same_account NonClass was is keeps.owner keeps.elsewhere)
-    (served_still old new was.class_owner each (account_in NonClass was ∷ [])
-    (omega (arith, distinct was.class_owner, count, it_is was.class_owner, sum_by-cons (is_it was.class_owner) was.owner [])) (parts.1, tt)).0)
-    own
-    (served_still old new was.class_owner each a (omega (arith, distinct was.class_owner, count, it_is was.class_owner)) parts.3)
-
-length_changed : (entries : List (ℕ × LoaderView)) (name : ℕ) (x : LoaderView) → length (with_changed entries name x) ≡ length entries
-length_changed [] name x = refl
-length_changed (e ∷ es) name x =
-    elim (is_at (nat_cmp name) e.0) as (λ b. length (cond b ((e.0, x) ∷ es) (e ∷ with_changed es name x)) ≡ length (e ∷ es)) [
-      | true ↦ refl
-      | false ↦ ap suc (length_changed es name x)
-    ]
-
 -- The seat serves each loader's accounts.
 pub own_is_served : (space : Space) (seat : SeatView) (loaders : List (ℕ × LoaderView)) (name : ℕ) (v : LoaderView) → named loaders name ≡ Some v → IsManned seat loaders
     → ServesBy seat (account_in space v)
@@ -291,25 +212,26 @@ no_other_still own owners old new among stays each owner chunks here =
 -- So the loaders are manned still.
 pub manned_after : (space : Space) (old new : SeatState) (policy : Policy) (loaders : List (ℕ × LoaderView)) (name block words : ℕ) (was is : LoaderView) (answer : Result Block Refusal)
     → named loaders name ≡ Some was → AllocatesBlock GrewOver TookOver policy space was block words old answer is new
-    → ServesBy new.knows (account_in space is) → ((other : AccountState) → other.owner ≢ (account_in space was).owner → ServesBy old.knows other → ServesBy new.knows other)
-    → opened_by new.knows ≡ opened_by old.knows → IsManned old.knows loaders → IsManned new.knows (with_changed loaders name is)
-manned_after space old new policy loaders name block words was is answer found allocates own each opened its = record {
+    → ServesBy new.knows (account_in space is)
+    → LeavesRest (λ (seat : SeatState). ServesBy seat.knows) (λ seat. opened_by seat.knows) (λ seat. seat.knows.limits) (owner_in space was) old new
+    → IsManned old.knows loaders → IsManned new.knows (with_changed loaders name is)
+manned_after space old new policy loaders name block words was is answer found allocates own rest its = record {
   served = All-from_recursion (ServesBy new.knows) (accounts_of (with_changed loaders name is)) (subst (λ (l : List AccountState). AllByRecursion (ServesBy new.knows) l) (sym now)
-      (served_in space old.knows new.knows (accounts_of split.before) (accounts_of split.after) was is keeps
-      (rw (ap owners_of split.is ∙ owners_split split.before split.after name was) at its.distinct) each own
+      (served_in (ServesBy old.knows) (ServesBy new.knows) space (accounts_of split.before) (accounts_of split.after) was is keeps
+      (rw (ap owners_of split.is ∙ owners_split split.before split.after name was) at its.distinct) rest.others own
       (rw (ap accounts_of split.is ∙ accounts_split split.before split.after name was) at (recursion_from_All (ServesBy old.knows) (accounts_of loaders) its.served))));
   distinct = subst AreDistinct (sym owners_same) its.distinct;
   no_other = subst (λ (owners : List ℕ). (owner : ℕ) (chunks : List Chunk) → Has new.knows.served owner chunks → IsOurs owners owner chunks) (sym owners_same)
       (no_other_still (by_space space was.owner was.class_owner) (owners_of loaders) old new (own_is_among space loaders name was found)
       (block_stays space policy was is block words old new answer allocates) its.no_other);
-  opened = λ one. ap (λ (f : Space → ℕ). f one) opened ∙ its.opened one ∙ sym (length_changed loaders name is);
+  opened = λ one. ap (λ (f : Space → ℕ). f one) rest.counted ∙ its.opened one ∙ sym (length_changed loaders name is);
 }
   where
     split : Split loaders name was
     split = split_at loaders name was found
 
     keeps : KeepsOther space was is
-    keeps = block_keeps space policy was is block words old new answer allocates
+    keeps = block_keeps GrewOver TookOver policy space was is block words old new answer allocates
 
     now : accounts_of (with_changed loaders name is) ≡ accounts_of split.before ++ account_in NonClass is ∷ account_in Class is ∷ accounts_of split.after
     now = ap accounts_of (split.changed is) ∙ accounts_split split.before split.after name is

@@ -1,5 +1,5 @@
 -- Loaders handed on from seat to seat, and the shares that come of it.
-use Rattle.std.specs.Prelude.{◌≡◌, ◌≢◌, ℕ, suc, ◌+◌, ◌<◌, ◌≤◌, ◌==◌, ◌⊎◌, Bool, List, [], ◌∷◌, length, Some, None, Vec, slice_get, ◌++◌}
+use Rattle.std.specs.Prelude.{◌≡◌, ◌≢◌, ℕ, suc, ◌+◌, ◌<◌, ◌≤◌, ◌==◌, ◌⊎◌, Bool, List, [], ◌∷◌, length, map, replicate, Some, None, Vec, slice_get, ◌++◌}
 use Rattle.std.specs.List.{All, count_by, filter}
 use Rattle.std.specs.declared.alloc.Global.{Global}
 use Rattle.ms_base.specs.Names.{AreNamed, named}
@@ -7,9 +7,13 @@ use Rattle.ms_base.specs.Request.{loader_of}
 use Rattle.ms_trace.specs.declared.trace.Line.{Line}
 use Rattle.ms_loaders.specs.Loader.{LoaderView}
 use Rattle.ms_loaders.specs.System.{owners_of}
+use Rattle.ms_loaders.specs.Settles.{MaySettle, open_accounts, accounts_in}
+use Rattle.ms_pool.specs.Ledger.{Ledger}
 use Rattle.ms_shared.specs.declared.lock_rule.SeatView.{SeatView}
 use Rattle.ms_shared.specs.SeatView.{SeatState, LockState}
+use Rattle.ms_shared.specs.MeterRule.{MeterState}
 use Rattle.ms_run.specs.Manned.{IsManned}
+use Rattle.ms_run.specs.Metering.{meter_of, unmoved}
 use Rattle.ms_run.specs.Shares.{Place, IsReady, tasks_at}
 use Rattle.ms_run.specs.declared.share.Task.{Task}
 use Rattle.ms_run.specs.declared.share.Share.{Share}
@@ -25,6 +29,24 @@ pub record AreBeside (from : SeatView) (loaders : Loaded) (to : SeatView) (other
   pub names : AreNamed loaders
   pub apart : (number : ℕ) → count_by (λ other. other == number) (owners_of loaders)
       + count_by (λ other. other == number) (owners_of others) ≤ 1
+
+-- Two seats of one lock, each with the loaders that it serves.
+pub record AreCrews (shared : LockState) (from : SeatState) (loaders : Loaded) (to : SeatState)
+    (others : Loaded) : Type 0 where
+  pub own : from.id ≡ shared.id
+  pub to_own : to.id ≡ shared.id
+  pub beside : AreBeside from.knows loaders to.knows others
+
+-- A pool and its loaders may be dealt: it counts just the loaders' accounts, and serves them.
+pub record MayBeDealt (pool : Ledger) (loaders : Loaded) : Type 0 where
+  pub fits : MaySettle pool loaders
+  pub all : open_accounts pool ≡ accounts_in loaders
+  pub names : AreNamed loaders
+
+-- Each of so many shares has a seat of the meter, to which nothing was added, and no other has one.
+pub record HaveMeters (meter : MeterState) (count : ℕ) (shares : List Share) : Type 0 where
+  pub seats : meter.seats ≡ count
+  pub unmoved_all : map meter_of shares ≡ replicate count (unmoved meter)
 
 -- The loader of a name went over, where there was one.
 pub record IsHanded (name : ℕ) (loaders others after others_after : Loaded) : Type 0 where

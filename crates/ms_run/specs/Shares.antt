@@ -35,6 +35,12 @@ pub record IsReady (shared : LockState) (share : Share) : Type 0 where
 abbrev pub IsReadyFor : LockState → MeterState → Share → Type 0
 IsReadyFor shared meter share = IsReady shared share × (share.meter.id ≡ meter.id)
 
+-- So many shares have all seats of the lock, and each serves its loaders.
+pub record StandOver (shared : LockState) (count : ℕ) (shares : List Share) : Type 0 where
+  pub own : All (λ (share : Share). share.seat.id ≡ shared.id) shares
+  pub manned : All (λ (share : Share). IsManned share.seat.knows share.loaders) shares
+  pub all : shared.seats ≡ count
+
 -- A share is worked: each task has its reply, each loader's replies are its own, and the meter's seat
 -- moved as the words in use did.
 pub record IsWorked (share done : Share) : Type 0 where

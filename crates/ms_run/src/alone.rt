@@ -1,15 +1,15 @@
 //! A trace run by one worker: the caller itself, line by line, over one system.
 //!
 //! Kept true: each line has one answer, in the trace's order. Takes memory; nothing waits.
-ghost use Rattle.std.specs.Prelude.{◌≡◌, IfOk, OnOk, None, [], ◌∷◌, ◌++◌};
+ghost use Rattle.std.specs.Prelude.{◌≡◌, IfOk, OnOk, [], ◌∷◌, ◌++◌};
 ghost use Rattle.ms_base.specs.State.{Machine, empty_machine, limits_of};
 ghost use Rattle.ms_loaders.specs.declared.replies.Answer.{Answer as AnswerOf};
-ghost use Rattle.ms_trace.specs.Steps.{step_of};
-ghost use Rattle.ms_run.specs.Replay.{Answers, IsEnd, Reports};
+ghost use Rattle.ms_run.specs.Replay.{Answers};
 
+use crate::between::answer_between;
 use crate::gate::Gate;
-use ms_base::{Reply, Settings, Step};
-use ms_loaders::{Answer, Replies, System, Totals};
+use ms_base::{Settings, Step};
+use ms_loaders::{Answer, Replies, System};
 use ms_trace::{Command, Line};
 use std::alloc::{AllocError, Global};
 
@@ -47,7 +47,7 @@ fn answer_line<G: Gate>(
         × Answers system.old (line.now ∷ []) (added ∷ []) system.new) }
 {
     let Command::Step(step) = line.command else {
-        return answer_between(system, line, answers);
+        return answer_between(system, None, line, answers);
     };
     gate.before(0, line.number);
     let looks = gate.looks();
@@ -74,31 +74,5 @@ fn used_by(system: &System, step: &Step) -> u64 {
         Step::Calloc { loader, .. } => system.used_by(loader),
         Step::Unload { loader } => system.used_by(loader),
         _ => 0,
-    }
-}
-
-/// Answers a line that asks no step: a report with the totals as they are.
-fn answer_between(system: &System, line: &Line, answers: &mut Vec<Answer>) -> Result<(), AllocError>
-    requires { step_of line.now.command ≡ None }
-    ensures { OnOk result ((added : AnswerOf)
-        × (answers.new.items ≡ answers.old.items ++ added ∷ [])
-        × IsEnd system.now line.now added) }
-{
-    let report = report_for(system, line.command)?;
-    answers.push(Answer {
-        line: line.number,
-        reply: Reply::Ok,
-        report,
-    })?;
-    Ok(())
-}
-
-/// Gathers the totals where a command asks for them.
-fn report_for(system: &System, command: Command) -> Result<Option<Totals>, AllocError>
-    ensures { IfOk result (λ report. Reports command system.now report) }
-{
-    match command {
-        Command::Report => Ok(Some(system.totals()?)),
-        Command::Step(_) | Command::Sync => Ok(None),
     }
 }

@@ -3,20 +3,22 @@
 ghost use Rattle.std.specs.Prelude.{◌≡◌, ◌≢◌, IfOk, OnOk, IfErr, ℕ, true, false, Bool};
 ghost use Rattle.ms_base.specs.Names.{named};
 ghost use Rattle.ms_base.specs.Alone.{OwnReply};
+ghost use Rattle.ms_base.specs.WordLaws.{alloc_in};
 ghost use Rattle.ms_loaders.specs.System.{states_of};
 ghost use Rattle.ms_loaders.specs.Used.{used_at};
 ghost use Rattle.ms_run.specs.Own.{own_in};
 ghost use Rattle.ms_run.specs.Manned.{IsManned, KeepsSeats};
 
-use ms_base::{Refusal, Reply, Step};
+use ms_base::{Refusal, Reply, Space, Step};
 use ms_loaders::Loaders;
 use ms_shared::LockedPool;
 use std::sync::Wait;
 
-/// Allocates a block of zeros.
+/// Allocates a block of zeros in a space.
 pub fn allocate<R: Wait>(
     pool: &mut LockedPool<'_, R>,
     loaders: &mut Loaders,
+    space: Space,
     name: u16,
     block: u32,
     words: u64,
@@ -25,43 +27,16 @@ pub fn allocate<R: Wait>(
     ensures lock { pool.new.id ≡ pool.old.id }
     ensures manned { IsManned pool.new.knows loaders.new }
     ensures served { IfOk result (λ start. OwnReply (own_in (states_of loaders.old) name)
-        (Step.Alloc name block words) false (Reply.At start) (own_in (states_of loaders.new) name)) }
+        (alloc_in space name block words) false (Reply.At start) (own_in (states_of loaders.new) name)) }
     ensures refused { IfErr result (λ refusal. (want : Bool) × OwnReply
-        (own_in (states_of loaders.old) name) (Step.Alloc name block words) want
+        (own_in (states_of loaders.old) name) (alloc_in space name block words) want
         (Reply.Refused refusal) (own_in (states_of loaders.new) name)) }
     ensures others { (other : ℕ) → other ≢ name → named loaders.new other ≡ named loaders.old other }
 {
     let Some(loader) = loaders.get_mut(name) else {
         return Err(Refusal::NoLoader);
     };
-    match loader.alloc(pool, block, words) {
-        Ok(made) => Ok(made.start),
-        Err(refusal) => Err(refusal),
-    }
-}
-
-/// Allocates a block of zeros in the class space.
-pub fn allocate_class<R: Wait>(
-    pool: &mut LockedPool<'_, R>,
-    loaders: &mut Loaders,
-    name: u16,
-    block: u32,
-    words: u64,
-) -> Result<u64, Refusal>
-    requires { IsManned pool.old.knows loaders.old }
-    ensures lock { pool.new.id ≡ pool.old.id }
-    ensures manned { IsManned pool.new.knows loaders.new }
-    ensures served { IfOk result (λ start. OwnReply (own_in (states_of loaders.old) name)
-        (Step.Calloc name block words) false (Reply.At start) (own_in (states_of loaders.new) name)) }
-    ensures refused { IfErr result (λ refusal. (want : Bool) × OwnReply
-        (own_in (states_of loaders.old) name) (Step.Calloc name block words) want
-        (Reply.Refused refusal) (own_in (states_of loaders.new) name)) }
-    ensures others { (other : ℕ) → other ≢ name → named loaders.new other ≡ named loaders.old other }
-{
-    let Some(loader) = loaders.get_mut(name) else {
-        return Err(Refusal::NoLoader);
-    };
-    match loader.calloc(pool, block, words) {
+    match loader.allocate(pool, space, block, words) {
         Ok(made) => Ok(made.start),
         Err(refusal) => Err(refusal),
     }

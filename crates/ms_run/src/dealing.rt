@@ -4,16 +4,15 @@
 //! share's seat serves all at first, and hands each account on. Each share has a seat of the phase's
 //! meter, with nothing counted yet. Takes memory for seats, lists of tasks and of replies, and places
 //! of loaders; nothing waits.
-ghost use Rattle.std.specs.Prelude.{◌≡◌, ◌+◌, ◌++◌, ◌∷◌, [], ◌≤◌, map, replicate, IfOk, IfErr, OnOk, vec_len, vec_capacity, ◌<◌, ◌≢◌, ℕ, Some, slice_get};
+ghost use Rattle.std.specs.Prelude.{◌≡◌, ◌+◌, ◌++◌, ◌∷◌, [], ◌≤◌, map, IfOk, IfErr, OnOk, vec_len, vec_capacity, ◌<◌, ◌≢◌, ℕ, Some, slice_get};
 ghost use Rattle.std.specs.List.{filter};
 ghost use Rattle.std.specs.Map.{keys_of};
 ghost use Rattle.ms_base.specs.Names.{AreNamed};
-ghost use Rattle.ms_loaders.specs.Settles.{MaySettle, open_accounts, accounts_in};
 ghost use Rattle.ms_run.specs.Turn.{shares_in, place_in};
 ghost use Rattle.ms_loaders.specs.Used.{used_in};
-ghost use Rattle.ms_run.specs.Metering.{used_over, meter_of, unmoved};
+ghost use Rattle.ms_run.specs.Metering.{used_over, meter_of};
 ghost use Rattle.ms_run.specs.Shares.{AreDealt, AreSteps, tasks_of};
-ghost use Rattle.ms_run.specs.Dealing.{AreListed, AreEmpty, AreAdded, AreBeside, IsHanded, AreHanded, AreSeats, AreDealtTo, is_placed};
+ghost use Rattle.ms_run.specs.Dealing.{AreCrews, AreListed, AreEmpty, AreAdded, IsHanded, AreHanded, AreSeats, AreDealtTo, HaveMeters, MayBeDealt, is_placed};
 
 use crate::fault::RunFault;
 use crate::share::{Share, Task};
@@ -41,16 +40,12 @@ pub fn deal(
     pool: Pool,
     loaders: Loaders,
 ) -> Result<(SharedPool, Vec<Share>, UsedMeter), RunFault>
-    requires fits { MaySettle pool loaders }
-    requires all { open_accounts pool ≡ accounts_in loaders }
-    requires names { AreNamed loaders }
+    requires may { MayBeDealt pool loaders }
     requires steps { AreSteps lines.now }
     ensures dealt { IfOk result (λ made. AreDealt (place_in turn.now) made.0 made.1.items lines.now loaders) }
     ensures count { IfOk result (λ made. vec_len made.1 ≡ shares_in turn.now) }
     ensures limits { IfOk result (λ made. made.0.limits ≡ pool.limits) }
-    ensures meters { IfOk result
-        (λ made. map meter_of made.1.items ≡ replicate (vec_len made.1) (unmoved made.2)) }
-    ensures meter { IfOk result (λ made. made.2.seats ≡ vec_len made.1) }
+    ensures meters { IfOk result (λ made. HaveMeters made.2 (vec_len made.1) made.1.items) }
     ensures used { IfOk result (λ made. used_over made.1.items ≡ used_in loaders) }
     ensures wanting { IfErr result (λ fault. fault ≡ RunFault.OutOfMemory) }
 {
@@ -207,14 +202,10 @@ fn hand_all(
     from: &mut Crew,
     to: &mut Crew,
 ) -> Result<(), RunFault>
-    requires own { from.old.seat.id ≡ shared.now.id }
-    requires to_own { to.old.seat.id ≡ shared.now.id }
-    requires beside { AreBeside from.old.seat.knows from.old.loaders to.old.seat.knows to.old.loaders }
+    requires crews { AreCrews shared.now from.old.seat from.old.loaders to.old.seat to.old.loaders }
     requires none { to.old.loaders ≡ [] }
-    ensures own { from.new.seat.id ≡ shared.now.id }
-    ensures to_own { to.new.seat.id ≡ shared.now.id }
-    ensures beside { OnOk result
-        (AreBeside from.new.seat.knows from.new.loaders to.new.seat.knows to.new.loaders) }
+    ensures crews { OnOk result
+        (AreCrews shared.now from.new.seat from.new.loaders to.new.seat to.new.loaders) }
     ensures handed { OnOk result
         (AreHanded (place_in turn.now) at from.old.loaders from.new.loaders to.new.loaders) }
     ensures used { OnOk result
@@ -261,13 +252,9 @@ fn add_name(turn: &Turn, at: usize, name: u16, names: &mut Vec<u16>) -> Result<(
 
 /// Hands the loader of a name on, where there is one: both of its accounts, then itself.
 fn hand_on(shared: &SharedPool, name: u16, from: &mut Crew, to: &mut Crew) -> Result<(), RunFault>
-    requires own { from.old.seat.id ≡ shared.now.id }
-    requires to_own { to.old.seat.id ≡ shared.now.id }
-    requires beside { AreBeside from.old.seat.knows from.old.loaders to.old.seat.knows to.old.loaders }
-    ensures own { from.new.seat.id ≡ shared.now.id }
-    ensures to_own { to.new.seat.id ≡ shared.now.id }
-    ensures beside { OnOk result
-        (AreBeside from.new.seat.knows from.new.loaders to.new.seat.knows to.new.loaders) }
+    requires crews { AreCrews shared.now from.old.seat from.old.loaders to.old.seat to.old.loaders }
+    ensures crews { OnOk result
+        (AreCrews shared.now from.new.seat from.new.loaders to.new.seat to.new.loaders) }
     ensures handed { OnOk result
         (IsHanded name from.old.loaders to.old.loaders from.new.loaders to.new.loaders) }
     ensures used { OnOk result

@@ -11,12 +11,9 @@ ghost use Rattle.ms_base.specs.Good.{IsGood};
 ghost use Rattle.ms_loaders.specs.Settles.{MaySettle, open_accounts, accounts_in};
 ghost use Rattle.ms_loaders.specs.System.{machine_of};
 ghost use Rattle.ms_shared.specs.SeatView.{SeatState, Gathers};
-ghost use Rattle.ms_run.specs.Joined.{HaveOtherNames, IsJoined, AreJoined, seat_of};
-ghost use Rattle.ms_run.specs.Joined.{IsWantOrUnsettled};
-ghost use Rattle.ms_run.specs.Manned.{IsManned};
+ghost use Rattle.ms_run.specs.Joined.{HaveOtherNames, IsJoined, AreJoined, IsWantOrUnsettled, seat_of};
 ghost use Rattle.ms_run.specs.Metering.{used_words_of, used_over, meter_of};
-ghost use Rattle.ms_run.specs.Shares.{Place, AreApart, IsGathered};
-ghost use Rattle.ms_run.specs.declared.share.Share.{Share as ShareState};
+ghost use Rattle.ms_run.specs.Shares.{Place, AreApart, IsGathered, StandOver};
 
 use crate::fault::RunFault;
 use crate::share::Share;
@@ -33,10 +30,7 @@ pub fn gather(
     shared: SharedPool,
     shares: Vec<Share>,
 ) -> Result<(System, Vec<MeterSeat>), RunFault>
-    requires own { All (λ (share : ShareState). share.seat.id ≡ shared.id) shares.items }
-    requires manned { All (λ (share : ShareState). IsManned share.seat.knows share.loaders)
-        shares.items }
-    requires count { shared.seats ≡ vec_len shares }
+    requires stand { StandOver shared (vec_len shares) shares.items }
     requires apart { (place : Place) × AreApart place shares.items }
     ensures gathered { IfOk result (λ ended. (place : Place) → AreApart place shares.items
         → IsGathered place shares.items ended.0.loaders) }

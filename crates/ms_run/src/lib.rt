@@ -12,6 +12,7 @@
 #![tactic(auto)]
 
 mod alone;
+mod between;
 mod blocks;
 mod dealing;
 mod fault;
@@ -19,7 +20,6 @@ mod gate;
 mod gathering;
 mod lifetimes;
 mod merging;
-mod metered;
 mod metering;
 mod phase;
 mod replaying;

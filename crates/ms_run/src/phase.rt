@@ -20,15 +20,23 @@ use crate::fault::RunFault;
 use crate::gate::Gate;
 use crate::gathering::{fault_of, gather};
 use crate::merging::merge;
-use crate::metered::Metered;
 use crate::turn::Turn;
 use crate::working::work_all;
-use ms_loaders::Answer;
+use ms_loaders::{Answer, System};
 use ms_shared::{MeterSeat, UsedMeter};
 use ms_trace::Line;
 use std::alloc::Global;
 use std::sync::Wait;
 use std::thread::Threads;
+
+/// A system, and the words that it has in use, as the meters of all phases so far counted them.
+#[derive(Drop)]
+pub struct Metered {
+    /// The system.
+    pub system: System,
+    /// The words in use, in both spaces: the sum of all tops.
+    pub used: u64,
+}
 
 /// Runs a phase, and appends the answers to its lines.
 pub fn run_phase<R: Threads + Wait + Sync, G: Gate + Sync>(

@@ -13,10 +13,10 @@ ghost use Rattle.ms_run.specs.Replay.{IsReplay, Answers, IsWanting};
 ghost use Rattle.ms_run.specs.Shares.{AreSteps};
 
 use crate::alone::answer_all;
+use crate::between::answer_between;
 use crate::fault::RunFault;
 use crate::gate::Gate;
-use crate::metered::Metered;
-use crate::phase::run_phase;
+use crate::phase::{Metered, run_phase};
 use crate::turn::Turn;
 use ms_base::Settings;
 use ms_loaders::{Replies, System};
@@ -80,7 +80,7 @@ fn run_phases<R: Threads + Wait + Sync, G: Gate + Sync>(
         run = run_phase(rt, alloc, gate, &mut turn, steps, run, &mut answers)?;
         at += count;
         if at < lines.len() {
-            run.answer_between(&lines[at], &mut answers)?;
+            answer_between(&run.system, Some(run.used), &lines[at], &mut answers)?;
             at += 1;
         }
         turn.go_on();

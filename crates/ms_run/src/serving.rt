@@ -4,7 +4,7 @@
 //! Kept true: the seat serves the worker's loaders and no other owner that holds a chunk. No lock is
 //! held while the worker is in an arena's own words. Takes memory for a new loader, a block and its
 //! chunk.
-ghost use Rattle.std.specs.Prelude.{◌≡◌, ◌≢◌, IfOk, OnOk, IfErr, OnErr, Some, None, ℕ, true, false, Bool};
+ghost use Rattle.std.specs.Prelude.{◌≡◌, ◌≢◌, IfOk, OnOk, IfErr, OnErr, Ok, Err, Some, None, ℕ, true, false, Bool};
 ghost use Rattle.ms_base.specs.Names.{named};
 ghost use Rattle.ms_base.specs.Request.{loader_of};
 ghost use Rattle.ms_base.specs.Alone.{OwnReply};
@@ -14,9 +14,9 @@ ghost use Rattle.ms_run.specs.Manned.{IsManned};
 ghost use Rattle.ms_loaders.specs.Used.{used_at};
 ghost use Rattle.ms_run.specs.Metering.{MovesNoTop};
 
-use crate::blocks::{allocate, allocate_class, free, read, write};
+use crate::blocks::{allocate, free, read, write};
 use crate::lifetimes::{new_loader, unload};
-use ms_base::{Refusal, Reply, Step};
+use ms_base::{Refusal, Reply, Space, Step};
 use ms_loaders::Loaders;
 use ms_shared::LockedPool;
 use std::alloc::Global;
@@ -67,54 +67,42 @@ fn serve<R: Wait>(
         → used_at (named loaders.new name) ≡ used_at (named loaders.old name) }
 {
     match step {
-        Step::New { loader, kind } => {
-            new_loader(alloc, pool, loaders, loader, kind)?;
-            Ok(Reply::Ok)
-        }
+        Step::New { loader, kind } => done(new_loader(alloc, pool, loaders, loader, kind)),
         Step::Alloc {
             loader,
             block,
             words,
-        } => {
-            let start = allocate(pool, loaders, loader, block, words)?;
-            Ok(Reply::At(start))
-        }
+        } => Ok(Reply::At(allocate(pool, loaders, Space::NonClass, loader, block, words)?)),
         Step::Calloc {
             loader,
             block,
             words,
-        } => {
-            let start = allocate_class(pool, loaders, loader, block, words)?;
-            Ok(Reply::At(start))
-        }
+        } => Ok(Reply::At(allocate(pool, loaders, Space::Class, loader, block, words)?)),
         Step::Write {
             loader,
             block,
             index,
             value,
-        } => {
-            write(loaders, loader, block, index, value)?;
-            Ok(Reply::Ok)
-        }
+        } => done(write(loaders, loader, block, index, value)),
         Step::Read {
             loader,
             block,
             index,
-        } => {
-            let value = read(loaders, loader, block, index)?;
-            Ok(Reply::Value(value))
-        }
-        Step::Free { loader, block } => {
-            free(loaders, loader, block)?;
-            Ok(Reply::Ok)
-        }
-        Step::Unload { loader } => {
-            unload(pool, loaders, loader)?;
-            Ok(Reply::Ok)
-        }
+        } => Ok(Reply::Value(read(loaders, loader, block, index)?)),
+        Step::Free { loader, block } => done(free(loaders, loader, block)),
+        Step::Unload { loader } => done(unload(pool, loaders, loader)),
         Step::Purge => {
             let _ = pool.purge();
             Ok(Reply::Ok)
         }
     }
+}
+
+/// The reply where a call answers nothing but that it is done.
+fn done(answer: Result<(), Refusal>) -> Result<Reply, Refusal>
+    ensures done { OnOk answer (result ≡ Ok Reply.Ok) }
+    ensures refused { IfErr answer (λ refusal. result ≡ Err refusal) }
+{
+    answer?;
+    Ok(Reply::Ok)
 }

@@ -11,9 +11,9 @@ use Rattle.ms_pool.specs.Tallies.{Tallies, no_tallies}
 use Rattle.ms_shared.specs.declared.lock_rule.SeatView.{SeatView}
 use Rattle.ms_shared.specs.declared.lock_rule.LockView.{LockView}
 use Rattle.ms_shared.specs.Entries.{Entry, Has, only, all_but}
-use Rattle.ms_shared.specs.SeatView.{ServesBy, opened_by, tallies_of_both, knows_limits, knows_both, without_account, account_alone, with_account}
+use Rattle.ms_shared.specs.SeatView.{ServesBy, HandsOn, opened_by, tallies_of_both, knows_limits, knows_both, without_account, account_alone, with_account}
 use Rattle.ms_shared.specs.LockRule.{Sat, both, view_without, note_of, less_part, spare_part}
-use Rattle.ms_shared.proofs.SeatCutLemmas.{Cuts, no_tally, none_opened}
+use Rattle.ms_shared.proofs.SeatCutLemmas.{Cuts, no_tally}
 use Rattle.ms_shared.proofs.RecordLemmas.{times_cut, records_cut, has_left, has_right}
 use Rattle.ms_shared.proofs.SeatDealLemmas.{seat_of, seen_as}
 
@@ -24,7 +24,7 @@ opened_cut owner NonClass Class view some = omega arith
 opened_cut owner Class NonClass view some = omega arith
 opened_cut owner Class Class view some = omega arith
 
--- An account is cut off, and a part that knows nothing.
+-- An account is cut off.
 pub cuts_account : (owner : ℕ) (space : Space) (view : LockView) → 1 < view.parts → 0 < opened_by view.knows space
     → Cuts view (view_without owner space view) (note_of owner space view)
 cuts_account owner space view more some = record {
@@ -34,21 +34,6 @@ cuts_account owner space view more some = record {
   times = λ other. times_cut owner other view.knows.served;
   records = λ pool all. records_cut pool owner view.knows.served all;
   opened = λ one. opened_cut owner space one view.knows some;
-  tallies = λ kind. let none = no_tally kind in omega arith;
-  limits_left = refl;
-  limits_right = refl;
-  taken_left = refl;
-  taken_right = refl;
-}
-
-pub cuts_part : (view : LockView) → 1 < view.parts → Cuts view (less_part view) (spare_part view)
-cuts_part view more = record {
-  parts = omega arith;
-  some_left = omega arith;
-  some_right = omega arith;
-  times = λ owner. omega arith;
-  records = λ pool all. (all, tt);
-  opened = λ space. let none = none_opened space view.knows.limits in omega arith;
   tallies = λ kind. let none = no_tally kind in omega arith;
   limits_left = refl;
   limits_right = refl;
@@ -153,11 +138,22 @@ taker_serves from to owner space other serves = record {
   same = serves.same;
 }
 
-pub taker_counts : (from to : SeatView) (owner : ℕ) (space : Space) → opened_by (with_account owner space from to) space ≡ opened_by to space + 1
+taker_counts : (from to : SeatView) (owner : ℕ) (space : Space) → opened_by (with_account owner space from to) space ≡ opened_by to space + 1
 taker_counts from to owner NonClass = refl
 taker_counts from to owner Class = refl
 
-pub left_counts : (from : SeatView) (owner : ℕ) (space : Space) → 0 < opened_by from space
+left_counts : (from : SeatView) (owner : ℕ) (space : Space) → 0 < opened_by from space
     → opened_by (without_account owner space from) space + 1 ≡ opened_by from space
 left_counts from owner NonClass some = omega arith
 left_counts from owner Class some = omega arith
+
+pub hands_on : (from to left taker : SeatView) (account : AccountState) → left ≡ without_account account.owner account.space from
+    → taker ≡ with_account account.owner account.space from to → ServesBy from account → 0 < opened_by from account.space
+    → HandsOn from to account left taker
+hands_on from to left taker account left_is taker_is serves some = rw (left_is, taker_is) (record {
+  served = handed_serves from to account serves;
+  others = λ other differs its. left_serves from account.owner account.space other differs its;
+  to_others = λ other its. taker_serves from to account.owner account.space other its;
+  counted = taker_counts from to account.owner account.space;
+  from_counted = left_counts from account.owner account.space some;
+})

@@ -1,6 +1,6 @@
 -- A call over the lock, from the steps that it is made of: the seat finds the pool as it knows it,
 -- and knows then what the pool has become. For the calls of LockedPool.
-use Rattle.std.proofs.Common.{◌≡◌, ◌≢◌, ℕ, ◌+◌, ◌-◌, ◌<◌, Bool, List, [], ◌∷◌, sym, ap, ◌∙◌, subst, arith, None}
+use Rattle.std.proofs.Common.{◌≡◌, ◌≢◌, ℕ, ◌+◌, ◌-◌, ◌<◌, Bool, List, [], ◌∷◌, refl, sym, ap, ◌∙◌, subst, arith, None}
 use Rattle.std.specs.Prelude.{Result, Ok, Err, IfOk, OnErr, IfErr}
 use Rattle.std.specs.List.Sorted.{IsPermutation}
 use Rattle.atomic_table.specs.Seated.{TableId}
@@ -15,7 +15,9 @@ use Rattle.ms_pool.specs.Account.{AccountState}
 use Rattle.ms_pool.specs.Lending.{Adds, Grows}
 use Rattle.ms_pool.specs.Tallies.{Tallies}
 use Rattle.ms_pool.specs.Calls.{Opened, OpenedBoth, Took, GrewFrom, Grew}
+use Rattle.ms_pool.specs.Source.{LeavesRest}
 use Rattle.ms_pool.specs.Ledger.{Ledger, IsSoundLedger, Serves, chunks_of, opened_in}
+use Rattle.ms_pool.proofs.ledger.KeepsLemmas.{Keeps, keeps_serves}
 use Rattle.ms_pool.proofs.ledger.ClosedLemmas.{ClosesWell, ClosesBothWell}
 use Rattle.ms_shared.specs.declared.lock_rule.SeatView.{SeatView}
 use Rattle.ms_shared.specs.declared.lock_rule.LockView.{LockView}
@@ -98,6 +100,15 @@ module _ (old new : SeatState) (before later : Ledger) (call : IsCall old new be
     where
       stays : (space : Space) → opened_by new.knows space ≡ opened_by old.knows space
       stays space = let moved = counts_then space in let equal : opened_in later space ≡ opened_in before space = ap (λ (f : Space → ℕ). f space) same in omega arith
+
+  -- A call for one owner's account leaves the rest of the seat.
+  pub leaves_rest : (owner : ℕ) → Keeps owner before later
+      → LeavesRest (λ (seat : SeatState). ServesBy seat.knows) (λ (seat : SeatState). opened_by seat.knows) (λ (seat : SeatState). seat.knows.limits) owner old new
+  leaves_rest owner keeps = record {
+    others = λ other differs its. serves_then other other its refl (keeps_serves owner before later other keeps differs (served_by_pool before old.knows other call.known its));
+    counted = counts_stay keeps.opened;
+    limits_stay = limits_stay;
+  }
 
   -- A closed account is counted no more, and those of the other space are.
   pub close_counts : (account : AccountState) → 0 < opened_by old.knows account.space → ClosesWell before account later

@@ -15,7 +15,7 @@ use Rattle.ms_shared.specs.declared.lock_rule.SeatView.{SeatView}
 use Rattle.ms_shared.specs.declared.lock_rule.LockView.{LockView}
 use Rattle.ms_shared.specs.Entries.{times, AreRecords}
 use Rattle.ms_shared.specs.SeatView.{TallyKind, commit_of_take, reserve_of_take, commit_of_grow, room_of_grow, ids_of_open, tally_of, tallies_of_both, opened_by, knows_limits, knows_all, knows_both}
-use Rattle.ms_shared.specs.LockRule.{IsLocked, Fits, IsIdle, has_pool, count_some, first_view, own_seat, other_seats, both, nothing, no_limits}
+use Rattle.ms_shared.specs.LockRule.{IsLocked, Fits, IsIdle, has_pool, count_some, first_view, blank, both, nothing, no_limits}
 use Rattle.ms_shared.proofs.TotalLemmas.{total_cut, total_joined}
 use Rattle.ms_shared.proofs.RecordLemmas.{times-append, records_append, times_fresh, fresh_records, once_given-none}
 use Rattle.ms_shared.proofs.LockLemmas.{HasOnly, each_set, each_snoc, some_apart}
@@ -117,12 +117,13 @@ join made limits id other view w live view_free w_free state rule at apart at' =
       parts = total_joined (λ (v : LockView). v.parts) state.views id other view w new nothing (omega arith) at at' ∙ rule.parts;
     }
 
--- The seats that know nothing are cut off.
-pub cuts_seats : (view : LockView) → 2 < view.parts → Cuts view (own_seat view) (other_seats view)
-cuts_seats view more = record {
-  parts = omega arith;
-  some_left = omega arith;
-  some_right = omega arith;
+-- Parts that know nothing are cut off, and the others keep all that the view knows.
+pub cuts_blank : (view : LockView) (left right : ℕ) → left + right ≡ view.parts → 0 < left → 0 < right
+    → Cuts view (record view { parts = left }) (blank right view.knows.limits)
+cuts_blank view left right parts some_left some_right = record {
+  parts = parts;
+  some_left = some_left;
+  some_right = some_right;
   times = λ owner. omega arith;
   records = λ pool all. (all, tt);
   opened = λ space. let zero_rest = none_opened space view.knows.limits in omega arith;

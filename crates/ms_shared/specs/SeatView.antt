@@ -1,6 +1,6 @@
 -- What a seat of the lock knows of the pool, and how callers see seats and lock (this project's
 -- choice).
-use Rattle.std.specs.Prelude.{◌≡◌, ℕ, ◌+◌, ◌-◌, ◌%◌, ◌^◌, ◌≤◌, ◌==◌, cond, List, [], ◌∷◌, ◌++◌, replicate}
+use Rattle.std.specs.Prelude.{◌≡◌, ◌≢◌, ℕ, ◌+◌, ◌-◌, ◌%◌, ◌^◌, ◌≤◌, ◌==◌, cond, List, [], ◌∷◌, ◌++◌, replicate}
 use Rattle.std.specs.List.{All, sum_by}
 use Rattle.std.specs.List.Sorted.{IsPermutation}
 use Rattle.atomic_table.specs.Seated.{TableId}
@@ -135,6 +135,16 @@ with_account owner space from view =
       opened = by_space space (view.opened + 1) view.opened;
       class_opened = by_space space view.class_opened (view.class_opened + 1);
     }
+
+-- An account has gone from one seat to another. That one serves it from then on, and still what it
+-- served before; the seat that it came from serves all its other accounts. One of the count of the
+-- account's space has gone with it.
+pub record HandsOn (from_old to_old : SeatView) (account : AccountState) (from_new to_new : SeatView) : Type 0 where
+  pub served : ServesBy to_new account
+  pub others : (other : AccountState) → other.owner ≢ account.owner → ServesBy from_old other → ServesBy from_new other
+  pub to_others : (other : AccountState) → ServesBy to_old other → ServesBy to_new other
+  pub counted : opened_by to_new account.space ≡ opened_by to_old account.space + 1
+  pub from_counted : opened_by from_new account.space + 1 ≡ opened_by from_old account.space
 
 -- A lock as its callers see it: which one it is, how many seats it was made with, and the limits of
 -- its pool.

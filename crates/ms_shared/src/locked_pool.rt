@@ -8,6 +8,7 @@ ghost use Rattle.std.specs.Prelude.{◌≡◌, ◌≢◌, ◌+◌, ◌<◌, IfOk
 ghost use Rattle.ms_base.specs.declared.kind.Space.{Space};
 ghost use Rattle.ms_pool.specs.Account.{AccountState};
 ghost use Rattle.ms_base.specs.declared.kind.Space.TheVariants.{NonClass, Class};
+ghost use Rattle.ms_pool.specs.Source.{ServesBoth};
 ghost use Rattle.ms_pool.specs.Calls.{Opened, OpenedBoth, ClosedBoth, Purged, new_account};
 ghost use Rattle.ms_shared.specs.SeatView.{ServesBy, OverLock, opened_by, ids_of_open, raise};
 
@@ -125,10 +126,7 @@ impl<R: Wait> LockedPool<'_, R> {
     /// Takes all chunks of the accounts of both spaces back, by one event, and the accounts with
     /// them; the first is not the class space's. Takes no memory, and waits for the lock.
     pub fn close_both(&mut self, account: Account, class_account: Account)
-        requires served { ServesBy self.old.knows account }
-        requires class_served { ServesBy self.old.knows class_account }
-        requires space { account.space ≡ NonClass }
-        requires class_space { class_account.space ≡ Class }
+        requires both { ServesBoth ServesBy self.old.knows account class_account }
         requires counted { (space : Space) → 0 < opened_by self.old.knows space }
         ensures event { OverLock (λ before after. ClosedBoth before account class_account after)
             self.old self.new }

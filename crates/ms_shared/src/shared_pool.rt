@@ -10,11 +10,10 @@
 //! and the pool's open accounts and tallies are the sums of the seats'. `new` takes memory. What
 //! takes the lock tries its word again until it has the pool. This project's choice; HotSpot has
 //! Metaspace_lock.
-ghost use Rattle.std.specs.Prelude.{◌≡◌, ◌≢◌, ◌+◌, ◌<◌, ◌≤◌, ◌↔◌, ◌∷◌, [], Some, None, IsOk, IfOk, IfErr, vec_len};
+ghost use Rattle.std.specs.Prelude.{◌≡◌, ◌<◌, ◌≤◌, ◌↔◌, ◌∷◌, [], Some, None, IsOk, IfOk, IfErr, vec_len};
 ghost use Rattle.std.specs.List.{All};
 ghost use Rattle.ms_pool.specs.Ledger.{IsSoundLedger};
-ghost use Rattle.ms_pool.specs.Account.{AccountState};
-ghost use Rattle.ms_shared.specs.SeatView.{IsKnown, Gathers, ServesBy, opened_by, new_seats, without_account, with_account};
+ghost use Rattle.ms_shared.specs.SeatView.{IsKnown, Gathers, ServesBy, HandsOn, opened_by, new_seats, without_account, with_account};
 ghost use Rattle.ms_shared.specs.LockRule.{Moves, IsWhole, after, with_pool, taken_of, both, view_without, note_of, less_part, spare_part};
 
 use crate::lock_rule::{
@@ -145,15 +144,7 @@ impl SharedPool {
         ensures to { to.new ≡ record to.old {
           knows = with_account account.now.owner account.now.space from.old.knows to.old.knows;
         } }
-        ensures served { ServesBy to.new.knows account.now }
-        ensures others { (other : AccountState) → other.owner ≢ account.now.owner
-            → ServesBy from.old.knows other → ServesBy from.new.knows other }
-        ensures to_others { (other : AccountState) → ServesBy to.old.knows other
-            → ServesBy to.new.knows other }
-        ensures counted { opened_by to.new.knows account.now.space
-            ≡ opened_by to.old.knows account.now.space + 1 }
-        ensures from_counted { opened_by from.new.knows account.now.space + 1
-            ≡ opened_by from.old.knows account.now.space }
+        ensures handed { HandsOn from.old.knows to.old.knows account.now from.new.knows to.new.knows }
     {
         self.pass::<Brand>(&mut from.seat, &mut to.seat, account);
     }

@@ -1,5 +1,5 @@
 -- Fields have no fault exactly where they are those of a valid command, and of one command only.
-use Rattle.std.proofs.Common.{◌≡◌, ℕ, ◌-◌, ◌^◌, ◌<◌, Bool, true, false, cond, List, [], ◌∷◌, refl, arith, Option, Some, None, codes}
+use Rattle.std.proofs.Common.{◌≡◌, ℕ, ◌-◌, ◌^◌, ◌<◌, Bool, true, false, cond, List, [], ◌∷◌, refl, ap, arith, Option, Some, None, codes}
 use Rattle.std.proofs.lemmas.Slice.Eq.{bytes_eq-Decides}
 use Rattle.std.specs.Fmt.{decimal}
 use Rattle.std.specs.Str.{bytes_eq}
@@ -9,7 +9,8 @@ use Rattle.ms_trace.specs.declared.trace.Command.TheVariants.{Step as Asks, Sync
 use Rattle.ms_trace.specs.Grammar.{Field, kind_field, loader_field, block_field, word_field}
 use Rattle.ms_trace.specs.Faults.{after_word_fault, command_fault}
 use Rattle.ms_trace.specs.Spelling.{command_fields, IsValid}
-use Rattle.ms_trace.proofs.FieldLemmas.{number_passes, number_read, kind_passes, kind_read, IsNumeral, IsKindWord, Passes, Pass, none, more, no_fault_from_pass, pass_from_no_fault}
+use Rattle.ms_trace.proofs.FieldLemmas.{number_passes, number_read, kind_passes, kind_read, IsNumeral, IsKindWord}
+use Rattle.ms_trace.proofs.FieldLemmas.{Passes, Pass, none, more, no_fault_from_pass, pass_from_no_fault}
 
 -- Fields of numbers within their bounds pass.
 loader_passes : (n : ℕ) → n < 2 ^ 16 → Passes loader_field (decimal n)
@@ -63,28 +64,45 @@ new_read (more loader (more kind none)) =
     let k : IsKindWord _ = kind_read kind in
     record { command = Asks (New l.value k.kind); valid = omega (arith, l.low); fields_are = rw l.written (rw k.written refl) }
 
-alloc_read : {rest : List (List ℕ)} → Pass (loader_field ∷ block_field ∷ word_field ∷ []) rest
-    → IsSpelled (codes "alloc" ∷ rest)
-alloc_read (more loader (more block (more words none))) =
+-- Fields that pass as a loader, a block and a word are numbers within their bounds.
+record AreThree (rest : List (List ℕ)) : Type 0 where
+  loader : ℕ
+  block : ℕ
+  word : ℕ
+  valid : (loader < 2 ^ 16) × (block < 2 ^ 32) × (word < 2 ^ 64)
+  written : decimal loader ∷ decimal block ∷ decimal word ∷ [] ≡ rest
+
+three_read : {rest : List (List ℕ)} → Pass (loader_field ∷ block_field ∷ word_field ∷ []) rest → AreThree rest
+three_read (more loader (more block (more word none))) =
     let l : IsNumeral (2 ^ 16 - 1) _ = loader_read loader in
     let b : IsNumeral (2 ^ 32 - 1) _ = block_read block in
-    let w : IsNumeral (2 ^ 64 - 1) _ = word_read words in
+    let w : IsNumeral (2 ^ 64 - 1) _ = word_read word in
     record {
-      command = Asks (Alloc l.value b.value w.value);
+      loader = l.value;
+      block = b.value;
+      word = w.value;
       valid = (omega (arith, l.low), omega (arith, b.low), omega (arith, w.low));
-      fields_are = rw l.written (rw b.written (rw w.written refl));
+      written = rw l.written (rw b.written (rw w.written refl));
+    }
+
+alloc_read : {rest : List (List ℕ)} → Pass (loader_field ∷ block_field ∷ word_field ∷ []) rest
+    → IsSpelled (codes "alloc" ∷ rest)
+alloc_read pass =
+    let three = three_read pass in
+    record {
+      command = Asks (Alloc three.loader three.block three.word);
+      valid = three.valid;
+      fields_are = ap (λ rest. codes "alloc" ∷ rest) three.written;
     }
 
 calloc_read : {rest : List (List ℕ)} → Pass (loader_field ∷ block_field ∷ word_field ∷ []) rest
     → IsSpelled (codes "calloc" ∷ rest)
-calloc_read (more loader (more block (more words none))) =
-    let l : IsNumeral (2 ^ 16 - 1) _ = loader_read loader in
-    let b : IsNumeral (2 ^ 32 - 1) _ = block_read block in
-    let w : IsNumeral (2 ^ 64 - 1) _ = word_read words in
+calloc_read pass =
+    let three = three_read pass in
     record {
-      command = Asks (Calloc l.value b.value w.value);
-      valid = (omega (arith, l.low), omega (arith, b.low), omega (arith, w.low));
-      fields_are = rw l.written (rw b.written (rw w.written refl));
+      command = Asks (Calloc three.loader three.block three.word);
+      valid = three.valid;
+      fields_are = ap (λ rest. codes "calloc" ∷ rest) three.written;
     }
 
 write_read : {rest : List (List ℕ)} → Pass (loader_field ∷ block_field ∷ word_field ∷ word_field ∷ []) rest
@@ -102,21 +120,23 @@ write_read (more loader (more block (more index (more value none)))) =
 
 read_read : {rest : List (List ℕ)} → Pass (loader_field ∷ block_field ∷ word_field ∷ []) rest
     → IsSpelled (codes "read" ∷ rest)
-read_read (more loader (more block (more index none))) =
-    let l : IsNumeral (2 ^ 16 - 1) _ = loader_read loader in
-    let b : IsNumeral (2 ^ 32 - 1) _ = block_read block in
-    let i : IsNumeral (2 ^ 64 - 1) _ = word_read index in
+read_read pass =
+    let three = three_read pass in
     record {
-      command = Asks (Read l.value b.value i.value);
-      valid = (omega (arith, l.low), omega (arith, b.low), omega (arith, i.low));
-      fields_are = rw l.written (rw b.written (rw i.written refl));
+      command = Asks (Read three.loader three.block three.word);
+      valid = three.valid;
+      fields_are = ap (λ rest. codes "read" ∷ rest) three.written;
     }
 
 free_read : {rest : List (List ℕ)} → Pass (loader_field ∷ block_field ∷ []) rest → IsSpelled (codes "free" ∷ rest)
 free_read (more loader (more block none)) =
     let l : IsNumeral (2 ^ 16 - 1) _ = loader_read loader in
     let b : IsNumeral (2 ^ 32 - 1) _ = block_read block in
-    record { command = Asks (Free l.value b.value); valid = (omega (arith, l.low), omega (arith, b.low)); fields_are = rw l.written (rw b.written refl) }
+    record {
+      command = Asks (Free l.value b.value);
+      valid = (omega (arith, l.low), omega (arith, b.low));
+      fields_are = rw l.written (rw b.written refl);
+    }
 
 unload_read : {rest : List (List ℕ)} → Pass (loader_field ∷ []) rest → IsSpelled (codes "unload" ∷ rest)
 unload_read (more loader none) =

@@ -1,5 +1,6 @@
 -- Cutting at a byte undoes joining with it.
-use Rattle.std.proofs.Common.{◌≡◌, ℕ, get_or, ◌+◌, ◌≤◌, not, cond, ltb, length, take, drop, Option, Some, None, arith, Bool, true, false, eqb, List, [], ◌∷◌, refl, ◌∙◌, ap}
+use Rattle.std.proofs.Common.{◌≡◌, ℕ, get_or, ◌+◌, ◌≤◌, not, cond, ltb, length, take, drop, Option, Some, None, arith}
+use Rattle.std.proofs.Common.{Bool, true, false, eqb, List, [], ◌∷◌, refl, ◌∙◌, ap}
 use Rattle.std.proofs.lemmas.Bool.{not-true, ltb-true, ltb-false, lt-ltb, le-ltb}
 use Rattle.std.proofs.lemmas.List.Splits.{slice_split_none, slice_split_at, slice_split_first}
 use Rattle.std.proofs.lemmas.List.Sums.{prefix_len_passes, position_or_len_is}
@@ -48,8 +49,12 @@ not_true false never = refl
 pub position_from_first : (p : ℕ → Bool) (text : List ℕ) (found : Option ℕ) → IsFirstByte p text found
     → found ≡ position p text
 position_from_first p text None nowhere =
-    let none : position_or_len p text ≡ length text = position_or_len_is p text (length text) 0 (omega arith) (λ k below. not_true (p (get_or text k 0)) (nowhere k (omega arith) below)) (λ below. absurd (omega (arith, below))) in
+    let none : position_or_len p text ≡ length text =
+    position_or_len_is p text (length text) 0 (omega arith)
+    (λ k below. not_true (p (get_or text k 0)) (nowhere k (omega arith) below)) (λ below. absurd (omega (arith, below))) in
     rw none (rw (le-ltb (length text) (length text) (omega arith)) refl)
 position_from_first p text (Some at) (first, here) =
-    let place : position_or_len p text ≡ at = position_or_len_is p text at 0 (omega (arith, first.high)) (λ k below. not_true (p (get_or text k 0)) (first.before k (omega arith) below)) (λ below. here) in
+    let place : position_or_len p text ≡ at =
+    position_or_len_is p text at 0 (omega (arith, first.high))
+    (λ k below. not_true (p (get_or text k 0)) (first.before k (omega arith) below)) (λ below. here) in
     rw place (rw (lt-ltb at (length text) first.high) refl)

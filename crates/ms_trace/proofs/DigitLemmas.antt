@@ -1,5 +1,6 @@
 -- Numbers as fields: `decimal` writes what `is_number` accepts, and nothing else.
-use Rattle.std.proofs.Common.{zero, suc, add-one, ◌⊎◌, ⊎_elim, ◌-◌, ◌*◌, take, ◌≡◌, ℕ, ◌+◌, ◌^◌, ◌<◌, ◌≤◌, true, false, ◌&&◌, eqb, List, [], ◌∷◌, length, get_or, refl, sym, ap, arith}
+use Rattle.std.proofs.Common.{zero, suc, add-one, ◌⊎◌, ⊎_elim, ◌-◌, ◌*◌, take, ◌≡◌, ℕ, ◌+◌, ◌^◌, ◌<◌, ◌≤◌, true, false}
+use Rattle.std.proofs.Common.{◌&&◌, eqb, List, [], ◌∷◌, length, get_or, refl, sym, ap, arith}
 use Rattle.std.proofs.lemmas.Bool.Decides.{nat_tests}
 use Rattle.std.proofs.lemmas.Fmt.{digits_decimal, digits_value-decimal, decimal-digits_value, first_decimal, decimal_nonempty, decimal_digit}
 use Rattle.std.proofs.lemmas.Str.Parse.{IsNumeralModel, numerals_by_value, tells_all_ascii_digits, digits_value-take-le}

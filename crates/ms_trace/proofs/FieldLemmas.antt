@@ -1,6 +1,7 @@
 -- Fields without a fault: each is the text of a number or a kind, and there are as many as the word
 -- has.
-use Rattle.std.proofs.Common.{◌≡◌, ℕ, ◌⊎◌, get_or, suc, ◌^◌, ◌<◌, ◌≤◌, Bool, true, false, cond, not, ◌||◌, eqb, ltb, List, [], ◌∷◌, length, refl, sym, ap, arith, Option, Some, None}
+use Rattle.std.proofs.Common.{◌≡◌, ℕ, ◌⊎◌, get_or, suc, ◌^◌, ◌<◌, ◌≤◌, Bool, true, false, cond, not, ◌||◌, eqb, ltb}
+use Rattle.std.proofs.Common.{List, [], ◌∷◌, length, refl, sym, ap, arith, Option, Some, None}
 use Rattle.std.proofs.lemmas.Bool.{both_ways, lt-ltb}
 use Rattle.std.proofs.lemmas.Bool.Decides.{nat_tests}
 use Rattle.std.proofs.lemmas.Slice.Eq.{bytes_eq-Decides}
@@ -52,14 +53,16 @@ long_form : (digits : Bool) (greatest : ℕ) (bytes : List ℕ) → digits ≡ a
     ltb greatest (digits_value 10 bytes) ≡ true → Some (cond digits NumberTooLarge BadNumber) ≡ field_fault (number_field greatest) bytes
 long_form true greatest bytes e from to large = rw (from (sym e)) (rw large refl)
 long_form false greatest bytes e from to large =
-    let no : is_number bytes ≡ false = elim (is_number bytes) as (λ b. is_number bytes ≡ b → b ≡ false) [ true ↦ λ f. absurd (both_ways _ (sym e) (to f)) | false ↦ λ f. refl ] refl in
+    let no : is_number bytes ≡ false = elim (is_number bytes) as (λ b. is_number bytes ≡ b → b ≡ false)
+    [ true ↦ λ f. absurd (both_ways _ (sym e) (to f)) | false ↦ λ f. refl ] refl in
     rw no refl
 
 pub long_fault : (greatest : ℕ) (bytes : List ℕ) → greatest < 2 ^ 64 → 2 ^ 64 ≤ digits_value 10 bytes → 0 < length bytes
     → ((get_or bytes 0 0 ≡ 48) × (length bytes ≡ 1)) ⊎ (get_or bytes 0 0 ≡ 48 → ⊥) →
     Some (cond (list_all is_ascii_digit bytes) NumberTooLarge BadNumber) ≡ field_fault (number_field greatest) bytes
 long_fault greatest bytes small long some either =
-    long_form _ greatest bytes (list_all-digits bytes) (λ all. is_number_from_digits bytes all some either) (λ number. (plain_from_is_number bytes number).digits)
+    long_form _ greatest bytes (list_all-digits bytes)
+    (λ all. is_number_from_digits bytes all some either) (λ number. (plain_from_is_number bytes number).digits)
     (lt-ltb greatest (digits_value 10 bytes) (omega arith))
 
 -- The word of a kind has no fault.

@@ -1,5 +1,6 @@
 -- The loop of printing, and that a printed trace reads as itself.
-use Rattle.std.proofs.Common.{◌≡◌, ℕ, inl, inr, zero, suc, not, ◌&&◌, ◌+◌, ◌-◌, ◌^◌, ◌<◌, ◌≤◌, Bool, true, false, eqb, ltb, leb, List, [], ◌∷◌, ◌++◌, length, get_or, drop, replicate, refl, ◌∙◌, ap, arith, add-zero, add-one, append_assoc}
+use Rattle.std.proofs.Common.{◌≡◌, ℕ, inl, inr, zero, suc, not, ◌&&◌, ◌+◌, ◌-◌, ◌^◌, ◌<◌, ◌≤◌, Bool, true, false, eqb}
+use Rattle.std.proofs.Common.{ltb, leb, List, [], ◌∷◌, ◌++◌, length, get_or, drop, replicate, refl, ◌∙◌, ap, arith, add-zero, add-one, append_assoc}
 use Rattle.std.proofs.lemmas.Bool.{and_parts, and_from, not-true, ltb-true, leb-true}
 use Rattle.std.proofs.lemmas.Bool.Decides.{nat_tests}
 use Rattle.std.proofs.lemmas.Fmt.{digits_decimal}
@@ -60,14 +61,18 @@ both_clean one other e f = list_all-append _ one other ∙ and_from _ _ e f
 spelling_is_clean : (command : Command) → IsValid command → is_clean (spelling_of command) ≡ true
 spelling_is_clean (Asks (New loader kind)) h = both_clean (decimal loader) (32 ∷ kind_word kind) (loader_is_clean loader h) (kind_is_clean kind)
 spelling_is_clean (Asks (Alloc loader block words)) (l, b, w) =
-    both_clean (decimal loader) _ (loader_is_clean loader l) (both_clean (decimal block) (32 ∷ decimal words) (block_is_clean block b) (number_is_clean words w))
+    both_clean (decimal loader) _ (loader_is_clean loader l)
+    (both_clean (decimal block) (32 ∷ decimal words) (block_is_clean block b) (number_is_clean words w))
 spelling_is_clean (Asks (Calloc loader block words)) (l, b, w) =
-    both_clean (decimal loader) _ (loader_is_clean loader l) (both_clean (decimal block) (32 ∷ decimal words) (block_is_clean block b) (number_is_clean words w))
+    both_clean (decimal loader) _ (loader_is_clean loader l)
+    (both_clean (decimal block) (32 ∷ decimal words) (block_is_clean block b) (number_is_clean words w))
 spelling_is_clean (Asks (Write loader block index value)) (l, b, i, v) =
     both_clean (decimal loader) _ (loader_is_clean loader l)
-    (both_clean (decimal block) _ (block_is_clean block b) (both_clean (decimal index) (32 ∷ decimal value) (number_is_clean index i) (number_is_clean value v)))
+    (both_clean (decimal block) _ (block_is_clean block b)
+    (both_clean (decimal index) (32 ∷ decimal value) (number_is_clean index i) (number_is_clean value v)))
 spelling_is_clean (Asks (Read loader block index)) (l, b, i) =
-    both_clean (decimal loader) _ (loader_is_clean loader l) (both_clean (decimal block) (32 ∷ decimal index) (block_is_clean block b) (number_is_clean index i))
+    both_clean (decimal loader) _ (loader_is_clean loader l)
+    (both_clean (decimal block) (32 ∷ decimal index) (block_is_clean block b) (number_is_clean index i))
 spelling_is_clean (Asks (Free loader block)) (l, b) = both_clean (decimal loader) (32 ∷ decimal block) (loader_is_clean loader l) (block_is_clean block b)
 spelling_is_clean (Asks (Unload loader)) h = loader_is_clean loader h
 spelling_is_clean (Asks Purge) h = refl
@@ -80,7 +85,8 @@ some_part text = omega (arith, length-slice_split (λ byte. eqb byte 10) text)
 
 lines_of-line : (line text : List ℕ) → is_clean line ≡ true → lines_of (line ++ 10 ∷ text) ≡ line ∷ lines_of text
 lines_of-line line text clean =
-    ap without_empty_end (slice_split_at (λ byte. eqb byte 10) line 10 text (All-from_recursion (λ byte. eqb byte 10 ≡ false) line (clean_parts line clean)) refl)
+    ap without_empty_end (slice_split_at (λ byte. eqb byte 10) line 10 text
+    (All-from_recursion (λ byte. eqb byte 10 ≡ false) line (clean_parts line clean)) refl)
     ∙ line_first line (slice_split (λ byte. eqb byte 10) text) (some_part text)
 
 -- Empty lines before lines that read.
@@ -123,7 +129,8 @@ joined text gap spelled rest = simp append_assoc refl
 -- What is printed of a line is the next part of the text.
 pub line_printed : (items : List Line) (i last : ℕ) (d : Line) (text whole : List ℕ) → i < length items
     → text ++ text_from (last + 1) (drop i items) ≡ whole →
-    text ++ replicate ((get_or items i d).number - last - 1) 10 ++ spelling_of (get_or items i d).command ++ 10 ∷ [] ++ text_from ((get_or items i d).number + 1) (drop (i + 1) items) ≡ whole
+    text ++ replicate ((get_or items i d).number - last - 1) 10 ++ spelling_of (get_or items i d).command
+    ++ 10 ∷ [] ++ text_from ((get_or items i d).number + 1) (drop (i + 1) items) ≡ whole
 line_printed items i last d text whole inside e =
     let line : Line = get_or items i d in
     let gap : line.number - last - 1 ≡ line.number - (last + 1) = omega arith in

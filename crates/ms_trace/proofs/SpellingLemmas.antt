@@ -1,6 +1,7 @@
 -- The spelling of a valid command is cut into its fields, is no silent line, and is that of no other
 -- command. So a line has no fault exactly where it is silent or spells a valid command.
-use Rattle.std.proofs.Common.{◌≡◌, ℕ, ◌⊎◌, inl, inr, ⊎_elim, IsTrue, get_or, length-append, ◌^◌, ◌<◌, ◌≤◌, Bool, not, true, false, cond, ltb, eqb, List, [], ◌∷◌, length, refl, sym, ◌∙◌, ap, arith, Option, Some, None, codes}
+use Rattle.std.proofs.Common.{◌≡◌, ℕ, ◌⊎◌, inl, inr, ⊎_elim, IsTrue, get_or, length-append, ◌^◌, ◌<◌, ◌≤◌, Bool, not}
+use Rattle.std.proofs.Common.{true, false, cond, ltb, eqb, List, [], ◌∷◌, length, refl, sym, ◌∙◌, ap, arith, Option, Some, None, codes}
 use Rattle.std.proofs.lemmas.Bool.Decides.{nat_tests}
 use Rattle.std.proofs.lemmas.Fmt.{length-decimal-le}
 use Rattle.std.proofs.lemmas.List.Elements.{All-from_recursion}
@@ -206,7 +207,9 @@ pub record IsAllowed (number : ℕ) (line : List ℕ) : Type 0 where
 
 pub allowed_from_no_fault : (number : ℕ) (line : List ℕ) → fault_of number line ≡ None → IsAllowed number line
 allowed_from_no_fault number line e =
-    let parts : (ltb most_lines number ≡ false) × (ltb most_bytes (length line) ≡ false) × ((is_silent line ≡ true) ⊎ (command_fault (fields_of line) ≡ None)) = no_fault_form _ _ _ _ e in
+    let parts : (ltb most_lines number ≡ false) × (ltb most_bytes (length line) ≡ false)
+    × ((is_silent line ≡ true) ⊎ (command_fault (fields_of line) ≡ None)) =
+    no_fault_form _ _ _ _ e in
     record {
       few = grind (arith, nat_tests, parts.0);
       short = grind (arith, nat_tests, parts.1);

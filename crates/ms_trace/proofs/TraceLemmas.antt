@@ -1,5 +1,6 @@
 -- Lines that read as a trace against lines without a fault: the laws, and the steps of reading.
-use Rattle.std.proofs.Common.{◌≡◌, ℕ, ◌⊎◌, inl, inr, ⊎_elim, IsTrue, suc, ◌+◌, ◌<◌, ◌≤◌, true, List, [], ◌∷◌, ◌++◌, length, refl, sym, ◌∙◌, ap, arith, add-zero, Option, Some, None}
+use Rattle.std.proofs.Common.{◌≡◌, ℕ, ◌⊎◌, inl, inr, ⊎_elim, IsTrue, suc, ◌+◌, ◌<◌, ◌≤◌, true, List, [], ◌∷◌, ◌++◌}
+use Rattle.std.proofs.Common.{length, refl, sym, ◌∙◌, ap, arith, add-zero, Option, Some, None}
 use Rattle.std.proofs.lemmas.Bool.{both_ways, and_from, lt-ltb, le-leb}
 use Rattle.ms_trace.specs.declared.fault.FaultKind.{FaultKind}
 use Rattle.ms_trace.specs.declared.trace.Command.{Command}
@@ -147,7 +148,8 @@ same_kind : (fault : Option FaultKind) (kind other_kind : FaultKind) → fault �
     → kind ≡ other_kind
 same_kind fault kind other_kind e f = cc
 
-pub one_fault : (number at other_at : ℕ) (before other_before : List (List ℕ)) (line other_line : List ℕ) (after other_after : List (List ℕ)) (kind other_kind : FaultKind) →
+pub one_fault : (number at other_at : ℕ) (before other_before : List (List ℕ))
+    (line other_line : List ℕ) (after other_after : List (List ℕ)) (kind other_kind : FaultKind) →
     before ++ line ∷ after ≡ other_before ++ other_line ∷ other_after → AreFaultless number before → AreFaultless number other_before →
     at ≡ number + length before → other_at ≡ number + length other_before →
     fault_of at line ≡ Some kind → fault_of other_at other_line ≡ Some other_kind → IsSameFault at other_at kind other_kind

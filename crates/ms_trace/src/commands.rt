@@ -2,12 +2,13 @@
 //!
 //!     alloc 1 10          the word decides how many fields follow and what each of them is;
 //!     ----- - --          their number is checked before the first of them is read
-ghost use Rattle.std.specs.Prelude.{◌≡◌, ◌∷◌, IfOk, IfSome, IsNone, IsTrue, codes};
+ghost use Rattle.std.specs.Prelude.{◌≡◌, [], ◌∷◌, Some, IfOk, IfSome, IsNone, IsTrue, codes, decimal};
 ghost use Rattle.std.specs.Result.{result_err};
 ghost use Rattle.ms_trace.specs.Cutting.{fields_in};
-ghost use Rattle.ms_trace.specs.Faults.{command_fault, fault_of};
-ghost use Rattle.ms_trace.specs.Grammar.{fields_of, is_silent};
-ghost use Rattle.ms_trace.specs.Spelling.{IsValid, command_fields, spelling_of};
+ghost use Rattle.ms_trace.specs.Faults.{after_word_fault, fault_of};
+ghost use Rattle.ms_trace.specs.Grammar.{block_field, fields_of, is_silent, loader_field, word_field};
+ghost use Rattle.ms_trace.specs.Keeping.{IsReadFrom};
+ghost use Rattle.ms_trace.specs.Spelling.{IsValid, spelling_of};
 
 use crate::cutting::{cut_field, four_fields, no_fields, one_field, three_fields, two_fields};
 use crate::fault::FaultKind;
@@ -39,9 +40,7 @@ pub(crate) fn read_line(number: u32, line: &[u8]) -> Result<Option<Command>, Fau
 
 /// Reads a command line.
 fn read_command(line: &[u8]) -> Result<Command, FaultKind>
-    ensures fault { result_err result ≡ command_fault (fields_of line.now) }
-    ensures fields { IfOk result (λ command. command_fields command ≡ fields_of line.now) }
-    ensures valid { IfOk result IsValid }
+    ensures { IsReadFrom (fields_of line.now) result }
 {
     let (word, rest) = cut_field(line);
     if word == b"new".as_slice() {
@@ -71,9 +70,7 @@ fn read_command(line: &[u8]) -> Result<Command, FaultKind>
 
 /// Reads what follows `new`: a loader and its kind.
 fn read_new(rest: Option<&[u8]>) -> Result<Command, FaultKind>
-    ensures fault { result_err result ≡ command_fault (codes "new" ∷ fields_in rest.entry) }
-    ensures fields { IfOk result (λ c. command_fields c ≡ codes "new" ∷ fields_in rest.entry) }
-    ensures valid { IfOk result IsValid }
+    ensures { IsReadFrom (codes "new" ∷ fields_in rest.entry) result }
 {
     let (loader, kind) = two_fields(rest)?;
     Ok(Command::Step(Step::New {
@@ -82,39 +79,44 @@ fn read_new(rest: Option<&[u8]>) -> Result<Command, FaultKind>
     }))
 }
 
+/// Reads what follows `alloc`, `calloc` and `read`: a loader, a block, and words or an index.
+fn read_three(rest: Option<&[u8]>) -> Result<(u16, u32, u64), FaultKind>
+    ensures fault { result_err result ≡ after_word_fault
+        (Some (loader_field ∷ block_field ∷ word_field ∷ [])) (fields_in rest.entry) }
+    ensures fields { IfOk result
+        (λ n. decimal n.0 ∷ decimal n.1 ∷ decimal n.2 ∷ [] ≡ fields_in rest.entry) }
+{
+    let (loader, block, word) = three_fields(rest)?;
+    Ok((read_loader(loader)?, read_block(block)?, read_word(word)?))
+}
+
 /// Reads what follows `alloc`: a loader, a block and its words.
 fn read_alloc(rest: Option<&[u8]>) -> Result<Command, FaultKind>
-    ensures fault { result_err result ≡ command_fault (codes "alloc" ∷ fields_in rest.entry) }
-    ensures fields { IfOk result (λ c. command_fields c ≡ codes "alloc" ∷ fields_in rest.entry) }
-    ensures valid { IfOk result IsValid }
+    ensures { IsReadFrom (codes "alloc" ∷ fields_in rest.entry) result }
 {
-    let (loader, block, words) = three_fields(rest)?;
+    let (loader, block, words) = read_three(rest)?;
     Ok(Command::Step(Step::Alloc {
-        loader: read_loader(loader)?,
-        block: read_block(block)?,
-        words: read_word(words)?,
+        loader,
+        block,
+        words,
     }))
 }
 
 /// Reads what follows `calloc`: a loader, a block and its words.
 fn read_calloc(rest: Option<&[u8]>) -> Result<Command, FaultKind>
-    ensures fault { result_err result ≡ command_fault (codes "calloc" ∷ fields_in rest.entry) }
-    ensures fields { IfOk result (λ c. command_fields c ≡ codes "calloc" ∷ fields_in rest.entry) }
-    ensures valid { IfOk result IsValid }
+    ensures { IsReadFrom (codes "calloc" ∷ fields_in rest.entry) result }
 {
-    let (loader, block, words) = three_fields(rest)?;
+    let (loader, block, words) = read_three(rest)?;
     Ok(Command::Step(Step::Calloc {
-        loader: read_loader(loader)?,
-        block: read_block(block)?,
-        words: read_word(words)?,
+        loader,
+        block,
+        words,
     }))
 }
 
 /// Reads what follows `write`: a loader, a block, an index and a value.
 fn read_write(rest: Option<&[u8]>) -> Result<Command, FaultKind>
-    ensures fault { result_err result ≡ command_fault (codes "write" ∷ fields_in rest.entry) }
-    ensures fields { IfOk result (λ c. command_fields c ≡ codes "write" ∷ fields_in rest.entry) }
-    ensures valid { IfOk result IsValid }
+    ensures { IsReadFrom (codes "write" ∷ fields_in rest.entry) result }
 {
     let (loader, block, index, value) = four_fields(rest)?;
     Ok(Command::Step(Step::Write {
@@ -127,23 +129,19 @@ fn read_write(rest: Option<&[u8]>) -> Result<Command, FaultKind>
 
 /// Reads what follows `read`: a loader, a block and an index.
 fn read_read(rest: Option<&[u8]>) -> Result<Command, FaultKind>
-    ensures fault { result_err result ≡ command_fault (codes "read" ∷ fields_in rest.entry) }
-    ensures fields { IfOk result (λ c. command_fields c ≡ codes "read" ∷ fields_in rest.entry) }
-    ensures valid { IfOk result IsValid }
+    ensures { IsReadFrom (codes "read" ∷ fields_in rest.entry) result }
 {
-    let (loader, block, index) = three_fields(rest)?;
+    let (loader, block, index) = read_three(rest)?;
     Ok(Command::Step(Step::Read {
-        loader: read_loader(loader)?,
-        block: read_block(block)?,
-        index: read_word(index)?,
+        loader,
+        block,
+        index,
     }))
 }
 
 /// Reads what follows `free`: a loader and a block.
 fn read_free(rest: Option<&[u8]>) -> Result<Command, FaultKind>
-    ensures fault { result_err result ≡ command_fault (codes "free" ∷ fields_in rest.entry) }
-    ensures fields { IfOk result (λ c. command_fields c ≡ codes "free" ∷ fields_in rest.entry) }
-    ensures valid { IfOk result IsValid }
+    ensures { IsReadFrom (codes "free" ∷ fields_in rest.entry) result }
 {
     let (loader, block) = two_fields(rest)?;
     Ok(Command::Step(Step::Free {
@@ -154,9 +152,7 @@ fn read_free(rest: Option<&[u8]>) -> Result<Command, FaultKind>
 
 /// Reads what follows `unload`: a loader.
 fn read_unload(rest: Option<&[u8]>) -> Result<Command, FaultKind>
-    ensures fault { result_err result ≡ command_fault (codes "unload" ∷ fields_in rest.entry) }
-    ensures fields { IfOk result (λ c. command_fields c ≡ codes "unload" ∷ fields_in rest.entry) }
-    ensures valid { IfOk result IsValid }
+    ensures { IsReadFrom (codes "unload" ∷ fields_in rest.entry) result }
 {
     let loader = one_field(rest)?;
     Ok(Command::Step(Step::Unload {
@@ -166,9 +162,7 @@ fn read_unload(rest: Option<&[u8]>) -> Result<Command, FaultKind>
 
 /// Reads what follows `purge`: nothing.
 fn read_purge(rest: Option<&[u8]>) -> Result<Command, FaultKind>
-    ensures fault { result_err result ≡ command_fault (codes "purge" ∷ fields_in rest.entry) }
-    ensures fields { IfOk result (λ c. command_fields c ≡ codes "purge" ∷ fields_in rest.entry) }
-    ensures valid { IfOk result IsValid }
+    ensures { IsReadFrom (codes "purge" ∷ fields_in rest.entry) result }
 {
     no_fields(rest)?;
     Ok(Command::Step(Step::Purge))
@@ -176,9 +170,7 @@ fn read_purge(rest: Option<&[u8]>) -> Result<Command, FaultKind>
 
 /// Reads what follows `sync`: nothing.
 fn read_sync(rest: Option<&[u8]>) -> Result<Command, FaultKind>
-    ensures fault { result_err result ≡ command_fault (codes "sync" ∷ fields_in rest.entry) }
-    ensures fields { IfOk result (λ c. command_fields c ≡ codes "sync" ∷ fields_in rest.entry) }
-    ensures valid { IfOk result IsValid }
+    ensures { IsReadFrom (codes "sync" ∷ fields_in rest.entry) result }
 {
     no_fields(rest)?;
     Ok(Command::Sync)
@@ -186,9 +178,7 @@ fn read_sync(rest: Option<&[u8]>) -> Result<Command, FaultKind>
 
 /// Reads what follows `report`: nothing.
 fn read_report(rest: Option<&[u8]>) -> Result<Command, FaultKind>
-    ensures fault { result_err result ≡ command_fault (codes "report" ∷ fields_in rest.entry) }
-    ensures fields { IfOk result (λ c. command_fields c ≡ codes "report" ∷ fields_in rest.entry) }
-    ensures valid { IfOk result IsValid }
+    ensures { IsReadFrom (codes "report" ∷ fields_in rest.entry) result }
 {
     no_fields(rest)?;
     Ok(Command::Report)

@@ -206,20 +206,33 @@ down_has p level h =
 pub up_has : (p m level : ℕ) → p ≤ level → level ≤ m → list_any (is_number level) (levels_up p m) ≡ true
 up_has p m level h k = in_range p (m + 1 - p) level h (omega arith)
 
+-- What the searches of committed parts find, and what those of any part find after them.
+abbrev pub committed_found : PoolState → ℕ → ℕ → ℕ → List Span
+committed_found pool p m words =
+    flat_map (found_at pool words true) (levels_up p (min (p + 2) m))
+    ++ (flat_map (found_at pool words true) (levels_down p) ++ flat_map (found_at pool words true) (levels_up p m))
+
+abbrev pub others_found : PoolState → ℕ → ℕ → ℕ → List Span
+others_found pool p m words =
+    flat_map (found_at pool words false) (levels_up p m) ++ (flat_map (found_at pool words false) (levels_down p) ++ [])
+
+pub found_in_turn : (pool : PoolState) (p m words : ℕ) → committed_found pool p m words ++ others_found pool p m words ≡ candidates pool p m words
+found_in_turn pool p m words =
+    append_assoc (flat_map (found_at pool words true) (levels_up p (min (p + 2) m))) _ (others_found pool p m words)
+    ∙ ap (λ l. flat_map (found_at pool words true) (levels_up p (min (p + 2) m)) ++ l)
+    (append_assoc (flat_map (found_at pool words true) (levels_down p)) _ (others_found pool p m words))
+
 pub found_is_enough : (pool : PoolState) (p m words : ℕ) → p ≤ m → has_committed_room pool m words ≡ true
     → is_committed_enough pool words (found_first pool p m words) ≡ true
 found_is_enough pool p m words h room =
-    subst (λ (parts : List Span). IsEnough pool words (unwrap_or (slice_get parts 0) (new_root pool))) joined
-    (first_joined (IsEnough pool words) (near ++ (down ++ up)) rest (new_root pool)
+    subst (λ (parts : List Span). IsEnough pool words (unwrap_or (slice_get parts 0) (new_root pool))) (found_in_turn pool p m words)
+    (first_joined (IsEnough pool words) (near ++ (down ++ up)) (others_found pool p m words) (new_root pool)
     (both_joined (IsEnough pool words) near (down ++ up) (enough_at_levels pool words (levels_up p (min (p + 2) m)))
     (both_joined (IsEnough pool words) down up (enough_at_levels pool words (levels_down p)) (enough_at_levels pool words (levels_up p m))))
     (λ none. some (append_none near (down ++ up) none).1))
   where
     f : ℕ → List Span
     f level = found_at pool words true level
-
-    any : ℕ → List Span
-    any level = found_at pool words false level
 
     near : List Span
     near = flat_map f (levels_up p (min (p + 2) m))
@@ -229,12 +242,6 @@ found_is_enough pool p m words h room =
 
     up : List Span
     up = flat_map f (levels_up p m)
-
-    rest : List Span
-    rest = flat_map any (levels_up p m) ++ (flat_map any (levels_down p) ++ [])
-
-    joined : (near ++ (down ++ up)) ++ rest ≡ candidates pool p m words
-    joined = append_assoc near (down ++ up) rest ∙ ap (λ l. near ++ l) (append_assoc down up rest)
 
     test : Span → Bool
     test part = nat_le part.level m && is_committed_enough pool words part

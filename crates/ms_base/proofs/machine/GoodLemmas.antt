@@ -87,6 +87,18 @@ pub record IsSoundBut (pool : PoolState) : Type 0 where
 pub sound_but : (pool : PoolState) → IsSoundPool pool → IsSoundBut pool
 sound_but pool sound = record { held = sound.held; slots = sound.slots; below = sound.below; reserved = sound.reserved }
 
+-- A sound pool that keeps only its slots with a chunk is sound but for its granules.
+pub kept_is_sound : (pool : PoolState) → IsSoundPool pool → IsSoundBut (record pool { slots = filter (has_chunk_in pool.held) pool.slots })
+kept_is_sound pool sound = record {
+  held = held_in pool.limits.policy pool.slots kept pool.held (slots_of_chunks pool.held pool.slots pool.held (all_have pool.held) sound.held.reserved) sound.held;
+  slots = IsStrictlyIncreasing-filter (has_chunk_in pool.held) pool.slots sound.slots;
+  below = All-filter (has_chunk_in pool.held) (IsSlotOf pool.space) pool.slots sound.below;
+  reserved = omega (arith, sound.reserved, length-filter (has_chunk_in pool.held) pool.slots, count_by-le-length (has_chunk_in pool.held) pool.slots);
+}
+  where
+    kept : List ℕ
+    kept = filter (has_chunk_in pool.held) pool.slots
+
 pub recommitted_is_sound : (m : Machine) → ((space : Space) → IsSoundBut (pool_of space m))
     → length (committed_now (pool_of NonClass m)) + length (committed_now (pool_of Class m)) ≤ m.limits.granules
     → (space : Space) → IsSoundPool (pool_of space (recommitted m))
@@ -223,10 +235,5 @@ good_when_purged m good = record {
     rest = record m { slots = filter (has_chunk_in held) m.slots }
 
     rest_is_sound : (space : Space) → IsSoundBut (pool_of space rest)
-    rest_is_sound NonClass = record {
-      held = held_in m.limits.policy m.slots rest.slots held (slots_of_chunks held m.slots held (all_have held) (good.pools NonClass).held.reserved) (good.pools NonClass).held;
-      slots = IsStrictlyIncreasing-filter (has_chunk_in held) m.slots (good.pools NonClass).slots;
-      below = All-filter (has_chunk_in held) (IsSlotOf NonClass) m.slots (good.pools NonClass).below;
-      reserved = omega (arith, (good.pools NonClass).reserved, length-filter (has_chunk_in held) m.slots, count_by-le-length (has_chunk_in held) m.slots);
-    }
+    rest_is_sound NonClass = kept_is_sound (pool_of NonClass m) (good.pools NonClass)
     rest_is_sound Class = sound_but (pool_of Class m) (good.pools Class)

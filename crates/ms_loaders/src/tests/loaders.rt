@@ -41,34 +41,19 @@ fn first_loader(
     Loader::new(rt.alloc(), account, class_account, kind)
 }
 
-/// Allocates, again where a growth is refused, which leaves the loader as it was.
-fn alloc_at_last(
+/// Allocates in a space, again where a growth is refused, which leaves the loader as it was.
+fn allocate_at_last(
     loader: &mut Loader,
     pool: &mut Pool,
+    space: Space,
     name: u32,
     words: u64,
 ) -> Result<Block, Refusal>
-    requires { Serves pool.old (account_in NonClass loader.old) }
-    ensures { Serves pool.new (account_in NonClass loader.new) }
+    requires { Serves pool.old (account_in space loader.old) }
+    ensures { Serves pool.new (account_in space loader.new) }
 {
-    match loader.alloc(pool, name, words) {
-        Err(Refusal::OutOfMemory) => loader.alloc(pool, name, words),
-        answer => answer,
-    }
-}
-
-/// Allocates in the class space, again where a growth is refused.
-fn calloc_at_last(
-    loader: &mut Loader,
-    pool: &mut Pool,
-    name: u32,
-    words: u64,
-) -> Result<Block, Refusal>
-    requires { Serves pool.old (account_in Class loader.old) }
-    ensures { Serves pool.new (account_in Class loader.new) }
-{
-    match loader.calloc(pool, name, words) {
-        Err(Refusal::OutOfMemory) => loader.calloc(pool, name, words),
+    match loader.allocate(pool, space, name, words) {
+        Err(Refusal::OutOfMemory) => loader.allocate(pool, space, name, words),
         answer => answer,
     }
 }
@@ -86,7 +71,7 @@ fn insert_at_last(loaders: &mut Loaders, name: u16, loader: Loader) -> Option<(R
 fn a_loader_has_blocks_by_name(rt: HostRuntime) {
     let mut pool = pool_of(&rt, Settings::DEFAULT);
     let mut loader = first_loader(&rt, &mut pool, Kind::Standard, Settings::DEFAULT);
-    let first = alloc_at_last(&mut loader, &mut pool, 1, 10);
+    let first = allocate_at_last(&mut loader, &mut pool, Space::NonClass, 1, 10);
     assert_eq!(&rt;
         first,
         Ok(Block {
@@ -94,7 +79,7 @@ fn a_loader_has_blocks_by_name(rt: HostRuntime) {
             words: 10
         })
     );
-    let second = alloc_at_last(&mut loader, &mut pool, 2, 1);
+    let second = allocate_at_last(&mut loader, &mut pool, Space::NonClass, 2, 1);
     assert_eq!(&rt;
         second,
         Ok(Block {
@@ -102,7 +87,7 @@ fn a_loader_has_blocks_by_name(rt: HostRuntime) {
             words: 2
         })
     );
-    let third = alloc_at_last(&mut loader, &mut pool, 1, 10);
+    let third = allocate_at_last(&mut loader, &mut pool, Space::NonClass, 1, 10);
     assert_eq!(&rt; third, Err(Refusal::BlockExists));
     assert_eq!(&rt; loader.write(2, 1, 7), Ok(()));
     assert_eq!(&rt;
@@ -123,7 +108,7 @@ fn a_loader_has_blocks_by_name(rt: HostRuntime) {
 fn a_loader_gives_its_accounts_back(rt: HostRuntime) {
     let mut pool = pool_of(&rt, Settings::DEFAULT);
     let mut loader = first_loader(&rt, &mut pool, Kind::Standard, Settings::DEFAULT);
-    let block = alloc_at_last(&mut loader, &mut pool, 1, 10);
+    let block = allocate_at_last(&mut loader, &mut pool, Space::NonClass, 1, 10);
     assert_eq!(&rt;
         block,
         Ok(Block {
@@ -149,10 +134,13 @@ fn a_loader_gives_its_accounts_back(rt: HostRuntime) {
 
 #[test]
 fn a_class_block_lies_in_the_class_space(rt: HostRuntime) {
-    let settings = settings_of(64, 8192, Policy::Balanced, 1);
+    let settings = settings_of(8192, Policy::Balanced, 1);
     let mut pool = pool_of(&rt, settings);
     let mut loader = first_loader(&rt, &mut pool, Kind::Standard, settings);
-    let block = calloc_at_last(&mut loader, &mut pool, 1, 10);
+    let block = match loader.calloc(&mut pool, 1, 10) {
+        Err(Refusal::OutOfMemory) => allocate_at_last(&mut loader, &mut pool, Space::Class, 1, 10),
+        answer => answer,
+    };
     let place = Block {
         start: 67108864,
         words: 10,
@@ -166,10 +154,10 @@ fn a_class_block_lies_in_the_class_space(rt: HostRuntime) {
 
 #[test]
 fn a_refused_allocation_makes_no_name(rt: HostRuntime) {
-    let settings = settings_of(64, 1, Policy::Balanced, 0);
+    let settings = settings_of(1, Policy::Balanced, 0);
     let mut pool = pool_of(&rt, settings);
     let mut loader = first_loader(&rt, &mut pool, Kind::Standard, settings);
-    let first = alloc_at_last(&mut loader, &mut pool, 1, 8192);
+    let first = allocate_at_last(&mut loader, &mut pool, Space::NonClass, 1, 8192);
     assert_eq!(&rt;
         first,
         Ok(Block {
@@ -182,11 +170,12 @@ fn a_refused_allocation_makes_no_name(rt: HostRuntime) {
         limit: 1,
         need: 1,
     };
-    assert_eq!(&rt; alloc_at_last(&mut loader, &mut pool, 2, 1), Err(refusal));
+    let second = allocate_at_last(&mut loader, &mut pool, Space::NonClass, 2, 1);
+    assert_eq!(&rt; second, Err(refusal));
     assert_eq!(&rt; loader.read(2, 0), Err(Refusal::NoBlock));
-    let zero = alloc_at_last(&mut loader, &mut pool, 2, 0);
+    let zero = allocate_at_last(&mut loader, &mut pool, Space::NonClass, 2, 0);
     assert_eq!(&rt; zero, Err(Refusal::ZeroWords));
-    let large = alloc_at_last(&mut loader, &mut pool, 2, 524289);
+    let large = allocate_at_last(&mut loader, &mut pool, Space::NonClass, 2, 524289);
     assert_eq!(&rt; large, Err(Refusal::TooLarge));
     assert_eq!(&rt; loader.free(2), Err(Refusal::NoBlock));
 }
@@ -195,7 +184,7 @@ fn a_refused_allocation_makes_no_name(rt: HostRuntime) {
 fn without_class_nodes_a_loader_is_refused_class_blocks(rt: HostRuntime) {
     let mut pool = pool_of(&rt, Settings::DEFAULT);
     let mut loader = first_loader(&rt, &mut pool, Kind::Boot, Settings::DEFAULT);
-    let block = calloc_at_last(&mut loader, &mut pool, 1, 10);
+    let block = allocate_at_last(&mut loader, &mut pool, Space::Class, 1, 10);
     let refusal = Refusal::ReserveLimit { nodes: 0, limit: 0 };
     assert_eq!(&rt; block, Err(refusal));
     assert_eq!(&rt; loader.read(1, 0), Err(Refusal::NoBlock));

@@ -3,7 +3,7 @@ use super::*;
 
 #[test]
 fn a_loader_has_blocks_in_both_spaces(rt: HostRuntime) {
-    let mut system = system_of(&rt, settings_of(64, 8192, Policy::Balanced, 1));
+    let mut system = system_of(&rt, settings_of(8192, Policy::Balanced, 1));
     let rows = [
         made(1, Kind::Standard),
         class_allocated(1, 1, 10, 67108864),
@@ -16,7 +16,7 @@ fn a_loader_has_blocks_in_both_spaces(rt: HostRuntime) {
 
 #[test]
 fn block_names_are_shared_by_both_spaces(rt: HostRuntime) {
-    let mut system = system_of(&rt, settings_of(64, 8192, Policy::Balanced, 1));
+    let mut system = system_of(&rt, settings_of(8192, Policy::Balanced, 1));
     let rows = [
         made(1, Kind::Standard),
         class_allocated(1, 1, 10, 67108864),
@@ -51,7 +51,7 @@ fn without_class_nodes_a_class_block_meets_the_limit_of_none(rt: HostRuntime) {
 
 #[test]
 fn the_class_space_is_used_up_and_stays_reserved(rt: HostRuntime) {
-    let mut system = system_of(&rt, settings_of(64, 8192, Policy::Balanced, 1));
+    let mut system = system_of(&rt, settings_of(8192, Policy::Balanced, 1));
     let rows = [
         made(1, Kind::Boot),
         class_allocated(1, 1, 524288, 67108864),
@@ -68,7 +68,7 @@ fn the_class_space_is_used_up_and_stays_reserved(rt: HostRuntime) {
 
 #[test]
 fn an_aggressive_granule_is_a_quarter(rt: HostRuntime) {
-    let mut system = system_of(&rt, settings_of(64, 8192, Policy::Aggressive, 0));
+    let mut system = system_of(&rt, settings_of(8192, Policy::Aggressive, 0));
     let rows = [made(1, Kind::Standard), allocated(1, 1, 10, 0)];
     expect_replies(&rt, &mut system, &rows);
     assert_eq!(&rt; system.committed(), 2048);
@@ -79,7 +79,7 @@ fn an_aggressive_granule_is_a_quarter(rt: HostRuntime) {
 
 #[test]
 fn under_policy_none_a_chunk_is_committed_whole_and_stays_so(rt: HostRuntime) {
-    let mut system = system_of(&rt, settings_of(64, 8192, Policy::None, 0));
+    let mut system = system_of(&rt, settings_of(8192, Policy::None, 0));
     let rows = [made(1, Kind::Boot), allocated(1, 1, 1, 0)];
     expect_replies(&rt, &mut system, &rows);
     assert_eq!(&rt; system.committed(), 64 * 8192);
@@ -91,7 +91,7 @@ fn under_policy_none_a_chunk_is_committed_whole_and_stays_so(rt: HostRuntime) {
 
 #[test]
 fn under_policy_none_the_whole_chunk_is_what_a_request_needs(rt: HostRuntime) {
-    let mut system = system_of(&rt, settings_of(64, 63, Policy::None, 0));
+    let mut system = system_of(&rt, settings_of(63, Policy::None, 0));
     let refusal = Refusal::CommitLimit {
         committed: 0,
         limit: 63,
@@ -105,7 +105,7 @@ fn under_policy_none_the_whole_chunk_is_what_a_request_needs(rt: HostRuntime) {
 
 #[test]
 fn at_the_limit_of_granules_nothing_changes(rt: HostRuntime) {
-    let mut system = system_of(&rt, settings_of(64, 1, Policy::Balanced, 0));
+    let mut system = system_of(&rt, settings_of(1, Policy::Balanced, 0));
     let refusal = Refusal::CommitLimit {
         committed: 1,
         limit: 1,
@@ -128,7 +128,14 @@ fn at_the_limit_of_granules_nothing_changes(rt: HostRuntime) {
 
 #[test]
 fn with_all_nodes_used_up_the_reserve_limit_is_told(rt: HostRuntime) {
-    let mut system = system_of(&rt, settings_of(1, 8192, Policy::Balanced, 0));
+    let settings = Settings {
+        workers: 1,
+        nodes: 1,
+        max_granules: 8192,
+        policy: Policy::Balanced,
+        class_nodes: 0,
+    };
+    let mut system = system_of(&rt, settings);
     let rows = [
         made(1, Kind::Boot),
         allocated(1, 1, 1, 0),
@@ -142,7 +149,7 @@ fn with_all_nodes_used_up_the_reserve_limit_is_told(rt: HostRuntime) {
 
 #[test]
 fn a_refused_growth_leads_to_a_committed_part(rt: HostRuntime) {
-    let mut system = system_of(&rt, settings_of(64, 2, Policy::Balanced, 0));
+    let mut system = system_of(&rt, settings_of(2, Policy::Balanced, 0));
     let rows = [
         made(1, Kind::Boot),
         allocated(1, 1, 8192, 0),
@@ -156,7 +163,7 @@ fn a_refused_growth_leads_to_a_committed_part(rt: HostRuntime) {
 
 #[test]
 fn with_the_limit_met_a_free_block_and_the_top_serve_still(rt: HostRuntime) {
-    let mut system = system_of(&rt, settings_of(64, 1, Policy::Balanced, 0));
+    let mut system = system_of(&rt, settings_of(1, Policy::Balanced, 0));
     let rows = [
         made(1, Kind::Reflection),
         allocated(1, 1, 2, 0),

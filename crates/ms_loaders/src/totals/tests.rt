@@ -3,6 +3,7 @@
 ghost use Rattle.std.specs.Prelude.{◌≤◌};
 
 use super::{LoaderRow, SpaceTotals};
+use crate::tests::{alloc, settings_of};
 use crate::{Loader, System};
 use ms_arena::ArenaTotals;
 use ms_base::{Block, Kind, Policy, Reply, Settings, Step};
@@ -26,29 +27,44 @@ const UNUSED: SpaceTotals = SpaceTotals {
     free: [0, 0, 0, 0, 0, 0, 0, 0, 0, 0, 0, 0, 0],
 };
 
-fn made(loader: u16, kind: Kind) -> Step {
-    Step::New { loader, kind }
+/// A space of one node, with one granule committed, whose chunks are whole fronts and have no free
+/// block.
+fn one_node(
+    chunks: u32,
+    capacity: u64,
+    used: u64,
+    live: u64,
+    held: [u32; 13],
+    free: [u32; 13],
+) -> SpaceTotals
+    requires { live ≤ used }
+{
+    SpaceTotals {
+        nodes: 1,
+        reserved: 1048576,
+        granules: 1,
+        committed: 8192,
+        chunks,
+        capacity,
+        fronts: capacity,
+        used,
+        live,
+        free_blocks: 0,
+        waste: used - live,
+        held,
+        free,
+    }
 }
 
-fn alloc(loader: u16, block: u32, words: u64) -> Step {
-    Step::Alloc {
-        loader,
-        block,
-        words,
-    }
+fn made(loader: u16, kind: Kind) -> Step {
+    Step::New { loader, kind }
 }
 
 /// Makes a system that has taken the steps, none of which is refused.
 fn after(rt: &(impl Abort + AllocGlobal), class_nodes: u32, steps: &[Step]) -> System
     requires { class_nodes ≤ 16 }
 {
-    let settings = Settings {
-        workers: 1,
-        nodes: 64,
-        max_granules: 8192,
-        policy: Policy::Balanced,
-        class_nodes,
-    };
+    let settings = settings_of(8192, Policy::Balanced, class_nodes);
     let mut system = System::new(rt.alloc(), settings).expect(rt, "a system");
     for step in steps {
         let reply = system.step(*step);
@@ -72,24 +88,9 @@ fn one_block_of_ten_words_is_told(rt: HostRuntime) {
     let system = after(&rt, 0, &[made(1, Kind::Standard), alloc(1, 1, 10)]);
     let totals = system.totals().expect(&rt, "totals");
     assert_eq!(rt; totals.loaders, 1);
-    assert_eq!(rt;
-        totals.space,
-        SpaceTotals {
-            nodes: 1,
-            reserved: 1048576,
-            granules: 1,
-            committed: 8192,
-            chunks: 1,
-            capacity: 512,
-            fronts: 512,
-            used: 10,
-            live: 10,
-            free_blocks: 0,
-            waste: 0,
-            held: [0, 0, 0, 0, 0, 0, 0, 0, 0, 0, 1, 0, 0],
-            free: [1, 1, 1, 1, 1, 1, 1, 1, 1, 1, 1, 0, 0],
-        }
-    );
+    let held = [0, 0, 0, 0, 0, 0, 0, 0, 0, 0, 1, 0, 0];
+    let free = [1, 1, 1, 1, 1, 1, 1, 1, 1, 1, 1, 0, 0];
+    assert_eq!(rt; totals.space, one_node(1, 512, 10, 10, held, free));
     assert_eq!(rt; totals.class_space, UNUSED);
     let row = LoaderRow {
         name: 1,
@@ -155,39 +156,15 @@ fn both_spaces_and_two_loaders_are_told(rt: HostRuntime) {
 
 // The second chunk is the lowest part of the first one's buddy, which was split twice.
 fn worked_space() -> SpaceTotals {
-    SpaceTotals {
-        nodes: 1,
-        reserved: 1048576,
-        granules: 1,
-        committed: 8192,
-        chunks: 2,
-        capacity: 640,
-        fronts: 640,
-        used: 113,
-        live: 112,
-        free_blocks: 0,
-        waste: 1,
-        held: [0, 0, 0, 0, 0, 0, 0, 0, 0, 0, 1, 0, 1],
-        free: [1, 1, 1, 1, 1, 1, 1, 1, 1, 1, 0, 1, 1],
-    }
+    let held = [0, 0, 0, 0, 0, 0, 0, 0, 0, 0, 1, 0, 1];
+    let free = [1, 1, 1, 1, 1, 1, 1, 1, 1, 1, 0, 1, 1];
+    one_node(2, 640, 113, 112, held, free)
 }
 
 fn worked_class_space() -> SpaceTotals {
-    SpaceTotals {
-        nodes: 1,
-        reserved: 1048576,
-        granules: 1,
-        committed: 8192,
-        chunks: 1,
-        capacity: 128,
-        fronts: 128,
-        used: 4,
-        live: 4,
-        free_blocks: 0,
-        waste: 0,
-        held: [0, 0, 0, 0, 0, 0, 0, 0, 0, 0, 0, 0, 1],
-        free: [1, 1, 1, 1, 1, 1, 1, 1, 1, 1, 1, 1, 1],
-    }
+    let held = [0, 0, 0, 0, 0, 0, 0, 0, 0, 0, 0, 0, 1];
+    let free = [1, 1, 1, 1, 1, 1, 1, 1, 1, 1, 1, 1, 1];
+    one_node(1, 128, 4, 4, held, free)
 }
 
 #[test]
@@ -206,26 +183,21 @@ fn a_loader_tells_the_sums_over_its_arenas(rt: HostRuntime) {
         })
     );
     let (arena, class_arena) = loader.totals();
-    let told = ArenaTotals {
-        chunks: 1,
-        capacity: 512,
-        fronts: 512,
-        used: 10,
-        live: 10,
-        free_blocks: 0,
-        waste: 0,
-    };
-    let none = ArenaTotals {
-        chunks: 0,
-        capacity: 0,
-        fronts: 0,
-        used: 0,
-        live: 0,
-        free_blocks: 0,
-        waste: 0,
-    };
-    assert_eq!(rt; arena, told);
-    assert_eq!(rt; class_arena, none);
+    assert_eq!(rt; arena, arena_of(1, 512, 10));
+    assert_eq!(rt; class_arena, arena_of(0, 0, 0));
     assert_eq!(rt; loader.used(), 10);
     assert_eq!(rt; loader.kind(), Kind::Standard);
+}
+
+/// The sums over an arena whose words in use are all live.
+fn arena_of(chunks: u32, capacity: u64, used: u64) -> ArenaTotals {
+    ArenaTotals {
+        chunks,
+        capacity,
+        fronts: capacity,
+        used,
+        live: used,
+        free_blocks: 0,
+        waste: 0,
+    }
 }

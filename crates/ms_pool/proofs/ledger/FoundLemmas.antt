@@ -1,6 +1,6 @@
 -- Where a free part is large enough the searches find one; so a new root is taken only where a node
 -- may be reserved, and it meets no chunk.
-use Rattle.std.proofs.Common.{◌≡◌, ◌≢◌, ◌≤◌, ◌+◌, ◌-◌, ◌*◌, ℕ, zero, suc, Bool, true, false, cond, not, ◌&&◌, ◌||◌, List, [], ◌∷◌, ◌++◌, length, min, refl, sym, ap, ◌∙◌, arith, inl, inr}
+use Rattle.std.proofs.Common.{◌≡◌, ◌≢◌, ◌≤◌, ◌+◌, ◌-◌, ◌*◌, ℕ, zero, suc, Bool, true, false, cond, not, ◌&&◌, ◌||◌, List, [], ◌∷◌, ◌++◌, length, refl, sym, ap, subst, ◌∙◌, arith, inl, inr}
 use Rattle.std.specs.Prelude.{◌==◌, nat_le, Some}
 use Rattle.std.specs.Option.{unwrap_or}
 use Rattle.std.specs.List.{AllByRecursion, Any, filter, find, flat_map, list_any, list_all, range_with_len}
@@ -20,7 +20,7 @@ use Rattle.ms_base.specs.Causes.{has_room}
 use Rattle.ms_base.specs.Laws.{is_number}
 use Rattle.ms_base.specs.Pick.{candidates, found_at, levels_up, levels_down, lowest_unreserved}
 use Rattle.ms_base.proofs.granules.GranuleLemmas.{ends_in_node}
-use Rattle.ms_base.proofs.granules.NeedLemmas.{down_has, up_has}
+use Rattle.ms_base.proofs.granules.NeedLemmas.{committed_found, down_has, found_in_turn, others_found, up_has}
 
 -- What an element of a list gives is among what all give.
 some_given : {X : Type 0} (p : X → Bool) (f : ℕ → List X) (levels : List ℕ) (level : ℕ)
@@ -82,18 +82,6 @@ room_is_found pool p m words room none = both_ways (list_any is_any (candidates 
         test : Span → Bool
         test other = (other.level == part.level) && true
 
-    committed : ℕ → List Span
-    committed level = found_at pool words true level
-
-    near : List Span
-    near = flat_map committed (levels_up p (min (p + 2) m))
-
-    down : List Span
-    down = flat_map committed (levels_down p)
-
-    up : List Span
-    up = flat_map committed (levels_up p m)
-
     any_up : List Span
     any_up = flat_map any (levels_up p m)
 
@@ -101,7 +89,8 @@ room_is_found pool p m words room none = both_ways (list_any is_any (candidates 
     any_down = flat_map any (levels_down p)
 
     after_committed : list_any is_any (any_up ++ (any_down ++ [])) ≡ true → list_any is_any (candidates pool p m words) ≡ true
-    after_committed some = later_any near (down ++ (up ++ (any_up ++ (any_down ++ [])))) (later_any down (up ++ (any_up ++ (any_down ++ []))) (later_any up (any_up ++ (any_down ++ [])) some))
+    after_committed some = subst (λ (parts : List Span). list_any is_any parts ≡ true) (found_in_turn pool p m words)
+        (later_any (committed_found pool p m words) (others_found pool p m words) some)
 
 -- The lowest slot that isn't reserved is at most as many as are.
 find_within : (p : ℕ → Bool) (a n : ℕ) → unwrap_or (find p (range_with_len a n)) 0 ≤ a + n - 1

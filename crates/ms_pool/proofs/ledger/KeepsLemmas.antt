@@ -6,6 +6,7 @@ use Rattle.ms_pool.specs.Account.{AccountState}
 use Rattle.ms_pool.specs.Tallies.{Tallies}
 use Rattle.ms_pool.specs.Ledger.{Ledger, Serves, chunks_of, opened_in}
 use Rattle.ms_pool.specs.Calls.{tallied}
+use Rattle.ms_pool.specs.Source.{LeavesRest}
 use Rattle.ms_pool.proofs.ledger.LedgerOpenLemmas.{tallied_serves}
 
 -- Nothing changes but a tally.
@@ -32,4 +33,13 @@ keeps_serves owner old new other keeps differs served = record {
   some = served.some;
   given = subst (λ (n : ℕ). other.owner ≤ n) (sym keeps.given) served.given;
   chunks = subst (λ (l : List Chunk). IsPermutation l other.chunks) (sym (keeps.others other.owner differs)) served.chunks;
+}
+
+-- So a call that keeps all but an owner's loans leaves the rest of the pool.
+pub keeps_rest : (owner : ℕ) (old new : Ledger) → Keeps owner old new
+    → LeavesRest Serves opened_in (λ (ledger : Ledger). ledger.limits) owner old new
+keeps_rest owner old new keeps = record {
+  others = λ other differs served. keeps_serves owner old new other keeps differs served;
+  counted = keeps.opened;
+  limits_stay = keeps.limits;
 }

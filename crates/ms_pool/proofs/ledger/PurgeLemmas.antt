@@ -1,20 +1,14 @@
 -- Nodes without a chunk purged: the ledger stays sound, and all accounts are served still.
 use Rattle.std.proofs.Common.{List, length, refl, ap, arith}
 use Rattle.std.specs.List.{filter}
-use Rattle.std.proofs.lemmas.List.Elements.{All-filter}
-use Rattle.std.proofs.lemmas.List.Kept.{IsStrictlyIncreasing-filter}
-use Rattle.std.proofs.lemmas.List.Sums.{length-filter, count_by-le-length}
 use Rattle.ms_base.specs.declared.kind.Space.{Space}
 use Rattle.ms_base.specs.declared.kind.Space.TheVariants.{NonClass, Class}
 use Rattle.ms_base.specs.declared.span.Chunk.{Chunk}
 use Rattle.ms_base.specs.Policy.{granule_of}
-use Rattle.ms_base.specs.Spaces.{IsSlotOf}
 use Rattle.ms_base.specs.Committed.{is_committed_now}
 use Rattle.ms_base.specs.Held.{has_chunk_in}
 use Rattle.ms_base.proofs.granules.CommittedLemmas.{fewer_slots}
-use Rattle.ms_base.proofs.machine.GoodLemmas.{IsSoundBut, sound_but}
-use Rattle.ms_base.proofs.machine.HeldLemmas.{held_in}
-use Rattle.ms_base.proofs.machine.SlotLemmas.{slots_of_chunks, all_have}
+use Rattle.ms_base.proofs.machine.GoodLemmas.{IsSoundBut, kept_is_sound, sound_but}
 use Rattle.ms_pool.specs.Account.{AccountState}
 use Rattle.ms_pool.specs.Ledger.{Ledger, IsSoundLedger, Serves, purged, state_in}
 use Rattle.ms_pool.proofs.ledger.LoanLemmas.{chunks_in}
@@ -37,12 +31,7 @@ purged_is_sound old sound = ledger_is_sound old rest sound refl
     rest = record old { slots = filter (has_chunk_in held) old.slots }
 
     rest_is_sound : (space : Space) → IsSoundBut (state_in space rest)
-    rest_is_sound NonClass = record {
-      held = held_in old.limits.policy old.slots rest.slots held (slots_of_chunks held old.slots held (all_have held) (sound.spaces NonClass).held.reserved) (sound.spaces NonClass).held;
-      slots = IsStrictlyIncreasing-filter (has_chunk_in held) old.slots (sound.spaces NonClass).slots;
-      below = All-filter (has_chunk_in held) (IsSlotOf NonClass) old.slots (sound.spaces NonClass).below;
-      reserved = omega (arith, (sound.spaces NonClass).reserved, length-filter (has_chunk_in held) old.slots, count_by-le-length (has_chunk_in held) old.slots);
-    }
+    rest_is_sound NonClass = kept_is_sound (state_in NonClass old) (sound.spaces NonClass)
     rest_is_sound Class = sound_but (state_in Class old) (sound.spaces Class)
 
 pub purged_serves : (old : Ledger) (account : AccountState) → Serves old account → Serves (purged old) account

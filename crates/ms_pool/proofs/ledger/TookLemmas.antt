@@ -5,9 +5,8 @@ use Rattle.std.specs.Prelude.{Result, Ok, Err, IfOk, OnErr}
 use Rattle.ms_base.specs.declared.span.Span.{Span}
 use Rattle.ms_base.specs.declared.refusal.Refusal.{Refusal}
 use Rattle.ms_base.specs.declared.refusal.Refusal.TheVariants.{CommitLimit, ReserveLimit, OutOfMemory}
-use Rattle.ms_base.specs.Level.{size_of}
 use Rattle.ms_pool.specs.Account.{AccountState, AreChunks}
-use Rattle.ms_pool.specs.Lending.{Adds, chunk_at, span_of}
+use Rattle.ms_pool.specs.Lending.{Adds, MayTake, chunk_at, span_of}
 use Rattle.ms_pool.specs.Ledger.{Ledger, IsSoundLedger, Serves}
 use Rattle.ms_pool.specs.Calls.{Lends, TakeRefused, Took}
 use Rattle.ms_pool.proofs.ledger.KeepsLemmas.{RaisesTally, Keeps, keeps_where_tallied, serves_where_tallied, keeps_serves}
@@ -34,17 +33,15 @@ took_keeps old account wanted most words (Err refusal) new refused =
 
 -- What a request may ask.
 pub record MayAsk (wanted most words : ℕ) : Type 0 where
-  pub levels : wanted ≤ most
+  pub may : MayTake wanted most words
   pub real : most ≤ 12
-  pub some : 1 ≤ words
-  pub fits : words ≤ size_of most
 
 lends_well : (old : Ledger) (account : AccountState) (wanted most words : ℕ) (span : Span) (new : Ledger) → IsSoundLedger old
     → Serves old account
     → AreChunks account.space account.chunks → MayAsk wanted most words → (lends : Lends old account wanted most words span new)
     → TakenWell old account wanted most words lends.chunk
 lends_well old account wanted most words span new sound served chunks asks lends =
-    taken_well old account wanted most words lends.chunk sound served chunks asks.levels asks.real asks.some asks.fits lends.picked
+    taken_well old account wanted most words lends.chunk sound served chunks asks.may.levels asks.real asks.may.some asks.may.fits lends.picked
 
 -- The account that the call leaves is served.
 pub took_serves : (old : Ledger) (account : AccountState) (wanted most words : ℕ) (result : Result Span Refusal) (new : Ledger) (after : AccountState)

@@ -1,4 +1,5 @@
 //! The class space: slots from 64 on, reserved from the start, full where they are, never purged.
+use super::answers::{none_lent, one_of_512_words, over_limit};
 use super::desk::{Answer, Call, ask_all, settings};
 use crate::PoolTotals;
 use ms_base::{Policy, Refusal, Settings, Space};
@@ -14,22 +15,13 @@ fn class_chunks_start_at_slot_64(rt: HostRuntime) {
         fronts: 256,
         accounts: 1,
     };
-    let other = PoolTotals {
-        nodes: 1,
-        granules: 1,
-        lent: [0, 0, 0, 0, 0, 0, 0, 0, 0, 0, 1, 0, 0],
-        free: [1, 1, 1, 1, 1, 1, 1, 1, 1, 1, 1, 0, 0],
-        capacity: 512,
-        fronts: 512,
-        accounts: 1,
-    };
     let rows = [
         (Call::OpenBoth, Answer::Done),
         (Call::Take(1, 11, 12, 10), Answer::Chunk(67108864, 11, 256)),
         (Call::Take(0, 10, 12, 10), Answer::Chunk(0, 10, 512)),
         (Call::Committed, Answer::Count(2)),
         (Call::Totals(1), Answer::Sums(class)),
-        (Call::Totals(0), Answer::Sums(other)),
+        (Call::Totals(0), one_of_512_words()),
     ];
     let pool = settings(64, 8192, Policy::Balanced, 1);
     ask_all(&rt, rt.alloc(), pool, &rows);
@@ -49,15 +41,6 @@ fn without_class_nodes_none_of_none_are_reserved(rt: HostRuntime) {
 #[test]
 fn a_class_node_is_filled_and_never_purged(rt: HostRuntime) {
     let limit = Refusal::ReserveLimit { nodes: 1, limit: 1 };
-    let whole = PoolTotals {
-        nodes: 1,
-        granules: 0,
-        lent: [0; 13],
-        free: [2, 0, 0, 0, 0, 0, 0, 0, 0, 0, 0, 0, 0],
-        capacity: 0,
-        fronts: 0,
-        accounts: 0,
-    };
     let rows = [
         (Call::OpenBoth, Answer::Done),
         (
@@ -72,18 +55,10 @@ fn a_class_node_is_filled_and_never_purged(rt: HostRuntime) {
         (Call::Committed, Answer::Count(128)),
         (Call::CloseBoth(0, 1), Answer::Done),
         (Call::Purge, Answer::Count(0)),
-        (Call::AllTotals(Space::Class), Answer::Sums(whole)),
+        (Call::AllTotals(Space::Class), none_lent(1, 0)),
     ];
     let pool = settings(64, 8192, Policy::Balanced, 1);
     ask_all(&rt, rt.alloc(), pool, &rows);
-}
-
-fn one_more_than_two() -> Answer {
-    Answer::Refused(Refusal::CommitLimit {
-        committed: 2,
-        limit: 2,
-        need: 1,
-    })
 }
 
 /// The granules of both spaces count against the one limit.
@@ -93,8 +68,8 @@ fn both_spaces_share_the_limit_of_granules(rt: HostRuntime) {
         (Call::OpenBoth, Answer::Done),
         (Call::Take(1, 6, 6, 8192), Answer::Chunk(67108864, 6, 8192)),
         (Call::Take(0, 6, 6, 8192), Answer::Chunk(0, 6, 8192)),
-        (Call::Take(0, 6, 6, 8192), one_more_than_two()),
-        (Call::Grow(1, 67108864, 8193, true), one_more_than_two()),
+        (Call::Take(0, 6, 6, 8192), over_limit(2, 2, 1)),
+        (Call::Grow(1, 67108864, 8193, true), over_limit(2, 2, 1)),
         (Call::Close(1), Answer::Done),
         (Call::Take(0, 6, 6, 8192), Answer::Chunk(8192, 6, 8192)),
         (Call::Close(0), Answer::Done),

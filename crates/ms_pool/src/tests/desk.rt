@@ -5,7 +5,8 @@ ghost use Rattle.std.specs.Prelude.{◌≡◌, ◌≢◌, ℕ, ◌<◌, ◌≤�
 ghost use Rattle.ms_base.specs.Level.{size_of};
 ghost use Rattle.ms_pool.specs.Account.{has_chunk_at};
 ghost use Rattle.ms_pool.specs.Ledger.{Serves, opened_in};
-ghost use Rattle.ms_pool.specs.Serving.{AreServed, HasNone, StandsAt};
+ghost use Rattle.ms_pool.specs.Lending.{MayTake};
+ghost use Rattle.ms_pool.specs.Serving.{AreServed, HasNone, StandsAt, StandsAtDesk};
 
 use crate::{Account, ChunkSource, Pool, PoolTotals};
 use ms_base::{Level, Policy, Refusal, Settings, Space, Span};
@@ -162,9 +163,7 @@ fn both_opened(pool: &mut Pool, accounts: &Places) -> Result<(Account, Account),
 fn take_out(rt: &impl Abort, pool: &Pool, accounts: &mut Places, place: usize) -> Account
     requires { AreServed pool.now accounts.old.items }
     ensures there { place < length accounts.new.items }
-    ensures served { Serves pool.now result }
-    ensures others { AreServed pool.now accounts.new.items }
-    ensures apart { HasNone result.owner accounts.new.items }
+    ensures stands { StandsAtDesk pool.now result accounts.new.items }
     ensures fewer { (owner : ℕ) → HasNone owner accounts.old.items
         → HasNone owner accounts.new.items }
 {
@@ -185,9 +184,7 @@ fn taken(rt: &impl Abort, accounts: &mut Places, place: usize) -> Account
 /// Puts an account into a place.
 fn put_back(pool: &Pool, accounts: &mut Places, place: usize, account: Account)
     requires there { place < length accounts.old.items }
-    requires served { Serves pool.now account }
-    requires others { AreServed pool.now accounts.old.items }
-    requires apart { HasNone account.owner accounts.old.items }
+    requires stands { StandsAtDesk pool.now account accounts.old.items }
     ensures { AreServed pool.now accounts.new.items }
 {
     let _ = pool;
@@ -196,9 +193,7 @@ fn put_back(pool: &Pool, accounts: &mut Places, place: usize, account: Account)
 
 /// Puts an account last.
 fn put_last(rt: &impl Abort, pool: &Pool, accounts: &mut Places, account: Account)
-    requires served { Serves pool.now account }
-    requires others { AreServed pool.now accounts.old.items }
-    requires apart { HasNone account.owner accounts.old.items }
+    requires { StandsAtDesk pool.now account accounts.old.items }
     ensures served { AreServed pool.now accounts.new.items }
     ensures fewer { (owner : ℕ) → account.owner ≢ owner → HasNone owner accounts.old.items
         → HasNone owner accounts.new.items }
@@ -247,15 +242,9 @@ pub(super) fn lend_at_last(
     most: Level,
     words: u64,
 ) -> Result<Span, Refusal>
-    requires served { Serves pool.old account.old }
-    requires others { AreServed pool.old accounts.now.items }
-    requires apart { HasNone account.old.owner accounts.now.items }
-    requires levels { wanted ≤ most }
-    requires some { 1 ≤ words }
-    requires fits { words ≤ size_of most }
-    ensures served { Serves pool.new account.new }
-    ensures others { AreServed pool.new accounts.now.items }
-    ensures apart { HasNone account.new.owner accounts.now.items }
+    requires stands { StandsAtDesk pool.old account.old accounts.now.items }
+    requires asks { MayTake wanted most words }
+    ensures { StandsAtDesk pool.new account.new accounts.now.items }
 {
     match lend(pool, account, accounts, wanted, most, words) {
         Ok(span) => Ok(span),
@@ -272,15 +261,9 @@ fn lend(
     most: Level,
     words: u64,
 ) -> Result<Span, Refusal>
-    requires served { Serves pool.old account.old }
-    requires others { AreServed pool.old accounts.now.items }
-    requires apart { HasNone account.old.owner accounts.now.items }
-    requires levels { wanted ≤ most }
-    requires some { 1 ≤ words }
-    requires fits { words ≤ size_of most }
-    ensures served { Serves pool.new account.new }
-    ensures others { AreServed pool.new accounts.now.items }
-    ensures apart { HasNone account.new.owner accounts.now.items }
+    requires stands { StandsAtDesk pool.old account.old accounts.now.items }
+    requires asks { MayTake wanted most words }
+    ensures { StandsAtDesk pool.new account.new accounts.now.items }
 {
     let _ = accounts;
     ChunkSource::take(pool, account, wanted, most, words)
@@ -314,12 +297,8 @@ fn raise(
     total: u64,
     may_enlarge: bool,
 ) -> Result<Span, Refusal>
-    requires served { Serves pool.old account.old }
-    requires others { AreServed pool.old accounts.now.items }
-    requires apart { HasNone account.old.owner accounts.now.items }
-    ensures served { Serves pool.new account.new }
-    ensures others { AreServed pool.new accounts.now.items }
-    ensures apart { HasNone account.new.owner accounts.now.items }
+    requires { StandsAtDesk pool.old account.old accounts.now.items }
+    ensures { StandsAtDesk pool.new account.new accounts.now.items }
 {
     let _ = accounts;
     assert!(rt; has_chunk(account, start));

@@ -1,6 +1,7 @@
 //! Chunks that grow in their place, and why they can't.
 ghost use Rattle.std.specs.Prelude.{◌≤◌};
 
+use super::answers::over_limit;
 use super::desk::{Answer, Call, ask_all, settings};
 use crate::PoolTotals;
 use ms_base::{Level, Policy, Refusal, Settings, Space};
@@ -67,11 +68,6 @@ fn a_buddy_that_is_split_is_no_room(rt: HostRuntime) {
 
 #[test]
 fn a_chunk_is_not_enlarged_past_the_limit(rt: HostRuntime) {
-    let limit = Refusal::CommitLimit {
-        committed: 1,
-        limit: 1,
-        need: 1,
-    };
     let level_six = PoolTotals {
         nodes: 1,
         granules: 1,
@@ -84,7 +80,7 @@ fn a_chunk_is_not_enlarged_past_the_limit(rt: HostRuntime) {
     let rows = [
         (Call::Open(Space::NonClass), Answer::Done),
         (Call::Take(0, 6, 6, 8192), Answer::Chunk(0, 6, 8192)),
-        (Call::Grow(0, 0, 8193, true), Answer::Refused(limit)),
+        (Call::Grow(0, 0, 8193, true), over_limit(1, 1, 1)),
         (Call::Grow(0, 0, 8192, true), Answer::Chunk(0, 6, 8192)),
         (Call::Totals(0), Answer::Sums(level_six)),
     ];

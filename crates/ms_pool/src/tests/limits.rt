@@ -1,4 +1,5 @@
 //! Both limits, with the numbers that their refusals carry, and what a refusal leaves.
+use super::answers::{none_lent, over_limit};
 use super::desk::{Answer, Call, ask_all, settings};
 use crate::PoolTotals;
 use ms_base::{Policy, Refusal, Settings, Space};
@@ -6,11 +7,6 @@ use ms_base::{Policy, Refusal, Settings, Space};
 /// Two granules are committed: a part that is committed is found in place of the refused growth.
 #[test]
 fn two_accounts_share_a_pool_of_two_granules(rt: HostRuntime) {
-    let limit = Refusal::CommitLimit {
-        committed: 2,
-        limit: 2,
-        need: 1,
-    };
     let both = PoolTotals {
         nodes: 1,
         granules: 2,
@@ -34,7 +30,7 @@ fn two_accounts_share_a_pool_of_two_granules(rt: HostRuntime) {
         (Call::Open(Space::NonClass), Answer::Done),
         (Call::Take(0, 0, 6, 8192), Answer::Chunk(0, 0, 8192)),
         (Call::Take(1, 12, 12, 10), Answer::Chunk(524288, 12, 128)),
-        (Call::Grow(0, 0, 8212, false), Answer::Refused(limit)),
+        (Call::Grow(0, 0, 8212, false), over_limit(2, 2, 1)),
         (Call::Take(0, 2, 12, 20), Answer::Chunk(528384, 7, 4096)),
         (Call::Totals(0), Answer::Sums(both)),
         (Call::Close(0), Answer::Done),
@@ -46,11 +42,6 @@ fn two_accounts_share_a_pool_of_two_granules(rt: HostRuntime) {
 
 #[test]
 fn a_pool_of_one_granule_lends_no_word_of_a_second(rt: HostRuntime) {
-    let limit = Refusal::CommitLimit {
-        committed: 1,
-        limit: 1,
-        need: 1,
-    };
     let first_alone = PoolTotals {
         nodes: 1,
         granules: 1,
@@ -64,7 +55,7 @@ fn a_pool_of_one_granule_lends_no_word_of_a_second(rt: HostRuntime) {
         (Call::Open(Space::NonClass), Answer::Done),
         (Call::Take(0, 6, 6, 8192), Answer::Chunk(0, 6, 8192)),
         (Call::Open(Space::NonClass), Answer::Done),
-        (Call::Take(1, 10, 12, 2), Answer::Refused(limit)),
+        (Call::Take(1, 10, 12, 2), over_limit(1, 1, 1)),
         (Call::AllTotals(Space::NonClass), Answer::Sums(first_alone)),
     ];
     let pool = settings(64, 1, Policy::Balanced, 0);
@@ -93,24 +84,10 @@ fn a_pool_of_one_node_lends_two_roots(rt: HostRuntime) {
 /// A node isn't reserved for a request that the other limit refuses.
 #[test]
 fn a_refused_request_reserves_no_node(rt: HostRuntime) {
-    let limit = Refusal::CommitLimit {
-        committed: 0,
-        limit: 63,
-        need: 64,
-    };
-    let nothing = PoolTotals {
-        nodes: 0,
-        granules: 0,
-        lent: [0; 13],
-        free: [0; 13],
-        capacity: 0,
-        fronts: 0,
-        accounts: 1,
-    };
     let rows = [
         (Call::Open(Space::NonClass), Answer::Done),
-        (Call::Take(0, 0, 0, 524288), Answer::Refused(limit)),
-        (Call::AllTotals(Space::NonClass), Answer::Sums(nothing)),
+        (Call::Take(0, 0, 0, 524288), over_limit(0, 63, 64)),
+        (Call::AllTotals(Space::NonClass), none_lent(0, 1)),
         (Call::Purge, Answer::Count(0)),
         (Call::Take(0, 0, 0, 516096), Answer::Chunk(0, 0, 516096)),
         (Call::Committed, Answer::Count(63)),

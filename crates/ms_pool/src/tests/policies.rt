@@ -1,7 +1,8 @@
 //! Granules of 2048 words, and granules that stay committed.
+use super::answers::{none_lent, over_limit};
 use super::desk::{Answer, Call, ask_all, settings};
 use crate::PoolTotals;
-use ms_base::{Policy, Refusal, Space};
+use ms_base::{Policy, Space};
 
 #[test]
 fn an_aggressive_pool_commits_by_2048_words(rt: HostRuntime) {
@@ -50,24 +51,10 @@ fn without_reclaiming_chunks_are_committed_whole(rt: HostRuntime) {
 
 #[test]
 fn without_reclaiming_a_root_needs_all_its_granules(rt: HostRuntime) {
-    let limit = Refusal::CommitLimit {
-        committed: 0,
-        limit: 63,
-        need: 64,
-    };
-    let nothing = PoolTotals {
-        nodes: 0,
-        granules: 0,
-        lent: [0; 13],
-        free: [0; 13],
-        capacity: 0,
-        fronts: 0,
-        accounts: 1,
-    };
     let rows = [
         (Call::Open(Space::NonClass), Answer::Done),
-        (Call::Take(0, 0, 12, 2), Answer::Refused(limit)),
-        (Call::Totals(0), Answer::Sums(nothing)),
+        (Call::Take(0, 0, 12, 2), over_limit(0, 63, 64)),
+        (Call::Totals(0), none_lent(0, 1)),
     ];
     let pool = settings(64, 63, Policy::None, 0);
     ask_all(&rt, rt.alloc(), pool, &rows);
@@ -77,11 +64,6 @@ fn without_reclaiming_a_root_needs_all_its_granules(rt: HostRuntime) {
 /// root would need 64 more.
 #[test]
 fn without_reclaiming_a_committed_root_serves_again(rt: HostRuntime) {
-    let limit = Refusal::CommitLimit {
-        committed: 64,
-        limit: 64,
-        need: 64,
-    };
     let rows = [
         (Call::Open(Space::NonClass), Answer::Done),
         (Call::Take(0, 0, 12, 2), Answer::Chunk(0, 0, 524288)),
@@ -91,7 +73,7 @@ fn without_reclaiming_a_committed_root_serves_again(rt: HostRuntime) {
         (Call::Committed, Answer::Count(64)),
         (Call::Grow(1, 0, 520, true), Answer::Chunk(0, 9, 1024)),
         (Call::Committed, Answer::Count(64)),
-        (Call::Take(1, 0, 0, 8193), Answer::Refused(limit)),
+        (Call::Take(1, 0, 0, 8193), over_limit(64, 64, 64)),
     ];
     let pool = settings(64, 64, Policy::None, 0);
     ask_all(&rt, rt.alloc(), pool, &rows);

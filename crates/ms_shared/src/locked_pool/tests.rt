@@ -245,18 +245,27 @@ fn two_seats(
     Ok((lock, first, spare))
 }
 
+/// Has a seat at its lock, and opens an account there.
+fn open_there<'a, R: Wait + Abort>(
+    rt: &'a R,
+    lock: &'a SharedPool,
+    seat: PoolSeat,
+) -> (LockedPool<'a, R>, Account)
+    requires { seat.id ≡ lock.now.id }
+    ensures { ServesBy result.0.knows result.1 }
+{
+    let mut pool = lock.at(rt, seat);
+    let Ok(account) = pool.open(Space::NonClass) else {
+        panic!(rt; "there are owner numbers")
+    };
+    (pool, account)
+}
+
 #[test]
 fn totals_count_chunks_of_another_account(rt: HostRuntime) -> Result<(), Fail> {
     let (lock, one, other) = two_seats(&rt, rt.alloc(), 8192)?;
-    let mut pool = lock.at(&rt, one);
-    let mut others_pool = lock.at(&rt, other);
-    let (opened, also_opened) = (
-        pool.open(Space::NonClass),
-        others_pool.open(Space::NonClass),
-    );
-    let (Ok(mut account), Ok(mut another)) = (opened, also_opened) else {
-        panic!(rt; "there are owner numbers")
-    };
+    let (mut pool, mut account) = open_there(&rt, &lock, one);
+    let (mut others_pool, mut another) = open_there(&rt, &lock, other);
     let level = Level::new(10);
     assert!(rt; pool.take(&mut account, level, level, 2).is_ok());
     assert!(rt; others_pool.take(&mut another, level, level, 2).is_ok());
@@ -270,15 +279,8 @@ fn totals_count_chunks_of_another_account(rt: HostRuntime) -> Result<(), Fail> {
 #[test]
 fn the_limit_of_granules_is_met_over_the_lock(rt: HostRuntime) -> Result<(), Fail> {
     let (lock, one, other) = two_seats(&rt, rt.alloc(), 1)?;
-    let mut pool = lock.at(&rt, one);
-    let mut others_pool = lock.at(&rt, other);
-    let (opened, also_opened) = (
-        pool.open(Space::NonClass),
-        others_pool.open(Space::NonClass),
-    );
-    let (Ok(mut account), Ok(mut another)) = (opened, also_opened) else {
-        panic!(rt; "there are owner numbers")
-    };
+    let (mut pool, mut account) = open_there(&rt, &lock, one);
+    let (mut others_pool, mut another) = open_there(&rt, &lock, other);
     assert!(rt;
         pool.take(&mut account, Level::new(6), Level::new(6), 8192)
             .is_ok()

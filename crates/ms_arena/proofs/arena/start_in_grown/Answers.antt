@@ -1,17 +1,14 @@
-use Rattle.std.proofs.Common.{ap, arith}
-use Rattle.ms_arena.specs.Books.{BooksView}
+use Rattle.std.proofs.Common.{arith}
+use Rattle.ms_arena.proofs.AllocLemmas.{grown_leaves}
 use Rattle.ms_arena.proofs.arena.start_in_grown.Goals as goal
 
 pub overflow_add-start : goal.overflow_add-start
 overflow_add-start g c = omega (arith, c.requires.asks.ends)
 
-pub returns-in-Ok-clause-leaves : goal.returns-in-Ok-clause-leaves
-returns-in-Ok-clause-leaves g c =
-    let state = c.in-Ok.ensures.grown.state in
-    record {
-      awaits = c.in-Ok.ensures.awaits _ c.args.n (omega (arith, c.requires.asks.total_is)) c.requires.asks.total_is;
-      room = omega (arith, ap (λ (books : BooksView). books.room) state);
-      owner = ap (λ (books : BooksView). books.owner) state;
-      space = ap (λ (books : BooksView). books.space) state;
-      unchanged = tt;
-    }
+pub returns-in-Ok-clause-looked : goal.returns-in-Ok-clause-looked
+returns-in-Ok-clause-looked g c = record {
+  served = c.in-Ok.ensures.served;
+  rest = c.in-Ok.ensures.rest;
+  leaves = grown_leaves _ _ c.args.books.now c.args.chunk c.args.total c.args.may_enlarge c.args.source.now _ _ c.args.n _ c.in-Ok.ensures.grown
+      (c.in-Ok.ensures.awaits _ c.args.n (omega (arith, c.requires.asks.total_is)) c.requires.asks.total_is);
+}

@@ -64,14 +64,20 @@ pub loop-top-smaller : goal.loop-top-smaller
 loop-top-smaller g c =
     let turn = at_turn _ _ _ _ c.in-Some.ensures.items c.in-Some-top.is c.loop-top.invariant.0 in
     let s = at_split _ c.in-Some-top.visit.start _ _ _ _ _ _ _ c.in-Split.is turn.top.tree c.half_of.ensures.size in
-    let on = past_split c.loop-top.stack.items c.pop.new.self.items c.push.new.self.items c.push-in-Split.new.self.items c.in-Some-top.visit _ _ c.half_of.result turn (rw (c.deref.ensures, c.deref-in-Split.ensures) s) (rw (c.in-Split.is, c.deref.ensures, c.deref-in-Split.ensures) refl) refl refl refl refl c.push.ensures.items c.push-in-Split.ensures.items in
+    let on = past_split c.loop-top.stack.items c.pop.new.self.items c.push.new.self.items c.push-in-Split.new.self.items
+    c.in-Some-top.visit _ _ c.half_of.result turn (rw (c.deref.ensures, c.deref-in-Split.ensures) s)
+    (rw (c.in-Split.is, c.deref.ensures, c.deref-in-Split.ensures) refl)
+    refl refl refl refl c.push.ensures.items c.push-in-Split.ensures.items in
     on.fewer
 
 pub loop-top-preserved : goal.loop-top-preserved
 loop-top-preserved g c =
     let turn = at_turn _ _ _ _ c.in-Some.ensures.items c.in-Some-top.is c.loop-top.invariant.0 in
     let s = at_split _ c.in-Some-top.visit.start _ _ _ _ _ _ _ c.in-Split.is turn.top.tree c.half_of.ensures.size in
-    let on = past_split c.loop-top.stack.items c.pop.new.self.items c.push.new.self.items c.push-in-Split.new.self.items c.in-Some-top.visit _ _ c.half_of.result turn (rw (c.deref.ensures, c.deref-in-Split.ensures) s) (rw (c.in-Split.is, c.deref.ensures, c.deref-in-Split.ensures) refl) refl refl refl refl c.push.ensures.items c.push-in-Split.ensures.items in
+    let on = past_split c.loop-top.stack.items c.pop.new.self.items c.push.new.self.items c.push-in-Split.new.self.items
+    c.in-Some-top.visit _ _ c.half_of.result turn (rw (c.deref.ensures, c.deref-in-Split.ensures) s)
+    (rw (c.in-Split.is, c.deref.ensures, c.deref-in-Split.ensures) refl)
+    refl refl refl refl c.push.ensures.items c.push-in-Split.ensures.items in
     (on.stack, on.left ∙ c.loop-top.invariant.1)
 
 pub returns-in_default-top-clause-stack : goal.returns-in_default-top-clause-stack

@@ -2,13 +2,15 @@
 use Rattle.std.proofs.Common.{rules, arith, refl, ap, ◌∙◌}
 use Rattle.ms_buddy.specs.Leaves.{fits_in, leaf_of}
 use Rattle.ms_buddy.proofs.SplitLemmas.{halves_at, at_split}
-use Rattle.ms_buddy.proofs.CarveLemmas.{lower_may, upper_may, whole_fits_not, lower_fits, upper_fits, lower_is_free, upper_is_free, same_refusal, lower_added, upper_added}
+use Rattle.ms_buddy.proofs.CarveLemmas.{lower_may, upper_may, whole_fits_not, lower_fits, upper_fits, lower_is_free}
+use Rattle.ms_buddy.proofs.CarveLemmas.{upper_is_free, same_refusal, lower_added, upper_added}
 use Rattle.ms_buddy.proofs.node.+carving.Goals as goal
 
-pub Node::carve-returns-then-number-level-clause-refusal : goal.Node::carve-returns-then-number-level-clause-refusal
-Node::carve-returns-then-number-level-clause-refusal g t c =
+pub Node::carve-returns-then-number-level-clause-answers : goal.Node::carve-returns-then-number-level-clause-answers
+Node::carve-returns-then-number-level-clause-answers g t c =
     let s = at_split _ c.args.start _ _ _ _ _ _ _ c.in-Split.is c.requires.tree refl in
-    (refl, ap (fits_in c.args.span) s.free ∙ whole_fits_not c.args.span _ _ _ _ _ s.halves s.low c.requires.part.inside (omega arith))
+    let fits_not = whole_fits_not c.args.span _ _ _ _ _ s.halves s.low c.requires.part.inside (omega arith) in
+    record { room = search rules; refusal = (refl, ap (fits_in c.args.span) s.free ∙ fits_not) }
 
 pub carve_in_half-carve-requires : goal.carve_in_half-carve-requires
 carve_in_half-carve-requires g t c κs within =
@@ -30,12 +32,16 @@ carve_in_half-returns-in-Ok-carve-clause-lent g t c =
     let halves = halves_at c.args.level c.args.start _ _ c.args.lower.now c.args.upper.now c.requires.halves c.half_of.ensures.size in
     upper_added (leaf_of c.args.span c.args.owner c.args.front) _ _ _ _ _ c.carve-else-span-middle.new.self halves (omega arith) c.in-Ok-carve.ensures.lent
 
-pub carve_in_half-returns-in-Err-clause-refusal : goal.carve_in_half-returns-in-Err-clause-refusal
-carve_in_half-returns-in-Err-clause-refusal g t c =
+pub carve_in_half-returns-in-Err-clause-answers : goal.carve_in_half-returns-in-Err-clause-answers
+carve_in_half-returns-in-Err-clause-answers g t c =
     let halves = halves_at c.args.level c.args.start _ _ c.args.lower.now c.args.upper.now c.requires.halves c.half_of.ensures.size in
-    same_refusal c.args.span _ _ (lower_fits c.args.span _ _ _ _ _ halves c.if-span-middle.true) (lower_is_free c.args.span _ _ _ _ _ halves c.if-span-middle.true) _ c.in-Err.ensures.refusal
+    let fits = lower_fits c.args.span _ _ _ _ _ halves c.if-span-middle.true in
+    let whole = lower_is_free c.args.span _ _ _ _ _ halves c.if-span-middle.true in
+    record { room = search rules; refusal = same_refusal c.args.span _ _ fits whole _ c.in-Err.ensures.answers.refusal }
 
-pub carve_in_half-returns-in-Err-carve-clause-refusal : goal.carve_in_half-returns-in-Err-carve-clause-refusal
-carve_in_half-returns-in-Err-carve-clause-refusal g t c =
+pub carve_in_half-returns-in-Err-carve-clause-answers : goal.carve_in_half-returns-in-Err-carve-clause-answers
+carve_in_half-returns-in-Err-carve-clause-answers g t c =
     let halves = halves_at c.args.level c.args.start _ _ c.args.lower.now c.args.upper.now c.requires.halves c.half_of.ensures.size in
-    same_refusal c.args.span _ _ (upper_fits c.args.span _ _ _ _ _ halves (omega arith)) (upper_is_free c.args.span _ _ _ _ _ halves (omega arith)) _ c.in-Err-carve.ensures.refusal
+    let fits = upper_fits c.args.span _ _ _ _ _ halves (omega arith) in
+    let whole = upper_is_free c.args.span _ _ _ _ _ halves (omega arith) in
+    record { room = search rules; refusal = same_refusal c.args.span _ _ fits whole _ c.in-Err-carve.ensures.answers.refusal }

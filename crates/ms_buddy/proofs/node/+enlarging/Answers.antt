@@ -33,12 +33,15 @@ enlarge_in_half-returns-in-Ok-enlarge-clause-lent g t c =
     let halves = halves_at c.args.level c.args.start _ _ c.args.lower.now c.args.upper.now c.requires.halves c.half_of.ensures.size in
     upper_changed _ _ _ _ _ c.enlarge-else-span-middle.new.self _ _ (parent_acts c.args.span c.args.front) halves (omega arith) c.in-Ok-enlarge.ensures.lent
 
-pub enlarge_in_half-returns-in-Err-clause-room : goal.enlarge_in_half-returns-in-Err-clause-room
-enlarge_in_half-returns-in-Err-clause-room g t c =
+pub enlarge_in_half-returns-in-Err-clause-answers : goal.enlarge_in_half-returns-in-Err-clause-answers
+enlarge_in_half-returns-in-Err-clause-answers g t c =
     let halves = halves_at c.args.level c.args.start _ _ c.args.lower.now c.args.upper.now c.requires.halves c.half_of.ensures.size in
-    refused_too _ _ (lower_can c.args.span _ _ _ _ _ halves c.requires.leaf.place c.requires.leaf.lent (λ child. c.if-number-level.false (c.number.ensures.same ∙ child)) (omega arith) c.if-span-middle.true) c.in-Err.ensures.room
+    let deeper : c.args.span.level ≡ c.args.level + 1 → ⊥ = λ child. c.if-number-level.false (c.number.ensures.same ∙ child) in
+    let can = lower_can c.args.span _ _ _ _ _ halves c.requires.leaf.place c.requires.leaf.lent deeper (omega arith) c.if-span-middle.true in
+    record { room = refused_too _ _ can c.in-Err.ensures.answers.room; refusal = c.in-Err.ensures.answers.refusal }
 
-pub enlarge_in_half-returns-in-Err-enlarge-clause-room : goal.enlarge_in_half-returns-in-Err-enlarge-clause-room
-enlarge_in_half-returns-in-Err-enlarge-clause-room g t c =
+pub enlarge_in_half-returns-in-Err-enlarge-clause-answers : goal.enlarge_in_half-returns-in-Err-enlarge-clause-answers
+enlarge_in_half-returns-in-Err-enlarge-clause-answers g t c =
     let halves = halves_at c.args.level c.args.start _ _ c.args.lower.now c.args.upper.now c.requires.halves c.half_of.ensures.size in
-    refused_too _ _ (upper_can c.args.span _ _ _ _ _ halves (omega arith)) c.in-Err-enlarge.ensures.room
+    let can = upper_can c.args.span _ _ _ _ _ halves (omega arith) in
+    record { room = refused_too _ _ can c.in-Err-enlarge.ensures.answers.room; refusal = c.in-Err-enlarge.ensures.answers.refusal }

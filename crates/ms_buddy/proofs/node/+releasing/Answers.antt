@@ -4,18 +4,41 @@ use Rattle.std.specs.List.{find}
 use Rattle.ms_buddy.specs.Leaves.{covers}
 use Rattle.ms_buddy.specs.Tree.{free_in_halves}
 use Rattle.ms_buddy.proofs.TreeHalvesLemmas.{lower_place, upper_place}
-use Rattle.ms_buddy.proofs.SplitLemmas.{halves_at, lower_lent, upper_lent, without_acts, lower_changed, upper_changed, lower_found, upper_found, whole_found, passed_on}
+use Rattle.ms_buddy.proofs.SplitLemmas.{halves_at, lower_lent, upper_lent, without_acts, lower_changed, upper_changed}
+use Rattle.ms_buddy.proofs.SplitLemmas.{lower_found, upper_found, whole_found, passed_on}
 use Rattle.ms_buddy.proofs.node.+releasing.Goals as goal
 
 pub release_in_half-release-freed-requires : goal.release_in_half-release-freed-requires
 release_in_half-release-freed-requires g t c κs within =
-    let halves = halves_at c.args.level c.args.start _ _ c.args.lower.now c.args.upper.now c.requires.halves c.half_of.ensures.size in
-    (omega arith, (search rules, (search rules, (lower_place _ _ c.requires.place c.requires.halves.low, lower_lent _ _ _ _ _ _ halves c.if-span-middle.true c.requires.lent))))
+    let halves = halves_at c.args.level c.args.start _ _ c.args.lower.now c.args.upper.now c.requires.halves c.half_of.ensures.size in (
+      omega arith,
+      (
+        search rules,
+        (
+          search rules,
+          (
+            lower_place _ _ c.requires.place c.requires.halves.low,
+            lower_lent _ _ _ _ _ _ halves c.if-span-middle.true c.requires.lent,
+          ),
+        ),
+      ),
+    )
 
 pub release_in_half-release-freed-requires-else-span-middle : goal.release_in_half-release-freed-requires-else-span-middle
 release_in_half-release-freed-requires-else-span-middle g t c κs within =
-    let halves = halves_at c.args.level c.args.start _ _ c.args.lower.now c.args.upper.now c.requires.halves c.half_of.ensures.size in
-    (omega arith, (search rules, (search rules, (upper_place _ _ _ c.requires.place c.requires.halves.low (omega (arith, halves.size)), upper_lent _ _ _ _ _ _ halves (omega arith) c.requires.lent))))
+    let halves = halves_at c.args.level c.args.start _ _ c.args.lower.now c.args.upper.now c.requires.halves c.half_of.ensures.size in (
+      omega arith,
+      (
+        search rules,
+        (
+          search rules,
+          (
+            upper_place _ _ _ c.requires.place c.requires.halves.low (omega (arith, halves.size)),
+            upper_lent _ _ _ _ _ _ halves (omega arith) c.requires.lent,
+          ),
+        ),
+      ),
+    )
 
 pub release_in_half-returns-then-span-middle-clause-lent : goal.release_in_half-returns-then-span-middle-clause-lent
 release_in_half-returns-then-span-middle-clause-lent g t c =
@@ -25,7 +48,8 @@ release_in_half-returns-then-span-middle-clause-lent g t c =
 pub release_in_half-returns-else-span-middle-clause-lent : goal.release_in_half-returns-else-span-middle-clause-lent
 release_in_half-returns-else-span-middle-clause-lent g t c =
     let halves = halves_at c.args.level c.args.start _ _ c.args.lower.now c.args.upper.now c.requires.halves c.half_of.ensures.size in
-    upper_changed _ _ _ _ _ c.release-freed-else-span-middle.new.self _ _ (without_acts c.args.span) halves (omega arith) c.release-freed-else-span-middle.ensures.lent
+    upper_changed _ _ _ _ _ c.release-freed-else-span-middle.new.self _ _ (without_acts c.args.span) halves
+    (omega arith) c.release-freed-else-span-middle.ensures.lent
 
 pub release_in_half-returns-then-span-middle-clause-free : goal.release_in_half-returns-then-span-middle-clause-free
 release_in_half-returns-then-span-middle-clause-free g t c =
@@ -34,9 +58,11 @@ release_in_half-returns-then-span-middle-clause-free g t c =
 
 pub release_in_half-returns-else-span-middle-clause-free : goal.release_in_half-returns-else-span-middle-clause-free
 release_in_half-returns-else-span-middle-clause-free g t c =
-    passed_on _ _ (λ freed. find (covers c.args.span.start) (free_in_halves c.args.level c.args.start c.args.lower.now c.release-freed-else-span-middle.new.self) ≡ Some freed)
+    passed_on _ _ (λ freed. find (covers c.args.span.start)
+    (free_in_halves c.args.level c.args.start c.args.lower.now c.release-freed-else-span-middle.new.self) ≡ Some freed)
     c.unless_free-else-span-middle.ensures.same
-    (upper_found _ _ _ _ c.args.lower.now c.release-freed-else-span-middle.new.self _ c.requires.halves.lower_tree c.half_of.ensures.size (omega arith) c.release-freed-else-span-middle.ensures.free)
+    (upper_found _ _ _ _ c.args.lower.now c.release-freed-else-span-middle.new.self _
+    c.requires.halves.lower_tree c.half_of.ensures.size (omega arith) c.release-freed-else-span-middle.ensures.free)
 
 pub Node::release-returns-in-None-clause-free : goal.Node::release-returns-in-None-clause-free
 Node::release-returns-in-None-clause-free g t c =

@@ -1,27 +1,33 @@
 -- The lower half is the leaf of the span, and it becomes its parent where the upper half is free.
-use Rattle.std.proofs.Common.{◌+◌, refl, ap}
-use Rattle.ms_base.specs.Level.{size_of}
+use Rattle.std.proofs.Common.{refl, ap}
 use Rattle.ms_buddy.specs.Tree.{is_free}
-use Rattle.ms_buddy.proofs.SplitLemmas.{AtHalves}
+use Rattle.ms_buddy.proofs.SplitLemmas.{trees_at}
 use Rattle.ms_buddy.proofs.EnlargeLemmas.{follower_cannot, leader_cannot, starts_here, split_not_leader, refused}
 use Rattle.ms_buddy.proofs.node.merged_leader.Goals as goal
 
-pub returns-then-span-start-clause-room : goal.returns-then-span-start-clause-room
-returns-then-span-start-clause-room g c =
-    let halves : AtHalves c.args.level c.args.start (size_of (c.args.level + 1)) c.args.lower.now c.args.upper.now = record { low_tree = c.requires.trees.0; high_tree = c.requires.trees.1; size = refl } in
-    refused _ (follower_cannot c.args.span _ _ _ _ _ _ halves c.requires.place c.requires.low c.requires.lent c.requires.child c.if-span-start.true)
+pub returns-then-span-start-clause-answers : goal.returns-then-span-start-clause-answers
+returns-then-span-start-clause-answers g c =
+    let halves = trees_at c.args.level c.args.start c.args.lower.now c.args.upper.now c.requires.trees in
+    let cannot = follower_cannot c.args.span _ _ _ _ _ _ halves c.requires.place c.requires.low c.requires.lent
+    c.requires.child c.if-span-start.true in
+    record { room = refused _ cannot; refusal = refl }
 
-pub returns-in-Split-lower-clause-room : goal.returns-in-Split-lower-clause-room
-returns-in-Split-lower-clause-room g c =
-    let halves : AtHalves c.args.level c.args.start (size_of (c.args.level + 1)) c.args.lower.now c.args.upper.now = record { low_tree = c.requires.trees.0; high_tree = c.requires.trees.1; size = refl } in
-    absurd (split_not_leader c.args.span _ _ _ _ _ _ _ _ _ _ halves c.requires.lent c.if-span-start.false c.requires.child c.in-Split-lower.is)
+pub returns-in-Split-lower-clause-answers : goal.returns-in-Split-lower-clause-answers
+returns-in-Split-lower-clause-answers g c =
+    let halves = trees_at c.args.level c.args.start c.args.lower.now c.args.upper.now c.requires.trees in
+    absurd (split_not_leader c.args.span _ _ _ _ _ _ _ _ _ _ halves c.requires.lent c.if-span-start.false
+    c.requires.child c.in-Split-lower.is)
 
-pub returns-in-Lent-clause-room : goal.returns-in-Lent-clause-room
-returns-in-Lent-clause-room g c =
-    let halves : AtHalves c.args.level c.args.start (size_of (c.args.level + 1)) c.args.lower.now c.args.upper.now = record { low_tree = c.requires.trees.0; high_tree = c.requires.trees.1; size = refl } in
-    refused _ (leader_cannot c.args.span _ _ _ _ _ halves c.requires.child (starts_here c.args.span _ _ _ _ _ halves c.requires.lent c.if-span-start.false) (ap is_free c.in-Lent.is))
+pub returns-in-Lent-clause-answers : goal.returns-in-Lent-clause-answers
+returns-in-Lent-clause-answers g c =
+    let halves = trees_at c.args.level c.args.start c.args.lower.now c.args.upper.now c.requires.trees in
+    let start = starts_here c.args.span _ _ _ _ _ halves c.requires.lent c.if-span-start.false in
+    let cannot = leader_cannot c.args.span _ _ _ _ _ halves c.requires.child start (ap is_free c.in-Lent.is) in
+    record { room = refused _ cannot; refusal = refl }
 
-pub returns-in-Split-clause-room : goal.returns-in-Split-clause-room
-returns-in-Split-clause-room g c =
-    let halves : AtHalves c.args.level c.args.start (size_of (c.args.level + 1)) c.args.lower.now c.args.upper.now = record { low_tree = c.requires.trees.0; high_tree = c.requires.trees.1; size = refl } in
-    refused _ (leader_cannot c.args.span _ _ _ _ _ halves c.requires.child (starts_here c.args.span _ _ _ _ _ halves c.requires.lent c.if-span-start.false) (ap is_free c.in-Split.is))
+pub returns-in-Split-clause-answers : goal.returns-in-Split-clause-answers
+returns-in-Split-clause-answers g c =
+    let halves = trees_at c.args.level c.args.start c.args.lower.now c.args.upper.now c.requires.trees in
+    let start = starts_here c.args.span _ _ _ _ _ halves c.requires.lent c.if-span-start.false in
+    let cannot = leader_cannot c.args.span _ _ _ _ _ halves c.requires.child start (ap is_free c.in-Split.is) in
+    record { room = refused _ cannot; refusal = refl }

@@ -24,4 +24,5 @@ pub returns-then-bits-ne0-clause-lowest : goal.returns-then-bits-ne0-clause-lowe
 returns-then-bits-ne0-clause-lowest c = (here c).lowest
 
 pub loop-index-preserved : goal.loop-index-preserved
-loop-index-preserved c = none_more c.args.words.now c.args.first c.args.end c.loop-index.index c.bits_between.result c.bits_between.ensures c.if-bits-ne0.false c.loop-index.invariant
+loop-index-preserved c = none_more c.args.words.now c.args.first c.args.end
+    c.loop-index.index c.bits_between.result c.bits_between.ensures c.if-bits-ne0.false c.loop-index.invariant

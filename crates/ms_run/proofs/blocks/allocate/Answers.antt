@@ -1,33 +1,42 @@
 use Rattle.std.proofs.Common.{false, sym}
-use Rattle.ms_base.specs.declared.kind.Space.TheVariants.{NonClass}
 use Rattle.ms_run.proofs.SeatStaysLemmas.{others_stay, own_is_served, manned_after}
 use Rattle.ms_run.proofs.GrantLemmas.{replies_without, replies_at, replies_why}
 use Rattle.ms_run.proofs.blocks.allocate.Goals as goal
 
 pub returns-in_default-clause-refused : goal.returns-in_default-clause-refused
-returns-in_default-clause-refused g c = (false, replies_without NonClass c.args.loaders.now c.args.name c.args.block c.args.words (sym c.in_default.ensures.found))
+returns-in_default-clause-refused g c =
+    (false, replies_without c.args.space c.args.loaders.now c.args.name c.args.block c.args.words (sym c.in_default.ensures.found))
 
-pub alloc-requires : goal.alloc-requires
-alloc-requires g c = own_is_served NonClass c.args.pool.now.knows c.args.loaders.now c.args.name c.in-Some.loader.now (sym c.in-Some.ensures.found) c.requires
+pub allocate-requires : goal.allocate-requires
+allocate-requires g c =
+    own_is_served c.args.space c.args.pool.now.knows c.args.loaders.now c.args.name c.in-Some.loader.now (sym c.in-Some.ensures.found) c.requires
 
 pub returns-in-Ok-clause-manned : goal.returns-in-Ok-clause-manned
-returns-in-Ok-clause-manned g c = manned_after NonClass c.args.pool.now c.alloc.new.source c.args.pool.now.knows.limits.policy c.args.loaders.now c.args.name c.args.block c.args.words
-    c.in-Some.loader.now c.alloc.new.self c.alloc.result (sym c.in-Some.ensures.found) c.alloc.ensures.allocates c.alloc.ensures.served c.alloc.ensures.others c.alloc.ensures.counted c.requires
+returns-in-Ok-clause-manned g c =
+    manned_after c.args.space c.args.pool.now c.allocate.new.source c.args.pool.now.knows.limits.policy c.args.loaders.now c.args.name
+    c.args.block c.args.words c.in-Some.loader.now c.allocate.new.self c.allocate.result (sym c.in-Some.ensures.found)
+    c.allocate.ensures.allocates c.allocate.ensures.served c.allocate.ensures.rest c.requires
 
 pub returns-in-Ok-clause-served : goal.returns-in-Ok-clause-served
-returns-in-Ok-clause-served g c = replies_at NonClass c.args.pool.now.knows.limits.policy c.args.pool.now c.alloc.new.source c.args.loaders.now c.args.name c.args.block c.args.words
-    c.in-Some.loader.now c.alloc.new.self c.alloc.result c.in-Ok.made c.in-Ok.is (sym c.in-Some.ensures.found) c.alloc.ensures.allocates c.alloc.ensures.sound
+returns-in-Ok-clause-served g c =
+    replies_at c.args.space c.args.pool.now.knows.limits.policy c.args.pool.now c.allocate.new.source c.args.loaders.now c.args.name
+    c.args.block c.args.words c.in-Some.loader.now c.allocate.new.self c.allocate.result c.in-Ok.made c.in-Ok.is
+    (sym c.in-Some.ensures.found) c.allocate.ensures.allocates c.allocate.ensures.sound
 
 pub returns-in-Ok-clause-others : goal.returns-in-Ok-clause-others
-returns-in-Ok-clause-others g c = others_stay c.args.loaders.now c.args.name c.alloc.new.self
+returns-in-Ok-clause-others g c = others_stay c.args.loaders.now c.args.name c.allocate.new.self
 
 pub returns-in-Err-clause-manned : goal.returns-in-Err-clause-manned
-returns-in-Err-clause-manned g c = manned_after NonClass c.args.pool.now c.alloc.new.source c.args.pool.now.knows.limits.policy c.args.loaders.now c.args.name c.args.block c.args.words
-    c.in-Some.loader.now c.alloc.new.self c.alloc.result (sym c.in-Some.ensures.found) c.alloc.ensures.allocates c.alloc.ensures.served c.alloc.ensures.others c.alloc.ensures.counted c.requires
+returns-in-Err-clause-manned g c =
+    manned_after c.args.space c.args.pool.now c.allocate.new.source c.args.pool.now.knows.limits.policy c.args.loaders.now c.args.name
+    c.args.block c.args.words c.in-Some.loader.now c.allocate.new.self c.allocate.result (sym c.in-Some.ensures.found)
+    c.allocate.ensures.allocates c.allocate.ensures.served c.allocate.ensures.rest c.requires
 
 pub returns-in-Err-clause-refused : goal.returns-in-Err-clause-refused
-returns-in-Err-clause-refused g c = replies_why NonClass c.args.pool.now.knows.limits.policy c.args.pool.now c.alloc.new.source c.args.loaders.now c.args.name c.args.block c.args.words
-    c.in-Some.loader.now c.alloc.new.self c.alloc.result c.in-Err.refusal c.in-Err.is (sym c.in-Some.ensures.found) c.alloc.ensures.allocates
+returns-in-Err-clause-refused g c =
+    replies_why c.args.space c.args.pool.now.knows.limits.policy c.args.pool.now c.allocate.new.source c.args.loaders.now c.args.name
+    c.args.block c.args.words c.in-Some.loader.now c.allocate.new.self c.allocate.result c.in-Err.refusal c.in-Err.is
+    (sym c.in-Some.ensures.found) c.allocate.ensures.allocates
 
 pub returns-in-Err-clause-others : goal.returns-in-Err-clause-others
-returns-in-Err-clause-others g c = others_stay c.args.loaders.now c.args.name c.alloc.new.self
+returns-in-Err-clause-others g c = others_stay c.args.loaders.now c.args.name c.allocate.new.self

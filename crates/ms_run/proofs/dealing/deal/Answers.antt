@@ -6,7 +6,7 @@ use Rattle.ms_run.proofs.dealing.deal.Goals as goal
 
 pub deal_to-requires-clause-seats : goal.deal_to-requires-clause-seats
 deal_to-requires-clause-seats c =
-    seats_are c.in-Ok.shared c.shares-count.result c.in-Ok.seats.items c.args.pool c.args.loaders c.in-Ok.ensures.seats c.requires.fits c.requires.all
+    seats_are c.in-Ok.shared c.shares-count.result c.in-Ok.seats.items c.args.pool c.args.loaders c.in-Ok.ensures.seats c.requires.may.fits c.requires.may.all
 
 pub returns-clause-dealt : goal.returns-clause-dealt
 returns-clause-dealt c =

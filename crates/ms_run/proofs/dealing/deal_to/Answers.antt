@@ -19,16 +19,14 @@ loop-seat-init c = (
       (omega (arith, c.requires.meters, c.remove-first_meter.ensures.len, c.remove-first_meter.new.self.ok.0, c.remove-seat.ensures.len, c.remove-seat.new.self.ok.0, ap (λ (l : List SeatState). length l) c.into_iter-seat-iterator.ensures.into_iter_gives.0)),
 )
 
-pub hand_all-requires-clause-own : goal.hand_all-requires-clause-own
-hand_all-requires-clause-own c = c.loop-seat.invariant.0.own
-
-pub hand_all-requires-clause-to_own : goal.hand_all-requires-clause-to_own
-hand_all-requires-clause-to_own c = (next_free _ _ _ _ _ _ _ _ _ _ _ c.in-Some.ensures.steps.0 c.loop-seat.invariant.0).0
-
-pub hand_all-requires-clause-beside : goal.hand_all-requires-clause-beside
-hand_all-requires-clause-beside c =
-    beside_none _ _ _ _ c.new-loaders.ensures c.loop-seat.invariant.0.manned c.loop-seat.invariant.0.names
-    (next_free _ _ _ _ _ _ _ _ _ _ _ c.in-Some.ensures.steps.0 c.loop-seat.invariant.0).1
+pub hand_all-requires-clause-crews : goal.hand_all-requires-clause-crews
+hand_all-requires-clause-crews c =
+    let free = next_free _ _ _ _ _ _ _ _ _ _ _ c.in-Some.ensures.steps.0 c.loop-seat.invariant.0 in
+    record {
+      own = c.loop-seat.invariant.0.own;
+      to_own = free.0;
+      beside = beside_none _ _ _ _ c.new-loaders.ensures c.loop-seat.invariant.0.manned c.loop-seat.invariant.0.names free.1;
+    }
 
 pub push_reserved-requires : goal.push_reserved-requires
 push_reserved-requires c =
@@ -39,7 +37,7 @@ loop-seat-preserved c = (
   dealing_on (place_in c.args.turn.now) c.args.shared.now (vec_len c.args.seats) c.args.lines.now c.args.loaders c.loop-seat.first.seat c.hand_all.new.from.seat
       c.loop-seat.first.loaders c.hand_all.new.from.loaders c.hand_all.new.to.seat c.hand_all.new.to.loaders c.in-Some.seat _ c.loop-seat.shares.items _ c.in_ok-share.share (c.len-at.result + 1)
       (rw c.in-Some.ensures.steps.0 at c.loop-seat.invariant.0) (omega (arith, c.len-at.ensures, c.loop-seat.shares.ok.0))
-      c.hand_all.ensures.own c.hand_all.ensures.to_own c.in_ok-hand_all.ensures.beside c.in_ok-hand_all.ensures.handed
+      c.in_ok-hand_all.ensures.crews c.in_ok-hand_all.ensures.handed
       (record {
         seat_is = c.in_ok-share.ensures.seat;
         loaders_are = c.in_ok-share.ensures.loaders;

@@ -14,19 +14,19 @@ use Rattle.ms_run.proofs.gathering.gather.Goals as goal
 pub open-requires-clause-own : goal.open-requires-clause-own
 open-requires-clause-own c =
     let own = λ (seat : SeatState). seat.id ≡ c.args.shared.id in
-    subst (All own) (sym c.in_ok-seats.ensures.seats) (All-map own seat_of c.args.shares.items c.requires.own)
+    subst (All own) (sym c.in_ok-seats.ensures.seats) (All-map own seat_of c.args.shares.items c.requires.stand.own)
 
 pub settle-requires-clause-fits : goal.settle-requires-clause-fits
 settle-requires-clause-fits c =
     may_settle _ c.args.shares.items _ c.committed.ensures.sound
     (subst (λ (seats : List SeatState). Gathers seats c.in_ok-pool.pool) c.in_ok-seats.ensures.seats c.in_ok-pool.ensures.gathered)
-    c.requires.manned c.in_ok-seats.ensures.loaders
+    c.requires.stand.manned c.in_ok-seats.ensures.loaders
 
 pub settle-requires-clause-all : goal.settle-requires-clause-all
 settle-requires-clause-all c =
     no_more _ c.args.shares.items _ c.committed.ensures.sound
     (subst (λ (seats : List SeatState). Gathers seats c.in_ok-pool.pool) c.in_ok-seats.ensures.seats c.in_ok-pool.ensures.gathered)
-    c.requires.manned c.in_ok-seats.ensures.loaders
+    c.requires.stand.manned c.in_ok-seats.ensures.loaders
 
 pub returns-clause-gathered : goal.returns-clause-gathered
 returns-clause-gathered c = λ place apart.

@@ -7,16 +7,14 @@ use Rattle.ms_base.specs.declared.step.Reply.TheVariants.{Refused}
 use Rattle.ms_loaders.specs.Loader.{LoaderView, account_in, new_loader}
 use Rattle.ms_base.specs.declared.kind.Space.TheVariants.{NonClass, Class}
 use Rattle.ms_loaders.specs.System.{states_of}
-use Rattle.ms_loaders.proofs.MappedLemmas.{new_then_without}
 use Rattle.ms_loaders.proofs.CallLemmas.{found, unused_name}
 use Rattle.ms_loaders.specs.Used.{used_at}
 use Rattle.ms_run.specs.Own.{own_in}
 use Rattle.ms_run.specs.Manned.{IsManned}
 use Rattle.ms_run.proofs.LifetimeOpenLemmas.{manned_refused, manned_opened}
-use Rattle.ms_run.proofs.LifetimeCloseLemmas.{closes_loader, manned_closed}
+use Rattle.ms_run.proofs.LifetimeCloseLemmas.{closes_loader, manned_closed, new_then_without}
 use Rattle.ms_run.proofs.LifetimeReplyLemmas.{exists_reply, numbers_reply, insert_reply, made_reply}
-use Rattle.ms_run.proofs.TouchLemmas.{own_found}
-use Rattle.ms_run.proofs.TouchLemmas.{own_missing}
+use Rattle.ms_run.proofs.TouchLemmas.{own_found, own_missing}
 use Rattle.ms_run.proofs.lifetimes.new_loader.Goals as goal
 
 pub returns-then-contains-clause-refused : goal.returns-then-contains-clause-refused

@@ -1,4 +1,4 @@
-use Rattle.std.proofs.Common.{ℕ, false, List, sym, ap, ◌∙◌, subst}
+use Rattle.std.proofs.Common.{ℕ, false, List, refl, sym, ap, ◌∙◌, subst}
 use Rattle.ms_base.specs.declared.step.Step.TheVariants.{Unload}
 use Rattle.ms_base.specs.declared.step.Reply.TheVariants.{Ok as Done, Refused}
 use Rattle.ms_base.specs.declared.refusal.Refusal.TheVariants.{NoLoader}
@@ -8,22 +8,21 @@ use Rattle.ms_base.proofs.entries.LookupLemmas.{named_without_other}
 use Rattle.ms_loaders.specs.Loader.{LoaderView}
 use Rattle.ms_loaders.specs.System.{states_of}
 use Rattle.ms_loaders.proofs.MappedLemmas.{without_missing}
-use Rattle.ms_shared.specs.SeatView.{ServesBy}
 use Rattle.ms_run.specs.Own.{own_in}
 use Rattle.ms_run.specs.Manned.{IsManned}
 use Rattle.ms_run.proofs.LifetimeCloseLemmas.{closes_loader, serves_first, serves_second, counts_some, manned_closed}
 use Rattle.ms_run.proofs.LifetimeReplyLemmas.{unloaded_reply, none_reply}
 use Rattle.ms_run.proofs.lifetimes.unload.Goals as goal
 
-pub close_both-requires-clause-served : goal.close_both-requires-clause-served
-close_both-requires-clause-served g c =
-    subst (ServesBy c.args.pool.now.knows) (sym c.into_accounts-account.ensures.account)
-    (serves_first c.args.loaders.now c.args.name c.in-Some.loader (sym c.remove.ensures.found ∙ c.in-Some.is) c.args.pool.now.knows c.requires)
-
-pub close_both-requires-clause-class_served : goal.close_both-requires-clause-class_served
-close_both-requires-clause-class_served g c =
-    subst (ServesBy c.args.pool.now.knows) (sym c.into_accounts-account.ensures.class_account)
-    (serves_second c.args.loaders.now c.args.name c.in-Some.loader (sym c.remove.ensures.found ∙ c.in-Some.is) c.args.pool.now.knows c.requires)
+pub close_both-requires-clause-both : goal.close_both-requires-clause-both
+close_both-requires-clause-both g c =
+    let found = sym c.remove.ensures.found ∙ c.in-Some.is in
+    rw (c.into_accounts-account.ensures.account, c.into_accounts-account.ensures.class_account) (record {
+      served = serves_first c.args.loaders.now c.args.name c.in-Some.loader found c.args.pool.now.knows c.requires;
+      class_served = serves_second c.args.loaders.now c.args.name c.in-Some.loader found c.args.pool.now.knows c.requires;
+      space = refl;
+      class_space = refl;
+    })
 
 pub close_both-requires-clause-counted : goal.close_both-requires-clause-counted
 close_both-requires-clause-counted g c =

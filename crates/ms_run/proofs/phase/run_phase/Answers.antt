@@ -20,16 +20,12 @@ merge-requires-clause-answered g c =
     all_answered (place_in c.activate.new.self) c.in_ok-shared.shares.items c.in_ok-shares.shares.items c.args.lines.now
     c.in_ok-shared.ensures.dealt.tasks c.in_ok-shares.ensures.worked
 
-pub gather-requires-clause-own : goal.gather-requires-clause-own
-gather-requires-clause-own g c =
-    own_seats c.in_ok-shared.shared c.in_ok-shared.shares.items c.in_ok-shares.shares.items c.in_ok-shared.ensures.dealt.ready c.in_ok-shares.ensures.worked
-
-pub gather-requires-clause-manned : goal.gather-requires-clause-manned
-gather-requires-clause-manned g c = all_manned c.in_ok-shared.shares.items c.in_ok-shares.shares.items c.in_ok-shares.ensures.worked
-
-pub gather-requires-clause-count : goal.gather-requires-clause-count
-gather-requires-clause-count g c =
-    c.in_ok-shared.ensures.dealt.count ∙ sym (same_count _ _ c.in_ok-shares.ensures.worked) ∙ sym c.in_ok-shares.shares.ok.0
+pub gather-requires-clause-stand : goal.gather-requires-clause-stand
+gather-requires-clause-stand g c = record {
+  own = own_seats c.in_ok-shared.shared c.in_ok-shared.shares.items c.in_ok-shares.shares.items c.in_ok-shared.ensures.dealt.ready c.in_ok-shares.ensures.worked;
+  manned = all_manned c.in_ok-shared.shares.items c.in_ok-shares.shares.items c.in_ok-shares.ensures.worked;
+  all = c.in_ok-shared.ensures.dealt.count ∙ sym (same_count _ _ c.in_ok-shares.ensures.worked) ∙ sym c.in_ok-shares.shares.ok.0;
+}
 
 pub gather-requires-clause-apart : goal.gather-requires-clause-apart
 gather-requires-clause-apart g c = (
@@ -40,16 +36,16 @@ gather-requires-clause-apart g c = (
 
 pub work_all-requires-after_bounds : goal.work_all-requires-after_bounds
 work_all-requires-after_bounds g c κs within =
-    ready_for c.in_ok-shared.shared c.in_ok-shared.meter _ c.in_ok-shared.shares.items c.in_ok-shared.ensures.dealt.ready c.in_ok-shared.ensures.meters
+    ready_for c.in_ok-shared.shared c.in_ok-shared.meter _ c.in_ok-shared.shares.items c.in_ok-shared.ensures.dealt.ready c.in_ok-shared.ensures.meters.unmoved_all
 
 pub close-requires-clause-own : goal.close-requires-clause-own
 close-requires-clause-own g c =
     own_meters c.in_ok-shared.meter _ c.in_ok-shared.shares.items c.in_ok-shares.shares.items c.in_ok-system.meters.items
-    c.in_ok-shared.ensures.meters c.in_ok-shares.ensures.worked c.in_ok-system.ensures.meters
+    c.in_ok-shared.ensures.meters.unmoved_all c.in_ok-shares.ensures.worked c.in_ok-system.ensures.meters
 
 pub close-requires-clause-count : goal.close-requires-clause-count
 close-requires-clause-count g c =
-    c.in_ok-shared.ensures.meter ∙ c.in_ok-shared.shares.ok.0 ∙ sym (same_count _ _ c.in_ok-shares.ensures.worked)
+    c.in_ok-shared.ensures.meters.seats ∙ c.in_ok-shared.shares.ok.0 ∙ sym (same_count _ _ c.in_ok-shares.ensures.worked)
     ∙ sym (length-map c.in_ok-shares.shares.items meter_of) ∙ ap length (sym c.in_ok-system.ensures.meters) ∙ sym c.in_ok-system.meters.ok.0
 
 pub returns-clause-phase : goal.returns-clause-phase
@@ -64,7 +60,7 @@ returns-clause-phase g c =
 pub returns-clause-used : goal.returns-clause-used
 returns-clause-used g c =
     used_after c.in_ok-shared.meter _ c.in_ok-shared.shares.items c.in_ok-shares.shares.items c.in_ok-system.meters.items _ _ c.in_ok-system.system
-    c.in_ok-shared.ensures.meters c.in_ok-shares.ensures.worked c.in_ok-system.ensures.meters
+    c.in_ok-shared.ensures.meters.unmoved_all c.in_ok-shares.ensures.worked c.in_ok-system.ensures.meters
     (c.requires.used ∙ ap used_words_of (sym c.into_parts-pool.ensures.machine)
     ∙ used_machine c.into_parts-pool.result.0 c.into_parts-pool.result.1 ∙ sym c.in_ok-shared.ensures.used)
     c.in_ok-amount.ensures.amount c.in_ok-system.ensures.used c.in_ok-system.ensures.good

@@ -18,7 +18,9 @@ pub returns-in-None-clause-fault : goal.returns-in-None-clause-fault
 returns-in-None-clause-fault c =
     let field : List ℕ = c.args.field.now in
     let is_digit : is_ascii_digit (get_or field c.loop-byte.byte-index 0) ≡ true = sym c.is_ascii_digit.ensures.value ∙ c.if-not-is_ascii_digit.false in
-    let long : 2 ^ 64 ≤ digits_value 10 field = value_is_long field c.loop-byte.byte-index c.loop-byte-test.true is_digit (rw c.loop-byte.invariant.value at (rw c.from.ensures at c.in-None.ensures)) in
+    let long : 2 ^ 64 ≤ digits_value 10 field =
+    value_is_long field c.loop-byte.byte-index c.loop-byte-test.true is_digit
+    (rw c.loop-byte.invariant.value at (rw c.from.ensures at c.in-None.ensures)) in
     let some : 0 < length field = grind (arith, nat_tests, c.is_empty.ensures, c.if-is_empty.false) in
     rw c.fault_of_long.ensures (long_fault c.args.greatest field c.ranges.greatest.fits long some c.if-field-ne1.either)
 

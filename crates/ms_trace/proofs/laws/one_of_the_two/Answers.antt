@@ -13,6 +13,14 @@ returns c = λ text.
     (λ first. inr (
       _,
       first.kind,
-      record { before = first.before; line = first.line; after = first.after; lines_are = first.lines_are; faultless = first.faultless; number_is = add_comm 1 _; kind_is = first.kind_is },
+      record {
+        before = first.before;
+        line = first.line;
+        after = first.after;
+        lines_are = first.lines_are;
+        faultless = first.faultless;
+        number_is = add_comm 1 _;
+        kind_is = first.kind_is;
+      },
     ))
     (faultless_or_first 1 (lines_of text))

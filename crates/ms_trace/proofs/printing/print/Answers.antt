@@ -16,9 +16,11 @@ loop-line-preserved g c =
           (rw c.as_slice.ensures
           (rw c.in_ok-print_command.ensures.printed
           (rw c.in_ok-print_gap.ensures
-          (line_printed items c.loop-line.line-index c.loop-line.last _ c.loop-line.text.items (text_from 1 items) c.loop-line-test.true c.loop-line.invariant.printed))));
+          (line_printed items c.loop-line.line-index c.loop-line.last _ c.loop-line.text.items
+          (text_from 1 items) c.loop-line-test.true c.loop-line.invariant.printed))));
       rises = rises_on items c.loop-line.line-index c.loop-line.last _ c.loop-line-test.true c.loop-line.invariant.rises;
-      valid = All-more (λ (line : Line). IsValid line.command) items c.loop-line.line-index _ c.loop-line-test.true c.loop-line.invariant.valid c.print_command.ensures.valid;
+      valid = All-more (λ (line : Line). IsValid line.command) items
+          c.loop-line.line-index _ c.loop-line-test.true c.loop-line.invariant.valid c.print_command.ensures.valid;
     }
 
 pub returns-clause-reads : goal.returns-clause-reads

@@ -25,7 +25,7 @@ invariant_of-self-3 c =
     (same_books _ _ _ _ _ c.place_free.new.kept c.in_default.ensures.unchanged c.self.invariant) (sym c.in_ok-chunk.ensures.chunk)
     (omega (arith, c.if-top-n.false, c.in_ok-chunk.ensures.top)) c.requires.some (ap (λ (h : ℕ). h - 1) c.held.ensures.count)
     (c.raise.ensures.tops ∙ ap (λ (t : ℕ). tops_with c.self.inside.tops.items (c.held.result - 1) (t + c.args.n)) c.in_ok-chunk.ensures.top)
-    c.raise.ensures.used
+    c.raise.ensures.counted.used
 
 pub returns-clause-awaits : goal.returns-clause-awaits
 returns-clause-awaits c = λ live sound.

@@ -6,8 +6,16 @@ use Rattle.ms_buddy.proofs.node.Node.+leaf_at.Goals as goal
 
 pub leaf_at-requires : goal.leaf_at-requires
 leaf_at-requires g t c κs within =
-    let s = at_split _ c.args.start _ _ _ _ _ _ _ c.in-Split.is c.requires.tree c.half_of.ensures.size in
-    (omega (arith, s.low), (search rules, (rw c.deref.ensures s.halves.low_tree, (lower_place _ _ c.requires.place s.low, (search rules, omega (arith, s.halves.size))))))
+    let s = at_split _ c.args.start _ _ _ _ _ _ _ c.in-Split.is c.requires.tree c.half_of.ensures.size in (
+      omega (arith, s.low),
+      (
+        search rules,
+        (
+          rw c.deref.ensures s.halves.low_tree,
+          (lower_place _ _ c.requires.place s.low, (search rules, omega (arith, s.halves.size))),
+        ),
+      ),
+    )
 
 pub leaf_at-requires-else-offset-middle : goal.leaf_at-requires-else-offset-middle
 leaf_at-requires-else-offset-middle g t c κs within =
@@ -33,4 +41,6 @@ returns-then-offset-middle-clause-leaf g t c =
 pub returns-else-offset-middle-clause-leaf : goal.returns-else-offset-middle-clause-leaf
 returns-else-offset-middle-clause-leaf g t c =
     let s = at_split _ c.args.start _ _ _ _ _ _ _ c.in-Split.is c.requires.tree c.half_of.ensures.size in
-    rw (s.lent, s.free) (upper_leaf _ _ _ _ c.in-Split.lower.value c.in-Split.upper.value _ _ s.halves.low_tree s.halves.size (omega arith) (rw c.deref-else-offset-middle.ensures at c.leaf_at-else-offset-middle.ensures.leaf))
+    rw (s.lent, s.free) (upper_leaf _ _ _ _ c.in-Split.lower.value c.in-Split.upper.value _ _
+    s.halves.low_tree s.halves.size (omega arith)
+    (rw c.deref-else-offset-middle.ensures at c.leaf_at-else-offset-middle.ensures.leaf))

@@ -8,12 +8,21 @@ use Rattle.ms_buddy.proofs.node.Node.+next_free.Goals as goal
 
 pub returns-then-not-has_level : goal.returns-then-not-has_level
 returns-then-not-has_level g t c =
-    sym (none_of_level c.args.level c.args.start c.args.wanted c.args.from c.args.self.now c.in-Split.levels c.requires.tree (ap (levels_of c.args.level) c.in-Split.is) (sym c.has_level.ensures ∙ c.if-not-has_level.true))
+    sym (none_of_level c.args.level c.args.start c.args.wanted c.args.from c.args.self.now c.in-Split.levels
+    c.requires.tree (ap (levels_of c.args.level) c.in-Split.is) (sym c.has_level.ensures ∙ c.if-not-has_level.true))
 
 pub next_free-requires : goal.next_free-requires
 next_free-requires g t c κs within =
-    let s = at_split _ c.args.start _ _ _ _ _ _ _ c.in-Split.is c.requires.tree c.half_of.ensures.size in
-    (omega (arith, s.low), (search rules, (rw c.deref.ensures s.halves.high_tree, (upper_place _ _ _ c.requires.place s.low (omega (arith, s.halves.size)), c.requires.wanted))))
+    let s = at_split _ c.args.start _ _ _ _ _ _ _ c.in-Split.is c.requires.tree c.half_of.ensures.size in (
+      omega (arith, s.low),
+      (
+        search rules,
+        (
+          rw c.deref.ensures s.halves.high_tree,
+          (upper_place _ _ _ c.requires.place s.low (omega (arith, s.halves.size)), c.requires.wanted),
+        ),
+      ),
+    )
 
 pub next_free-requires-in-Split : goal.next_free-requires-in-Split
 next_free-requires-in-Split g t c κs within =
@@ -22,8 +31,16 @@ next_free-requires-in-Split g t c κs within =
 
 pub next_free-requires-in-None : goal.next_free-requires-in-None
 next_free-requires-in-None g t c κs within =
-    let s = at_split _ c.args.start _ _ _ _ _ _ _ c.in-Split.is c.requires.tree c.half_of.ensures.size in
-    (omega (arith, s.low), (search rules, (rw c.deref-in-None.ensures s.halves.high_tree, (upper_place _ _ _ c.requires.place s.low (omega (arith, s.halves.size)), c.requires.wanted))))
+    let s = at_split _ c.args.start _ _ _ _ _ _ _ c.in-Split.is c.requires.tree c.half_of.ensures.size in (
+      omega (arith, s.low),
+      (
+        search rules,
+        (
+          rw c.deref-in-None.ensures s.halves.high_tree,
+          (upper_place _ _ _ c.requires.place s.low (omega (arith, s.halves.size)), c.requires.wanted),
+        ),
+      ),
+    )
 
 pub returns-then-from-middle : goal.returns-then-from-middle
 returns-then-from-middle g t c =
@@ -38,4 +55,5 @@ returns-in-Some g t c =
 pub returns-in-None : goal.returns-in-None
 returns-in-None g t c =
     let s = at_split _ c.args.start _ _ _ _ _ _ _ c.in-Split.is c.requires.tree c.half_of.ensures.size in
-    found_above _ _ _ _ _ _ _ _ _ _ s c.deref-in-None.ensures c.next_free-in-None.ensures (told_below _ _ _ _ _ _ _ _ c.deref-in-Split.ensures c.next_free-in-Split.ensures c.in-None.is)
+    found_above _ _ _ _ _ _ _ _ _ _ s c.deref-in-None.ensures c.next_free-in-None.ensures
+    (told_below _ _ _ _ _ _ _ _ c.deref-in-Split.ensures c.next_free-in-Split.ensures c.in-None.is)

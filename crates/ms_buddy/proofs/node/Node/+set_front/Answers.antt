@@ -21,7 +21,8 @@ set_front-requires-else-span-middle g t c κs within =
 pub returns-then-span-middle-clause-lent : goal.returns-then-span-middle-clause-lent
 returns-then-span-middle-clause-lent g t c =
     let s = at_split _ c.args.start _ _ _ _ _ _ _ c.in-Split.is c.requires.tree c.half_of.ensures.size in
-    lower_changed _ _ _ _ _ c.set_front.new.self _ _ (front_acts c.args.span c.args.front) s.halves c.if-span-middle.true (rw c.deref_mut.ensures.value at c.set_front.ensures.lent)
+    lower_changed _ _ _ _ _ c.set_front.new.self _ _ (front_acts c.args.span c.args.front)
+    s.halves c.if-span-middle.true (rw c.deref_mut.ensures.value at c.set_front.ensures.lent)
     ∙ ap (with_front c.args.span c.args.front) (sym s.lent)
 
 pub returns-else-span-middle-clause-lent : goal.returns-else-span-middle-clause-lent

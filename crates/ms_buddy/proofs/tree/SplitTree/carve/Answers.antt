@@ -1,6 +1,7 @@
 -- The free leaves of the tree are the free parts that its lent leaves leave over.
 use Rattle.std.proofs.Common.{rules, arith, refl, sym, ap, ◌∙◌}
-use Rattle.ms_buddy.specs.Leaves.{free_of}
+use Rattle.ms_buddy.specs.Leaves.{free_of, span_at}
+use Rattle.ms_buddy.specs.Tree.{free_in}
 use Rattle.ms_buddy.proofs.FreeLeafLemmas.{free_of-tree}
 use Rattle.ms_buddy.proofs.CarveLemmas.{ends_in}
 use Rattle.ms_buddy.proofs.KeptTreeLemmas.{no_room_exactly}
@@ -13,7 +14,8 @@ carve-requires-clause-part g c = record {
   inside = record {
     low = omega arith;
     from = omega arith;
-    to = ends_in (record { start = c.args.at; level = c.args.level }) 0 0 (omega arith, c.requires.aligned) (omega arith, refl) (omega arith) (omega arith) c.requires.in_root;
+    to = ends_in (span_at c.args.at c.args.level) 0 0 (omega arith, c.requires.aligned) (omega arith, refl)
+        (omega arith) (omega arith) c.requires.in_root;
   };
   some = c.requires.some;
   within = c.requires.within;
@@ -22,9 +24,9 @@ carve-requires-clause-part g c = record {
 pub returns-clause-no_room : goal.returns-clause-no_room
 returns-clause-no_room g c =
     let e = sym (ap free_of c.self.view_is) ∙ free_of-tree c.self.inside.node c.self.invariant in
-    rw e (no_room_exactly (record { start = c.args.at; level = c.args.level }) _ c.carve.result c.carve.ensures.room c.carve.ensures.refusal)
+    rw e (no_room_exactly (span_at c.args.at c.args.level) (free_in 0 0 c.self.inside.node) c.carve.result c.carve.ensures.answers)
 
 pub returns-clause-refusal : goal.returns-clause-refusal
 returns-clause-refusal g c =
     let e = sym (ap free_of c.self.view_is) ∙ free_of-tree c.self.inside.node c.self.invariant in
-    rw e c.carve.ensures.refusal
+    rw e c.carve.ensures.answers.refusal

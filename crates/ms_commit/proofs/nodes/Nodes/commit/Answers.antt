@@ -5,8 +5,7 @@ use Rattle.ms_commit.proofs.nodes.Nodes.commit.Goals as goal
 
 pub missing-need-requires : goal.missing-need-requires
 missing-need-requires c =
-    (range_is_kept c.self.inside c.args.self.now c.args.first c.args.count c.self.invariant c.self.view_is c.requires
-    (omega arith)).1
+    (range_is_kept _ _ _ _ c.self.invariant c.self.view_is c.requires (omega arith)).1
 
 pub returns-then-need-self-clause-commit_limit : goal.returns-then-need-self-clause-commit_limit
 returns-then-need-self-clause-commit_limit c =
@@ -21,9 +20,7 @@ returns-then-need-self-clause-numbers c =
 
 pub insert_range-requires : goal.insert_range-requires
 insert_range-requires c =
-    let inside = range_is_kept c.self.inside c.args.self.now c.args.first c.args.count c.self.invariant c.self.view_is
-    c.requires (omega arith) in
-    (omega arith, inside)
+    (omega arith, range_is_kept _ _ _ _ c.self.invariant c.self.view_is c.requires (omega arith))
 
 pub invariant_of-self : goal.invariant_of-self
 invariant_of-self c =

@@ -1,12 +1,11 @@
 use Rattle.std.proofs.Common.{sym, refl, ap, ◌∙◌, subst, inr}
-use Rattle.ms_base.specs.declared.kind.Space.TheVariants.{NonClass, Class}
 use Rattle.ms_base.specs.Names.{named}
-use Rattle.ms_pool.specs.Ledger.{Ledger, Serves, IsSoundLedger}
-use Rattle.ms_loaders.specs.Loader.{account_in, IsSoundView}
+use Rattle.ms_pool.specs.Ledger.{Ledger, IsSoundLedger}
+use Rattle.ms_loaders.specs.Loader.{IsSoundView}
 use Rattle.ms_loaders.proofs.FitLemmas.{machine_is_good}
 use Rattle.ms_loaders.proofs.StepLemmas.{has_loader, lacks_loader}
 use Rattle.ms_loaders.proofs.CallLemmas.{found, unused_name}
-use Rattle.ms_loaders.proofs.CloseLemmas.{with_both, first_account, second_account, first_served, second_served, together_made, machine_made}
+use Rattle.ms_loaders.proofs.CloseLemmas.{with_both, first_served, second_served, together_made, machine_made}
 use Rattle.ms_loaders.proofs.UnloadLemmas.{made_of, closed_again, together_again, numbers_used, numbers_left, insert_is_refused}
 use Rattle.ms_loaders.proofs.system.System.new_loader.Goals as goal
 
@@ -29,19 +28,16 @@ invariant_of-self-in-Ok-insert c =
       policy_is = c.self.invariant.policy_is;
     })
 
-pub close_both-requires-clause-served : goal.close_both-requires-clause-served
-close_both-requires-clause-served c =
+pub close_both-requires-clause-both : goal.close_both-requires-clause-both
+close_both-requires-clause-both c =
     let unused = unused_name c.self.inside.loaders c.args.name c.contains.result c.contains.ensures c.if-contains.false in
     let made = made_of c.self.inside.pool c.args.kind c.in-Ok.accounts c.new-loader.result c.new-loader.ensures.made c.in-Ok.ensures.opened.0 in
-    subst (Serves c.open_both.new.self) (sym (c.into_accounts-account.ensures.account ∙ ap (account_in NonClass) (c.in-Err-insert.ensures.back ∙ made)))
-    (subst (λ (l : Ledger). Serves l (first_account c.self.inside.pool)) (sym c.in-Ok.ensures.opened.1) (first_served c.self.inside.pool c.self.inside.loaders c.args.name c.args.kind unused c.self.invariant.together))
-
-pub close_both-requires-clause-class_served : goal.close_both-requires-clause-class_served
-close_both-requires-clause-class_served c =
-    let unused = unused_name c.self.inside.loaders c.args.name c.contains.result c.contains.ensures c.if-contains.false in
-    let made = made_of c.self.inside.pool c.args.kind c.in-Ok.accounts c.new-loader.result c.new-loader.ensures.made c.in-Ok.ensures.opened.0 in
-    subst (Serves c.open_both.new.self) (sym (c.into_accounts-account.ensures.class_account ∙ ap (account_in Class) (c.in-Err-insert.ensures.back ∙ made)))
-    (subst (λ (l : Ledger). Serves l (second_account c.self.inside.pool)) (sym c.in-Ok.ensures.opened.1) (second_served c.self.inside.pool c.self.inside.loaders c.args.name c.args.kind unused c.self.invariant.together))
+    rw (c.into_accounts-account.ensures.account, c.into_accounts-account.ensures.class_account, c.in-Err-insert.ensures.back, made, c.in-Ok.ensures.opened.1) (record {
+      served = first_served c.self.inside.pool c.self.inside.loaders c.args.name c.args.kind unused c.self.invariant.together;
+      class_served = second_served c.self.inside.pool c.self.inside.loaders c.args.name c.args.kind unused c.self.invariant.together;
+      space = refl;
+      class_space = refl;
+    })
 
 pub invariant_of-self-in-Err-insert : goal.invariant_of-self-in-Err-insert
 invariant_of-self-in-Err-insert c =

@@ -1,6 +1,6 @@
 use Rattle.std.proofs.Common.{sym, refl, ap, ◌∙◌, subst}
 use Rattle.ms_base.specs.declared.kind.Space.TheVariants.{NonClass, Class}
-use Rattle.ms_pool.specs.Ledger.{Serves, Ledger}
+use Rattle.ms_pool.specs.Ledger.{Ledger}
 use Rattle.ms_base.specs.State.{Machine}
 use Rattle.ms_base.specs.Transition.{HasLoader}
 use Rattle.ms_loaders.proofs.StepLemmas.{has_loader, lacks_loader}
@@ -9,13 +9,13 @@ use Rattle.ms_loaders.proofs.ServedLemmas.{own_served}
 use Rattle.ms_loaders.proofs.UnloadLemmas.{closed_of, together_unloaded, is_unloaded}
 use Rattle.ms_loaders.proofs.system.System.unload.Goals as goal
 
-pub close_both-requires-clause-served : goal.close_both-requires-clause-served
-close_both-requires-clause-served c = subst (Serves c.self.inside.pool) (sym c.into_accounts-account.ensures.account)
-    (own_served NonClass c.self.inside.pool c.self.inside.loaders c.args.name c.in-Some.loader (sym c.remove.ensures.found ∙ c.in-Some.is) c.self.invariant.together.served)
-
-pub close_both-requires-clause-class_served : goal.close_both-requires-clause-class_served
-close_both-requires-clause-class_served c = subst (Serves c.self.inside.pool) (sym c.into_accounts-account.ensures.class_account)
-    (own_served Class c.self.inside.pool c.self.inside.loaders c.args.name c.in-Some.loader (sym c.remove.ensures.found ∙ c.in-Some.is) c.self.invariant.together.served)
+pub close_both-requires-clause-both : goal.close_both-requires-clause-both
+close_both-requires-clause-both c = rw (c.into_accounts-account.ensures.account, c.into_accounts-account.ensures.class_account) (record {
+  served = own_served NonClass c.self.inside.pool c.self.inside.loaders c.args.name c.in-Some.loader (sym c.remove.ensures.found ∙ c.in-Some.is) c.self.invariant.together.served;
+  class_served = own_served Class c.self.inside.pool c.self.inside.loaders c.args.name c.in-Some.loader (sym c.remove.ensures.found ∙ c.in-Some.is) c.self.invariant.together.served;
+  space = refl;
+  class_space = refl;
+})
 
 pub invariant_of-self : goal.invariant_of-self
 invariant_of-self c =

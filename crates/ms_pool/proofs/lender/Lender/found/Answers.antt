@@ -35,7 +35,7 @@ returns c =
     ∙ found_later _ _ (sym c.in_default-smaller-2.ensures))
 
 pub larger-requires-clause-fits : goal.larger-requires-clause-fits
-larger-requires-clause-fits c = omega (arith, c.requires.fits, size_falls c.args.wanted c.args.most c.requires.levels (omega (arith, c.number.ensures.same, c.number.ensures.below)))
+larger-requires-clause-fits c = omega (arith, c.requires.asks.fits, size_falls c.args.wanted c.args.most c.requires.asks.levels (omega (arith, c.number.ensures.same, c.number.ensures.below)))
 
 pub larger-requires-2-clause-fits : goal.larger-requires-2-clause-fits
-larger-requires-2-clause-fits c = omega (arith, c.requires.fits, size_falls c.args.wanted c.args.most c.requires.levels (omega (arith, c.number.ensures.same, c.number.ensures.below)))
+larger-requires-2-clause-fits c = omega (arith, c.requires.asks.fits, size_falls c.args.wanted c.args.most c.requires.asks.levels (omega (arith, c.number.ensures.same, c.number.ensures.below)))

@@ -15,11 +15,11 @@ use Rattle.ms_pool.proofs.ledger.TakenLemmas.{slot_of_root}
 pub returns-in-Some-clause-picked : goal.returns-in-Some-clause-picked
 returns-in-Some-clause-picked c =
     rw (c.new.ensures, c.max.ensures, c.number.ensures.same, c.number-in-Some.ensures.same)
-    (picked_found (state_in c.args.space (ledger_of c.args.self.now)) c.args.wanted c.args.most c.args.words c.in-Some.part c.requires.levels (sym c.found.ensures ∙ c.in-Some.is)).0
+    (picked_found (state_in c.args.space (ledger_of c.args.self.now)) c.args.wanted c.args.most c.args.words c.in-Some.part c.requires.asks.levels (sym c.found.ensures ∙ c.in-Some.is)).0
 
 pub returns-in-Some-clause-room : goal.returns-in-Some-clause-room
 returns-in-Some-clause-room c =
-    (picked_found (state_in c.args.space (ledger_of c.args.self.now)) c.args.wanted c.args.most c.args.words c.in-Some.part c.requires.levels (sym c.found.ensures ∙ c.in-Some.is)).1
+    (picked_found (state_in c.args.space (ledger_of c.args.self.now)) c.args.wanted c.args.most c.args.words c.in-Some.part c.requires.asks.levels (sym c.found.ensures ∙ c.in-Some.is)).1
 
 pub returns-in-Some-new_slot-clause-picked : goal.returns-in-Some-new_slot-clause-picked
 returns-in-Some-new_slot-clause-picked c =
@@ -46,7 +46,7 @@ returns-in-None-new_slot-clause-full c =
 
 pub returns-in-Some-clause-slot : goal.returns-in-Some-clause-slot
 returns-in-Some-clause-slot c =
-    inl (in_space c.args.space (found_is_reserved (state_in c.args.space (ledger_of c.args.self.now)) c.args.wanted c.args.most c.args.words c.in-Some.part c.requires.levels (sym c.found.ensures ∙ c.in-Some.is)))
+    inl (in_space c.args.space (found_is_reserved (state_in c.args.space (ledger_of c.args.self.now)) c.args.wanted c.args.most c.args.words c.in-Some.part c.requires.asks.levels (sym c.found.ensures ∙ c.in-Some.is)))
   where
     in_space : (space : Space) → is_reserved (state_in space (ledger_of c.args.self.now)).slots (slot_of c.in-Some.part.start) ≡ true → is_reserved (slots_of space c.args.self.now.nodes) (slot_of c.in-Some.part.start) ≡ true
     in_space NonClass e = e

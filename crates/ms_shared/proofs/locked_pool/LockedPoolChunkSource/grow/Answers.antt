@@ -1,12 +1,12 @@
-use Rattle.std.proofs.Common.{sym, subst, refl, ◌∙◌}
+use Rattle.std.proofs.Common.{sym, subst, ◌∙◌}
 use Rattle.std.specs.Prelude.{IfOk}
 use Rattle.ms_base.specs.State.{Limits}
 use Rattle.ms_pool.specs.Lending.{Grows}
 use Rattle.ms_shared.specs.SeatView.{SeatState, ServesBy}
-use Rattle.ms_shared.proofs.LockCallLemmas.{moves_at, is_call, over_lock, served_by_pool, own_times, serves_then, counts_stay, limits_stay, grow_raises, grew_owner}
+use Rattle.ms_shared.proofs.LockCallLemmas.{moves_at, is_call, over_lock, served_by_pool, own_times, serves_then, leaves_rest, grow_raises, grew_owner}
 use Rattle.ms_shared.proofs.MovesLemmas.{kept_moves, grew_tallies}
 use Rattle.ms_shared.proofs.TellsLemmas.{grow_tells}
-use Rattle.ms_pool.proofs.ledger.GrewLemmas.{grew_keeps, grew_serves, grew_serves_others}
+use Rattle.ms_pool.proofs.ledger.GrewLemmas.{grew_keeps, grew_serves}
 use Rattle.ms_shared.proofs.locked_pool.LockedPoolChunkSource.grow.Goals as goal
 
 pub grow-answer-requires-clause-served : goal.grow-answer-requires-clause-served
@@ -29,10 +29,7 @@ returns g c =
     let its = served_by_pool _ _ _ call.known c.requires.served in record {
       served = serves_then _ _ _ _ call c.args.account.now c.grow-answer.new.account c.requires.served (grew_owner _ _ _ _ _ _ result e.grown e.unchanged)
           (grew_serves _ _ _ _ _ result _ _ call.sound its c.held.ensures.chunks e.grew e.grown e.unchanged);
-      others = λ other differs own. serves_then _ _ _ _ call other other own refl
-          (grew_serves_others _ c.args.account.now _ _ _ result _ other call.sound its c.held.ensures.chunks e.grew differs (served_by_pool _ _ other call.known own));
-      counted = counts_stay _ _ _ _ call (grew_keeps _ _ _ _ _ result _ call.sound its c.held.ensures.chunks e.grew).opened;
-      limits = limits_stay _ _ _ _ call;
+      rest = leaves_rest _ _ _ _ call c.args.account.now.owner (grew_keeps _ _ _ _ _ result _ call.sound its c.held.ensures.chunks e.grew);
       grown = subst (λ (l : Limits). IfOk result (λ span. Grows l.policy c.args.start c.args.total c.args.may_enlarge c.args.account.now span c.grow-answer.new.account)) call.known.limits e.grown;
       unchanged = e.unchanged;
       grew = record { event = over_lock _ _ _ _ _ call e.grew; tallies = grow_raises _ _ _ _ call _ _ _ _ result e.grew; tells = grow_tells _ _ c.args.account.now _ _ _ result _ call.known.limits e.grew };

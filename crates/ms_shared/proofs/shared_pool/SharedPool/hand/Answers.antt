@@ -1,7 +1,7 @@
-use Rattle.std.proofs.Common.{◌≡◌, ◌+◌, sym, ap, ◌∙◌, subst}
-use Rattle.ms_shared.specs.SeatView.{SeatState, ServesBy, opened_by, without_account, with_account}
+use Rattle.std.proofs.Common.{◌≡◌, ap}
+use Rattle.ms_shared.specs.SeatView.{SeatState, without_account, with_account}
 use Rattle.ms_shared.proofs.SeatDealLemmas.{seat_of}
-use Rattle.ms_shared.proofs.HandLemmas.{from_is, to_is, handed_serves, left_serves, taker_serves, taker_counts, left_counts}
+use Rattle.ms_shared.proofs.HandLemmas.{from_is, to_is, hands_on}
 use Rattle.ms_shared.proofs.shared_pool.SharedPool.hand.Goals as goal
 
 pub returns : goal.returns
@@ -14,9 +14,5 @@ returns c =
     record {
       from = from_now;
       to = to_now;
-      served = subst (λ (s : SeatState). ServesBy s.knows c.args.account.now) (sym to_now) (handed_serves from.knows to.knows c.args.account.now c.requires.served);
-      others = λ other differs its. subst (λ (s : SeatState). ServesBy s.knows other) (sym from_now) (left_serves from.knows owner space other differs its);
-      to_others = λ other its. subst (λ (s : SeatState). ServesBy s.knows other) (sym to_now) (taker_serves from.knows to.knows owner space other its);
-      counted = ap (λ (s : SeatState). opened_by s.knows space) to_now ∙ taker_counts from.knows to.knows owner space;
-      from_counted = ap (λ (s : SeatState). opened_by s.knows space + 1) from_now ∙ left_counts from.knows owner space c.requires.counted;
+      handed = hands_on _ _ _ _ _ (ap (λ (s : SeatState). s.knows) from_now) (ap (λ (s : SeatState). s.knows) to_now) c.requires.served c.requires.counted;
     }

@@ -3,7 +3,7 @@ use Rattle.atomic_table.specs.Table.{opening}
 use Rattle.ms_pool.specs.Ledger.{Ledger}
 use Rattle.ms_shared.specs.SeatView.{new_seats}
 use Rattle.ms_shared.specs.LockRule.{IsLocked, Sat, first_view}
-use Rattle.ms_shared.proofs.SeatCutLemmas.{begins, cut, cuts_seats}
+use Rattle.ms_shared.proofs.SeatCutLemmas.{begins, cut, cuts_blank}
 use Rattle.ms_shared.proofs.SeatDealLemmas.{deals_begin, deals_more, deals_end, seen_as}
 use Rattle.ms_shared.proofs.shared_pool.SharedPool.new.Goals as goal
 
@@ -22,7 +22,7 @@ loop-init c =
 pub split_seat-next-requires : goal.split_seat-next-requires
 split_seat-next-requires c =
     let inv = c.loop.invariant in let parts = inv.0.parts in let more = c.loop-test.true in
-    (inv.1, search rules, cut _ _ _ _ _ _ (cuts_seats c.loop.rest.me.0 (omega arith)))
+    (inv.1, search rules, cut _ _ _ _ _ _ (cuts_blank c.loop.rest.me.0 2 _ (omega arith) (omega arith) (omega arith)))
 
 pub loop-preserved : goal.loop-preserved
 loop-preserved c =

@@ -1,8 +1,8 @@
 use Rattle.std.proofs.Common.{rules, ◌≡◌, ◌+◌, ◌-◌, sym, ap, ◌∙◌, arith}
 use Rattle.ms_shared.specs.SeatView.{LockState}
 use Rattle.ms_shared.specs.LockRule.{Sat}
-use Rattle.ms_shared.proofs.SeatCutLemmas.{cut, join}
-use Rattle.ms_shared.proofs.HandLemmas.{cuts_account, cuts_part}
+use Rattle.ms_shared.proofs.SeatCutLemmas.{cut, cuts_blank, join}
+use Rattle.ms_shared.proofs.HandLemmas.{cuts_account}
 use Rattle.ms_shared.proofs.shared_pool.SharedPool.pass.Goals as goal
 
 pub split_seat-note-requires : goal.split_seat-note-requires
@@ -25,7 +25,7 @@ split_seat-part-requires g c =
     let id = ap (λ (l : LockState). l.id) (sym c.self.view_is) in let note = c.split_seat-note.ensures in let to = c.join_seat.ensures in
     let two = c.requires.to.parts in let one : c.split_seat-note.result.me.0.parts ≡ 1 = ap (λ (m : Sat). m.0.parts) note.4 in
     let three : c.join_seat.new.seat.me.0.parts ≡ c.args.to.now.me.0.parts + c.split_seat-note.result.me.0.parts = ap (λ (m : Sat). m.0.parts) to.2 in
-    (to.0 ∙ c.requires.to.own ∙ id, search rules, cut _ _ _ _ _ _ (cuts_part c.join_seat.new.seat.me.0 (omega arith)))
+    (to.0 ∙ c.requires.to.own ∙ id, search rules, cut _ _ _ _ _ _ (cuts_blank c.join_seat.new.seat.me.0 _ 1 (omega arith) (omega arith) (omega arith)))
 
 pub join_seat-requires-2 : goal.join_seat-requires-2
 join_seat-requires-2 g c =
