@@ -1,7 +1,8 @@
 -- A fault of the longest beginning that is read is the whole input's fault: lines that are complete
 -- stay as they are when more is read, and a line that isn't is too long, or one too many. Used by
 -- `answer_to`.
-use Rattle.std.proofs.Common.{◌≡◌, ◌≤◌, ◌<◌, ◌⊎◌, ℕ, ◌+◌, ◌*◌, ◌==◌, Bool, true, false, cond, List, [], ◌∷◌, ◌++◌, Some, None, length, refl, sym, ap, ◌∙◌, arith, inl, inr, append_assoc, length-append}
+use Rattle.std.proofs.Common.{◌≡◌, ◌≤◌, ◌<◌, ◌⊎◌, ℕ, ◌+◌, ◌*◌, ◌==◌, Bool, true, false, cond, List, [], ◌∷◌, ◌++◌, Some}
+use Rattle.std.proofs.Common.{None, length, refl, sym, ap, ◌∙◌, arith, inl, inr, append_assoc, length-append}
 use Rattle.std.specs.List.{slice_split, onto_first}
 use Rattle.std.proofs.lemmas.Bool.{cases_lt, lt-ltb, le-ltb}
 use Rattle.std.proofs.lemmas.List.Splits.{length-slice_split}
@@ -25,7 +26,8 @@ joined (part ∷ next ∷ parts) more = part ∷ joined (next ∷ parts) more
 nothing_in_front : (p : ℕ → Bool) (text : List ℕ) → in_front [] (slice_split p text) ≡ slice_split p text
 nothing_in_front p [] = refl
 nothing_in_front p (byte ∷ text) =
-    elim (p byte) as (λ ends. in_front [] (cond ends ([] ∷ slice_split p text) (onto_first byte (slice_split p text))) ≡ cond ends ([] ∷ slice_split p text) (onto_first byte (slice_split p text))) [
+    elim (p byte) as (λ ends. in_front [] (cond ends ([] ∷ slice_split p text) (onto_first byte (slice_split p text)))
+    ≡ cond ends ([] ∷ slice_split p text) (onto_first byte (slice_split p text))) [
       | true ↦ refl
       | false ↦ onto (slice_split p text)
     ]
@@ -35,7 +37,8 @@ nothing_in_front p (byte ∷ text) =
     onto (part ∷ parts) = refl
 
 -- A byte in front of the first part, before or after joining.
-onto_joined : (byte : ℕ) (parts more : List (List ℕ)) → onto_first byte (joined parts more) ≡ joined (onto_first byte parts) more
+onto_joined : (byte : ℕ) (parts more : List (List ℕ))
+    → onto_first byte (joined parts more) ≡ joined (onto_first byte parts) more
 onto_joined byte [] [] = refl
 onto_joined byte [] (part ∷ more) = refl
 onto_joined byte (part ∷ []) [] = refl
@@ -51,12 +54,17 @@ has_a_part : (p : ℕ → Bool) (text : List ℕ) → 1 ≤ length (slice_split 
 has_a_part p text = omega (arith, length-slice_split p text)
 
 -- The parts of a longer text.
-split_longer : (p : ℕ → Bool) (text more : List ℕ) → slice_split p (text ++ more) ≡ joined (slice_split p text) (slice_split p more)
+split_longer : (p : ℕ → Bool) (text more : List ℕ)
+    → slice_split p (text ++ more) ≡ joined (slice_split p text) (slice_split p more)
 split_longer p [] more = sym (nothing_in_front p more)
 split_longer p (byte ∷ text) more =
-    elim (p byte) as (λ ends. cond ends ([] ∷ slice_split p (text ++ more)) (onto_first byte (slice_split p (text ++ more))) ≡ joined (cond ends ([] ∷ slice_split p text) (onto_first byte (slice_split p text))) (slice_split p more)) [
-      | true ↦ ap (λ (parts : List (List ℕ)). [] ∷ parts) (split_longer p text more) ∙ cut_joined (slice_split p text) (slice_split p more) (has_a_part p text)
-      | false ↦ ap (onto_first byte) (split_longer p text more) ∙ onto_joined byte (slice_split p text) (slice_split p more)
+    elim (p byte) as (λ ends. cond ends ([] ∷ slice_split p (text ++ more))
+    (onto_first byte (slice_split p (text ++ more)))
+    ≡ joined (cond ends ([] ∷ slice_split p text) (onto_first byte (slice_split p text))) (slice_split p more)) [
+      | true ↦ ap (λ (parts : List (List ℕ)). [] ∷ parts) (split_longer p text more)
+          ∙ cut_joined (slice_split p text) (slice_split p more) (has_a_part p text)
+      | false ↦ ap (onto_first byte) (split_longer p text more)
+          ∙ onto_joined byte (slice_split p text) (slice_split p more)
     ]
 
 -- Parts that end before others stay.
@@ -64,15 +72,19 @@ joined_later : (before : List (List ℕ)) (line next : List ℕ) (parts more : L
     → joined (before ++ line ∷ next ∷ parts) more ≡ before ++ line ∷ joined (next ∷ parts) more
 joined_later [] line next parts more = refl
 joined_later (part ∷ []) line next parts more = refl
-joined_later (part ∷ other ∷ before) line next parts more = ap (λ (all : List (List ℕ)). part ∷ all) (joined_later (other ∷ before) line next parts more)
+joined_later (part ∷ other ∷ before) line next parts more =
+    ap (λ (all : List (List ℕ)). part ∷ all) (joined_later (other ∷ before) line next parts more)
 
-joined_last : (before : List (List ℕ)) (line : List ℕ) (more : List (List ℕ)) → joined (before ++ line ∷ []) more ≡ before ++ in_front line more
+joined_last : (before : List (List ℕ)) (line : List ℕ) (more : List (List ℕ))
+    → joined (before ++ line ∷ []) more ≡ before ++ in_front line more
 joined_last [] line more = refl
 joined_last (part ∷ []) line more = refl
-joined_last (part ∷ other ∷ before) line more = ap (λ (all : List (List ℕ)). part ∷ all) (joined_last (other ∷ before) line more)
+joined_last (part ∷ other ∷ before) line more =
+    ap (λ (all : List (List ℕ)). part ∷ all) (joined_last (other ∷ before) line more)
 
 -- Lines are the parts, but for an empty last one.
-lines_or_more : (parts : List (List ℕ)) → (parts ≡ without_empty_end parts) ⊎ (parts ≡ without_empty_end parts ++ [] ∷ [])
+lines_or_more : (parts : List (List ℕ))
+    → (parts ≡ without_empty_end parts) ⊎ (parts ≡ without_empty_end parts ++ [] ∷ [])
 lines_or_more [] = inl refl
 lines_or_more ([] ∷ []) = inr refl
 lines_or_more ((byte ∷ part) ∷ parts) = elim (lines_or_more parts) [
@@ -88,7 +100,8 @@ lines_or_more ([] ∷ part ∷ parts) = elim (lines_or_more (part ∷ parts)) [
 abbrev Keeps : List (List ℕ) → List ℕ → List (List ℕ) → Type 0
 Keeps before line rest = (after : List (List ℕ)) × (without_empty_end (before ++ line ∷ rest) ≡ before ++ line ∷ after)
 
-keeps_lines : (before : List (List ℕ)) (line : List ℕ) (rest : List (List ℕ)) → 1 ≤ length line + length rest → Keeps before line rest
+keeps_lines : (before : List (List ℕ)) (line : List ℕ) (rest : List (List ℕ)) → 1 ≤ length line + length rest
+    → Keeps before line rest
 keeps_lines [] [] [] some = absurd (omega (arith, some))
 keeps_lines [] [] (part ∷ rest) some = (without_empty_end (part ∷ rest), refl)
 keeps_lines [] (byte ∷ line) rest some = (without_empty_end rest, refl)
@@ -139,7 +152,8 @@ joined_some part [] (next ∷ more) = omega arith
 joined_some part (next ∷ parts) more = omega arith
 
 -- A faulty line that is complete is the fault of a longer text too.
-complete_stays : (text more : List ℕ) (number : ℕ) (kind : FaultKind) (before : List (List ℕ)) (line next : List ℕ) (parts : List (List ℕ))
+complete_stays : (text more : List ℕ) (number : ℕ) (kind : FaultKind) (before : List (List ℕ)) (line next : List ℕ)
+    (parts : List (List ℕ))
     → slice_split ends_line text ≡ before ++ line ∷ next ∷ parts → AreFaultless 1 before → number ≡ length before + 1
     → fault_of number line ≡ Some kind → HasFault (text ++ more) number kind
 complete_stays text more number kind before line next parts cut faultless number_is kind_is =
@@ -164,13 +178,16 @@ longer_fault number line more kind why kind_is = elim (cases_lt 100000 number) [
   | inl high ↦ too_many number (line ++ more) high ∙ sym (too_many number line high) ∙ kind_is
   | inr low ↦ elim why [
     | inl high ↦ absurd (omega (arith, high, low))
-    | inr long ↦ too_long number (line ++ more) low (omega (arith, length-append line more, long)) ∙ sym (too_long number line low long) ∙ kind_is
+    | inr long ↦ too_long number (line ++ more) low (omega (arith, length-append line more, long))
+        ∙ sym (too_long number line low long) ∙ kind_is
   ]
 ]
 
 -- A faulty line at the end of the longest beginning.
-open_stays : (text : List ℕ) (number : ℕ) (kind : FaultKind) (before : List (List ℕ)) (line : List ℕ) (whole : List ℕ) (more : List (List ℕ))
-    → length text ≡ 8100001 → slice_split ends_line text ≡ before ++ line ∷ [] → slice_split ends_line whole ≡ before ++ in_front line more
+open_stays : (text : List ℕ) (number : ℕ) (kind : FaultKind) (before : List (List ℕ)) (line : List ℕ) (whole : List ℕ)
+    (more : List (List ℕ))
+    → length text ≡ 8100001 → slice_split ends_line text ≡ before ++ line ∷ []
+    → slice_split ends_line whole ≡ before ++ in_front line more
     → AreFaultless 1 before → number ≡ length before + 1 → fault_of number line ≡ Some kind → HasFault whole number kind
 open_stays text number kind before line whole more size cut longer faultless number_is kind_is =
     let few = few_bytes 1 before (omega arith) faultless in
@@ -194,7 +211,8 @@ open_stays text number kind before line whole more size cut longer faultless num
           number_is = number_is;
           kind_is = kind_is;
         }
-    at (part ∷ more) longer long why = let kept = keeps_lines before (line ++ part) more (omega (arith, length-append line part, long)) in
+    at (part ∷ more) longer long why = let kept =
+        keeps_lines before (line ++ part) more (omega (arith, length-append line part, long)) in
         record {
           before = before;
           line = line ++ part;
@@ -206,20 +224,33 @@ open_stays text number kind before line whole more size cut longer faultless num
         }
 
 -- The fault of the longest beginning that is read is that of the whole input.
-pub fault_stays : (text more : List ℕ) (number : ℕ) (kind : FaultKind) → length text ≡ 8100001 → HasFault text number kind
+pub fault_stays : (text more : List ℕ) (number : ℕ) (kind : FaultKind) → length text ≡ 8100001
+    → HasFault text number kind
     → HasFault (text ++ more) number kind
 fault_stays text more number kind size fault = elim (lines_or_more (slice_split ends_line text)) [
   | inl same ↦ whole fault.after (same ∙ fault.lines_are)
-  | inr same ↦ cut fault.after (same ∙ ap (λ (all : List (List ℕ)). all ++ [] ∷ []) fault.lines_are ∙ append_assoc fault.before (fault.line ∷ fault.after) ([] ∷ []))
+  | inr same ↦
+      cut fault.after
+      (same ∙ ap (λ (all : List (List ℕ)). all ++ [] ∷ []) fault.lines_are
+      ∙ append_assoc fault.before (fault.line ∷ fault.after) ([] ∷ []))
 ]
   where
-    whole : (after : List (List ℕ)) → slice_split ends_line text ≡ fault.before ++ fault.line ∷ after → HasFault (text ++ more) number kind
-    whole [] is = open_stays text number kind fault.before fault.line (text ++ more) (slice_split ends_line more) size is
+    whole : (after : List (List ℕ)) → slice_split ends_line text ≡ fault.before ++ fault.line ∷ after
+        → HasFault (text ++ more) number kind
+    whole [] is =
+        open_stays text number kind fault.before fault.line (text ++ more) (slice_split ends_line more) size is
         (split_longer ends_line text more ∙ ap (λ (all : List (List ℕ)). joined all (slice_split ends_line more)) is
         ∙ joined_last fault.before fault.line (slice_split ends_line more))
         fault.faultless fault.number_is fault.kind_is
-    whole (next ∷ after) is = complete_stays text more number kind fault.before fault.line next after is fault.faultless fault.number_is fault.kind_is
+    whole (next ∷ after) is =
+        complete_stays text more number kind fault.before fault.line next after is fault.faultless fault.number_is
+        fault.kind_is
 
-    cut : (after : List (List ℕ)) → slice_split ends_line text ≡ fault.before ++ fault.line ∷ (after ++ [] ∷ []) → HasFault (text ++ more) number kind
-    cut [] is = complete_stays text more number kind fault.before fault.line [] [] is fault.faultless fault.number_is fault.kind_is
-    cut (next ∷ after) is = complete_stays text more number kind fault.before fault.line next (after ++ [] ∷ []) is fault.faultless fault.number_is fault.kind_is
+    cut : (after : List (List ℕ)) → slice_split ends_line text ≡ fault.before ++ fault.line ∷ (after ++ [] ∷ [])
+        → HasFault (text ++ more) number kind
+    cut [] is =
+        complete_stays text more number kind fault.before fault.line [] [] is fault.faultless fault.number_is
+        fault.kind_is
+    cut (next ∷ after) is =
+        complete_stays text more number kind fault.before fault.line next (after ++ [] ∷ []) is fault.faultless
+        fault.number_is fault.kind_is

@@ -1,6 +1,7 @@
 -- What was read is the beginning of the input, and all of it where it reads as a trace. Used by
 -- `answer_to`.
-use Rattle.std.proofs.Common.{◌≡◌, ◌≤◌, ◌<◌, ℕ, Bool, List, ◌++◌, Option, Some, None, length, sym, subst, ap, ◌∙◌, arith, inl, inr}
+use Rattle.std.proofs.Common.{◌≡◌, ◌≤◌, ◌<◌, ℕ, Bool, List, ◌++◌, Option, Some, None, length, sym, subst, ap, ◌∙◌}
+use Rattle.std.proofs.Common.{arith, inl, inr}
 use Rattle.std.specs.Prelude.{IfSome}
 use Rattle.std.specs.Io.KnownBytes.{Consumes, IsAtEnd}
 use Rattle.std.proofs.lemmas.Bool.{cases_lt}
@@ -21,26 +22,30 @@ pub record IsRead (old new : Option (List ℕ)) (text : List ℕ) : Type 0 where
   pub whole : length text < 8100001 → IsAtEnd new
 
 -- All of the input was read.
-pub reads_whole : (old new : Option (List ℕ)) (text : List ℕ) → IsRead old new text → length text < 8100001 → IfSome old (λ bytes. bytes ≡ text)
+pub reads_whole : (old new : Option (List ℕ)) (text : List ℕ) → IsRead old new text → length text < 8100001
+    → IfSome old (λ bytes. bytes ≡ text)
 reads_whole None new text read short = tt
 reads_whole (Some xs) None text read short = absurd read.beginning
 reads_whole (Some xs) (Some ys) text read short =
     read.beginning ∙ ap (λ (rest : List ℕ). text ++ rest) (read.whole short) ∙ append-nil text
 
 -- A fault of what was read is a fault of the whole input.
-pub blames_whole : (old new : Option (List ℕ)) (text : List ℕ) (fault : ParseFault) → IsRead old new text → BlamesText text fault
+pub blames_whole : (old new : Option (List ℕ)) (text : List ℕ) (fault : ParseFault) → IsRead old new text
+    → BlamesText text fault
     → IfSome old (λ bytes. Blames bytes (failure_of_parsing fault))
 blames_whole None new text fault read blames = tt
 blames_whole (Some xs) new text OutOfMemory read blames = tt
 blames_whole (Some xs) None text (Trace fault) read blames = absurd read.beginning
 blames_whole (Some xs) (Some ys) text (Trace fault) read blames = elim (cases_lt (length text) 8100001) [
-  | inl short ↦ subst (λ (bytes : List ℕ). HasFault bytes fault.line fault.kind) (sym (reads_whole (Some xs) (Some ys) text read short)) blames
+  | inl short ↦ subst (λ (bytes : List ℕ). HasFault bytes fault.line fault.kind)
+      (sym (reads_whole (Some xs) (Some ys) text read short)) blames
   | inr long ↦ subst (λ (bytes : List ℕ). HasFault bytes fault.line fault.kind) (sym read.beginning)
       (fault_stays text ys fault.line fault.kind (omega (arith, read.most, long)) blames)
 ]
 
 -- The output for all of the input.
-pub outputs_whole : (old new : Option (List ℕ)) (addresses : Bool) (settings : Settings) (text written : List ℕ) → IsRead old new text
+pub outputs_whole : (old new : Option (List ℕ)) (addresses : Bool) (settings : Settings) (text written : List ℕ)
+    → IsRead old new text
     → IsOutput addresses settings text written → IfSome old (λ bytes. IsOutput addresses settings bytes written)
 outputs_whole None new addresses settings text written read output = tt
 outputs_whole (Some xs) new addresses settings text written read output =

@@ -1,6 +1,7 @@
 -- A text that reads as a trace is short: it has at most 100000 lines of 80 bytes. Used by
 -- `session`, which reads no more of its input than that and one byte.
-use Rattle.std.proofs.Common.{◌≡◌, ◌≤◌, ℕ, ◌+◌, ◌-◌, ◌*◌, ◌==◌, Bool, true, false, cond, List, [], ◌∷◌, length, refl, ◌∙◌, arith}
+use Rattle.std.proofs.Common.{◌≡◌, ◌≤◌, ℕ, ◌+◌, ◌-◌, ◌*◌, ◌==◌, Bool, true, false, cond, List, [], ◌∷◌, length, refl}
+use Rattle.std.proofs.Common.{◌∙◌, arith}
 use Rattle.std.specs.List.{slice_split, onto_first}
 use Rattle.ms_trace.specs.declared.trace.Line.{Line}
 use Rattle.ms_trace.specs.declared.trace.Trace.{Trace}
@@ -12,7 +13,8 @@ abbrev pub ended : List (List ℕ) → ℕ
 ended [] = 0
 ended (part ∷ parts) = length part + 1 + ended parts
 
-ended_onto_first : (byte : ℕ) (parts : List (List ℕ)) → 1 ≤ ended parts → ended (onto_first byte parts) ≡ ended parts + 1
+ended_onto_first : (byte : ℕ) (parts : List (List ℕ)) → 1 ≤ ended parts
+    → ended (onto_first byte parts) ≡ ended parts + 1
 ended_onto_first byte [] some = absurd (omega (arith, some))
 ended_onto_first byte (part ∷ parts) some = omega arith
 
@@ -20,9 +22,11 @@ ended_onto_first byte (part ∷ parts) some = omega arith
 pub ended_parts : (p : ℕ → Bool) (text : List ℕ) → ended (slice_split p text) ≡ length text + 1
 ended_parts p [] = refl
 ended_parts p (byte ∷ text) =
-    elim (p byte) as (λ ends. ended (cond ends ([] ∷ slice_split p text) (onto_first byte (slice_split p text))) ≡ length (byte ∷ text) + 1) [
+    elim (p byte) as (λ ends. ended (cond ends ([] ∷ slice_split p text) (onto_first byte (slice_split p text)))
+    ≡ length (byte ∷ text) + 1) [
       | true ↦ omega (arith, ended_parts p text)
-      | false ↦ ended_onto_first byte (slice_split p text) (omega (arith, ended_parts p text)) ∙ omega (arith, ended_parts p text)
+      | false ↦ ended_onto_first byte (slice_split p text) (omega (arith, ended_parts p text))
+          ∙ omega (arith, ended_parts p text)
     ]
 
 -- Leaving out an empty last part takes one end off.
@@ -33,11 +37,17 @@ ended_without ((byte ∷ part) ∷ parts) = omega (arith, ended_without parts)
 ended_without ([] ∷ part ∷ parts) = omega (arith, ended_without (part ∷ parts))
 
 -- Lines from a number on that read as a trace.
-ended_lines : (number : ℕ) (lines : List (List ℕ)) (trace : List Line) → number ≤ 100001 → ReadsFrom number lines trace → ended lines ≤ 81 * (100001 - number)
+ended_lines : (number : ℕ) (lines : List (List ℕ)) (trace : List Line) → number ≤ 100001 → ReadsFrom number lines trace
+    → ended lines ≤ 81 * (100001 - number)
 ended_lines number [] trace few reads = omega arith
 ended_lines number (line ∷ lines) trace few reads =
     omega (arith, reads.1, reads.2, ended_lines (number + 1) lines reads.0 (omega (arith, reads.1)) reads.4)
 
 pub reads_short : (text : List ℕ) (trace : Trace) → ReadsAs text trace → length text ≤ 8100000
 reads_short text trace reads =
-    omega (arith, ended_parts (λ byte. byte == 10) text, ended_without (slice_split (λ byte. byte == 10) text), ended_lines 1 (lines_of text) trace.lines (omega arith) reads)
+    omega (
+      arith,
+      ended_parts (λ byte. byte == 10) text,
+      ended_without (slice_split (λ byte. byte == 10) text),
+      ended_lines 1 (lines_of text) trace.lines (omega arith) reads,
+    )

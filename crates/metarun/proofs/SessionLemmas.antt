@@ -1,6 +1,5 @@
 -- The text that the answers of a run make. Used by `answer_to` of `session`.
-use Rattle.std.proofs.Common.{◌≡◌, ℕ, Bool, List, [], ◌∷◌, ◌++◌, Option, Some, None, refl, ap}
-use Rattle.ms_base.specs.declared.step.Step.{Step}
+use Rattle.std.proofs.Common.{◌≡◌, ℕ, Bool, List, [], ◌∷◌, Option, Some, None, refl, ap}
 use Rattle.ms_base.specs.State.{Machine}
 use Rattle.ms_trace.specs.declared.trace.Command.{Command}
 use Rattle.ms_trace.specs.declared.trace.Command.TheVariants.{Step as Asks, Sync, Report}
@@ -13,7 +12,8 @@ use Rattle.ms_run.specs.Replay.{Reports, Answers}
 use Rattle.metarun.specs.Session.{report_of, Outputs}
 
 -- The text after an answer is the report that the command asks for.
-after_answer : (command : Command) (m : Machine) (report : Option Totals) → Reports command m report → report_after report ≡ report_of command m
+after_answer : (command : Command) (m : Machine) (report : Option Totals) → Reports command m report
+    → report_after report ≡ report_of command m
 after_answer (Asks step) m report none = ap report_after none
 after_answer Sync m report none = ap report_after none
 after_answer Report m None told = absurd told
@@ -34,7 +34,8 @@ outputs_of_answers addresses old new (line ∷ lines) (answer ∷ answers) told 
 )
 
 -- With one worker they are the output of a run.
-pub run_outputs : (one : Type 0) (addresses : Bool) (first : Machine) (lines : List Line) (answers : List Answer) (output : List ℕ)
+pub run_outputs : (one : Type 0) (addresses : Bool) (first : Machine) (lines : List Line) (answers : List Answer)
+    (output : List ℕ)
     → output ≡ answers_text addresses answers → (one → (last : Machine) × Answers first lines answers last)
     → one → (last : Machine) × Outputs addresses first lines output last
 run_outputs one addresses first lines answers output is run alone =

@@ -5,7 +5,8 @@
 //! Kept true: what is accepted lies within the ranges that `Settings` has, and what is not asked
 //! for is the default. `clap` reads the words and writes the texts of refusals and of the help.
 //! Only `options_of` takes memory.
-ghost use Rattle.std.specs.Prelude.{◌≡◌, ◌≢◌, ◌≤◌, ◌<◌, ◌^◌, ℕ, IfOk, IfErr, IsOkAnd, None, Some, codes, decimal, length};
+ghost use Rattle.std.specs.Prelude.{◌≡◌, ◌≢◌, ◌≤◌, ◌<◌, ◌^◌, ℕ, IfOk, IfErr, IsOkAnd, None, Some, codes, decimal};
+ghost use Rattle.std.specs.Prelude.{length};
 ghost use Rattle.clap.specs.Words.{found_of};
 ghost use Rattle.clap.specs.Matches.{one_text};
 ghost use Rattle.metarun.specs.Asked.{IsAllowed, IsDefault, ReadsNumber, ReadsPolicy, AreRead};

@@ -12,14 +12,18 @@ use Rattle.ms_base.specs.State.{ArenaState}
 use Rattle.ms_base.specs.Asks.{wanted_level}
 use Rattle.ms_arena.specs.Arena.{block_at, with_books, with_zeros}
 use Rattle.ms_arena.specs.Alloc.{GrowRelation, TakeRelation, Takes}
-use Rattle.ms_arena.specs.Books.{AwaitsBlock, BooksView, HasGrown, HasTaken, Leaves, account_in, arena_over, answer_at, arena_then}
+use Rattle.ms_arena.specs.Books.{AwaitsBlock, BooksView, HasGrown, HasTaken, Leaves, account_in, arena_over, answer_at}
+use Rattle.ms_arena.specs.Books.{arena_then}
 
 -- A chunk was taken, or refused.
-pub takes_from : {S : Type 0} (took : TakeRelation S) (policy : Policy) (old : BooksView) (kind : Kind) (live : List (ℕ × List ℕ)) (wanted most n : ℕ) (before : S) (result : Result ℕ Refusal) (new : ArenaState) (after : S)
+pub takes_from : {S : Type 0} (took : TakeRelation S) (policy : Policy) (old : BooksView) (kind : Kind)
+    (live : List (ℕ × List ℕ)) (wanted most n : ℕ) (before : S) (result : Result ℕ Refusal) (new : ArenaState)
+    (after : S)
     → wanted ≡ wanted_level kind old.space old.state n → most ≡ level_that_holds n
     → IfOk result (λ start. HasTaken took policy old wanted most n before start new after)
     → IfErr result (λ refusal. took before (account_in old) wanted most n (Err refusal) after)
-    → Takes took policy (arena_over old kind live) n before (answer_at result n) (arena_then (arena_over old kind live) new result n) after
+    → Takes took policy (arena_over old kind live) n before (answer_at result n)
+    (arena_then (arena_over old kind live) new result n) after
 takes_from took policy old kind live wanted most n before (Ok start) new after wants holds taken refused = record {
   lent = Ok taken.span;
   asked = subst (λ (l : ℕ). took before (account_in old) l (level_that_holds n) n (Ok taken.span) after) wants
@@ -38,8 +42,10 @@ takes_from took policy old kind live wanted most n before (Err refusal) new afte
 }
 
 -- Books whose current chunk grew leave what a placement does.
-pub grown_leaves : {S : Type 0} (grew : GrowRelation S) (policy : Policy) (old : BooksView) (chunk : Chunk) (total : ℕ) (may : Bool) (before : S) (new : BooksView) (after : S) (n start : ℕ)
-    → HasGrown grew policy old chunk total may before new after → AwaitsBlock old.state new.state start n → Leaves old n (Ok start) new
+pub grown_leaves : {S : Type 0} (grew : GrowRelation S) (policy : Policy) (old : BooksView) (chunk : Chunk) (total : ℕ)
+    (may : Bool) (before : S) (new : BooksView) (after : S) (n start : ℕ)
+    → HasGrown grew policy old chunk total may before new after → AwaitsBlock old.state new.state start n
+    → Leaves old n (Ok start) new
 grown_leaves grew policy old chunk total may before new after n start grown awaits = record {
   awaits = awaits;
   room = omega (arith, ap (λ (books : BooksView). books.room) grown.state);

@@ -1,6 +1,7 @@
 -- What an account knows of its chunks, at one place: the chunk's bounds, that no other starts there,
 -- how far it reaches once it grew; and a bound on the words in use.
-use Rattle.std.proofs.Common.{◌≡◌, ◌≤◌, ◌<◌, ◌+◌, ◌-◌, ◌*◌, ◌/◌, ◌^◌, ℕ, zero, suc, Bool, true, false, not, Some, List, [], ◌∷◌, length, map, refl, sym, ap, ◌∙◌, subst, arith, inl, inr, sum, take}
+use Rattle.std.proofs.Common.{◌≡◌, ◌≤◌, ◌<◌, ◌+◌, ◌-◌, ◌*◌, ◌/◌, ◌^◌, ℕ, zero, suc, Bool, true, false, not, Some, List}
+use Rattle.std.proofs.Common.{[], ◌∷◌, length, map, refl, sym, ap, ◌∙◌, subst, arith, inl, inr, sum, take}
 use Rattle.std.specs.Prelude.{nat_le, slice_get, ◌==◌, if◌then◌else◌}
 use Rattle.std.specs.List.{AllByRecursion, list_any, list_all, sum_by, zip}
 use Rattle.std.proofs.lemmas.Bool.{and_parts, or_left, or_right, or_cases, not-true, leb-true}
@@ -26,7 +27,8 @@ use Rattle.ms_pool.specs.Account.{AreChunks, has_chunk_at}
 use Rattle.ms_pool.specs.Lending.{MayBeParent, chunk_at, span_of, parent_of, reaching}
 
 -- What holds of all holds of the one at a place.
-all_at : {X : Type 0} (P : X → Type 0) (xs : List X) (place : ℕ) (x : X) → AllByRecursion P xs → slice_get xs place ≡ Some x → P x
+all_at : {X : Type 0} (P : X → Type 0) (xs : List X) (place : ℕ) (x : X) → AllByRecursion P xs
+    → slice_get xs place ≡ Some x → P x
 all_at P [] place x all found = absurd (cc)
 all_at {X} P (y ∷ xs) zero x all found = let its : y ≡ x = cc in subst P its all.0
 all_at P (y ∷ xs) (suc place) x all found = all_at P xs place x all.1 found
@@ -66,7 +68,8 @@ bounded_at space chunks place chunk are found = record {
   front = words.1;
   size = size_small chunk.level;
   ends = below chunk.start (size_of chunk.level)
-      (slot_below space (slot_of chunk.start) (all_at (IsInside space) chunks place chunk (recursion_from_All (IsInside space) chunks are.inside) found))
+      (slot_below space (slot_of chunk.start)
+      (all_at (IsInside space) chunks place chunk (recursion_from_All (IsInside space) chunks are.inside) found))
       (size_small chunk.level);
 }
   where
@@ -80,32 +83,43 @@ not-le a b e = grind (arith, nat_tests)
 meets_itself : (a m n : ℕ) → 1 ≤ m → 1 ≤ n → meet a m a n ≡ true
 meets_itself a m n h k = grind (arith, nat_tests)
 
-meets_at : (c : Chunk) (chunks : List Chunk) (place : ℕ) (chunk : Chunk) → slice_get chunks place ≡ Some chunk → chunk.start ≡ c.start
+meets_at : (c : Chunk) (chunks : List Chunk) (place : ℕ) (chunk : Chunk) → slice_get chunks place ≡ Some chunk
+    → chunk.start ≡ c.start
     → meets_any (words_of c) (map words_of chunks) ≡ true
 meets_at c [] place chunk found same = absurd (cc)
 meets_at c (d ∷ chunks) zero chunk found same =
     let its : d.start ≡ c.start = ap (λ (x : Chunk). x.start) (let e : d ≡ chunk = cc in e) ∙ same in
     or_left (meet c.start (size_of c.level) d.start (size_of d.level)) (meets_any (words_of c) (map words_of chunks))
-    (rw its (meets_itself c.start (size_of c.level) (size_of d.level) (omega (arith, pow_pos (19 - c.level))) (omega (arith, pow_pos (19 - d.level)))))
+    (rw its (meets_itself c.start (size_of c.level) (size_of d.level) (omega (arith, pow_pos (19 - c.level)))
+    (omega (arith, pow_pos (19 - d.level)))))
 meets_at c (d ∷ chunks) (suc place) chunk found same =
-    or_right (meet c.start (size_of c.level) d.start (size_of d.level)) (meets_any (words_of c) (map words_of chunks)) (meets_at c chunks place chunk found same)
+    or_right (meet c.start (size_of c.level) d.start (size_of d.level)) (meets_any (words_of c) (map words_of chunks))
+    (meets_at c chunks place chunk found same)
 
-pub one_place : (chunks : List Chunk) (i j : ℕ) (c d : Chunk) → are_apart (map words_of chunks) ≡ true → slice_get chunks i ≡ Some c
+pub one_place : (chunks : List Chunk) (i j : ℕ) (c d : Chunk) → are_apart (map words_of chunks) ≡ true
+    → slice_get chunks i ≡ Some c
     → slice_get chunks j ≡ Some d → c.start ≡ d.start → i ≡ j
 one_place [] i j c d apart here there same = absurd (cc)
 one_place (x ∷ chunks) zero zero c d apart here there same = refl
 one_place (x ∷ chunks) zero (suc j) c d apart here there same =
     let its : x ≡ c = cc in
     let meets = meets_at x chunks j d there (sym same ∙ ap (λ (y : Chunk). y.start) (sym its)) in
-    let none = not-true (meets_any (words_of x) (map words_of chunks)) (and_parts (not (meets_any (words_of x) (map words_of chunks))) (are_apart (map words_of chunks)) apart).0 in
+    let none =
+    not-true (meets_any (words_of x) (map words_of chunks))
+    (and_parts (not (meets_any (words_of x) (map words_of chunks))) (are_apart (map words_of chunks)) apart).0 in
     absurd (cc (meets, none))
 one_place (x ∷ chunks) (suc i) zero c d apart here there same =
     let its : x ≡ d = cc in
     let meets = meets_at x chunks i c here (same ∙ ap (λ (y : Chunk). y.start) (sym its)) in
-    let none = not-true (meets_any (words_of x) (map words_of chunks)) (and_parts (not (meets_any (words_of x) (map words_of chunks))) (are_apart (map words_of chunks)) apart).0 in
+    let none =
+    not-true (meets_any (words_of x) (map words_of chunks))
+    (and_parts (not (meets_any (words_of x) (map words_of chunks))) (are_apart (map words_of chunks)) apart).0 in
     absurd (cc (meets, none))
 one_place (x ∷ chunks) (suc i) (suc j) c d apart here there same =
-    ap (λ (n : ℕ). suc n) (one_place chunks i j c d (and_parts (not (meets_any (words_of x) (map words_of chunks))) (are_apart (map words_of chunks)) apart).1 here there same)
+    ap (λ (n : ℕ). suc n)
+    (one_place chunks i j c d
+    (and_parts (not (meets_any (words_of x) (map words_of chunks))) (are_apart (map words_of chunks)) apart).1 here
+    there same)
 
 -- The account has a chunk that starts where one of its chunks does.
 pub has_its_start : (chunks : List Chunk) (place : ℕ) (chunk : Chunk) → slice_get chunks place ≡ Some chunk
@@ -113,7 +127,8 @@ pub has_its_start : (chunks : List Chunk) (place : ℕ) (chunk : Chunk) → slic
 has_its_start [] place chunk found = absurd (cc)
 has_its_start (c ∷ chunks) zero chunk found =
     let its : c ≡ chunk = cc in
-    or_left (c.start == chunk.start) (has_chunk_at chunks chunk.start) (equal c.start chunk.start (ap (λ (x : Chunk). x.start) its))
+    or_left (c.start == chunk.start) (has_chunk_at chunks chunk.start)
+    (equal c.start chunk.start (ap (λ (x : Chunk). x.start) its))
   where
     equal : (a b : ℕ) → a ≡ b → (a == b) ≡ true
     equal a b e = grind (arith, nat_tests)
@@ -127,15 +142,21 @@ pub record Reaches (was is : Chunk) (total : ℕ) : Type 0 where
   pub reaches : total ≤ is.front
 
 reaches_by : (policy : Policy) (chunk : Chunk) (total : ℕ) (may : Bool) → IsBounded chunk
-    → (size_of chunk.level < total → MayBeParent chunk total may) → (s t : Bool) → nat_le total chunk.front ≡ s → nat_le total (size_of chunk.level) ≡ t
-    → Reaches chunk (if s then chunk else if t then chunk_at policy (span_of chunk) total else chunk_at policy (parent_of chunk) total) total
-reaches_by policy chunk total may bounds enlarged true t e f = record { start = refl; higher = omega arith; reaches = leb-true total chunk.front e }
+    → (size_of chunk.level < total → MayBeParent chunk total may) → (s t : Bool) → nat_le total chunk.front ≡ s
+    → nat_le total (size_of chunk.level) ≡ t
+    → Reaches chunk
+    (if s then chunk else if t then chunk_at policy (span_of chunk) total else chunk_at policy (parent_of chunk) total)
+    total
+reaches_by policy chunk total may bounds enlarged true t e f =
+    record { start = refl; higher = omega arith; reaches = leb-true total chunk.front e }
 reaches_by policy chunk total may bounds enlarged false true e f =
     let far = front_reaches policy chunk.level total (leb-true total (size_of chunk.level) f) in
     record { start = refl; higher = omega (arith, not-le total chunk.front e, far); reaches = far }
 reaches_by policy chunk total may bounds enlarged false false e f =
     let parent = enlarged (not-le total (size_of chunk.level) f) in
-    let far = front_reaches policy (chunk.level - 1) total (omega (arith, parent.fits, doubled chunk.level parent.no_root bounds.level)) in
+    let far =
+    front_reaches policy (chunk.level - 1) total
+    (omega (arith, parent.fits, doubled chunk.level parent.no_root bounds.level)) in
     record { start = refl; higher = omega (arith, not-le total chunk.front e, far); reaches = far }
   where
     doubled : (level : ℕ) → 0 < level → level ≤ 12 → size_of (level - 1) ≡ 2 * size_of level
@@ -147,51 +168,85 @@ reaches_by policy chunk total may bounds enlarged false false e f =
 pub reaches : (policy : Policy) (chunk : Chunk) (total : ℕ) (may : Bool) → IsBounded chunk
     → (size_of chunk.level < total → MayBeParent chunk total may) → Reaches chunk (reaching policy chunk total) total
 reaches policy chunk total may bounds enlarged =
-    reaches_by policy chunk total may bounds enlarged (nat_le total chunk.front) (nat_le total (size_of chunk.level)) refl refl
+    reaches_by policy chunk total may bounds enlarged (nat_le total chunk.front) (nat_le total (size_of chunk.level))
+    refl refl
 
 -- The words in use are few.
 abbrev is_within : Chunk × ℕ → Bool
 is_within used = nat_le used.1 used.0.front
 
-sum_small : (chunks : List Chunk) (tops : List ℕ) → AllByRecursion HasWords chunks → list_all is_within (zip chunks tops) ≡ true
+sum_small : (chunks : List Chunk) (tops : List ℕ) → AllByRecursion HasWords chunks
+    → list_all is_within (zip chunks tops) ≡ true
     → length tops ≤ length chunks → sum tops ≤ length tops * 2 ^ 19
 sum_small chunks [] words within few = omega arith
 sum_small [] (t ∷ tops) words within few = absurd (omega arith)
 sum_small (c ∷ chunks) (t ∷ tops) words within few =
     let both = and_parts (nat_le t c.front) (list_all is_within (zip chunks tops)) within in
-    omega (arith, sum_by-cons (λ (n : ℕ). n) t tops, leb-true t c.front both.0, words.0.1, size_small c.level, sum_small chunks tops words.1 both.1 (omega arith))
+    omega (
+      arith,
+      sum_by-cons (λ (n : ℕ). n) t tops,
+      leb-true t c.front both.0,
+      words.0.1,
+      size_small c.level,
+      sum_small chunks tops words.1 both.1 (omega arith),
+    )
 
-pub used_small : (space : Space) (arena : ArenaState) (live : List (ℕ × ℕ)) → AreChunks space arena.chunks → IsSound arena live
+pub used_small : (space : Space) (arena : ArenaState) (live : List (ℕ × ℕ)) → AreChunks space arena.chunks
+    → IsSound arena live
     → sum arena.tops < 2 ^ 51
 used_small space arena live are sound =
-    omega (arith, sum_small arena.chunks arena.tops (recursion_from_All HasWords arena.chunks are.fronts) sound.tops sound.few, sound.few, are.few)
+    omega (
+      arith,
+      sum_small arena.chunks arena.tops (recursion_from_All HasWords arena.chunks are.fronts) sound.tops
+          sound.few,
+      sound.few,
+      are.few,
+    )
 
 -- What is in use ends below 2 ^ 27.
-ends_below : (space : Space) (chunks : List Chunk) (tops : List ℕ) (run : ℕ × ℕ) → AllByRecursion HasWords chunks → AllByRecursion (IsInside space) chunks
-    → list_all is_within (zip chunks tops) ≡ true → list_any (λ (used : Chunk × ℕ). lies_in run (used.0.start, used.1)) (zip chunks tops) ≡ true
+ends_below : (space : Space) (chunks : List Chunk) (tops : List ℕ) (run : ℕ × ℕ) → AllByRecursion HasWords chunks
+    → AllByRecursion (IsInside space) chunks
+    → list_all is_within (zip chunks tops) ≡ true
+    → list_any (λ (used : Chunk × ℕ). lies_in run (used.0.start, used.1)) (zip chunks tops) ≡ true
     → run.0 + run.1 < 2 ^ 27
 ends_below space [] tops run words inside within used = absurd (cc)
 ends_below space (c ∷ chunks) [] run words inside within used = absurd (cc)
 ends_below space (c ∷ chunks) (t ∷ tops) run words inside within used =
     let both = and_parts (nat_le t c.front) (list_all is_within (zip chunks tops)) within in
-    elim (or_cases (lies_in run (c.start, t)) (list_any (λ (used : Chunk × ℕ). lies_in run (used.0.start, used.1)) (zip chunks tops)) used) [
-      | inl here ↦ omega (arith, lies run.0 run.1 c.start t here, leb-true t c.front both.0, words.0.1, below c.start (size_of c.level) (slot_below space (slot_of c.start) inside.0) (size_small c.level))
+    elim (or_cases (lies_in run (c.start, t))
+    (list_any (λ (used : Chunk × ℕ). lies_in run (used.0.start, used.1)) (zip chunks tops)) used) [
+      | inl here ↦
+          omega (
+            arith,
+            lies run.0 run.1 c.start t here,
+            leb-true t c.front both.0,
+            words.0.1,
+            below c.start (size_of c.level) (slot_below space (slot_of c.start) inside.0) (size_small c.level),
+          )
       | inr later ↦ ends_below space chunks tops run words.1 inside.1 both.1 later
     ]
   where
     lies : (r m a t : ℕ) → lies_in (r, m) (a, t) ≡ true → r + m ≤ a + t
     lies r m a t h = grind (arith, nat_tests)
 
-pub in_use_below : (space : Space) (arena : ArenaState) (live : List (ℕ × ℕ)) (run : ℕ × ℕ) → AreChunks space arena.chunks → IsSound arena live
+pub in_use_below : (space : Space) (arena : ArenaState) (live : List (ℕ × ℕ)) (run : ℕ × ℕ)
+    → AreChunks space arena.chunks → IsSound arena live
     → is_in_use arena run ≡ true → run.0 + run.1 < 2 ^ 27
 in_use_below space arena live run are sound used =
-    ends_below space arena.chunks arena.tops run (recursion_from_All HasWords arena.chunks are.fronts) (recursion_from_All (IsInside space) arena.chunks are.inside) sound.tops used
+    ends_below space arena.chunks arena.tops run (recursion_from_All HasWords arena.chunks are.fronts)
+    (recursion_from_All (IsInside space) arena.chunks are.inside) sound.tops used
 
 -- A sum over the first chunks, and one more.
-pub sum_more : (f : Chunk → ℕ) (chunks : List Chunk) (place total : ℕ) (chunk : Chunk) → slice_get chunks place ≡ Some chunk
+pub sum_more : (f : Chunk → ℕ) (chunks : List Chunk) (place total : ℕ) (chunk : Chunk)
+    → slice_get chunks place ≡ Some chunk
     → total ≡ sum_by f (take place chunks) → total + f chunk ≡ sum_by f (take (place + 1) chunks)
 sum_more f chunks place total chunk found is =
-    omega (arith, is, sum_by_more f chunks place chunk (within chunks place found), ap f (get_or_from_slice_get chunks place chunk chunk found))
+    omega (
+      arith,
+      is,
+      sum_by_more f chunks place chunk (within chunks place found),
+      ap f (get_or_from_slice_get chunks place chunk chunk found),
+    )
   where
     within : (chunks : List Chunk) (place : ℕ) → slice_get chunks place ≡ Some chunk → place < length chunks
     within [] place found = absurd (cc)

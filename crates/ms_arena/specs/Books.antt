@@ -1,6 +1,7 @@
 -- The books of an arena as the code keeps them: its account, a top for each chunk, and its free
 -- blocks, beside the room for more.
-use Rattle.std.specs.Prelude.{◌≡◌, ℕ, ◌+◌, ◌-◌, ◌^◌, ◌≤◌, ◌<◌, Bool, sum, List, [], ◌++◌, length, slice_index, Vec, vec_len, vec_capacity, Option, Some, None, Result, Ok, Err, IfOk, OnErr, IsTrue, IsFalse}
+use Rattle.std.specs.Prelude.{◌≡◌, ℕ, ◌+◌, ◌-◌, ◌^◌, ◌≤◌, ◌<◌, Bool, sum, List, [], ◌++◌, length, slice_index, Vec}
+use Rattle.std.specs.Prelude.{vec_len, vec_capacity, Option, Some, None, Result, Ok, Err, IfOk, OnErr, IsTrue, IsFalse}
 use Rattle.ms_base.specs.declared.policy.Policy.{Policy}
 use Rattle.ms_base.specs.declared.kind.Kind.{Kind}
 use Rattle.ms_base.specs.declared.kind.Space.{Space}

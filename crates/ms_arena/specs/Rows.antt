@@ -1,5 +1,6 @@
 -- The live blocks of an arena as the code keeps them: rows in rising order of start.
-use Rattle.std.specs.Prelude.{◌≡◌, ℕ, ◌<◌, ◌≤◌, ◌==◌, ◌&&◌, Bool, List, length, map, slice_get, slice_set, slice_index, Some}
+use Rattle.std.specs.Prelude.{◌≡◌, ℕ, ◌<◌, ◌≤◌, ◌==◌, ◌&&◌, Bool, List, length, map, slice_get, slice_set, slice_index}
+use Rattle.std.specs.Prelude.{Some}
 use Rattle.std.specs.List.{remove}
 use Rattle.std.specs.Map.{keys_of}
 use Rattle.ms_base.specs.declared.span.Block.{Block}

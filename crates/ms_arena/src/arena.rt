@@ -13,7 +13,8 @@
 //! changes nothing, and `free` takes no memory. Stands on `books` for chunks, tops and free blocks
 //! and on `rows` for live blocks. Only `place` and `alloc` take memory; `alloc` waits as its source
 //! does. After HotSpot's metaspaceArena.cpp; best fit and live blocks are this project's choice.
-ghost use Rattle.std.specs.Prelude.{◌≡◌, ◌≢◌, ◌↔◌, ℕ, ◌+◌, ◌<◌, ◌≤◌, ◌^◌, None, Err, IfOk, OnOk, IfErr, OnErr, IfSome, IfNone, [], List, length, replicate, true, false};
+ghost use Rattle.std.specs.Prelude.{◌≡◌, ◌≢◌, ◌↔◌, ℕ, ◌+◌, ◌<◌, ◌≤◌, ◌^◌, None, Err, IfOk, OnOk, IfErr, OnErr, IfSome};
+ghost use Rattle.std.specs.Prelude.{IfNone, [], List, length, replicate, true, false};
 ghost use Rattle.ms_base.specs.Level.{size_of};
 ghost use Rattle.ms_base.specs.Live.{block_words};
 ghost use Rattle.ms_base.specs.Names.{named};
@@ -21,7 +22,8 @@ ghost use Rattle.ms_base.specs.Place.{placed, current};
 ghost use Rattle.ms_base.specs.Asks.{asks_growth};
 ghost use Rattle.ms_base.specs.Totals.{used_of};
 ghost use Rattle.ms_pool.specs.Source.{LeavesRest};
-ghost use Rattle.ms_arena.specs.Arena.{IsSoundArena, IsNotLive, IsAskable, Places, PlaceRefused, ReadsWord, WritesWord, WordRefused, FreesBlock, account_of, new_arena};
+ghost use Rattle.ms_arena.specs.Arena.{IsSoundArena, IsNotLive, IsAskable, Places, PlaceRefused, ReadsWord, WritesWord};
+ghost use Rattle.ms_arena.specs.Arena.{WordRefused, FreesBlock, account_of, new_arena};
 ghost use Rattle.ms_arena.specs.Alloc.{Allocates, Serves, AsksChunk, Takes, Grows};
 ghost use Rattle.ms_arena.specs.ArenaSums.{AreSums};
 ghost use Rattle.ms_arena.specs.Books.{AsksFor, ForAllLive, HasLooked, MayLook, arena_over};

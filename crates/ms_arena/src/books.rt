@@ -7,7 +7,8 @@
 //! top lies past its front, and the words in use are the sum of the tops.
 //! Only `make_room` takes memory, for free blocks and for the next chunk's top; `grow` and `take`
 //! wait as their source does. In HotSpot's metaspaceArena.cpp a chunk has its top itself.
-ghost use Rattle.std.specs.Prelude.{◌≡◌, ◌≢◌, ℕ, ◌+◌, ◌*◌, ◌^◌, ◌<◌, ◌≤◌, Some, None, Ok, Err, IfOk, OnOk, OnErr, IfErr, IfSome, IfNone, [], length, sum, slice_index};
+ghost use Rattle.std.specs.Prelude.{◌≡◌, ◌≢◌, ℕ, ◌+◌, ◌*◌, ◌^◌, ◌<◌, ◌≤◌, Some, None, Ok, Err, IfOk, OnOk, OnErr};
+ghost use Rattle.std.specs.Prelude.{IfErr, IfSome, IfNone, [], length, sum, slice_index};
 ghost use Rattle.std.specs.Option.{option_map};
 ghost use Rattle.ms_base.specs.Level.{size_of};
 ghost use Rattle.ms_base.specs.Asks.{next_level};
@@ -18,7 +19,9 @@ ghost use Rattle.ms_base.specs.Totals.{used_of, kept_of};
 ghost use Rattle.ms_blocks.specs.FreeBlocks.{MayBeKept, run_of};
 ghost use Rattle.ms_pool.specs.Account.{AreChunks};
 ghost use Rattle.ms_pool.specs.Source.{LeavesRest};
-ghost use Rattle.ms_arena.specs.Books.{BooksView, Awaits, AwaitsBlock, HasGrown, HasTaken, Leaves, MayGrow, MayPlace, IsCurrent, PlacesFree, MayRetire, StayCounted, tops_retired, kept_retired, account_in};
+ghost use Rattle.ms_arena.specs.Books.{BooksView, Awaits, AwaitsBlock, HasGrown, HasTaken, Leaves, MayGrow, MayPlace};
+ghost use Rattle.ms_arena.specs.Books.{IsCurrent, PlacesFree, MayRetire, StayCounted, tops_retired, kept_retired};
+ghost use Rattle.ms_arena.specs.Books.{account_in};
 
 use ms_base::{Block, Chunk, Kind, Level, Refusal, growth};
 use ms_blocks::FreeBlocks;

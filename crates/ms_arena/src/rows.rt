@@ -8,7 +8,8 @@
 ghost use Rattle.std.specs.Prelude.{◌≡◌, ℕ, ◌^◌, ◌<◌, IfOk, OnOk, OnErr, IfErr, IfSome, IfNone, length, List, [], None};
 ghost use Rattle.std.specs.List.{sum_by};
 ghost use Rattle.ms_base.specs.Names.{AreNamed, named, with_new, without};
-ghost use Rattle.ms_arena.specs.Rows.{HasRow, LacksRow, ReadsRow, WritesRow, RowRefused, IsRowAt, IsPlaceOf, entries_of, is_row};
+ghost use Rattle.ms_arena.specs.Rows.{HasRow, LacksRow, ReadsRow, WritesRow, RowRefused, IsRowAt, IsPlaceOf};
+ghost use Rattle.ms_arena.specs.Rows.{entries_of, is_row};
 
 use ms_base::{Block, LiveBlock, Refusal, Words};
 use std::alloc::{AllocError, Global};

@@ -1,6 +1,7 @@
 -- Events: the atomic steps of which requests over one shared pool are made. A loader stands for its
 -- accounts in the pool, one for each space, which are opened together and closed together.
-use Rattle.std.specs.Prelude.{◌≡◌, ℕ, ◌-◌, ◌≤◌, ◌⊎◌, Bool, [], length, Option, Some, None, Ok, Err, IsOk, IsTrue, slice_get, slice_set}
+use Rattle.std.specs.Prelude.{◌≡◌, ℕ, ◌-◌, ◌≤◌, ◌⊎◌, Bool, [], length, Option, Some, None, Ok, Err, IsOk, IsTrue}
+use Rattle.std.specs.Prelude.{slice_get, slice_set}
 use Rattle.ms_base.specs.declared.kind.Kind.{Kind}
 use Rattle.ms_base.specs.declared.kind.Space.{Space}
 use Rattle.ms_base.specs.declared.kind.Space.TheVariants.{NonClass, Class}
@@ -14,14 +15,16 @@ use Rattle.ms_base.specs.declared.refusal.Refusal.TheVariants.{CommitLimit, Rese
 use Rattle.ms_base.specs.Level.{root_words, size_of}
 use Rattle.ms_base.specs.Spaces.{is_in}
 use Rattle.ms_base.specs.Names.{named, without}
-use Rattle.ms_base.specs.State.{ArenaState, LoaderState, Machine, PoolState, empty_loader, arena_of, with_arena, slots_in, with_slots, pool_of, recommitted}
+use Rattle.ms_base.specs.State.{ArenaState, LoaderState, Machine, PoolState, empty_loader, arena_of, with_arena}
+use Rattle.ms_base.specs.State.{slots_in, with_slots, pool_of, recommitted}
 use Rattle.ms_base.specs.Live.{block_words}
 use Rattle.ms_base.specs.Good.{IsSoundLoader}
 use Rattle.ms_base.specs.PoolSteps.{taken, grown, slots_with}
 use Rattle.ms_base.specs.Place.{with_chunk}
 use Rattle.ms_base.specs.Totals.{PoolSums, pool_sums}
 use Rattle.ms_base.specs.Request.{loader_of}
-use Rattle.ms_base.specs.Transition.{HasLoader, with_loader, with_allocated, zeroed, purged, Makes, Writes, Reads, Frees, IsServable, HasOwnerNumbers, NewCause, Cause}
+use Rattle.ms_base.specs.Transition.{HasLoader, with_loader, with_allocated, zeroed, purged, Makes, Writes, Reads}
+use Rattle.ms_base.specs.Transition.{Frees, IsServable, HasOwnerNumbers, NewCause, Cause}
 
 -- An event: both accounts of a loader are opened, a chunk is taken or grows in a space, both
 -- accounts are closed, nodes are purged, or the pool tells its totals; or a loader acts by itself

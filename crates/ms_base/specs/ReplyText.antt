@@ -4,7 +4,9 @@ use Rattle.std.specs.Fmt.{decimal}
 use Rattle.ms_base.specs.declared.step.Reply.{Reply}
 use Rattle.ms_base.specs.declared.step.Reply.TheVariants.{Ok as Done, At, Value, Refused}
 use Rattle.ms_base.specs.declared.refusal.Refusal.{Refusal}
-use Rattle.ms_base.specs.declared.refusal.Refusal.TheVariants.{ZeroWords, TooLarge, CommitLimit, ReserveLimit, NotLive, OutOfRange, OutOfMemory, NoLoader, LoaderExists, NoBlock, BlockExists, IdsUsedUp, Unsettled, NoRoom}
+use Rattle.ms_base.specs.declared.refusal.Refusal.TheVariants.{ZeroWords, TooLarge, CommitLimit, ReserveLimit, NotLive}
+use Rattle.ms_base.specs.declared.refusal.Refusal.TheVariants.{OutOfRange, OutOfMemory, NoLoader, LoaderExists, NoBlock}
+use Rattle.ms_base.specs.declared.refusal.Refusal.TheVariants.{BlockExists, IdsUsedUp, Unsettled, NoRoom}
 
 -- The name of a refusal, without its numbers.
 abbrev pub name_of : Refusal → List ℕ

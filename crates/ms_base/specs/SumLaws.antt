@@ -1,5 +1,6 @@
 -- What the sums of a machine come to: laws about them, each the contract of a function of `laws`.
-use Rattle.std.specs.Prelude.{◌≡◌, ℕ, ◌+◌, ◌*◌, ◌≤◌, ◌⊎◌, Bool, ◌&&◌, nat_le, nat_lt, List, [], ◌∷◌, ◌++◌, length, slice_get, slice_set, Some, Ok, IsTrue, IsFalse}
+use Rattle.std.specs.Prelude.{◌≡◌, ℕ, ◌+◌, ◌*◌, ◌≤◌, ◌⊎◌, Bool, ◌&&◌, nat_le, nat_lt, List, [], ◌∷◌, ◌++◌, length}
+use Rattle.std.specs.Prelude.{slice_get, slice_set, Some, Ok, IsTrue, IsFalse}
 use Rattle.std.specs.List.{Contains, list_any, flat_map, sum_by}
 use Rattle.ms_base.specs.Interval.{are_apart}
 use Rattle.ms_base.specs.Part.{IsPart, node_words}
@@ -8,7 +9,8 @@ use Rattle.ms_base.specs.Laws.{roots_of}
 use Rattle.ms_base.specs.declared.kind.Space.{Space}
 use Rattle.ms_base.specs.declared.span.Chunk.{Chunk}
 use Rattle.ms_base.specs.Level.{size_of}
-use Rattle.ms_base.specs.Causes.{committed_count, granules_missing, granules_needed, meets_reserve_limit, meets_commit_limit}
+use Rattle.ms_base.specs.Causes.{committed_count, granules_missing, granules_needed, meets_reserve_limit}
+use Rattle.ms_base.specs.Causes.{meets_commit_limit}
 use Rattle.ms_base.specs.Pick.{chunk_picked}
 use Rattle.ms_base.specs.Front.{HasFront}
 use Rattle.ms_base.specs.PoolSteps.{taken, grown, slots_with}

@@ -1,5 +1,6 @@
 -- The steps of the interval machine: what a request may do, and why it may be refused.
-use Rattle.std.specs.Prelude.{◌≡◌, ℕ, ◌+◌, ◌<◌, ◌≤◌, ◌^◌, ◌⊎◌, List, [], ◌∷◌, ◌++◌, length, replicate, slice_get, slice_set, Some, None, IsTrue}
+use Rattle.std.specs.Prelude.{◌≡◌, ℕ, ◌+◌, ◌<◌, ◌≤◌, ◌^◌, ◌⊎◌, List, [], ◌∷◌, ◌++◌, length, replicate, slice_get}
+use Rattle.std.specs.Prelude.{slice_set, Some, None, IsTrue}
 use Rattle.std.specs.List.{filter}
 use Rattle.ms_base.specs.declared.kind.Space.{Space}
 use Rattle.ms_base.specs.declared.kind.Space.TheVariants.{NonClass, Class}
@@ -11,7 +12,9 @@ use Rattle.ms_base.specs.declared.step.Step.TheVariants.{New, Alloc, Calloc, Wri
 use Rattle.ms_base.specs.declared.step.Reply.{Reply}
 use Rattle.ms_base.specs.declared.step.Reply.TheVariants.{Ok as Done, At, Value, Refused}
 use Rattle.ms_base.specs.declared.refusal.Refusal.{Refusal}
-use Rattle.ms_base.specs.declared.refusal.Refusal.TheVariants.{ZeroWords, TooLarge, CommitLimit, ReserveLimit, OutOfRange, OutOfMemory, NoLoader, LoaderExists, NoBlock, BlockExists, IdsUsedUp}
+use Rattle.ms_base.specs.declared.refusal.Refusal.TheVariants.{ZeroWords, TooLarge, CommitLimit, ReserveLimit}
+use Rattle.ms_base.specs.declared.refusal.Refusal.TheVariants.{OutOfRange, OutOfMemory, NoLoader, LoaderExists, NoBlock}
+use Rattle.ms_base.specs.declared.refusal.Refusal.TheVariants.{BlockExists, IdsUsedUp}
 use Rattle.ms_base.specs.Level.{root_words, size_of, level_that_holds}
 use Rattle.ms_base.specs.Spaces.{is_in, space_at}
 use Rattle.ms_base.specs.Held.{has_chunk_in}
@@ -19,7 +22,8 @@ use Rattle.ms_base.specs.Names.{named, with_new, with_changed, without}
 use Rattle.ms_base.specs.Front.{front_for}
 use Rattle.ms_base.specs.PoolSteps.{slots_with}
 use Rattle.ms_base.specs.Causes.{ReserveCause, CommitCause}
-use Rattle.ms_base.specs.State.{ArenaState, LoaderState, Machine, empty_loader, arena_of, with_arena, chunks_held, slots_in, with_slots, pool_of, recommitted}
+use Rattle.ms_base.specs.State.{ArenaState, LoaderState, Machine, empty_loader, arena_of, with_arena, chunks_held}
+use Rattle.ms_base.specs.State.{slots_in, with_slots, pool_of, recommitted}
 use Rattle.ms_base.specs.Live.{block_words}
 use Rattle.ms_base.specs.Asks.{wanted_level}
 use Rattle.ms_base.specs.Good.{IsGood}

@@ -1,17 +1,20 @@
 -- What is kept of free blocks, after an addition and after the removal of the first fit. Used by
 -- `FreeBlocks::add` and `FreeBlocks::remove`.
-use Rattle.std.proofs.Common.{◌≡◌, ℕ, ◌+◌, ◌-◌, ◌^◌, ◌≤◌, ◌<◌, List, length, Some, None, ap, sym, subst, ◌∙◌, arith, vec_len, vec_capacity}
+use Rattle.std.proofs.Common.{◌≡◌, ℕ, ◌+◌, ◌-◌, ◌^◌, ◌≤◌, ◌<◌, List, length, Some, None, ap, sym, subst, ◌∙◌, arith}
+use Rattle.std.proofs.Common.{vec_len, vec_capacity}
 use Rattle.ms_base.specs.declared.span.Block.{Block}
 use Rattle.ms_base.specs.Names.{named, with_new, without}
 use Rattle.ms_blocks.specs.Rank.{IsRanked, with_ranked, first_fit, without_fit}
 use Rattle.ms_blocks.specs.Tree.{blocks_of}
-use Rattle.ms_blocks.specs.FreeBlocks.{IsBestFit, NoneFits, MayBeKept, run_of, by_start, StartsDiffer, LieFrom, words_in}
+use Rattle.ms_blocks.specs.FreeBlocks.{IsBestFit, NoneFits, MayBeKept, run_of, by_start, StartsDiffer, LieFrom}
+use Rattle.ms_blocks.specs.FreeBlocks.{words_in}
 use Rattle.ms_blocks.specs.Tended.{AreTended, IsTended}
 use Rattle.ms_blocks.specs.declared.tree.Tree.{Tree}
 use Rattle.ms_blocks.specs.declared.free_blocks.FreeBlocks.TheInside.{Inside}
 use Rattle.ms_blocks.proofs.RankLemmas.{ranked_with, ranked_without, without_fit-none}
 use Rattle.ms_blocks.proofs.KeptEntryLemmas.{length-with_new, sum-with_new}
-use Rattle.ms_blocks.proofs.StartLemmas.{by_start-with_ranked, starts_differ_with, by_start-without_fit, starts_differ_without, fit_splits, new_is_other}
+use Rattle.ms_blocks.proofs.StartLemmas.{by_start-with_ranked, starts_differ_with, by_start-without_fit}
+use Rattle.ms_blocks.proofs.StartLemmas.{starts_differ_without, fit_splits, new_is_other}
 use Rattle.ms_blocks.proofs.LaidLemmas.{added_may_be_kept, apart_is_new, laid_with, laid_without, words_fit}
 use Rattle.ms_blocks.proofs.BestFitLemmas.{fit_is_best, none_fits}
 

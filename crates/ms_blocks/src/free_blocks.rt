@@ -6,7 +6,8 @@
 //! Adding a block moves a spare fork into the tree, and removing one moves it back: neither takes
 //! memory. Kept true: the tree holds the blocks by rank, they lie apart, the count and the total
 //! are theirs, and the vector of spare forks has a place for each fork of the tree.
-ghost use Rattle.std.specs.Prelude.{◌≡◌, ◌+◌, ◌^◌, ◌<◌, ◌≤◌, max, IsFalse, [], length, OnOk, OnErr, IfErr, IsOk, IfSome, OnSome, IfNone, vec_len, vec_capacity};
+ghost use Rattle.std.specs.Prelude.{◌≡◌, ◌+◌, ◌^◌, ◌<◌, ◌≤◌, max, IsFalse, [], length, OnOk, OnErr, IfErr, IsOk};
+ghost use Rattle.std.specs.Prelude.{IfSome, OnSome, IfNone, vec_len, vec_capacity};
 ghost use Rattle.std.specs.Option.{option_map};
 ghost use Rattle.ms_base.specs.Interval.{meets_any};
 ghost use Rattle.ms_base.specs.Names.{with_new, without};

@@ -1,6 +1,7 @@
 -- A part lies in one free leaf of two halves exactly where it does of the half where it lies, and
 -- its leaf takes its place there. For carving.
-use Rattle.std.proofs.Common.{◌≡◌, ◌<◌, ◌≤◌, ℕ, ◌+◌, Bool, true, false, cond, ◌&&◌, ◌||◌, List, [], ◌∷◌, ◌++◌, refl, sym, ap, subst, ◌∙◌, inl, inr, arith}
+use Rattle.std.proofs.Common.{◌≡◌, ◌<◌, ◌≤◌, ℕ, ◌+◌, Bool, true, false, cond, ◌&&◌, ◌||◌, List, [], ◌∷◌, ◌++◌, refl}
+use Rattle.std.proofs.Common.{sym, ap, subst, ◌∙◌, inl, inr, arith}
 use Rattle.std.specs.Prelude.{nat_le, nat_lt, IsTrue, IsFalse}
 use Rattle.std.specs.List.{AllByRecursion, list_any}
 use Rattle.std.proofs.lemmas.List.Folds.{list_any-append}
@@ -16,16 +17,19 @@ use Rattle.ms_buddy.specs.declared.node.Node.{Node}
 use Rattle.ms_buddy.specs.Leaves.{LentLeaf, IsCarveRefusal, is_same, fits_in, words_of, with_leaf}
 use Rattle.ms_buddy.specs.Tree.{IsInside, IsPlace, MayBeLent, IsTree, lent_in, free_in, lent_in_halves, free_in_halves}
 use Rattle.ms_buddy.proofs.TreeHalvesLemmas.{size_of-some, size_of-halves, lower_place, upper_place}
-use Rattle.ms_buddy.proofs.WalkLemmas.{LiesIn, LeafIn, lent_lies_in, free_lies_in, all_weaker, any-none, none_free_above, none_free_below}
+use Rattle.ms_buddy.proofs.WalkLemmas.{LiesIn, LeafIn, lent_lies_in, free_lies_in, all_weaker, any-none}
+use Rattle.ms_buddy.proofs.WalkLemmas.{none_free_above, none_free_below}
 use Rattle.ms_buddy.proofs.SplitLemmas.{AtHalves}
 
 -- A part that starts in a part of a lower level ends in it.
 pub ends_in : (part : Span) (level start : ℕ) → IsPart part.start part.level → IsPart start level → level ≤ part.level
     → start ≤ part.start → part.start < start + size_of level → part.start + size_of part.level ≤ start + size_of level
-ends_in part level start small large h from below = elim (parts_are_nested_or_apart start level part.start part.level large small h) [
-  | inl lies ↦ nested start (size_of level) part.start (size_of part.level) lies
-  | inr apart ↦ absurd (overlap start (size_of level) part.start (size_of part.level) from below (size_of-some part.level) apart)
-]
+ends_in part level start small large h from below =
+    elim (parts_are_nested_or_apart start level part.start part.level large small h) [
+      | inl lies ↦ nested start (size_of level) part.start (size_of part.level) lies
+      | inr apart ↦
+          absurd (overlap start (size_of level) part.start (size_of part.level) from below (size_of-some part.level) apart)
+    ]
   where
     nested : (a s b t : ℕ) → IsTrue (lies_in (b, t) (a, s)) → b + t ≤ a + s
     nested a s b t e = grind (arith, nat_tests)
@@ -40,7 +44,8 @@ lower_inside : (part : Span) (level start half : ℕ) → IsPlace level start �
 lower_inside part level start half place h is_part inside size below = record {
   low = omega arith;
   from = inside.from;
-  to = ends_in part (level + 1) start is_part (half_place.level_fits, half_place.aligned) (omega arith) inside.from (omega (arith, size));
+  to = ends_in part (level + 1) start is_part (half_place.level_fits, half_place.aligned) (omega arith) inside.from
+      (omega (arith, size));
 }
   where
     half_place : IsPlace (level + 1) start
@@ -80,7 +85,8 @@ upper_may part level start half front may h size above = record {
 fits_not_above : (part other : Span) (middle high : ℕ) → part.start < middle → LiesIn middle high other
     → lies_in (words_of part) (words_of other) ≡ false
 fits_not_above part other middle high h lies =
-    apart other.start part.start (nat_le (part.start + size_of part.level) (other.start + size_of other.level)) (omega (arith, lies.from))
+    apart other.start part.start (nat_le (part.start + size_of part.level) (other.start + size_of other.level))
+    (omega (arith, lies.from))
   where
     apart : (a b : ℕ) (c : Bool) → b < a → (nat_le a b && c) ≡ false
     apart a b c h = grind (arith, nat_tests)
@@ -88,7 +94,8 @@ fits_not_above part other middle high h lies =
 fits_not_below : (part other : Span) (low middle : ℕ) → middle < part.start + size_of part.level
     → LiesIn low middle other → lies_in (words_of part) (words_of other) ≡ false
 fits_not_below part other low middle h lies =
-    apart (nat_le other.start part.start) (part.start + size_of part.level) (other.start + size_of other.level) (omega (arith, lies.to))
+    apart (nat_le other.start part.start) (part.start + size_of part.level) (other.start + size_of other.level)
+    (omega (arith, lies.to))
   where
     apart : (c : Bool) (a b : ℕ) → b < a → (c && nat_le a b) ≡ false
     apart c a b h = grind (arith, nat_tests)
@@ -98,7 +105,8 @@ none_fit_above : {A : Type 0} (part : Span) (level middle : ℕ) (upper : Node A
 none_fit_above part level middle upper tree h =
     any-none (λ other. lies_in (words_of part) (words_of other)) (free_in level middle upper)
     (all_weaker (LiesIn middle (middle + size_of level)) (λ other. lies_in (words_of part) (words_of other) ≡ false)
-    (λ other lies. fits_not_above part other middle (middle + size_of level) h lies) (free_in level middle upper) (free_lies_in level middle upper tree))
+    (λ other lies. fits_not_above part other middle (middle + size_of level) h lies) (free_in level middle upper)
+    (free_lies_in level middle upper tree))
 
 none_fit_below : {A : Type 0} (part : Span) (level start : ℕ) (lower : Node A) → IsTree level lower
     → start + size_of level < part.start + size_of part.level
@@ -106,7 +114,8 @@ none_fit_below : {A : Type 0} (part : Span) (level start : ℕ) (lower : Node A)
 none_fit_below part level start lower tree h =
     any-none (λ other. lies_in (words_of part) (words_of other)) (free_in level start lower)
     (all_weaker (LiesIn start (start + size_of level)) (λ other. lies_in (words_of part) (words_of other) ≡ false)
-    (λ other lies. fits_not_below part other start (start + size_of level) h lies) (free_in level start lower) (free_lies_in level start lower tree))
+    (λ other lies. fits_not_below part other start (start + size_of level) h lies) (free_in level start lower)
+    (free_lies_in level start lower tree))
 
 or_false : (x y : Bool) → y ≡ false → (x || y) ≡ x
 or_false true y e = refl
@@ -120,8 +129,10 @@ whole_fits_not part level start half lower upper s low inside e =
     list_any-append (λ (other : Span). lies_in (words_of part) (words_of other))
     (free_in (level + 1) start lower) (free_in (level + 1) (start + size_of (level + 1)) upper)
     ∙ rw (
-      none_fit_below part (level + 1) start lower s.low_tree (omega (arith, size_of-halves level low, size_of-some (level + 1), ap size_of e, inside.from)),
-      none_fit_above part (level + 1) (start + size_of (level + 1)) upper s.high_tree (omega (arith, size_of-some (level + 1), ap size_of e, inside.to)),
+      none_fit_below part (level + 1) start lower s.low_tree
+          (omega (arith, size_of-halves level low, size_of-some (level + 1), ap size_of e, inside.from)),
+      none_fit_above part (level + 1) (start + size_of (level + 1)) upper s.high_tree
+          (omega (arith, size_of-some (level + 1), ap size_of e, inside.to)),
     ) refl
 
 -- What lies in a half fits in two halves where it fits in the half.
@@ -131,7 +142,8 @@ pub lower_fits : {A : Type 0} (part : Span) (level start half : ℕ) (lower uppe
 lower_fits part level start half lower upper s h =
     list_any-append (λ (other : Span). lies_in (words_of part) (words_of other))
     (free_in (level + 1) start lower) (free_in (level + 1) (start + size_of (level + 1)) upper)
-    ∙ or_false (fits_in part (free_in (level + 1) start lower)) (fits_in part (free_in (level + 1) (start + size_of (level + 1)) upper))
+    ∙ or_false (fits_in part (free_in (level + 1) start lower))
+    (fits_in part (free_in (level + 1) (start + size_of (level + 1)) upper))
     (none_fit_above part (level + 1) (start + size_of (level + 1)) upper s.high_tree (omega (arith, s.size)))
 
 pub upper_fits : {A : Type 0} (part : Span) (level start half : ℕ) (lower upper : Node A)
@@ -149,8 +161,10 @@ pub lower_is_free : {A : Type 0} (part : Span) (level start half : ℕ) (lower u
     → list_any (is_same part) (free_in_halves level start lower upper)
     ≡ list_any (is_same part) (free_in (level + 1) start lower)
 lower_is_free part level start half lower upper s h =
-    list_any-append (is_same part) (free_in (level + 1) start lower) (free_in (level + 1) (start + size_of (level + 1)) upper)
-    ∙ or_false (list_any (is_same part) (free_in (level + 1) start lower)) (list_any (is_same part) (free_in (level + 1) (start + size_of (level + 1)) upper))
+    list_any-append (is_same part) (free_in (level + 1) start lower)
+    (free_in (level + 1) (start + size_of (level + 1)) upper)
+    ∙ or_false (list_any (is_same part) (free_in (level + 1) start lower))
+    (list_any (is_same part) (free_in (level + 1) (start + size_of (level + 1)) upper))
     (any-none (is_same part) (free_in (level + 1) (start + size_of (level + 1)) upper)
     (none_free_above part (level + 1) (start + size_of (level + 1)) upper s.high_tree (omega (arith, s.size))))
 
@@ -159,8 +173,10 @@ pub upper_is_free : {A : Type 0} (part : Span) (level start half : ℕ) (lower u
     → list_any (is_same part) (free_in_halves level start lower upper)
     ≡ list_any (is_same part) (free_in (level + 1) (start + half) upper)
 upper_is_free part level start half lower upper s h =
-    list_any-append (is_same part) (free_in (level + 1) start lower) (free_in (level + 1) (start + size_of (level + 1)) upper)
-    ∙ rw (any-none (is_same part) (free_in (level + 1) start lower) (none_free_below part (level + 1) start lower s.low_tree (omega (arith, s.size))))
+    list_any-append (is_same part) (free_in (level + 1) start lower)
+    (free_in (level + 1) (start + size_of (level + 1)) upper)
+    ∙ rw (any-none (is_same part) (free_in (level + 1) start lower)
+    (none_free_below part (level + 1) start lower s.low_tree (omega (arith, s.size))))
     (ap (λ (n : ℕ). list_any (is_same part) (free_in (level + 1) (start + n) upper)) (sym s.size))
 
 -- Free leaves among which a part fits alike refuse it alike.
@@ -209,7 +225,8 @@ pub lower_added : {A : Type 0} (added : LentLeaf) (level start half : ℕ) (lowe
     → lent_in_halves level start now upper ≡ with_leaf added (lent_in_halves level start lower upper)
 lower_added added level start half lower upper now s h e =
     ap (λ (xs : List LentLeaf). xs ++ lent_in (level + 1) (start + size_of (level + 1)) upper) e
-    ∙ sym (leaf_in_lower added (start + size_of (level + 1)) (start + size_of (level + 1) + size_of (level + 1)) (lent_in (level + 1) start lower)
+    ∙ sym (leaf_in_lower added (start + size_of (level + 1)) (start + size_of (level + 1) + size_of (level + 1))
+    (lent_in (level + 1) start lower)
     (lent_in (level + 1) (start + size_of (level + 1)) upper)
     (omega (arith, s.size)) (lent_lies_in (level + 1) (start + size_of (level + 1)) upper s.high_tree))
 
@@ -219,6 +236,8 @@ pub upper_added : {A : Type 0} (added : LentLeaf) (level start half : ℕ) (lowe
     → lent_in_halves level start lower now ≡ with_leaf added (lent_in_halves level start lower upper)
 upper_added added level start half lower upper now s h e =
     ap (λ (ys : List LentLeaf). lent_in (level + 1) start lower ++ ys)
-    (subst (λ (n : ℕ). lent_in (level + 1) (start + n) now ≡ with_leaf added (lent_in (level + 1) (start + n) upper)) s.size e)
+    (subst (λ (n : ℕ). lent_in (level + 1) (start + n) now ≡ with_leaf added (lent_in (level + 1) (start + n) upper))
+    s.size e)
     ∙ sym (leaf_in_upper added start (start + size_of (level + 1)) (lent_in (level + 1) start lower)
-    (lent_in (level + 1) (start + size_of (level + 1)) upper) (omega (arith, s.size)) (lent_lies_in (level + 1) start lower s.low_tree))
+    (lent_in (level + 1) (start + size_of (level + 1)) upper) (omega (arith, s.size))
+    (lent_lies_in (level + 1) start lower s.low_tree))

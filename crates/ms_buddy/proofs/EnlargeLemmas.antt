@@ -25,7 +25,9 @@ zero_test n e = grind (arith, nat_tests)
 -- The buddy of a leader starts where the leader ends.
 buddy_of_leader : (part : Span) → is_leader part.start part.level ≡ true
     → buddy_start part.start part.level ≡ part.start + size_of part.level
-buddy_of_leader part e = ends part.start (size_of part.level) (part.start % size_of (part.level - 1)) (zero_test (part.start % size_of (part.level - 1)) e)
+buddy_of_leader part e =
+    ends part.start (size_of part.level) (part.start % size_of (part.level - 1))
+    (zero_test (part.start % size_of (part.level - 1)) e)
   where
     ends : (a s r : ℕ) → r ≡ 0 → 2 * (a - r) + s - a ≡ a + s
     ends a s r e = omega (arith, e)
@@ -56,7 +58,8 @@ deep_lower_can : {A : Type 0} (part : Span) (level start half : ℕ) (lower uppe
     → can_enlarge part (free_in_halves level start lower upper) ≡ can_enlarge part (free_in (level + 1) start lower)
 deep_lower_can part level start half lower upper s place h k from below =
     alike part (free_in_halves level start lower upper) (free_in (level + 1) start lower)
-    (λ e. lower_is_free (record { start = buddy_start part.start part.level; level = part.level }) level start half lower upper s
+    (λ e. lower_is_free (record { start = buddy_start part.start part.level; level = part.level }) level start half
+    lower upper s
     (subst (λ (n : ℕ). n < start + half) (sym (buddy_of_leader part e)) (inside e)))
   where
     half_place : IsPlace (level + 1) start
@@ -73,7 +76,9 @@ deep_lower_can part level start half lower upper s place h k from below =
     )
       where
         parent_size : size_of part.level + size_of part.level ≡ size_of (part.level - 1)
-        parent_size = subst (λ (n : ℕ). size_of n + size_of n ≡ size_of (part.level - 1)) (back part.level h) (size_of-halves (part.level - 1) (omega arith))
+        parent_size =
+            subst (λ (n : ℕ). size_of n + size_of n ≡ size_of (part.level - 1)) (back part.level h)
+            (size_of-halves (part.level - 1) (omega arith))
           where
             back : (l : ℕ) → level + 1 < l → l - 1 + 1 ≡ l
             back l h = omega arith
@@ -101,7 +106,8 @@ pub lower_can : {A : Type 0} (part : Span) (level start half : ℕ) (lower upper
     → part.start < start + half
     → can_enlarge part (free_in_halves level start lower upper) ≡ can_enlarge part (free_in (level + 1) start lower)
 lower_can part level start half lower upper s place lent deeper k below =
-    deep_lower_can part level start half lower upper s place (past (level + 1) part.level (lent_part_level part (level + 1) start lower here) deeper) k
+    deep_lower_can part level start half lower upper s place
+    (past (level + 1) part.level (lent_part_level part (level + 1) start lower here) deeper) k
     (lent_part_lies_in part (level + 1) start lower s.low_tree here).from below
   where
     here : IsTrue (is_lent (lent_in (level + 1) start lower) part)
@@ -116,7 +122,8 @@ pub upper_can : {A : Type 0} (part : Span) (level start half : ℕ) (lower upper
     ≡ can_enlarge part (free_in (level + 1) (start + half) upper)
 upper_can part level start half lower upper s above =
     alike part (free_in_halves level start lower upper) (free_in (level + 1) (start + half) upper)
-    (λ e. upper_is_free (record { start = buddy_start part.start part.level; level = part.level }) level start half lower upper s
+    (λ e. upper_is_free (record { start = buddy_start part.start part.level; level = part.level }) level start half
+    lower upper s
     (subst (λ (n : ℕ). start + half ≤ n) (sym (buddy_of_leader part e)) (omega arith)))
 
 pub ok_some : {E : Type 0} (P : Type 0) (result : Result (Option ℕ) E) → P → IfOk result (λ owner. OnSome owner P)
@@ -131,7 +138,8 @@ differ c a b h = grind (arith, nat_tests)
 deeper_differ : (part : Span) (others : List Span) → AllByRecursion (λ other. part.level < other.level) others
     → list_any (is_same part) others ≡ false
 deeper_differ part [] all = refl
-deeper_differ part (other ∷ others) all = rw (differ (other.start == part.start) other.level part.level all.0) (deeper_differ part others all.1)
+deeper_differ part (other ∷ others) all =
+    rw (differ (other.start == part.start) other.level part.level all.0) (deeper_differ part others all.1)
 
 -- A node that isn't free is none of its free leaves.
 not_free_whole : {A : Type 0} (level middle : ℕ) (node : Node A) → is_free node ≡ false
@@ -140,7 +148,8 @@ not_free_whole level middle Free e = absurd (cc)
 not_free_whole level middle (Lent owner front) e = refl
 not_free_whole level middle (Split' levels p lower q upper) e =
     deeper_differ (record { start = middle; level = level }) (free_in level middle (Split' levels p lower q upper))
-    (all_joined (λ other. level < other.level) (free_in (level + 1) middle lower) (free_in (level + 1) (middle + size_of (level + 1)) upper)
+    (all_joined (λ other. level < other.level) (free_in (level + 1) middle lower)
+    (free_in (level + 1) (middle + size_of (level + 1)) upper)
     (all_weaker (λ other. level + 1 ≤ other.level) (λ other. level < other.level)
     (λ other h. omega arith) (free_in (level + 1) middle lower) (free_levels (level + 1) middle lower))
     (all_weaker (λ other. level + 1 ≤ other.level) (λ other. level < other.level)
@@ -154,7 +163,8 @@ pub split_not_lent : {A : Type 0} (part : Span) (level start : ℕ) (node : Node
 split_not_lent part level start node levels p lower q upper e f =
     subst (λ (other : Node _). is_lent (lent_in level start other) part ≡ false) (sym e)
     (deeper (lent_in level start (Split' levels p lower q upper))
-    (all_joined (λ leaf. part.level < leaf.level) (lent_in (level + 1) start lower) (lent_in (level + 1) (start + size_of (level + 1)) upper)
+    (all_joined (λ leaf. part.level < leaf.level) (lent_in (level + 1) start lower)
+    (lent_in (level + 1) (start + size_of (level + 1)) upper)
     (all_weaker (λ leaf. level + 1 ≤ leaf.level) (λ leaf. part.level < leaf.level)
     (λ leaf h. omega (arith, f)) (lent_in (level + 1) start lower) (lent_levels (level + 1) start lower))
     (all_weaker (λ leaf. level + 1 ≤ leaf.level) (λ leaf. part.level < leaf.level)
@@ -164,7 +174,8 @@ split_not_lent part level start node levels p lower q upper e f =
     deeper : (leaves : List LentLeaf) → AllByRecursion (λ leaf. part.level < leaf.level) leaves
         → is_lent leaves part ≡ false
     deeper [] all = refl
-    deeper (leaf ∷ leaves) all = rw (differ (leaf.start == part.start) leaf.level part.level all.0) (deeper leaves all.1)
+    deeper (leaf ∷ leaves) all =
+        rw (differ (leaf.start == part.start) leaf.level part.level all.0) (deeper leaves all.1)
 
 -- The upper half can't become its parent.
 pub follower_cannot : {A : Type 0} (part : Span) (level start half : ℕ) (lower upper : Node A) (free : List Span)
@@ -188,7 +199,8 @@ follower_cannot part level start half lower upper free s place low lent child ab
     ]
 
     lies : LiesIn (start + half) (start + half + size_of (level + 1)) part
-    lies = lent_part_lies_in part (level + 1) (start + half) upper s.high_tree (upper_lent part level start half lower upper s past lent)
+    lies = lent_part_lies_in part (level + 1) (start + half) upper s.high_tree
+        (upper_lent part level start half lower upper s past lent)
 
     middle : part.start ≡ start + half
     middle = omega (arith, lies.from, lies.to, ap size_of child)
@@ -199,7 +211,8 @@ follower_cannot part level start half lower upper free s place low lent child ab
     remainder : 0 < part.start % size_of (part.level - 1)
     remainder = subst (λ (n : ℕ). 0 < n % size_of (part.level - 1)) (sym middle)
         (subst (λ (l : ℕ). 0 < (start + half) % size_of l) (back part.level child)
-        (subst (λ (n : ℕ). 0 < n) (sym (half_over start half (size_of level) place.aligned below_whole)) (omega (arith, s.size, size_of-some (level + 1)))))
+        (subst (λ (n : ℕ). 0 < n) (sym (half_over start half (size_of level) place.aligned below_whole))
+        (omega (arith, s.size, size_of-some (level + 1)))))
       where
         back : (l : ℕ) → l ≡ level + 1 → level ≡ l - 1
         back l h = omega arith
@@ -219,10 +232,13 @@ pub leader_cannot : {A : Type 0} (part : Span) (level start half : ℕ) (lower u
     → is_free upper ≡ false → can_enlarge part (free_in_halves level start lower upper) ≡ false
 leader_cannot part level start half lower upper s child e f =
     alike part (free_in_halves level start lower upper) [] (λ leads.
-    upper_is_free (record { start = buddy_start part.start part.level; level = part.level }) level start half lower upper s
+    upper_is_free (record { start = buddy_start part.start part.level; level = part.level }) level start half lower
+    upper s
     (omega (arith, buddy leads))
-    ∙ subst (λ (n : ℕ). list_any (is_same (record { start = n; level = part.level })) (free_in (level + 1) (start + half) upper) ≡ false) (sym (buddy leads))
-    (subst (λ (l : ℕ). list_any (is_same (record { start = start + half; level = l })) (free_in (level + 1) (start + half) upper) ≡ false) (sym child)
+    ∙ subst (λ (n : ℕ). list_any (is_same (record { start = n; level = part.level }))
+    (free_in (level + 1) (start + half) upper) ≡ false) (sym (buddy leads))
+    (subst (λ (l : ℕ). list_any (is_same (record { start = start + half; level = l }))
+    (free_in (level + 1) (start + half) upper) ≡ false) (sym child)
     (not_free_whole (level + 1) (start + half) upper f)))
     ∙ none (nat_lt 0 part.level) (is_leader part.start part.level)
   where

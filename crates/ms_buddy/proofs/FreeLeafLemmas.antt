@@ -32,14 +32,16 @@ next_level below h = omega arith
 
 halves_below : (below : ℕ) → below < 12 → size_of (12 - below) + size_of (12 - below) ≡ size_of (12 - suc below)
 halves_below below h =
-    subst (λ (x : ℕ). size_of x + size_of x ≡ size_of (12 - suc below)) (next_level below h) (size_of-halves (12 - suc below) (omega arith))
+    subst (λ (x : ℕ). size_of x + size_of x ≡ size_of (12 - suc below)) (next_level below h)
+    (size_of-halves (12 - suc below) (omega arith))
 
 -- The free parts within a part depend only on which runs in it the list meets.
 free_within-agree : (held others : List Chunk) (below start : ℕ) → below ≤ 12
     → Agree held others start (start + size_of (12 - below))
     → free_within held below start ≡ free_within others below start
 free_within-agree held others zero start h agree =
-    ap (λ (b : Bool). cond b [] (record { start = start; level = 12 } ∷ [])) (agree start (size_of 12) (omega arith) (omega arith))
+    ap (λ (b : Bool). cond b [] (record { start = start; level = 12 } ∷ []))
+    (agree start (size_of 12) (omega arith) (omega arith))
 free_within-agree held others (suc below) start h agree =
     joined (meets_run held start (size_of (12 - suc below))) (meets_run others start (size_of (12 - suc below)))
     (free_within held below start) (free_within others below start)
@@ -66,7 +68,8 @@ covered chunk (suc below) start h k l =
     rw (meets chunk.start (size_of chunk.level) start (size_of (12 - suc below)) k l (size_of-some (12 - suc below)))
     (rw (
       covered chunk below start (omega arith) k (omega (arith, halves_below below (omega arith))),
-      covered chunk below (start + size_of (12 - below)) (omega arith) (omega arith) (omega (arith, halves_below below (omega arith))),
+      covered chunk below (start + size_of (12 - below)) (omega arith) (omega arith)
+          (omega (arith, halves_below below (omega arith))),
     ) refl)
 
 -- A run that ends where a chunk starts, or starts where it ends, doesn't meet it.
@@ -87,10 +90,12 @@ upper_agrees : {A : Type 0} (level start middle : ℕ) (xs : List LentLeaf) (upp
     → Agree (map chunk_of (xs ++ lent_in level middle upper)) (map chunk_of xs) start middle
 upper_agrees level start middle xs upper tree a n h k =
     ap (λ (held : List Chunk). meets_run held a n) (map-append chunk_of xs (lent_in level middle upper))
-    ∙ list_any-append (λ (chunk : Chunk). meet chunk.start (size_of chunk.level) a n) (map chunk_of xs) (map chunk_of (lent_in level middle upper))
+    ∙ list_any-append (λ (chunk : Chunk). meet chunk.start (size_of chunk.level) a n) (map chunk_of xs)
+    (map chunk_of (lent_in level middle upper))
     ∙ or_false (meets_run (map chunk_of xs) a n) (meets_run (map chunk_of (lent_in level middle upper)) a n)
     (none_met middle (middle + size_of level) a n (lent_in level middle upper)
-    (λ leaf lies. meets_not_above leaf.start (size_of leaf.level) a n (omega (arith, lies.from))) (lent_lies_in level middle upper tree))
+    (λ leaf lies. meets_not_above leaf.start (size_of leaf.level) a n (omega (arith, lies.from)))
+    (lent_lies_in level middle upper tree))
   where
     or_false : (x y : Bool) → y ≡ false → (x || y) ≡ x
     or_false true y e = refl
@@ -100,17 +105,20 @@ lower_agrees : {A : Type 0} (level start high : ℕ) (lower : Node A) (ys : List
     → Agree (map chunk_of (lent_in level start lower ++ ys)) (map chunk_of ys) (start + size_of level) high
 lower_agrees level start high lower ys tree a n h k =
     ap (λ (held : List Chunk). meets_run held a n) (map-append chunk_of (lent_in level start lower) ys)
-    ∙ list_any-append (λ (chunk : Chunk). meet chunk.start (size_of chunk.level) a n) (map chunk_of (lent_in level start lower)) (map chunk_of ys)
+    ∙ list_any-append (λ (chunk : Chunk). meet chunk.start (size_of chunk.level) a n)
+    (map chunk_of (lent_in level start lower)) (map chunk_of ys)
     ∙ ap (λ (b : Bool). b || meets_run (map chunk_of ys) a n)
     (none_met start (start + size_of level) a n (lent_in level start lower)
-    (λ leaf lies. meets_not_below leaf.start (size_of leaf.level) a n (omega (arith, lies.to))) (lent_lies_in level start lower tree))
+    (λ leaf lies. meets_not_below leaf.start (size_of leaf.level) a n (omega (arith, lies.to)))
+    (lent_lies_in level start lower tree))
 
 -- A node that isn't free has a lent leaf, which meets each run around the node.
 node_meets : {A : Type 0} (level start : ℕ) (node : Node A) (a n : ℕ) → IsTree level node → is_free node ≡ false
     → a ≤ start → start + size_of level ≤ a + n
     → meets_run (map chunk_of (lent_in level start node)) a n ≡ true
 node_meets level start Free a n tree e h k = absurd (cc)
-node_meets level start (Lent owner front) a n tree e h k = rw (meets start (size_of level) a n (size_of-some level) h k) refl
+node_meets level start (Lent owner front) a n tree e h k =
+    rw (meets start (size_of level) a n (size_of-some level) h k) refl
   where
     meets : (b m a n : ℕ) → 0 < m → a ≤ b → b + m ≤ a + n → meet b m a n ≡ true
     meets b m a n some h k = grind (arith, nat_tests)
@@ -118,13 +126,15 @@ node_meets level start (Split' levels p lower q upper) a n tree e h k =
     ap (λ (held : List Chunk). meets_run held a n)
     (map-append chunk_of (lent_in (level + 1) start lower) (lent_in (level + 1) (start + size_of (level + 1)) upper))
     ∙ list_any-append (λ (chunk : Chunk). meet chunk.start (size_of chunk.level) a n)
-    (map chunk_of (lent_in (level + 1) start lower)) (map chunk_of (lent_in (level + 1) (start + size_of (level + 1)) upper))
+    (map chunk_of (lent_in (level + 1) start lower))
+    (map chunk_of (lent_in (level + 1) (start + size_of (level + 1)) upper))
     ∙ one_of (is_free lower) (is_free upper)
     (meets_run (map chunk_of (lent_in (level + 1) start lower)) a n)
     (meets_run (map chunk_of (lent_in (level + 1) (start + size_of (level + 1)) upper)) a n)
     tree.1
     (λ f. node_meets (level + 1) start lower a n tree.2 f h (omega (arith, size_of-halves level tree.0)))
-    (λ f. node_meets (level + 1) (start + size_of (level + 1)) upper a n tree.3 f (omega arith) (omega (arith, size_of-halves level tree.0)))
+    (λ f. node_meets (level + 1) (start + size_of (level + 1)) upper a n tree.3 f (omega arith)
+    (omega (arith, size_of-halves level tree.0)))
   where
     one_of : (f g x y : Bool) → IsFalse (f && g) → (f ≡ false → x ≡ true) → (g ≡ false → y ≡ true) → (x || y) ≡ true
     one_of true true x y n h k = absurd (cc)
@@ -138,11 +148,13 @@ node_meets level start (Split' levels p lower q upper) a n tree e h k =
 -- One step of the walk: at a split with a lent leaf.
 split_walk : {A : Type 0} (below level start : ℕ) (lower upper : Node A) → below < 12 → level ≡ 12 - below
     → IsTree level lower → IsTree level upper
-    → meets_run (map chunk_of (lent_in level start lower ++ lent_in level (start + size_of level) upper)) start (size_of (12 - suc below)) ≡ true
+    → meets_run (map chunk_of (lent_in level start lower ++ lent_in level (start + size_of level) upper)) start
+    (size_of (12 - suc below)) ≡ true
     → free_within (map chunk_of (lent_in level start lower)) below start ≡ free_in level start lower
     → free_within (map chunk_of (lent_in level (start + size_of level) upper)) below (start + size_of level)
     ≡ free_in level (start + size_of level) upper
-    → free_within (map chunk_of (lent_in level start lower ++ lent_in level (start + size_of level) upper)) (suc below) start
+    → free_within (map chunk_of (lent_in level start lower ++ lent_in level (start + size_of level) upper))
+    (suc below) start
     ≡ free_in level start lower ++ free_in level (start + size_of level) upper
 split_walk below level start lower upper h e low_tree high_tree met low high =
     joined (meets_run held start (size_of (12 - suc below)))
@@ -154,8 +166,10 @@ split_walk below level start lower upper h e low_tree high_tree met low high =
     (upper_agrees level start (start + size_of level) (lent_in level start lower) upper high_tree))
     ∙ low)
     (ap (λ (x : ℕ). free_within held below (start + size_of x)) (sym e)
-    ∙ free_within-agree held (map chunk_of (lent_in level (start + size_of level) upper)) below (start + size_of level) (omega arith)
-    (lower_agrees level start (start + size_of level + size_of (12 - below)) lower (lent_in level (start + size_of level) upper) low_tree)
+    ∙ free_within-agree held (map chunk_of (lent_in level (start + size_of level) upper)) below (start + size_of level)
+    (omega arith)
+    (lower_agrees level start (start + size_of level + size_of (12 - below)) lower
+    (lent_in level (start + size_of level) upper) low_tree)
     ∙ high)
   where
     held : List Chunk
@@ -174,13 +188,17 @@ free_walk below start (Lent owner front) h tree =
 free_walk zero start (Split' levels p lower q upper) h tree = absurd (omega (arith, tree.0))
 free_walk (suc below) start (Split' levels p lower q upper) h tree =
     split_walk below (12 - suc below + 1) start lower upper (omega arith) (next_level below (omega arith)) tree.2 tree.3
-    (node_meets (12 - suc below) start (Split' levels p lower q upper) start (size_of (12 - suc below)) tree refl (omega arith) (omega arith))
-    (subst (λ (x : ℕ). free_within (map chunk_of (lent_in x start lower)) below start ≡ free_in x start lower) (sym (next_level below (omega arith)))
-    (free_walk below start lower (omega arith) (subst (λ (x : ℕ). IsTree x lower) (next_level below (omega arith)) tree.2)))
+    (node_meets (12 - suc below) start (Split' levels p lower q upper) start (size_of (12 - suc below)) tree refl
+    (omega arith) (omega arith))
+    (subst (λ (x : ℕ). free_within (map chunk_of (lent_in x start lower)) below start ≡ free_in x start lower)
+    (sym (next_level below (omega arith)))
+    (free_walk below start lower (omega arith)
+    (subst (λ (x : ℕ). IsTree x lower) (next_level below (omega arith)) tree.2)))
     (subst (λ (x : ℕ). free_within (map chunk_of (lent_in x (start + size_of (12 - suc below + 1)) upper)) below
     (start + size_of (12 - suc below + 1)) ≡ free_in x (start + size_of (12 - suc below + 1)) upper)
     (sym (next_level below (omega arith)))
-    (free_walk below (start + size_of (12 - suc below + 1)) upper (omega arith) (subst (λ (x : ℕ). IsTree x upper) (next_level below (omega arith)) tree.3)))
+    (free_walk below (start + size_of (12 - suc below + 1)) upper (omega arith)
+    (subst (λ (x : ℕ). IsTree x upper) (next_level below (omega arith)) tree.3)))
 
 -- The free leaves of the whole tree are the free parts of the root.
 pub free_of-tree : {A : Type 0} (node : Node A) → IsTree 0 node → free_of (lent_in 0 0 node) ≡ free_in 0 0 node
@@ -191,7 +209,8 @@ free_of-tree node tree = free_walk 12 0 node (omega arith) tree
 pub whole_tree : {A : Type 0} (node : Node A) → IsTree 0 node → lent_in 0 0 node ≡ [] → is_free node ≡ true
 whole_tree Free tree e = refl
 whole_tree (Lent owner front) tree e = absurd (cc)
-whole_tree (Split' levels p lower q upper) tree e = absurd (some (meets_run (map chunk_of (lent_in 0 0 (Split' levels p lower q upper))) 0 (size_of 0))
+whole_tree (Split' levels p lower q upper) tree e =
+    absurd (some (meets_run (map chunk_of (lent_in 0 0 (Split' levels p lower q upper))) 0 (size_of 0))
     (node_meets 0 0 (Split' levels p lower q upper) 0 (size_of 0) tree refl (omega arith) (omega arith))
     (ap (λ (xs : List LentLeaf). meets_run (map chunk_of xs) 0 (size_of 0)) e))
   where
@@ -221,5 +240,7 @@ pub whole_tree_is_free : {A : Type 0} (node : Node A) → IsTree 0 node → free
     → is_free node ≡ true
 whole_tree_is_free Free tree e = refl
 whole_tree_is_free (Lent owner front) tree e = absurd (cc)
-whole_tree_is_free (Split' levels p lower q upper) tree e = absurd (deeper_not_root (free_in 0 0 (Split' levels p lower q upper))
-    (all_joined (λ part. 1 ≤ part.level) (free_in 1 0 lower) (free_in 1 (size_of 1) upper) (free_levels 1 0 lower) (free_levels 1 (size_of 1) upper)) e)
+whole_tree_is_free (Split' levels p lower q upper) tree e =
+    absurd (deeper_not_root (free_in 0 0 (Split' levels p lower q upper))
+    (all_joined (λ part. 1 ≤ part.level) (free_in 1 0 lower) (free_in 1 (size_of 1) upper) (free_levels 1 0 lower)
+    (free_levels 1 (size_of 1) upper)) e)

@@ -22,7 +22,8 @@ use Rattle.ms_buddy.proofs.SplitLemmas.{AtSplit}
 -- The bits of two numbers together.
 has_level-or : (a b level : ℕ) → has_level (bit_or a b) level ≡ (has_level a level || has_level b level)
 has_level-or a b level =
-    ap (λ bit. bit == 1) (bit_at_or a b level) ∙ some (bit_at a level) (bit_at b level) (bit_at-lt a level) (bit_at-lt b level)
+    ap (λ bit. bit == 1) (bit_at_or a b level)
+    ∙ some (bit_at a level) (bit_at b level) (bit_at-lt a level) (bit_at-lt b level)
   where
     some : (x y : ℕ) → x < 2 → y < 2 → (max x y == 1) ≡ ((x == 1) || (y == 1))
     some x y h k = grind (arith, nat_tests)
@@ -46,9 +47,12 @@ levels_are_those level start wanted (Lent owner front) tree = ap (λ bit. bit ==
 levels_are_those level start wanted (Split' levels p lower q upper) tree =
     ap (λ bits. has_level bits wanted) tree.4
     ∙ has_level-or (levels_of (level + 1) lower) (levels_of (level + 1) upper) wanted
-    ∙ ap (λ b. b || has_level (levels_of (level + 1) upper) wanted) (levels_are_those (level + 1) start wanted lower tree.2)
-    ∙ ap (λ b. list_any (is_of wanted) (free_in (level + 1) start lower) || b) (levels_are_those (level + 1) (start + size_of (level + 1)) wanted upper tree.3)
-    ∙ sym (list_any-append (is_of wanted) (free_in (level + 1) start lower) (free_in (level + 1) (start + size_of (level + 1)) upper))
+    ∙ ap (λ b. b || has_level (levels_of (level + 1) upper) wanted)
+    (levels_are_those (level + 1) start wanted lower tree.2)
+    ∙ ap (λ b. list_any (is_of wanted) (free_in (level + 1) start lower) || b)
+    (levels_are_those (level + 1) (start + size_of (level + 1)) wanted upper tree.3)
+    ∙ sym (list_any-append (is_of wanted) (free_in (level + 1) start lower)
+    (free_in (level + 1) (start + size_of (level + 1)) upper))
 
 -- Where no part has the level, none is found.
 none_from : (level from : ℕ) (parts : List Span) → list_any (is_of level) parts ≡ false
@@ -65,21 +69,24 @@ pub none_of_level : {A : Type 0} (level start wanted from : ℕ) (node : Node A)
     → levels_of level node ≡ levels → has_level levels wanted ≡ false
     → find (is_of_from wanted from) (free_in level start node) ≡ None
 none_of_level level start wanted from node levels tree e none =
-    none_from wanted from (free_in level start node) (sym (levels_are_those level start wanted node tree) ∙ ap (λ bits. has_level bits wanted) e ∙ none)
+    none_from wanted from (free_in level start node)
+    (sym (levels_are_those level start wanted node tree) ∙ ap (λ bits. has_level bits wanted) e ∙ none)
 
 -- The first of two halves is that of the lower one, or, where it has none, that of the upper one.
 lower_first : {A : Type 0} (level start wanted from : ℕ) (lower upper : Node A) (part : Span)
     → find (is_of_from wanted from) (free_in (level + 1) start lower) ≡ Some part
     → find (is_of_from wanted from) (free_in_halves level start lower upper) ≡ Some part
 lower_first level start wanted from lower upper part e =
-    find-append (is_of_from wanted from) (free_in (level + 1) start lower) (free_in (level + 1) (start + size_of (level + 1)) upper) ∙ rw e refl
+    find-append (is_of_from wanted from) (free_in (level + 1) start lower)
+    (free_in (level + 1) (start + size_of (level + 1)) upper) ∙ rw e refl
 
 upper_first : {A : Type 0} (level start half wanted from : ℕ) (lower upper : Node A) → half ≡ size_of (level + 1)
     → find (is_of_from wanted from) (free_in (level + 1) start lower) ≡ None
     → find (is_of_from wanted from) (free_in_halves level start lower upper)
     ≡ find (is_of_from wanted from) (free_in (level + 1) (start + half) upper)
 upper_first level start half wanted from lower upper size e =
-    find-append (is_of_from wanted from) (free_in (level + 1) start lower) (free_in (level + 1) (start + size_of (level + 1)) upper)
+    find-append (is_of_from wanted from) (free_in (level + 1) start lower)
+    (free_in (level + 1) (start + size_of (level + 1)) upper)
     ∙ rw e (ap (λ (n : ℕ). find (is_of_from wanted from) (free_in (level + 1) (start + n) upper)) (sym size))
 
 -- No leaf of a node that ends before the offset starts at it or past it.
@@ -104,7 +111,8 @@ pub found_above : {A : Type 0} (level start half wanted from : ℕ) (node lower 
 found_above level start half wanted from node lower upper next found s read e none =
     e
     ∙ ap (λ (other : Node _). find (is_of_from wanted from) (free_in (level + 1) (start + half) other)) read
-    ∙ sym (ap (find (is_of_from wanted from)) s.free ∙ upper_first level start half wanted from lower upper s.halves.size none)
+    ∙ sym (ap (find (is_of_from wanted from)) s.free
+    ∙ upper_first level start half wanted from lower upper s.halves.size none)
 
 pub found_below : {A : Type 0} (level start half wanted from : ℕ) (node lower upper : Node A) (part : Span)
     → AtSplit level start half node lower upper

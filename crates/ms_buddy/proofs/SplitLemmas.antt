@@ -14,8 +14,10 @@ use Rattle.ms_buddy.specs.declared.node.Node.{Node}
 use Rattle.ms_buddy.specs.declared.node.Node.TheVariants.{Split'}
 use Rattle.ms_buddy.specs.declared.node.Leaf.{Leaf}
 use Rattle.ms_buddy.specs.declared.node.Leaf.TheVariants.{Free as FreeLeaf, Lent as LentTo}
-use Rattle.ms_buddy.specs.Leaves.{LentLeaf, IsLeafAt, leaf_of, span_of, is_same, is_lent, covers, with_front, with_parent, without_leaf}
-use Rattle.ms_buddy.specs.Tree.{AreHalves, MayHaveFront, is_free, IsTree, lent_in, free_in, lent_in_halves, free_in_halves}
+use Rattle.ms_buddy.specs.Leaves.{LentLeaf, IsLeafAt, leaf_of, span_of, is_same, is_lent, covers, with_front}
+use Rattle.ms_buddy.specs.Leaves.{with_parent, without_leaf}
+use Rattle.ms_buddy.specs.Tree.{AreHalves, MayHaveFront, is_free, IsTree, lent_in, free_in, lent_in_halves}
+use Rattle.ms_buddy.specs.Tree.{free_in_halves}
 use Rattle.ms_buddy.proofs.TreeHalvesLemmas.{size_of-some, lower_place, upper_place}
 use Rattle.ms_buddy.proofs.WalkLemmas.{NonePass, any-none, filter-none, map-none, find-none, none_above, none_below}
 use Rattle.ms_buddy.proofs.WalkLemmas.{none_covers_below, none_lent_covers_below, LiesIn, LeafIn, lent_lies_in}
@@ -44,11 +46,13 @@ pub trees_at : {A : Type 0} (level start : ℕ) (lower upper : Node A)
     → IsTree (level + 1) lower × IsTree (level + 1) upper → AtHalves level start (size_of (level + 1)) lower upper
 trees_at level start lower upper trees = record { low_tree = trees.0; high_tree = trees.1; size = refl }
 
-pub at_split : {A : Type 0} (level start half : ℕ) (node : Node A) (levels : ℕ) (p : _) (lower : Node A) (q : _) (upper : Node A)
+pub at_split : {A : Type 0} (level start half : ℕ) (node : Node A) (levels : ℕ) (p : _) (lower : Node A) (q : _)
+    (upper : Node A)
     → node ≡ Split' levels p lower q upper → IsTree level node → half ≡ size_of (level + 1)
     → AtSplit level start half node lower upper
 at_split level start half node levels p lower q upper e tree size =
-    subst (λ (other : Node _). AtSplit level start half other lower upper) (sym e) (here (subst (λ (other : Node _). IsTree level other) e tree))
+    subst (λ (other : Node _). AtSplit level start half other lower upper) (sym e)
+    (here (subst (λ (other : Node _). IsTree level other) e tree))
   where
     here : IsTree level (Split' levels p lower q upper)
         → AtSplit level start half (Split' levels p lower q upper) lower upper
@@ -64,7 +68,8 @@ at_split level start half node levels p lower q upper e tree size =
 pub lent_part_lies_in : {A : Type 0} (part : Span) (level start : ℕ) (node : Node A) → IsTree level node
     → IsTrue (is_lent (lent_in level start node) part)
     → LiesIn start (start + size_of level) part
-lent_part_lies_in part level start node tree e = of_list (lent_in level start node) (lent_lies_in level start node tree) e
+lent_part_lies_in part level start node tree e =
+    of_list (lent_in level start node) (lent_lies_in level start node tree) e
   where
     same : (a b c d : ℕ) → ((a == b) && (c == d)) ≡ true → (a ≡ b) × (c ≡ d)
     same a b c d e = (grind (arith, nat_tests), grind (arith, nat_tests))
@@ -91,7 +96,8 @@ pub lower_lent : {A : Type 0} (part : Span) (level start half : ℕ) (lower uppe
     → IsTrue (is_lent (lent_in_halves level start lower upper) part)
     → IsTrue (is_lent (lent_in (level + 1) start lower) part)
 lower_lent part level start half lower upper s h e =
-    or_left (is_lent (lent_in (level + 1) start lower) part) (is_lent (lent_in (level + 1) (start + size_of (level + 1)) upper) part)
+    or_left (is_lent (lent_in (level + 1) start lower) part)
+    (is_lent (lent_in (level + 1) (start + size_of (level + 1)) upper) part)
     (any-none (λ leaf. is_same part (span_of leaf)) (lent_in (level + 1) (start + size_of (level + 1)) upper)
     (none_above part (level + 1) (start + size_of (level + 1)) upper s.high_tree (omega (arith, s.size))))
     (sym (list_any-append (λ (leaf : LentLeaf). is_same part (span_of leaf))
@@ -109,8 +115,10 @@ upper_lent part level start half lower upper s h e =
     or_right (is_lent (lent_in (level + 1) start lower) part) (is_lent (lent_in (level + 1) (start + half) upper) part)
     (any-none (λ leaf. is_same part (span_of leaf)) (lent_in (level + 1) start lower)
     (none_below part (level + 1) start lower s.low_tree (omega (arith, s.size))))
-    (sym (list_any-append (λ (leaf : LentLeaf). is_same part (span_of leaf)) (lent_in (level + 1) start lower) (lent_in (level + 1) (start + half) upper))
-    ∙ ap (λ (n : ℕ). is_lent (lent_in (level + 1) start lower ++ lent_in (level + 1) (start + n) upper) part) s.size ∙ e)
+    (sym (list_any-append (λ (leaf : LentLeaf). is_same part (span_of leaf)) (lent_in (level + 1) start lower)
+    (lent_in (level + 1) (start + half) upper))
+    ∙ ap (λ (n : ℕ). is_lent (lent_in (level + 1) start lower ++ lent_in (level + 1) (start + n) upper) part) s.size
+    ∙ e)
   where
     or_right : (x y : Bool) → x ≡ false → (x || y) ≡ true → y ≡ true
     or_right true y e f = absurd (cc)
@@ -146,14 +154,18 @@ pub record ActsAt (part : Span) (change : List LentLeaf → List LentLeaf) : Typ
 
 pub front_acts : (part : Span) (front : ℕ) → ActsAt part (with_front part front)
 front_acts part front = record {
-  joined = λ xs ys. map-append (λ (leaf : LentLeaf). cond (is_same part (span_of leaf)) (record leaf { front = front }) leaf) xs ys;
+  joined = λ xs ys. map-append
+      (λ (leaf : LentLeaf). cond (is_same part (span_of leaf)) (record leaf { front = front }) leaf) xs ys;
   others = λ xs none. map-none (λ leaf. is_same part (span_of leaf)) (λ leaf. record leaf { front = front }) xs none;
 }
 
 pub parent_acts : (part : Span) (front : ℕ) → ActsAt part (with_parent part front)
 parent_acts part front = record {
-  joined = λ xs ys. map-append (λ (leaf : LentLeaf). cond (is_same part (span_of leaf)) (record leaf { level = leaf.level - 1; front = front }) leaf) xs ys;
-  others = λ xs none. map-none (λ leaf. is_same part (span_of leaf)) (λ leaf. record leaf { level = leaf.level - 1; front = front }) xs none;
+  joined = λ xs ys. map-append
+      (λ (leaf : LentLeaf). cond (is_same part (span_of leaf)) (record leaf { level = leaf.level - 1; front = front })
+      leaf) xs ys;
+  others = λ xs none. map-none (λ leaf. is_same part (span_of leaf))
+      (λ leaf. record leaf { level = leaf.level - 1; front = front }) xs none;
 }
 
 pub without_acts : (part : Span) → ActsAt part (without_leaf part)
@@ -163,7 +175,8 @@ without_acts part = record {
 }
 
 -- What changes the half where the leaf is changes the two halves.
-pub lower_changed : {A : Type 0} (level start half : ℕ) (lower upper now : Node A) (part : Span) (change : List LentLeaf → List LentLeaf) → ActsAt part change
+pub lower_changed : {A : Type 0} (level start half : ℕ) (lower upper now : Node A) (part : Span)
+    (change : List LentLeaf → List LentLeaf) → ActsAt part change
     → AtHalves level start half lower upper → part.start < start + half
     → lent_in (level + 1) start now ≡ change (lent_in (level + 1) start lower)
     → lent_in_halves level start now upper ≡ change (lent_in_halves level start lower upper)
@@ -174,32 +187,38 @@ lower_changed level start half lower upper now part change acts s h e = sym
     (none_above part (level + 1) (start + size_of (level + 1)) upper s.high_tree (omega (arith, s.size))))
     ∙ ap (λ (xs : List LentLeaf). xs ++ lent_in (level + 1) (start + size_of (level + 1)) upper) (sym e))
 
-pub upper_changed : {A : Type 0} (level start half : ℕ) (lower upper now : Node A) (part : Span) (change : List LentLeaf → List LentLeaf) → ActsAt part change
+pub upper_changed : {A : Type 0} (level start half : ℕ) (lower upper now : Node A) (part : Span)
+    (change : List LentLeaf → List LentLeaf) → ActsAt part change
     → AtHalves level start half lower upper → start + half ≤ part.start
     → lent_in (level + 1) (start + half) now ≡ change (lent_in (level + 1) (start + half) upper)
     → lent_in_halves level start lower now ≡ change (lent_in_halves level start lower upper)
 upper_changed level start half lower upper now part change acts s h e = sym
     (acts.joined (lent_in (level + 1) start lower) (lent_in (level + 1) (start + size_of (level + 1)) upper)
     ∙ ap (λ (xs : List LentLeaf). xs ++ change (lent_in (level + 1) (start + size_of (level + 1)) upper))
-    (acts.others (lent_in (level + 1) start lower) (none_below part (level + 1) start lower s.low_tree (omega (arith, s.size))))
+    (acts.others (lent_in (level + 1) start lower)
+    (none_below part (level + 1) start lower s.low_tree (omega (arith, s.size))))
     ∙ ap (λ (ys : List LentLeaf). lent_in (level + 1) start lower ++ ys)
-    (sym (subst (λ (n : ℕ). lent_in (level + 1) (start + n) now ≡ change (lent_in (level + 1) (start + n) upper)) s.size e)))
+    (sym (subst (λ (n : ℕ). lent_in (level + 1) (start + n) now ≡ change (lent_in (level + 1) (start + n) upper)) s.size
+    e)))
 
 -- A free leaf that covers an offset in a half is found in the two halves.
 pub lower_found : {A : Type 0} (offset level start : ℕ) (lower upper : Node A) (part : Span)
     → find (covers offset) (free_in (level + 1) start lower) ≡ Some part
     → find (covers offset) (free_in_halves level start lower upper) ≡ Some part
 lower_found offset level start lower upper part e =
-    find-append (covers offset) (free_in (level + 1) start lower) (free_in (level + 1) (start + size_of (level + 1)) upper) ∙ rw e refl
+    find-append (covers offset) (free_in (level + 1) start lower)
+    (free_in (level + 1) (start + size_of (level + 1)) upper) ∙ rw e refl
 
 pub upper_found : {A : Type 0} (offset level start half : ℕ) (lower upper : Node A) (part : Span)
     → IsTree (level + 1) lower → half ≡ size_of (level + 1)
     → start + half ≤ offset → find (covers offset) (free_in (level + 1) (start + half) upper) ≡ Some part
     → find (covers offset) (free_in_halves level start lower upper) ≡ Some part
 upper_found offset level start half lower upper part tree size h e =
-    find-append (covers offset) (free_in (level + 1) start lower) (free_in (level + 1) (start + size_of (level + 1)) upper)
+    find-append (covers offset) (free_in (level + 1) start lower)
+    (free_in (level + 1) (start + size_of (level + 1)) upper)
     ∙ rw (
-      find-none (covers offset) (free_in (level + 1) start lower) (none_covers_below offset (level + 1) start lower tree (omega (arith, size))),
+      find-none (covers offset) (free_in (level + 1) start lower)
+          (none_covers_below offset (level + 1) start lower tree (omega (arith, size))),
       subst (λ (n : ℕ). find (covers offset) (free_in (level + 1) (start + n) upper) ≡ Some part) size e,
     ) refl
 
@@ -216,13 +235,16 @@ pub upper_leaf : {A : Type 0} (offset level start half : ℕ) (lower upper : Nod
     → IsTree (level + 1) lower → half ≡ size_of (level + 1) → start + half ≤ offset
     → IsLeafAt offset part leaf (lent_in (level + 1) (start + half) upper) (free_in (level + 1) (start + half) upper)
     → IsLeafAt offset part leaf (lent_in_halves level start lower upper) (free_in_halves level start lower upper)
-upper_leaf offset level start half lower upper part FreeLeaf tree size h e = upper_found offset level start half lower upper part tree size h e
+upper_leaf offset level start half lower upper part FreeLeaf tree size h e =
+    upper_found offset level start half lower upper part tree size h e
 upper_leaf offset level start half lower upper part (LentTo owner front) tree size h e =
-    find-append (λ (leaf : LentLeaf). covers offset (span_of leaf)) (lent_in (level + 1) start lower) (lent_in (level + 1) (start + size_of (level + 1)) upper)
+    find-append (λ (leaf : LentLeaf). covers offset (span_of leaf)) (lent_in (level + 1) start lower)
+    (lent_in (level + 1) (start + size_of (level + 1)) upper)
     ∙ rw (
       find-none (λ leaf. covers offset (span_of leaf)) (lent_in (level + 1) start lower)
           (none_lent_covers_below offset (level + 1) start lower tree (omega (arith, size))),
-      subst (λ (n : ℕ). find (λ leaf. covers offset (span_of leaf)) (lent_in (level + 1) (start + n) upper) ≡ Some (leaf_of part owner front)) size e,
+      subst (λ (n : ℕ). find (λ leaf. covers offset (span_of leaf)) (lent_in (level + 1) (start + n) upper)
+          ≡ Some (leaf_of part owner front)) size e,
     ) refl
 
 -- A node that is merged whole is the free leaf that covers the part that was lent in it.
@@ -231,7 +253,8 @@ pub whole_found : {A : Type 0} (part : Span) (level start : ℕ) (node : Node A)
     → result.start ≡ start → result.level ≡ level
     → find (covers part.start) (record { start = start; level = level } ∷ []) ≡ Some result
 whole_found part level start node result tree lent e f =
-    rw (covered start part.start (size_of level) lies.from (omega (arith, lies.to, size_of-some part.level))) (rw (← e, ← f) refl)
+    rw (covered start part.start (size_of level) lies.from (omega (arith, lies.to, size_of-some part.level)))
+    (rw (← e, ← f) refl)
   where
     lies : LiesIn start (start + size_of level) part
     lies = lent_part_lies_in part level start node tree lent

@@ -41,7 +41,8 @@ left_of-push [] visit = sym (append-nil (free_in visit.level visit.start visit.n
 left_of-push (None ∷ visits) visit = left_of-push visits visit
 left_of-push (Some other ∷ visits) visit =
     ap (λ (parts : List Span). parts ++ free_in other.level other.start other.node.now) (left_of-push visits visit)
-    ∙ append_assoc (free_in visit.level visit.start visit.node.now) (left_of visits) (free_in other.level other.start other.node.now)
+    ∙ append_assoc (free_in visit.level visit.start visit.node.now) (left_of visits)
+    (free_in other.level other.start other.node.now)
 
 -- What is known of the visit on top of a stack, and of those below it.
 pub record IsTop {A : Type 0} (number : ℕ) (visits : List (Option (Visit A))) (visit : Visit A) : Type 0 where
@@ -56,7 +57,12 @@ popped number [] visit stack = record { below = tt; low = omega (arith, stack.0)
 popped number (None ∷ visits) visit stack = absurd stack
 popped number (Some other ∷ visits) visit stack =
     let rest = popped (number + 1) visits visit stack.3 in
-    record { below = (stack.0, stack.1, stack.2, rest.below); low = omega (arith, rest.low); place = rest.place; tree = rest.tree }
+    record {
+      below = (stack.0, stack.1, stack.2, rest.below);
+      low = omega (arith, rest.low);
+      place = rest.place;
+      tree = rest.tree;
+    }
 
 pub pushed : {A : Type 0} (number : ℕ) (visits : List (Option (Visit A))) (visit : Visit A) → IsStack number visits
     → number + length visits ≤ visit.level
@@ -116,16 +122,26 @@ past_split visits rest one now visit low high half turn s nodes low_level low_st
   stack = subst (λ (xs : List (Option (Visit _))). IsStack 0 xs) (sym whole)
       (pushed 0 (rest ++ Some high ∷ []) low
       (pushed 0 rest high turn.top.below (omega (arith, turn.top.low, high_level))
-      (rw high_level (upper_place visit.level visit.start high.start turn.top.place s.low (high_start ∙ ap (λ (n : ℕ). visit.start + n) s.halves.size)))
+      (rw high_level
+      (upper_place visit.level visit.start high.start turn.top.place s.low
+      (high_start ∙ ap (λ (n : ℕ). visit.start + n) s.halves.size)))
       (rw high_level s.halves.high_tree))
       (omega (arith, turn.top.low, low_level, length_push rest (Some high)))
       (rw (low_level, low_start) (lower_place visit.level visit.start turn.top.place s.low))
       (rw low_level s.halves.low_tree));
   left = ap left_of whole ∙ left_of-push (rest ++ Some high ∷ []) low
       ∙ ap (λ (parts : List Span). free_in low.level low.start low.node.now ++ parts) (left_of-push rest high)
-      ∙ sym (append_assoc (free_in low.level low.start low.node.now) (free_in high.level high.start high.node.now) (left_of rest))
+      ∙ sym (append_assoc (free_in low.level low.start low.node.now) (free_in high.level high.start high.node.now)
+      (left_of rest))
       ∙ ap (λ (parts : List Span). parts ++ left_of rest) (halves ∙ sym s.free) ∙ sym turn.left;
-  fewer = omega (arith, turn.nodes, nodes, ap nodes_left whole, nodes_left-push (rest ++ Some high ∷ []) low, nodes_left-push rest high);
+  fewer = omega (
+    arith,
+    turn.nodes,
+    nodes,
+    ap nodes_left whole,
+    nodes_left-push (rest ++ Some high ∷ []) low,
+    nodes_left-push rest high,
+  );
 }
   where
     whole : now ≡ (rest ++ Some high ∷ []) ++ Some low ∷ []
@@ -139,7 +155,9 @@ past_split visits rest one now visit low high half turn s nodes low_level low_st
 pub gap_absurd : {A : Type 0} (visits rest : List (Option (Visit A))) (taken : Option (Visit A))
     → visits ≡ rest ++ taken ∷ [] → taken ≡ None → IsStack 0 visits → ⊥
 gap_absurd visits rest taken e f stack =
-    no_gap 0 rest (subst (λ (xs : List (Option (Visit _))). IsStack 0 xs) (e ∙ ap (λ (x : Option (Visit _)). rest ++ x ∷ []) f) stack)
+    no_gap 0 rest
+    (subst (λ (xs : List (Option (Visit _))). IsStack 0 xs) (e ∙ ap (λ (x : Option (Visit _)). rest ++ x ∷ []) f)
+    stack)
 
 -- With no visit left no free leaf is left.
 pub at_end : {A : Type 0} (visits rest : List (Option (Visit A))) → (0 < length visits → false ≡ true)

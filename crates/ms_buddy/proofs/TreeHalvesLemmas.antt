@@ -11,7 +11,8 @@ size_of-some level = pow_pos (19 - level)
 
 -- A part is twice its half.
 pub size_of-halves : (level : ℕ) → level < 12 → size_of (level + 1) + size_of (level + 1) ≡ size_of level
-size_of-halves level h = sym (ap (λ (n : ℕ). 2 ^ n) (exponent level h) ∙ pow-add 2 1 (19 - (level + 1)) ∙ twice (2 ^ (19 - (level + 1))))
+size_of-halves level h =
+    sym (ap (λ (n : ℕ). 2 ^ n) (exponent level h) ∙ pow-add 2 1 (19 - (level + 1)) ∙ twice (2 ^ (19 - (level + 1))))
   where
     exponent : (level : ℕ) → level < 12 → 19 - level ≡ 1 + (19 - (level + 1))
     exponent level h = omega arith
@@ -21,7 +22,9 @@ size_of-halves level h = sym (ap (λ (n : ℕ). 2 ^ n) (exponent level h) ∙ po
 
 -- A multiple of twice a number is one of the number.
 pub halves_divide : (a h : ℕ) → a % (h + h) ≡ 0 → a % h ≡ 0
-halves_divide a h e = subst (λ (x : ℕ). x % h ≡ 0) (sym (by_number (a / (h + h)) e (div-add-mod' a (h + h)))) (mul-mod_left (a / (h + h) * 2) h)
+halves_divide a h e =
+    subst (λ (x : ℕ). x % h ≡ 0) (sym (by_number (a / (h + h)) e (div-add-mod' a (h + h))))
+    (mul-mod_left (a / (h + h) * 2) h)
   where
     by_number : (q : ℕ) → a % (h + h) ≡ 0 → q * (h + h) + a % (h + h) ≡ a → a ≡ q * 2 * h
     by_number q e d = omega arith
@@ -30,7 +33,9 @@ halves_divide a h e = subst (λ (x : ℕ). x % h ≡ 0) (sym (by_number (a / (h 
 pub lower_place : (level start : ℕ) → IsPlace level start → level < 12 → IsPlace (level + 1) start
 lower_place level start place h = record {
   level_fits = omega arith;
-  aligned = halves_divide start (size_of (level + 1)) (subst (λ (x : ℕ). start % x ≡ 0) (sym (size_of-halves level h)) place.aligned);
+  aligned =
+      halves_divide start (size_of (level + 1))
+      (subst (λ (x : ℕ). start % x ≡ 0) (sym (size_of-halves level h)) place.aligned);
   in_root = omega (arith, size_of-halves level h, place.in_root);
 }
 
@@ -39,6 +44,8 @@ pub upper_place : (level start middle : ℕ) → IsPlace level start → level <
     → IsPlace (level + 1) middle
 upper_place level start middle place h e = record {
   level_fits = omega arith;
-  aligned = subst (λ (x : ℕ). x % size_of (level + 1) ≡ 0) (sym e) (add-mod_right start (size_of (level + 1)) ∙ (lower_place level start place h).aligned);
+  aligned =
+      subst (λ (x : ℕ). x % size_of (level + 1) ≡ 0) (sym e)
+      (add-mod_right start (size_of (level + 1)) ∙ (lower_place level start place h).aligned);
   in_root = omega (arith, size_of-halves level h, place.in_root);
 }

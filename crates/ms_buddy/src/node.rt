@@ -5,12 +5,15 @@
 //! lies. What is kept true of a node is `IsTree` in `specs/Tree.antt`: `levels_of_halves` tells the
 //! bits that a split keeps, and each change of a half asks it on the way up. Boxes are made by
 //! `with_lent` alone, and given back as halves merge.
-ghost use Rattle.std.specs.Prelude.{◌≡◌, ℕ, ◌+◌, ◌*◌, ◌<◌, ◌≤◌, ◌&&◌, ◌↔◌, bit_or, false, [], ◌∷◌, Some, IsTrue, IsFalse, IfSome, OnSome, IfNone, IsOk, IfOk, OnOk, IfErr, OnErr};
+ghost use Rattle.std.specs.Prelude.{◌≡◌, ℕ, ◌+◌, ◌*◌, ◌<◌, ◌≤◌, ◌&&◌, ◌↔◌, bit_or, false, [], ◌∷◌, Some, IsTrue};
+ghost use Rattle.std.specs.Prelude.{IsFalse, IfSome, OnSome, IfNone, IsOk, IfOk, OnOk, IfErr, OnErr};
 ghost use Rattle.std.specs.List.{find};
 ghost use Rattle.ms_base.specs.declared.sizes.TheConstants.{ROOT_WORDS};
 ghost use Rattle.ms_base.specs.Level.{size_of};
-ghost use Rattle.ms_buddy.specs.Leaves.{CarveAnswers, EnlargeAnswers, IsLeafAt, covers, has_level, is_lent, is_of_from, leaf_of, with_front, with_leaf, with_parent, without_leaf};
-ghost use Rattle.ms_buddy.specs.Tree.{AreHalves, IsEnlarged, IsPlace, MayBeLent, MayHaveFront, is_free, IsTree, lent_in, free_in, levels_of, lent_in_halves, free_in_halves};
+ghost use Rattle.ms_buddy.specs.Leaves.{CarveAnswers, EnlargeAnswers, IsLeafAt, covers, has_level, is_lent, is_of_from};
+ghost use Rattle.ms_buddy.specs.Leaves.{leaf_of, with_front, with_leaf, with_parent, without_leaf};
+ghost use Rattle.ms_buddy.specs.Tree.{AreHalves, IsEnlarged, IsPlace, MayBeLent, MayHaveFront, is_free, IsTree};
+ghost use Rattle.ms_buddy.specs.Tree.{lent_in, free_in, levels_of, lent_in_halves, free_in_halves};
 
 use crate::levels::{bit_of, has_level};
 use ms_base::{Level, Refusal, Span};

@@ -20,11 +20,14 @@
 //! most, `next_free` down two. Only `carve` takes memory, two boxes for each level that it splits;
 //! `release` and `enlarge` give boxes back.
 //! After RootChunkArea in HotSpot's rootChunkArea.hpp, which has a list in place of the tree.
-ghost use Rattle.std.specs.Prelude.{◌≡◌, ℕ, ◌+◌, ◌*◌, ◌%◌, ◌<◌, ◌≤◌, ◌≢◌, ◌↔◌, [], ◌∷◌, Some, Err, IsTrue, IsFalse, IsOk, IfOk, OnOk, IfErr, OnErr};
+ghost use Rattle.std.specs.Prelude.{◌≡◌, ℕ, ◌+◌, ◌*◌, ◌%◌, ◌<◌, ◌≤◌, ◌≢◌, ◌↔◌, [], ◌∷◌, Some, Err, IsTrue, IsFalse};
+ghost use Rattle.std.specs.Prelude.{IsOk, IfOk, OnOk, IfErr, OnErr};
 ghost use Rattle.std.specs.List.{find, list_any};
 ghost use Rattle.ms_base.specs.declared.sizes.TheConstants.{ROOT_WORDS};
 ghost use Rattle.ms_base.specs.Level.{size_of};
-ghost use Rattle.ms_buddy.specs.Leaves.{AreLeaves, IsCarveRefusal, IsLeafAt, can_enlarge, covers, fits_in, free_of, has_level, is_lent, is_of, is_of_from, leaf_of, parent_of, root, span_at, with_front, with_leaf, with_parent, without_leaf};
+ghost use Rattle.ms_buddy.specs.Leaves.{AreLeaves, IsCarveRefusal, IsLeafAt, can_enlarge, covers, fits_in, free_of};
+ghost use Rattle.ms_buddy.specs.Leaves.{has_level, is_lent, is_of, is_of_from, leaf_of, parent_of, root, span_at};
+ghost use Rattle.ms_buddy.specs.Leaves.{with_front, with_leaf, with_parent, without_leaf};
 
 use crate::leaves::FreeLeaves;
 use crate::node::{Leaf, Node, part};

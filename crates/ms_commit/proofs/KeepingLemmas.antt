@@ -1,6 +1,7 @@
 -- What the code of `Nodes` keeps, and what callers see of it: ranges, the number that is missing,
 -- and the limit.
-use Rattle.std.proofs.Common.{◌≡◌, ◌≤◌, ◌<◌, ℕ, ◌+◌, ◌-◌, ◌*◌, ◌^◌, false, ◌||◌, List, length, sym, ap, ◌∙◌, subst, arith}
+use Rattle.std.proofs.Common.{◌≡◌, ◌≤◌, ◌<◌, ℕ, ◌+◌, ◌-◌, ◌*◌, ◌^◌, false, ◌||◌, List, length, sym, ap, ◌∙◌, subst}
+use Rattle.std.proofs.Common.{arith}
 use Rattle.std.specs.Prelude.{IsTrue}
 use Rattle.std.specs.List.Sorted.{IsStrictlyIncreasing}
 use Rattle.ms_base.specs.Part.{is_reserved}
@@ -8,11 +9,13 @@ use Rattle.ms_base.specs.Spaces.{first_class_slot}
 use Rattle.ms_base.specs.Committed.{is_among}
 use Rattle.ms_base.specs.declared.refusal.Refusal.TheVariants.{CommitLimit}
 use Rattle.ms_commit.specs.declared.nodes.Nodes.TheInside.{Inside}
-use Rattle.ms_commit.specs.NumberSet.{is_in_range, with_range, without_range, without_number, count_within, count_missing, IsSetBelow}
+use Rattle.ms_commit.specs.NumberSet.{is_in_range, with_range, without_range, without_number, count_within}
+use Rattle.ms_commit.specs.NumberSet.{count_missing, IsSetBelow}
 use Rattle.ms_commit.specs.Nodes.{NodesState, node_granules, all_slots, AreInReserved, granules_with}
 use Rattle.ms_commit.specs.Keeping.{state_of, AreKept}
 use Rattle.ms_commit.proofs.SetLemmas.{count_missing-within}
-use Rattle.ms_commit.proofs.NodesLemmas.{reserved_either, reserved_low, granule_below, range_fits, sound_with, sound_without, sound_unreserve}
+use Rattle.ms_commit.proofs.NodesLemmas.{reserved_either, reserved_low, granule_below, range_fits, sound_with}
+use Rattle.ms_commit.proofs.NodesLemmas.{sound_without, sound_unreserve}
 
 -- What is asked for of the nodes that callers see holds of those that are kept.
 range_in_kept : (kept : Inside) (now : NodesState) (first count : ℕ) → state_of kept ≡ now

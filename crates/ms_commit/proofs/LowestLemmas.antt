@@ -1,6 +1,7 @@
 -- The lowest number of a range whose bit is set, a word at a time: a word has none in the range, or
 -- its lowest place that it has there is the answer.
-use Rattle.std.proofs.Common.{◌≡◌, ◌<◌, ◌≤◌, ℕ, ◌+◌, ◌-◌, ◌*◌, ◌^◌, Bool, true, false, ◌&&◌, List, get_or, sym, ap, ◌∙◌, inl, inr, arith, bit_and, w64}
+use Rattle.std.proofs.Common.{◌≡◌, ◌<◌, ◌≤◌, ℕ, ◌+◌, ◌-◌, ◌*◌, ◌^◌, Bool, true, false, ◌&&◌, List, get_or, sym, ap, ◌∙◌}
+use Rattle.std.proofs.Common.{inl, inr, arith, bit_and, w64}
 use Rattle.std.specs.Prelude.{◌==◌, nat_lt, nat_le, Option, Some, None, IfNone}
 use Rattle.std.specs.Int.{bit_at, trailing_zeros}
 use Rattle.std.proofs.lemmas.Bool.{cases_lt}
@@ -12,7 +13,8 @@ use Rattle.ms_commit.proofs.MaskLemmas.{is_one-and, is_set-place}
 
 -- The bits of a word in a range, and the range's bits of the word.
 abbrev pub HasRange : ℕ → ℕ → ℕ → ℕ → Type 0
-HasRange first end base between = (place : ℕ) → place < 64 → is_one between place ≡ (nat_le first (base + place) && nat_lt (base + place) end)
+HasRange first end base between = (place : ℕ) → place < 64
+    → is_one between place ≡ (nat_le first (base + place) && nat_lt (base + place) end)
 
 -- No number of the range below an index's words is set.
 abbrev pub NoneBelow : List ℕ → ℕ → ℕ → ℕ → Type 0
@@ -23,7 +25,8 @@ in_range : (words : List ℕ) (first end index between place : ℕ) → HasRange
     → is_set words (64 * index + place) ≡ is_one (bit_and (get_or words index 0) between) place
 in_range words first end index between place range within from below =
     is_set-place words index place within
-    ∙ sym (is_one-and (get_or words index 0) between place ∙ and_true (is_one (get_or words index 0) place) (is_one between place)
+    ∙ sym (is_one-and (get_or words index 0) between place
+    ∙ and_true (is_one (get_or words index 0) place) (is_one between place)
     (range place within ∙ inside first (64 * index + place) end from below))
   where
     inside : (a k b : ℕ) → a ≤ k → k < b → (nat_le a k && nat_lt k b) ≡ true
@@ -62,7 +65,8 @@ lowest_here words first end index between range some fits before = record {
     | inr here ↦
         let moved : k ≡ 64 * index + (k - 64 * index) = omega arith in
         ap (is_set words) moved
-        ∙ in_range words first end index between (k - 64 * index) range (omega (arith, lies.0)) (omega arith) (omega (arith, inside.1))
+        ∙ in_range words first end index between (k - 64 * index) range (omega (arith, lies.0)) (omega arith)
+        (omega (arith, inside.1))
         ∙ ap (λ bit. bit == 1) (lies.2 (k - 64 * index) (omega arith))
   ];
 }

@@ -1,7 +1,8 @@
 -- Bits of a word, and words of a mask: what `&`, `|` and `!` do to them, and what a changed word
 -- does to the set that the mask stands for.
 use Rattle.std.proofs.Common.{◌≡◌, ◌≢◌, ◌≤◌, ◌<◌, ℕ, ◌+◌, ◌-◌, ◌*◌, ◌/◌, ◌%◌, ◌^◌, Bool, true, false, ◌&&◌, ◌||◌, not}
-use Rattle.std.proofs.Common.{List, length, get_or, refl, sym, ap, ap₂, ◌∙◌, inl, inr, arith, min, max, bit_and, bit_or, w64}
+use Rattle.std.proofs.Common.{List, length, get_or, refl, sym, ap, ap₂, ◌∙◌, inl, inr, arith, min, max, bit_and, bit_or}
+use Rattle.std.proofs.Common.{w64}
 use Rattle.std.specs.Prelude.{◌==◌, nat_lt, nat_le, slice_set}
 use Rattle.std.specs.Int.{bit_at, bit_not, trailing_ones}
 use Rattle.std.specs.List.{range_with_len}
@@ -9,7 +10,8 @@ use Rattle.std.proofs.lemmas.Bool.{cases_lt, cases_eq}
 use Rattle.std.proofs.lemmas.Bool.Decides.{nat_tests}
 use Rattle.std.proofs.lemmas.List.{get_or_past, get_or-set_same, get_or-set_other, length-set}
 use Rattle.std.proofs.lemmas.Nat.Bits.{bit_at_and, bit_at_or, bit_at_not, bit_at-lt, bit_at-zero, bit_at_ones}
-use Rattle.std.proofs.lemmas.Nat.Bits.{bit_at_ones_above, bit_at_mask_inside, bit_at_mask_below, bit_at-trailing_ones, ones_shl, ones_shr}
+use Rattle.std.proofs.lemmas.Nat.Bits.{bit_at_ones_above, bit_at_mask_inside, bit_at_mask_below, bit_at-trailing_ones}
+use Rattle.std.proofs.lemmas.Nat.Bits.{ones_shl, ones_shr}
 use Rattle.ms_base.specs.Committed.{is_among}
 use Rattle.ms_commit.specs.NumberSet.{is_in_range}
 use Rattle.ms_commit.specs.Mask.{is_one, is_set, members_of, IsLowestClear}

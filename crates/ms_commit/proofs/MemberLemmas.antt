@@ -15,7 +15,8 @@ use Rattle.ms_commit.specs.Mask.{is_set, members_of, IsLowestClear}
 use Rattle.ms_commit.proofs.RangeLemmas.{filter_agree_in, filter_all_in, filter-filter}
 use Rattle.ms_commit.proofs.MaskLemmas.{is_among-members}
 use Rattle.ms_commit.proofs.MemberOrderLemmas.{insert_key-filter, lowest_unreserved-is, length_from_full}
-use Rattle.ms_commit.proofs.SetLemmas.{IsSetBelow-filter, with_range-filter, length-with_range, length-without_range, count_within-filter}
+use Rattle.ms_commit.proofs.SetLemmas.{IsSetBelow-filter, with_range-filter, length-with_range, length-without_range}
+use Rattle.ms_commit.proofs.SetLemmas.{count_within-filter}
 
 -- The bits of a mask pass a test.
 abbrev pub HasBits : List ℕ → ℕ → (ℕ → Bool) → Type 0

@@ -1,7 +1,8 @@
 -- The nodes' granules against the model's: a set in rising order is the committed granules where
 -- its members are those that are committed now and lie in a reserved slot; and the range of
 -- granules that some words meet. For the crates above, and the law on committed granules.
-use Rattle.std.proofs.Common.{◌≡◌, ◌≤◌, ◌<◌, ℕ, zero, suc, ◌+◌, ◌-◌, ◌*◌, ◌/◌, ◌%◌, ◌&&◌, ◌||◌, List, [], ◌∷◌, ◌++◌, refl, sym, ap, ap₂, ◌∙◌, inl, inr, arith}
+use Rattle.std.proofs.Common.{◌≡◌, ◌≤◌, ◌<◌, ℕ, zero, suc, ◌+◌, ◌-◌, ◌*◌, ◌/◌, ◌%◌, ◌&&◌, ◌||◌, List, [], ◌∷◌, ◌++◌}
+use Rattle.std.proofs.Common.{refl, sym, ap, ap₂, ◌∙◌, inl, inr, arith}
 use Rattle.std.specs.Prelude.{◌==◌}
 use Rattle.std.specs.List.{AllByRecursion, flat_map, range_with_len}
 use Rattle.std.specs.List.Sorted.{IsStrictlyIncreasing, IsStrictlySortedBy}
@@ -24,7 +25,8 @@ use Rattle.ms_base.specs.declared.policy.Policy.{Policy}
 use Rattle.ms_base.specs.declared.policy.Policy.TheVariants.{Balanced, Aggressive, None as Never}
 use Rattle.ms_base.specs.Policy.{granule_of, slot_granules}
 use Rattle.ms_base.specs.Committed.{is_among, is_committed_now, granules_of, granules_meeting, committed_with}
-use Rattle.ms_commit.specs.Nodes.{IsGranuleSize, NodesState, node_granules, slots_of, is_granule_of, granules_in, AreSound}
+use Rattle.ms_commit.specs.Nodes.{IsGranuleSize, NodesState, node_granules, slots_of, is_granule_of, granules_in}
+use Rattle.ms_commit.specs.Nodes.{AreSound}
 use Rattle.ms_commit.specs.NumberSet.{is_in_range}
 use Rattle.ms_commit.proofs.RangeLemmas.{is_among-filter, is_among-range}
 use Rattle.ms_commit.proofs.SetLemmas.{IsStrictlyIncreasing-range}

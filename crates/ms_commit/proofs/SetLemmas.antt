@@ -16,7 +16,8 @@ use Rattle.std.proofs.lemmas.List.Kept.{IsStrictlyIncreasing-filter}
 use Rattle.ms_base.specs.Committed.{is_among}
 use Rattle.ms_commit.specs.NumberSet.{is_in_range, with_range, without_range, count_within, count_missing, IsSetBelow}
 use Rattle.ms_commit.proofs.RangeLemmas.{and_true, and_false, or_true, or_false, filter-cut, filter-filter}
-use Rattle.ms_commit.proofs.RangeLemmas.{filter_agree_in, filter_all_in, filter_none_in, filter-window, is_among-filter, is_among-range}
+use Rattle.ms_commit.proofs.RangeLemmas.{filter_agree_in, filter_all_in, filter_none_in, filter-window, is_among-filter}
+use Rattle.ms_commit.proofs.RangeLemmas.{is_among-range}
 use Rattle.ms_commit.proofs.CountLemmas.{length-kept}
 
 -- A range rises.

@@ -23,9 +23,11 @@ use Rattle.ms_base.specs.Part.{is_reserved}
 use Rattle.ms_base.specs.Policy.{slot_granules}
 use Rattle.ms_base.specs.Committed.{is_among}
 use Rattle.ms_commit.specs.NumberSet.{is_in_range, with_range, without_range}
-use Rattle.ms_commit.specs.Nodes.{NodesState, node_granules, all_slots, slots_of, is_granule_of, granules_in, AreOfSpace, AreSound}
+use Rattle.ms_commit.specs.Nodes.{NodesState, node_granules, all_slots, slots_of, is_granule_of, granules_in}
+use Rattle.ms_commit.specs.Nodes.{AreOfSpace, AreSound}
 use Rattle.ms_commit.specs.Laws.{AreOfTwoSpaces, ChangeTheirSpace, LeavesWithItsGranules}
-use Rattle.ms_commit.proofs.RangeLemmas.{filter-filter, filter_agree_in, filter_all_in, filter_none_in, is_among-filter, is_among-range}
+use Rattle.ms_commit.proofs.RangeLemmas.{filter-filter, filter_agree_in, filter_all_in, filter_none_in, is_among-filter}
+use Rattle.ms_commit.proofs.RangeLemmas.{is_among-range}
 use Rattle.ms_commit.proofs.NodesLemmas.{member_below, reserved_either, reserved_low, next_slot}
 
 not_past : (at k : ℕ) → k < at → nat_le at k ≡ false
@@ -198,7 +200,8 @@ reserved_in nodes Class k sound inside =
     not_low false e = refl
     not_low true e = absurd (omega (
       arith,
-      (div-lt_iff_lt-mul (some_granules nodes sound)).0 (member_below first_class_slot nodes.slots slot sound.slots.below e),
+      (div-lt_iff_lt-mul (some_granules nodes sound)).0
+          (member_below first_class_slot nodes.slots slot sound.slots.below e),
       from (first_class_slot * node_granules nodes) k inside,
     ))
 
@@ -207,14 +210,17 @@ are_of_two_spaces nodes sound = record {
   joined =
       sym (cut_at (first_class_slot * node_granules nodes) nodes.granules
       (sorted_from_strictly_increasing nodes.granules sound.granules));
-  rising = λ space. IsStrictlyIncreasing-filter (is_granule_of space (node_granules nodes)) nodes.granules sound.granules;
+  rising = λ space. IsStrictlyIncreasing-filter (is_granule_of space (node_granules nodes)) nodes.granules
+      sound.granules;
   members = λ space k. is_among-filter (is_granule_of space (node_granules nodes)) nodes.granules k;
   reserved = λ space k member.
       let parts = and_parts (is_granule_of space (node_granules nodes) k) (is_among nodes.granules k)
       (sym (is_among-filter (is_granule_of space (node_granules nodes)) nodes.granules k) ∙ member) in
       sym (reserved_in nodes space k sound parts.0) ∙ sound.inside k parts.1;
   counted = λ space.
-      let parts = length-filter_both (is_granule_of space (node_granules nodes)) (is_granule_of (other_space space) (node_granules nodes))
+      let parts =
+      length-filter_both (is_granule_of space (node_granules nodes))
+      (is_granule_of (other_space space) (node_granules nodes))
       (opposite (node_granules nodes) space) nodes.granules in
       omega (arith, parts);
 }
@@ -225,9 +231,12 @@ pub change_their_space : (nodes : NodesState) (space : Space) (first count : ℕ
 change_their_space nodes space first count sound inside = record {
   added = filter-with_passing (is_granule_of space (node_granules nodes)) nodes.granules first count inside;
   added_other =
-      filter-with_failing (is_granule_of (other_space space) (node_granules nodes)) nodes.granules first count sound.granules outside;
+      filter-with_failing (is_granule_of (other_space space) (node_granules nodes)) nodes.granules first count
+      sound.granules outside;
   out = both_ways (is_granule_of space (node_granules nodes)) (λ k. not (is_in_range first count k)) nodes.granules;
-  out_other = filter-without_failing (is_granule_of (other_space space) (node_granules nodes)) nodes.granules first count outside;
+  out_other =
+      filter-without_failing (is_granule_of (other_space space) (node_granules nodes)) nodes.granules first count
+      outside;
   missing = ap length (filter_agree_in (λ k. not (is_among nodes.granules k))
       (λ k. not (is_among (granules_in space nodes) k)) first count
       (λ k low high. ap not (sym (is_among-filter (is_granule_of space (node_granules nodes)) nodes.granules k

@@ -13,7 +13,8 @@ use Rattle.ms_base.specs.Part.{is_reserved}
 use Rattle.ms_base.specs.Spaces.{other_space, first_class_slot}
 use Rattle.ms_base.specs.Committed.{is_among, is_committed_now, committed_with}
 use Rattle.ms_commit.specs.NumberSet.{is_in_range, with_range, without_range, without_number, count_missing}
-use Rattle.ms_commit.specs.Nodes.{NodesState, node_granules, slots_of, is_granule_of, granules_in, AreOfSpace, AreSound, with_granules, without_granules, without_slot}
+use Rattle.ms_commit.specs.Nodes.{NodesState, node_granules, slots_of, is_granule_of, granules_in, AreOfSpace, AreSound}
+use Rattle.ms_commit.specs.Nodes.{with_granules, without_granules, without_slot}
 
 -- A number is a member after each change exactly where it was one and stays, or is new.
 pub record AreSetWords (members : List ℕ) (first count number : ℕ) : Type 0 where

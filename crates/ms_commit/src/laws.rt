@@ -1,6 +1,8 @@
 //! Laws of the definitions, as contracts of functions that do nothing: what the words about sets
 //! mean, said by their members, and what the two spaces have of a set of granules.
-ghost use Rattle.ms_commit.specs.Laws.{ChangesAreByMembers, SetsAreTheirMembers, MembersAreCommitted, GranulesAreOfTwoSpaces, SpacesAreCommitted, RangesChangeTheirSpace, SlotsLeaveWithTheirGranules};
+ghost use Rattle.ms_commit.specs.Laws.{ChangesAreByMembers, SetsAreTheirMembers, MembersAreCommitted};
+ghost use Rattle.ms_commit.specs.Laws.{GranulesAreOfTwoSpaces, SpacesAreCommitted, RangesChangeTheirSpace};
+ghost use Rattle.ms_commit.specs.Laws.{SlotsLeaveWithTheirGranules};
 
 /// A range or a number that is added or taken out changes its own membership and no other.
 pub fn changes_are_by_members()

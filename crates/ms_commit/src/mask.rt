@@ -9,7 +9,8 @@
 //! A range is counted, set and cleared a word at a time: `bits_between` gives the bits of a word
 //! that stand for its numbers, and `&`, `|` and `!` do the rest. Nothing here takes memory.
 //! HotSpot's commitMask.hpp has such a mask for a node, as a BitMap.
-ghost use Rattle.std.specs.Prelude.{◌≡◌, ℕ, ◌+◌, ◌-◌, ◌*◌, ◌/◌, ◌^◌, ◌<◌, ◌≤◌, true, false, ◌&&◌, ◌||◌, not, nat_le, nat_lt, List, [], length, IfSome, IfNone};
+ghost use Rattle.std.specs.Prelude.{◌≡◌, ℕ, ◌+◌, ◌-◌, ◌*◌, ◌/◌, ◌^◌, ◌<◌, ◌≤◌, true, false, ◌&&◌, ◌||◌, not, nat_le};
+ghost use Rattle.std.specs.Prelude.{nat_lt, List, [], length, IfSome, IfNone};
 ghost use Rattle.std.specs.List.{filter, range_with_len};
 ghost use Rattle.ms_commit.specs.Mask.{is_one, is_set, IsLowestClear};
 

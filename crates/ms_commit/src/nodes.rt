@@ -71,7 +71,8 @@ impl Nodes {
     ghost use Rattle.ms_base.specs.Pick.{lowest_unreserved};
     ghost use Rattle.ms_base.specs.Committed.{is_among};
     ghost use Rattle.ms_commit.specs.NumberSet.{count_missing};
-    ghost use Rattle.ms_commit.specs.Nodes.{IsGranuleSize, all_slots, no_nodes, AreInReserved, with_slot, without_slot, with_granules, without_granules, granules_with, AreSound};
+    ghost use Rattle.ms_commit.specs.Nodes.{IsGranuleSize, all_slots, no_nodes, AreInReserved, with_slot, without_slot};
+    ghost use Rattle.ms_commit.specs.Nodes.{with_granules, without_granules, granules_with, AreSound};
 
     /// Makes nodes of which only the slots of the class space are reserved, 64 and up, 0 to 16 of
     /// them. The node limit is 1 to 64 nodes besides these; the granule limit is in granules of

@@ -26,19 +26,29 @@ may_reserve NonClass m start good here has = (omega (arith, ltb-true start 67108
         → length (insert_key nat_cmp m.slots (slot_of start)) ≤ m.limits.nodes
     within (inl reserved) = omega (
       arith,
-      ap length (same_with m.slots (slot_of start) (sorted_from_strictly_increasing m.slots (good.pools NonClass).slots) reserved),
+      ap length
+          (same_with m.slots (slot_of start) (sorted_from_strictly_increasing m.slots (good.pools NonClass).slots)
+          reserved),
       (good.pools NonClass).reserved,
     )
     within (inr more) = omega (arith, more.1, length_with m.slots (slot_of start))
 may_reserve Class m start good here (inl reserved) = reserved
-may_reserve Class m start good here (inr more) = absurd (omega (arith, more.1, length-range_with_len 64 m.limits.class_nodes))
+may_reserve Class m start good here (inr more) =
+    absurd (omega (arith, more.1, length-range_with_len 64 m.limits.class_nodes))
 
 -- So a chunk that is lent may be added, within the limit of granules.
 pub taking_is_addable : TakingIsAddable
 taking_is_addable space m p most words chunk good askable answer here = record {
-  addable = record { placed = its.placed; front = its.front; clear = its.clear; slot = may_reserve space m chunk.start good here its.slot };
+  addable =
+      record {
+        placed = its.placed;
+        front = its.front;
+        clear = its.clear;
+        slot = may_reserve space m chunk.start good here its.slot;
+      };
   within = its.within;
 }
   where
     its : IsLendable (pool_of space m) chunk
-    its = taken_is_lendable (pool_of space m) p most words chunk (good.pools space) askable.order askable.least askable.some askable.fits answer
+    its = taken_is_lendable (pool_of space m) p most words chunk (good.pools space) askable.order askable.least
+        askable.some askable.fits answer

@@ -1,5 +1,6 @@
 -- An allocation's outcome for the pool, read from what the arena's relation says of each call.
-use Rattle.std.proofs.Common.{◌≡◌, ℕ, Bool, true, false, Option, Some, None, Result, Ok, Err, List, [], ◌∷◌, ◌++◌, map, refl, sym, ap, ◌∙◌, subst, inl, inr}
+use Rattle.std.proofs.Common.{◌≡◌, ℕ, Bool, true, false, Option, Some, None, Result, Ok, Err, List, [], ◌∷◌, ◌++◌, map}
+use Rattle.std.proofs.Common.{refl, sym, ap, ◌∙◌, subst, inl, inr}
 use Rattle.std.specs.Prelude.{slice_set}
 use Rattle.ms_base.specs.declared.span.Chunk.{Chunk}
 use Rattle.ms_base.specs.declared.span.Span.{Span}
@@ -20,19 +21,24 @@ use Rattle.ms_pool.specs.Ledger.{Ledger, state_in}
 use Rattle.ms_pool.specs.Calls.{tallied, Took, Grew, GrewFrom}
 use Rattle.ms_arena.specs.Arena.{ArenaView, IsAskable, account_of}
 use Rattle.ms_arena.specs.Alloc.{AfterTake, Takes, AfterGrow, AsksChunk, Serves, Allocates}
-use Rattle.ms_loaders.proofs.OutcomeLemmas.{IsMade, IsNotMade, Outcome, front_is, grown_is, one_there, retired_chunks, placed_chunks}
+use Rattle.ms_loaders.proofs.OutcomeLemmas.{IsMade, IsNotMade, Outcome, front_is, grown_is, one_there, retired_chunks}
+use Rattle.ms_loaders.proofs.OutcomeLemmas.{placed_chunks}
 
-module _ (was : ArenaView) (words : ℕ) (ledger : Ledger) (answer : Result Block Refusal) (is : ArenaView) (after : Ledger) (apart : are_apart (map words_of was.books.chunks) ≡ true) (askable : IsAskable words) where
+module _ (was : ArenaView) (words : ℕ) (ledger : Ledger) (answer : Result Block Refusal) (is : ArenaView)
+    (after : Ledger) (apart : are_apart (map words_of was.books.chunks) ≡ true) (askable : IsAskable words) where
   -- A block that is answered.
-  made : (block : Block) → answer ≡ Ok block → block.words ≡ block_words words → IsMade was words ledger block is after → Outcome was words ledger answer is after
+  made : (block : Block) → answer ≡ Ok block → block.words ≡ block_words words → IsMade was words ledger block is after
+      → Outcome was words ledger answer is after
   made block e long its = subst (λ (a : Result Block Refusal). Outcome was words ledger a is after) (sym e) its
 
-  not_made : (refusal : Refusal) → answer ≡ Err refusal → IsNotMade was words ledger refusal after → Outcome was words ledger answer is after
+  not_made : (refusal : Refusal) → answer ≡ Err refusal → IsNotMade was words ledger refusal after
+      → Outcome was words ledger answer is after
   not_made refusal e its = subst (λ (a : Result Block Refusal). Outcome was words ledger a is after) (sym e) its
 
   -- A chunk is asked for, from the pool as it was but for tallies.
   from_take : (tallies : Tallies) (lent : Result Span Refusal)
-      → Took (tallied ledger tallies) (account_of was) (wanted_level was.kind was.space was.books (block_words words)) (level_that_holds (block_words words)) (block_words words) lent after
+      → Took (tallied ledger tallies) (account_of was) (wanted_level was.kind was.space was.books (block_words words))
+      (level_that_holds (block_words words)) (block_words words) lent after
       → AfterTake ledger.limits.policy was (block_words words) lent answer is → Outcome was words ledger answer is after
   from_take tallies (Ok span) lends follows = made _ follows.0 refl (record {
     askable = askable;
@@ -43,26 +49,41 @@ module _ (was : ArenaView) (words : ℕ) (ledger : Ledger) (answer : Result Bloc
       m = level_that_holds (block_words words);
       picks = lends.picked;
       chunks = ap (λ (v : ArenaView). v.books.chunks) follows.1
-          ∙ ap (λ (l : List Chunk). l ++ chunk_at ledger.limits.policy span (block_words words) ∷ []) (retired_chunks was.books (current was.books))
+          ∙ ap (λ (l : List Chunk). l ++ chunk_at ledger.limits.policy span (block_words words) ∷ [])
+          (retired_chunks was.books (current was.books))
           ∙ ap (λ (s : Span). was.books.chunks ++ chunk_at ledger.limits.policy s (block_words words) ∷ []) lends.answer
-          ∙ ap (λ (c : Chunk). was.books.chunks ++ c ∷ []) (front_is (state_in was.space ledger) (wanted_level was.kind was.space was.books (block_words words)) (level_that_holds (block_words words)) (block_words words) lends.chunk lends.picked);
+          ∙ ap (λ (c : Chunk). was.books.chunks ++ c ∷ [])
+          (front_is (state_in was.space ledger) (wanted_level was.kind was.space was.books (block_words words))
+          (level_that_holds (block_words words)) (block_words words) lends.chunk lends.picked);
       tallies = tallies;
       ledger = lends.after;
     }));
   })
-  from_take tallies (Err (CommitLimit committed limit need)) its follows = not_made (CommitLimit committed limit need) follows.0 (record { ledger = record { tallies = _; is = its.1 }; cause = inr (askable, its.0) })
-  from_take tallies (Err (ReserveLimit nodes limit)) its follows = not_made (ReserveLimit nodes limit) follows.0 (record { ledger = record { tallies = _; is = its.1 }; cause = inr (askable, its.0) })
-  from_take tallies (Err OutOfMemory) its follows = not_made OutOfMemory follows.0 (record { ledger = record { tallies = tallies; is = its.1 }; cause = inr (askable, tt) })
+  from_take tallies (Err (CommitLimit committed limit need)) its follows =
+      not_made (CommitLimit committed limit need) follows.0
+      (record { ledger = record { tallies = _; is = its.1 }; cause = inr (askable, its.0) })
+  from_take tallies (Err (ReserveLimit nodes limit)) its follows =
+      not_made (ReserveLimit nodes limit) follows.0
+      (record { ledger = record { tallies = _; is = its.1 }; cause = inr (askable, its.0) })
+  from_take tallies (Err OutOfMemory) its follows =
+      not_made OutOfMemory follows.0
+      (record { ledger = record { tallies = tallies; is = its.1 }; cause = inr (askable, tt) })
   from_take tallies (Err _) its follows = absurd its
 
-  from_takes : (tallies : Tallies) (before : Ledger) → before ≡ tallied ledger tallies → Takes Took ledger.limits.policy was (block_words words) before answer is after → Outcome was words ledger answer is after
+  from_takes : (tallies : Tallies) (before : Ledger) → before ≡ tallied ledger tallies
+      → Takes Took ledger.limits.policy was (block_words words) before answer is after
+      → Outcome was words ledger answer is after
   from_takes tallies before same its = from_take tallies its.lent
-      (subst (λ (l : Ledger). Took l (account_of was) (wanted_level was.kind was.space was.books (block_words words)) (level_that_holds (block_words words)) (block_words words) its.lent after) same its.asked) its.follows
+      (subst (λ (l : Ledger). Took l (account_of was) (wanted_level was.kind was.space was.books (block_words words))
+      (level_that_holds (block_words words)) (block_words words) its.lent after) same its.asked) its.follows
 
   -- The current chunk is asked to grow.
-  from_grow : (chunk other : Chunk) (place : ℕ) (g : Result Span Refusal) (middle : Ledger) → current was.books ≡ Some chunk → other ≡ chunk
-      → GrewFrom ledger (account_of was) other (total_asked was.books (block_words words)) (may_enlarge was.kind was.space was.books chunk) g middle
-      → AfterGrow Took ledger.limits.policy was chunk (block_words words) g middle answer is after → Outcome was words ledger answer is after
+  from_grow : (chunk other : Chunk) (place : ℕ) (g : Result Span Refusal) (middle : Ledger)
+      → current was.books ≡ Some chunk → other ≡ chunk
+      → GrewFrom ledger (account_of was) other (total_asked was.books (block_words words))
+      (may_enlarge was.kind was.space was.books chunk) g middle
+      → AfterGrow Took ledger.limits.policy was chunk (block_words words) g middle answer is after
+      → Outcome was words ledger answer is after
   from_grow chunk other place (Ok span) middle at_it same its follows = made _ follows.1 refl (record {
     askable = askable;
     words_are = refl;
@@ -74,35 +95,51 @@ module _ (was : ArenaView) (words : ℕ) (ledger : Ledger) (answer : Result Bloc
       at_it = at_it;
       grows = grows;
       chunks = ap (λ (v : ArenaView). v.books.chunks) follows.2
-          ∙ ap (λ (c : Chunk). slice_set was.books.chunks (last_place was.books) c) (sym (grown_is (state_in was.space ledger) chunk its.0 (total_asked was.books (block_words words)) (may_enlarge was.kind was.space was.books chunk) grows));
+          ∙ ap (λ (c : Chunk). slice_set was.books.chunks (last_place was.books) c)
+          (sym (grown_is (state_in was.space ledger) chunk its.0 (total_asked was.books (block_words words))
+          (may_enlarge was.kind was.space was.books chunk) grows));
       ledger = follows.0 ∙ its.3;
     }));
   })
     where
-      grows : grown (state_in was.space ledger) chunk (total_asked was.books (block_words words)) (may_enlarge was.kind was.space was.books chunk) ≡ Ok its.0
-      grows = subst (λ (c : Chunk). grown (state_in was.space ledger) c (total_asked was.books (block_words words)) (may_enlarge was.kind was.space was.books chunk) ≡ Ok its.0) same its.1
-  from_grow chunk other place (Err (CommitLimit committed limit need)) middle at_it same its follows = from_takes _ middle its.1 follows
+      grows : grown (state_in was.space ledger) chunk (total_asked was.books (block_words words))
+          (may_enlarge was.kind was.space was.books chunk) ≡ Ok its.0
+      grows = subst
+          (λ (c : Chunk). grown (state_in was.space ledger) c (total_asked was.books (block_words words))
+          (may_enlarge was.kind was.space was.books chunk) ≡ Ok its.0) same its.1
+  from_grow chunk other place (Err (CommitLimit committed limit need)) middle at_it same its follows =
+      from_takes _ middle its.1 follows
   from_grow chunk other place (Err (NoRoom level)) middle at_it same its follows = from_takes _ middle its.1 follows
   from_grow chunk other place (Err _) middle at_it same its follows = absurd its
 
-  from_asks : (o : Option Chunk) (b : Bool) → current was.books ≡ o → AsksChunk Grew Took ledger.limits.policy was (block_words words) o b ledger answer is after → Outcome was words ledger answer is after
+  from_asks : (o : Option Chunk) (b : Bool) → current was.books ≡ o
+      → AsksChunk Grew Took ledger.limits.policy was (block_words words) o b ledger answer is after
+      → Outcome was words ledger answer is after
   from_asks (Some chunk) true at_it its =
       from_grow chunk its.asked.chunk its.asked.place its.grown its.middle at_it
-      (one_there was.books.chunks its.asked.place (last_place was.books) its.asked.chunk chunk apart its.asked.found at_it its.asked.starts) its.asked.after its.follows
+      (one_there was.books.chunks its.asked.place (last_place was.books) its.asked.chunk chunk apart its.asked.found
+      at_it its.asked.starts) its.asked.after its.follows
   from_asks (Some chunk) false at_it its = from_takes ledger.tallies ledger refl its
   from_asks None true at_it its = from_takes ledger.tallies ledger refl its
   from_asks None false at_it its = from_takes ledger.tallies ledger refl its
 
-  from_place : (o : Option (ℕ × ArenaState)) → placed was.books (block_words words) ≡ o → Serves Grew Took ledger.limits.policy was (block_words words) o ledger answer is after → Outcome was words ledger answer is after
+  from_place : (o : Option (ℕ × ArenaState)) → placed was.books (block_words words) ≡ o
+      → Serves Grew Took ledger.limits.policy was (block_words words) o ledger answer is after
+      → Outcome was words ledger answer is after
   from_place (Some place) at_it its = made _ its.0 refl (record {
     askable = askable;
     words_are = refl;
-    how = inl (ap (λ (v : ArenaView). v.books.chunks) its.1 ∙ placed_chunks was.books (block_words words) place at_it, its.2);
+    how = inl
+        (ap (λ (v : ArenaView). v.books.chunks) its.1 ∙ placed_chunks was.books (block_words words) place at_it, its.2);
   })
-  from_place None at_it its = from_asks (current was.books) (asks_growth was.kind was.space was.books (current was.books) (block_words words)) refl its
+  from_place None at_it its =
+      from_asks (current was.books) (asks_growth was.kind was.space was.books (current was.books) (block_words words))
+      refl its
 
-pub outcome : (was : ArenaView) (words : ℕ) (ledger : Ledger) (answer : Result Block Refusal) (is : ArenaView) (after : Ledger) → are_apart (map words_of was.books.chunks) ≡ true
-    → Allocates Grew Took ledger.limits.policy was words ledger answer is after → Outcome was words ledger answer is after
+pub outcome : (was : ArenaView) (words : ℕ) (ledger : Ledger) (answer : Result Block Refusal) (is : ArenaView)
+    (after : Ledger) → are_apart (map words_of was.books.chunks) ≡ true
+    → Allocates Grew Took ledger.limits.policy was words ledger answer is after
+    → Outcome was words ledger answer is after
 outcome was words ledger answer is after apart (inl refused) =
     subst (λ (a : Result Block Refusal). Outcome was words ledger a is after) (sym refused.answer_is)
     (record { ledger = record { tallies = ledger.tallies; is = refused.source }; cause = inl refused.cause })

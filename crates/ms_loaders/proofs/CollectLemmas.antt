@@ -82,7 +82,13 @@ leads_on space sums new arena name loader left all so_far its chunks used live f
   used = omega (arith, so_far.used, sum_by-cons (used_in space) loader (values_of left), its.used, used);
   live = omega (arith, so_far.live, sum_by-cons (live_in space) loader (values_of left), its.live, live);
   free_blocks =
-      omega (arith, so_far.free_blocks, sum_by-cons (kept_in space) loader (values_of left), its.free_blocks, free_blocks);
+      omega (
+        arith,
+        so_far.free_blocks,
+        sum_by-cons (kept_in space) loader (values_of left),
+        its.free_blocks,
+        free_blocks,
+      );
 }
 
 -- So are the rows.

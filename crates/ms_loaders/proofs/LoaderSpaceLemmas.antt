@@ -1,6 +1,7 @@
 -- The live blocks of a sound arena lie in its space: they are in use, so in a chunk, and the chunk is a
 -- part of a slot of the space.
-use Rattle.std.proofs.Common.{◌≡◌, ◌≤◌, ◌<◌, ◌+◌, ◌*◌, ℕ, Bool, true, Some, List, [], ◌∷◌, ◌++◌, length, map, sym, ap, ◌∙◌, arith, inl, inr}
+use Rattle.std.proofs.Common.{◌≡◌, ◌≤◌, ◌<◌, ◌+◌, ◌*◌, ℕ, Bool, true, Some, List, [], ◌∷◌, ◌++◌, length, map, sym, ap}
+use Rattle.std.proofs.Common.{◌∙◌, arith, inl, inr}
 use Rattle.std.specs.Prelude.{nat_le}
 use Rattle.std.specs.List.{AllByRecursion, list_any, list_all, zip}
 use Rattle.std.proofs.lemmas.Bool.{and_parts, or_cases, leb-true, lt-ltb, le-leb}
@@ -21,26 +22,34 @@ use Rattle.ms_base.proofs.granules.GranuleLemmas.{ends_in_node}
 use Rattle.ms_arena.specs.Arena.{ArenaView, IsSoundArena, live_run, live_runs}
 
 -- A word of a slot of the space lies in the space.
-slot_in_space : (space : Space) (slot word : ℕ) → IsSlotOf space slot → slot * node_words ≤ word → word < slot * node_words + node_words → is_in space word ≡ true
+slot_in_space : (space : Space) (slot word : ℕ) → IsSlotOf space slot → slot * node_words ≤ word
+    → word < slot * node_words + node_words → is_in space word ≡ true
 slot_in_space NonClass slot word its low high = lt-ltb word first_class_word (omega (arith, its, low, high))
 slot_in_space Class slot word its low high = le-leb first_class_word word (omega (arith, its.0, low))
 
 -- So the words of a chunk.
-pub chunk_in_space : (space : Space) (chunk : Chunk) (word : ℕ) → IsPart chunk.start chunk.level → IsSlotOf space (slot_of chunk.start) → chunk.start ≤ word
+pub chunk_in_space : (space : Space) (chunk : Chunk) (word : ℕ) → IsPart chunk.start chunk.level
+    → IsSlotOf space (slot_of chunk.start) → chunk.start ≤ word
     → word < chunk.start + size_of chunk.level → is_in space word ≡ true
 chunk_in_space space chunk word part slot low high =
-    slot_in_space space (slot_of chunk.start) word slot (omega (arith, div-add-mod' chunk.start node_words, low)) (omega (arith, high, ends_in_node chunk.start chunk.level part))
+    slot_in_space space (slot_of chunk.start) word slot (omega (arith, div-add-mod' chunk.start node_words, low))
+    (omega (arith, high, ends_in_node chunk.start chunk.level part))
 
 in_use_in_space : (space : Space) (chunks : List Chunk) (tops : List ℕ) (run : ℕ × ℕ) → 1 ≤ run.1
-    → AllByRecursion (λ (chunk : Chunk). IsPart chunk.start chunk.level) chunks → AllByRecursion (λ (chunk : Chunk). IsSlotOf space (slot_of chunk.start)) chunks
+    → AllByRecursion (λ (chunk : Chunk). IsPart chunk.start chunk.level) chunks
+    → AllByRecursion (λ (chunk : Chunk). IsSlotOf space (slot_of chunk.start)) chunks
     → AllByRecursion (λ (chunk : Chunk). (1 ≤ chunk.front) × (chunk.front ≤ size_of chunk.level)) chunks
     → list_all (λ (used : Chunk × ℕ). nat_le used.1 used.0.front) (zip chunks tops) ≡ true
-    → list_any (λ (used : Chunk × ℕ). lies_in run (used.0.start, used.1)) (zip chunks tops) ≡ true → is_in space run.0 ≡ true
+    → list_any (λ (used : Chunk × ℕ). lies_in run (used.0.start, used.1)) (zip chunks tops) ≡ true
+    → is_in space run.0 ≡ true
 in_use_in_space space [] tops run some parts slots fronts within used = absurd (cc)
 in_use_in_space space (c ∷ chunks) [] run some parts slots fronts within used = absurd (cc)
 in_use_in_space space (c ∷ chunks) (t ∷ tops) run some parts slots fronts within used =
-    let both = and_parts (nat_le t c.front) (list_all (λ (one : Chunk × ℕ). nat_le one.1 one.0.front) (zip chunks tops)) within in
-    elim (or_cases (lies_in run (c.start, t)) (list_any (λ (one : Chunk × ℕ). lies_in run (one.0.start, one.1)) (zip chunks tops)) used) [
+    let both =
+    and_parts (nat_le t c.front) (list_all (λ (one : Chunk × ℕ). nat_le one.1 one.0.front) (zip chunks tops)) within
+    in
+    elim (or_cases (lies_in run (c.start, t))
+    (list_any (λ (one : Chunk × ℕ). lies_in run (one.0.start, one.1)) (zip chunks tops)) used) [
       | inl here ↦
           let ends = and_parts (nat_le c.start run.0) (nat_le (run.0 + run.1) (c.start + t)) here in
           chunk_in_space space c run.0 parts.0 slots.0 (leb-true c.start run.0 ends.0)
@@ -48,11 +57,17 @@ in_use_in_space space (c ∷ chunks) (t ∷ tops) run some parts slots fronts wi
       | inr later ↦ in_use_in_space space chunks tops run some parts.1 slots.1 fronts.1 both.1 later
     ]
 
-pub live_in_space : (arena : ArenaView) (start : ℕ) (contents : List ℕ) → IsSoundArena arena → named arena.live start ≡ Some contents → is_in arena.space start ≡ true
+pub live_in_space : (arena : ArenaView) (start : ℕ) (contents : List ℕ) → IsSoundArena arena
+    → named arena.live start ≡ Some contents → is_in arena.space start ≡ true
 live_in_space arena start contents sound found =
-    in_use_in_space arena.space arena.books.chunks arena.books.tops run (omega (arith, leb-true 2 run.1 (at_run (λ (r : ℕ × ℕ). nat_le 2 r.1) sound.books.long)))
-    (recursion_from_All _ arena.books.chunks sound.chunks.parts) (recursion_from_All _ arena.books.chunks sound.chunks.inside) (recursion_from_All _ arena.books.chunks sound.chunks.fronts)
-    sound.books.tops (at_run (λ (r : ℕ × ℕ). list_any (λ (used : Chunk × ℕ). lies_in r (used.0.start, used.1)) (zip arena.books.chunks arena.books.tops)) sound.books.inside)
+    in_use_in_space arena.space arena.books.chunks arena.books.tops run
+    (omega (arith, leb-true 2 run.1 (at_run (λ (r : ℕ × ℕ). nat_le 2 r.1) sound.books.long)))
+    (recursion_from_All _ arena.books.chunks sound.chunks.parts)
+    (recursion_from_All _ arena.books.chunks sound.chunks.inside)
+    (recursion_from_All _ arena.books.chunks sound.chunks.fronts)
+    sound.books.tops
+    (at_run (λ (r : ℕ × ℕ). list_any (λ (used : Chunk × ℕ). lies_in r (used.0.start, used.1))
+    (zip arena.books.chunks arena.books.tops)) sound.books.inside)
   where
     run : ℕ × ℕ
     run = (start, length contents)
@@ -62,9 +77,13 @@ live_in_space arena start contents sound found =
 
     at_run : (test : ℕ × ℕ → Bool) → list_all test (live_runs arena ++ arena.books.kept) ≡ true → test run ≡ true
     at_run test all =
-        let live = (and_parts (list_all test (live_runs arena)) (list_all test arena.books.kept) (sym (list_all-append test (live_runs arena) arena.books.kept) ∙ all)).0 in
+        let live =
+        (and_parts (list_all test (live_runs arena)) (list_all test arena.books.kept)
+        (sym (list_all-append test (live_runs arena) arena.books.kept) ∙ all)).0 in
         let parts : list_all test (map live_run split.before ++ run ∷ map live_run split.after) ≡ true =
-        ap (list_all test) (sym (ap (map live_run) split.is ∙ map-append live_run split.before ((start, contents) ∷ split.after))) ∙ live in
+        ap (list_all test)
+        (sym (ap (map live_run) split.is ∙ map-append live_run split.before ((start, contents) ∷ split.after)))
+        ∙ live in
         (and_parts (test run) (list_all test (map live_run split.after))
         (and_parts (list_all test (map live_run split.before)) (list_all test (run ∷ map live_run split.after))
         (sym (list_all-append test (map live_run split.before) (run ∷ map live_run split.after)) ∙ parts)).1).0

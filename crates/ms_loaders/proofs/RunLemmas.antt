@@ -7,8 +7,10 @@ use Rattle.ms_base.specs.Transition.{Transition}
 use Rattle.ms_base.specs.Run.{Run}
 
 pub run_on : (steps : List Step) (replies : List Reply) (old mid new : Machine) (step : Step) (reply : Reply)
-    → Run old steps replies mid → Transition mid step reply new → Run old (steps ++ step ∷ []) (replies ++ reply ∷ []) new
+    → Run old steps replies mid → Transition mid step reply new
+    → Run old (steps ++ step ∷ []) (replies ++ reply ∷ []) new
 run_on [] [] old mid new step reply run next = (new, subst (λ m. Transition m step reply new) run next, refl)
 run_on [] (r ∷ replies) old mid new step reply run next = absurd run
 run_on (s ∷ steps) [] old mid new step reply run next = absurd run
-run_on (s ∷ steps) (r ∷ replies) old mid new step reply run next = (run.0, run.1, run_on steps replies run.0 mid new step reply run.2 next)
+run_on (s ∷ steps) (r ∷ replies) old mid new step reply run next =
+    (run.0, run.1, run_on steps replies run.0 mid new step reply run.2 next)

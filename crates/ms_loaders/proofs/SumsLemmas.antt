@@ -25,7 +25,8 @@ live_is a its space =
     ∙ sym (ap (sum_by words_of_run) (runs_are (contents_in a.arena a.class_arena) a.names.entries space
     (matches_of a its space)))
 
-pub sums_of_arena : (a : Inside) → IsLoader a → (space : Space) (totals : ArenaTotals) → AreSums totals (arena_in space a)
+pub sums_of_arena : (a : Inside) → IsLoader a → (space : Space) (totals : ArenaTotals)
+    → AreSums totals (arena_in space a)
     → AreSumsIn space totals (view_of a).state
 sums_of_arena a its space totals sums = record {
   chunks = sums.chunks ∙ ap (λ (books : ArenaState). length books.chunks) same;

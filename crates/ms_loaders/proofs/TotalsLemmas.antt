@@ -1,6 +1,7 @@
 -- The totals of a system are the sums over its machine: what loaders hold is what the pool has lent,
 -- and can be counted. `System::totals` uses these.
-use Rattle.std.proofs.Common.{◌≡◌, ◌≤◌, ◌<◌, ◌-◌, ◌*◌, ◌^◌, ℕ, suc, List, [], ◌∷◌, length, map, refl, sym, ap, ◌∙◌, arith, length-append}
+use Rattle.std.proofs.Common.{◌≡◌, ◌≤◌, ◌<◌, ◌-◌, ◌*◌, ◌^◌, ℕ, suc, List, [], ◌∷◌, length, map, refl, sym, ap, ◌∙◌}
+use Rattle.std.proofs.Common.{arith, length-append}
 use Rattle.std.specs.List.{AllByRecursion, sum_by}
 use Rattle.std.specs.Map.{values_of}
 use Rattle.std.proofs.lemmas.List.Elements.{recursion_from_All}
@@ -14,7 +15,8 @@ use Rattle.ms_base.specs.Policy.{granule_of}
 use Rattle.ms_base.specs.Spaces.{most_slots}
 use Rattle.ms_base.specs.State.{LoaderState, Machine, arena_of, chunks_held, pool_of}
 use Rattle.ms_base.specs.Good.{IsGood}
-use Rattle.ms_base.specs.Totals.{LoaderRow, PoolSums, SpaceSums, Sums, capacity_of, committed_words, pool_sums, row_of, space_sums, sums_of}
+use Rattle.ms_base.specs.Totals.{LoaderRow, PoolSums, SpaceSums, Sums, capacity_of, committed_words, pool_sums, row_of}
+use Rattle.ms_base.specs.Totals.{space_sums, sums_of}
 use Rattle.ms_base.proofs.free.HalvesLemmas.{size_falls}
 use Rattle.ms_base.proofs.free.OrderLemmas.{sums_alike}
 use Rattle.ms_base.proofs.machine.SumLemmas.{capacity_below, committed_below, used_below}
@@ -71,7 +73,8 @@ are_few m good = record {
 
 -- What the pool tells of a space is told of the machine's.
 pub pool_tells : (ledger : Ledger) (loaders : List (ℕ × LoaderView)) → AreTogether ledger loaders → (space : Space)
-    (accounts : ℕ) → pool_sums (state_in space ledger) accounts ≡ pool_sums (pool_of space (machine_of ledger loaders)) accounts
+    (accounts : ℕ)
+    → pool_sums (state_in space ledger) accounts ≡ pool_sums (pool_of space (machine_of ledger loaders)) accounts
 pool_tells ledger loaders its space accounts =
     sym (sums_alike (state_in space ledger) (chunks_held space (states_of loaders)) accounts
     (fits ledger loaders its.loaders_sound its.served space))
@@ -125,7 +128,8 @@ sums_with loaders space class_space rows =
     record { loaders = loaders; space = space; class_space = class_space; rows = rows }
 
 pub sums_are : (m : Machine) (loaders : ℕ) (space class_space : SpaceSums) (rows : List LoaderRow)
-    → loaders ≡ length m.loaders → space ≡ space_sums NonClass m → class_space ≡ space_sums Class m → rows ≡ map row_of m.loaders
+    → loaders ≡ length m.loaders → space ≡ space_sums NonClass m → class_space ≡ space_sums Class m
+    → rows ≡ map row_of m.loaders
     → sums_with loaders space class_space rows ≡ sums_of m
 sums_are m loaders space class_space rows count first second each =
     ap (λ (n : ℕ). sums_with n space class_space rows) count

@@ -23,7 +23,8 @@ abbrev pub used_in_both : LoaderView → ℕ
 used_in_both loader = used_by loader.state
 
 pub used_is : (loaders : List (ℕ × LoaderView)) → sum_by used_in_both (values_of loaders)
-    ≡ sum_by (λ (loader : LoaderState). used_of loader.arena) (values_of (states_of loaders)) + sum_by (λ (loader : LoaderState). used_of loader.class_arena) (values_of (states_of loaders))
+    ≡ sum_by (λ (loader : LoaderState). used_of loader.arena) (values_of (states_of loaders)) + sum_by
+    (λ (loader : LoaderState). used_of loader.class_arena) (values_of (states_of loaders))
 used_is [] = refl
 used_is (e ∷ es) = omega (
   arith,
@@ -37,7 +38,8 @@ used_is (e ∷ es) = omega (
 pub used_fits : (m : Machine) → IsGood m → used_words NonClass m + used_words Class m ≤ 80 * 1048576
 used_fits m good = omega (arith, used_below NonClass m good, used_below Class m good)
 
-pub committed_fits : (m : Machine) → IsGood m → (length m.committed + length m.class_committed) * granule_of m.limits.policy ≤ 80 * 1048576
+pub committed_fits : (m : Machine) → IsGood m
+    → (length m.committed + length m.class_committed) * granule_of m.limits.policy ≤ 80 * 1048576
 committed_fits m good = omega (
   arith,
   add-mul (length m.committed) (length m.class_committed) (granule_of m.limits.policy),
@@ -48,8 +50,11 @@ committed_fits m good = omega (
 )
 
 -- A machine's loader of a name has in use what the loader of that name has.
-pub used_mapped : (loaders : List (ℕ × LoaderView)) (name : ℕ) → used_at (named loaders name) ≡ used_if (named (states_of loaders) name)
-used_mapped loaders name = elim (named loaders name) as (λ found. used_at found ≡ used_if (option_map (λ (loader : LoaderView). loader.state) found)) [
-  | Some loader ↦ refl
-  | None ↦ refl
-] ∙ ap used_if (sym (named-mapped (λ (loader : LoaderView). loader.state) loaders name))
+pub used_mapped : (loaders : List (ℕ × LoaderView)) (name : ℕ)
+    → used_at (named loaders name) ≡ used_if (named (states_of loaders) name)
+used_mapped loaders name =
+    elim (named loaders name) as (λ found. used_at found
+    ≡ used_if (option_map (λ (loader : LoaderView). loader.state) found)) [
+      | Some loader ↦ refl
+      | None ↦ refl
+    ] ∙ ap used_if (sym (named-mapped (λ (loader : LoaderView). loader.state) loaders name))

@@ -1,6 +1,7 @@
 -- Where free parts of a level are committed enough: each that is smaller than a granule, and of the
 -- others none unless the policy keeps what was committed.
-use Rattle.std.proofs.Common.{◌≡◌, ◌<◌, ◌≤◌, ℕ, Bool, true, false, cond, not, ◌&&◌, ◌||◌, ◌==◌, List, [], ◌∷◌, refl, sym, ap, subst, ◌∙◌, Some, None, eqb-true}
+use Rattle.std.proofs.Common.{◌≡◌, ◌<◌, ◌≤◌, ℕ, Bool, true, false, cond, not, ◌&&◌, ◌||◌, ◌==◌, List, [], ◌∷◌, refl}
+use Rattle.std.proofs.Common.{sym, ap, subst, ◌∙◌, Some, None, eqb-true}
 use Rattle.std.specs.List.{AllByRecursion, find}
 use Rattle.std.proofs.lemmas.List.Elements.{recursion_from_All}
 use Rattle.ms_base.specs.declared.span.Span.{Span}
@@ -16,32 +17,44 @@ use Rattle.ms_base.proofs.granules.CommittedRoomLemmas.{enough_by_size}
 use Rattle.ms_pool.specs.Searching.{first_at, grants}
 
 free_ones : (pool : PoolState) → AllByRecursion (IsFreePart pool.held pool.slots) (free_parts pool.held pool.slots)
-free_ones pool = recursion_from_All (IsFreePart pool.held pool.slots) (free_parts pool.held pool.slots) (listed_is_free pool.held pool.slots)
+free_ones pool =
+    recursion_from_All (IsFreePart pool.held pool.slots) (free_parts pool.held pool.slots)
+    (listed_is_free pool.held pool.slots)
 
 by_size : (pool : PoolState) (words level : ℕ) (part : Span) → IsSoundPool pool → 1 ≤ words → words ≤ size_of level
     → IsFreePart pool.held pool.slots part → part.level ≡ level → IsEnoughBySize pool part words
-by_size pool words level part sound some fits free same = enough_by_size pool part words sound free some (subst (λ (l : ℕ). words ≤ size_of l) (sym same) fits)
+by_size pool words level part sound some fits free same =
+    enough_by_size pool part words sound free some (subst (λ (l : ℕ). words ≤ size_of l) (sym same) fits)
 
 -- Of parts smaller than a granule the first that is committed is the first.
-small_find : (pool : PoolState) (words level : ℕ) (parts : List Span) → IsSoundPool pool → 1 ≤ words → words ≤ size_of level → size_of level < granule_in pool
-    → AllByRecursion (IsFreePart pool.held pool.slots) parts → find (grants pool words true level) parts ≡ find (grants pool words false level) parts
+small_find : (pool : PoolState) (words level : ℕ) (parts : List Span) → IsSoundPool pool → 1 ≤ words
+    → words ≤ size_of level → size_of level < granule_in pool
+    → AllByRecursion (IsFreePart pool.held pool.slots) parts
+    → find (grants pool words true level) parts ≡ find (grants pool words false level) parts
 small_find pool words level [] sound some fits small all = refl
 small_find pool words level (part ∷ parts) sound some fits small all =
     ap (λ b. cond b (Some part) (find (grants pool words true level) parts)) (agree (part.level == level) refl)
-    ∙ ap (λ o. cond (grants pool words false level part) (Some part) o) (small_find pool words level parts sound some fits small all.1)
+    ∙ ap (λ o. cond (grants pool words false level part) (Some part) o)
+    (small_find pool words level parts sound some fits small all.1)
   where
-    agree : (b : Bool) → (part.level == level) ≡ b → (b && (not true || is_committed_enough pool words part)) ≡ (b && (not false || is_committed_enough pool words part))
+    agree : (b : Bool) → (part.level == level) ≡ b
+        → (b && (not true || is_committed_enough pool words part))
+        ≡ (b && (not false || is_committed_enough pool words part))
     agree true e = let same : part.level ≡ level = eqb-true part.level level e in
-        (by_size pool words level part sound some fits all.0 same).small (subst (λ (l : ℕ). size_of l < granule_in pool) (sym same) small)
+        (by_size pool words level part sound some fits all.0 same).small
+        (subst (λ (l : ℕ). size_of l < granule_in pool) (sym same) small)
     agree false e = refl
 
-pub small_are_enough : (pool : PoolState) (words level : ℕ) → IsSoundPool pool → 1 ≤ words → words ≤ size_of level → size_of level < granule_in pool
+pub small_are_enough : (pool : PoolState) (words level : ℕ) → IsSoundPool pool → 1 ≤ words → words ≤ size_of level
+    → size_of level < granule_in pool
     → first_at pool words true level ≡ first_at pool words false level
 unfolding first_at
-small_are_enough pool words level sound some fits small = small_find pool words level (free_parts pool.held pool.slots) sound some fits small (free_ones pool)
+small_are_enough pool words level sound some fits small =
+    small_find pool words level (free_parts pool.held pool.slots) sound some fits small (free_ones pool)
 
 -- Of the others none is.
-large_find : (pool : PoolState) (words level : ℕ) (parts : List Span) → IsSoundPool pool → 1 ≤ words → words ≤ size_of level → granule_in pool ≤ size_of level → keeps pool.limits.policy ≡ false
+large_find : (pool : PoolState) (words level : ℕ) (parts : List Span) → IsSoundPool pool → 1 ≤ words
+    → words ≤ size_of level → granule_in pool ≤ size_of level → keeps pool.limits.policy ≡ false
     → AllByRecursion (IsFreePart pool.held pool.slots) parts → find (grants pool words true level) parts ≡ None
 large_find pool words level [] sound some fits large gives all = refl
 large_find pool words level (part ∷ parts) sound some fits large gives all =
@@ -50,10 +63,13 @@ large_find pool words level (part ∷ parts) sound some fits large gives all =
   where
     fails : (b : Bool) → (part.level == level) ≡ b → (b && (not true || is_committed_enough pool words part)) ≡ false
     fails true e = let same : part.level ≡ level = eqb-true part.level level e in
-        (by_size pool words level part sound some fits all.0 same).large gives (subst (λ (l : ℕ). granule_in pool ≤ size_of l) (sym same) large)
+        (by_size pool words level part sound some fits all.0 same).large gives
+        (subst (λ (l : ℕ). granule_in pool ≤ size_of l) (sym same) large)
     fails false e = refl
 
-pub large_are_not : (pool : PoolState) (words level : ℕ) → IsSoundPool pool → 1 ≤ words → words ≤ size_of level → granule_in pool ≤ size_of level → keeps pool.limits.policy ≡ false
+pub large_are_not : (pool : PoolState) (words level : ℕ) → IsSoundPool pool → 1 ≤ words → words ≤ size_of level
+    → granule_in pool ≤ size_of level → keeps pool.limits.policy ≡ false
     → first_at pool words true level ≡ None
 unfolding first_at
-large_are_not pool words level sound some fits large gives = large_find pool words level (free_parts pool.held pool.slots) sound some fits large gives (free_ones pool)
+large_are_not pool words level sound some fits large gives =
+    large_find pool words level (free_parts pool.held pool.slots) sound some fits large gives (free_ones pool)

@@ -27,21 +27,26 @@ below_counted nodes count sound e =
       arith,
       ap length same,
       length-range_with_len 0 count,
-      length-filter_both (is_among nodes.granules) (λ number. not (is_among nodes.granules number)) (λ number. refl) (range_with_len 0 count),
+      length-filter_both (is_among nodes.granules) (λ number. not (is_among nodes.granules number)) (λ number. refl)
+          (range_with_len 0 count),
     )
   where
     same : filter (is_among nodes.granules) (range_with_len 0 count) ≡ granules_in NonClass nodes
     same = same_sets (filter (is_among nodes.granules) (range_with_len 0 count)) (granules_in NonClass nodes)
         (sorted_from_strictly_increasing (filter (is_among nodes.granules) (range_with_len 0 count))
-        (IsStrictlyIncreasing-filter (is_among nodes.granules) (range_with_len 0 count) (IsStrictlyIncreasing-range 0 count)))
-        (sorted_from_strictly_increasing (granules_in NonClass nodes) (IsStrictlyIncreasing-filter (is_granule_of NonClass (node_granules nodes)) nodes.granules sound.granules))
+        (IsStrictlyIncreasing-filter (is_among nodes.granules) (range_with_len 0 count)
+        (IsStrictlyIncreasing-range 0 count)))
+        (sorted_from_strictly_increasing (granules_in NonClass nodes)
+        (IsStrictlyIncreasing-filter (is_granule_of NonClass (node_granules nodes)) nodes.granules sound.granules))
         (λ k. is_among-filter (is_among nodes.granules) (range_with_len 0 count) k
         ∙ ap (λ b. is_among nodes.granules k && b) (is_among-range 0 count k ∙ in_first count k ∙ ap (nat_lt k) e)
         ∙ and_comm (is_among nodes.granules k) (nat_lt k (64 * node_granules nodes))
         ∙ sym (is_among-filter (is_granule_of NonClass (node_granules nodes)) nodes.granules k))
 
-pub granules_below : (nodes : NodesState) (slots granule : ℕ) → slots ≡ 64 → granule ≡ nodes.limits.granule → slots * (1048576 / granule) ≡ 64 * node_granules nodes
-granules_below nodes slots granule e f = ap (λ (n : ℕ). n * (1048576 / granule)) e ∙ ap (λ (g : ℕ). 64 * (1048576 / g)) f
+pub granules_below : (nodes : NodesState) (slots granule : ℕ) → slots ≡ 64 → granule ≡ nodes.limits.granule
+    → slots * (1048576 / granule) ≡ 64 * node_granules nodes
+granules_below nodes slots granule e f =
+    ap (λ (n : ℕ). n * (1048576 / granule)) e ∙ ap (λ (g : ℕ). 64 * (1048576 / g)) f
 
 -- What is not missing below the class space's slots is committed there, and the rest in the class space.
 pub record IsCountedBelow (nodes : NodesState) (count missing : ℕ) : Type 0 where
@@ -49,13 +54,16 @@ pub record IsCountedBelow (nodes : NodesState) (count missing : ℕ) : Type 0 wh
   pub below : count - missing ≡ length (granules_in NonClass nodes)
   pub above : length nodes.granules ≡ count - missing + length (granules_in Class nodes)
 
-pub counted_below : (nodes : NodesState) (slots granule missing : ℕ) → AreSound nodes → slots ≡ 64 → granule ≡ nodes.limits.granule
-    → missing ≡ count_missing nodes.granules 0 (slots * (1048576 / granule)) → IsCountedBelow nodes (slots * (1048576 / granule)) missing
+pub counted_below : (nodes : NodesState) (slots granule missing : ℕ) → AreSound nodes → slots ≡ 64
+    → granule ≡ nodes.limits.granule
+    → missing ≡ count_missing nodes.granules 0 (slots * (1048576 / granule))
+    → IsCountedBelow nodes (slots * (1048576 / granule)) missing
 counted_below nodes slots granule missing sound e f told = record {
   fits = omega (arith, told, counted);
   below = omega (arith, told, counted);
   above = omega (arith, told, counted, (are_of_two_spaces nodes sound).counted NonClass);
 }
   where
-    counted : count_missing nodes.granules 0 (slots * (1048576 / granule)) + length (granules_in NonClass nodes) ≡ slots * (1048576 / granule)
+    counted : count_missing nodes.granules 0 (slots * (1048576 / granule)) + length (granules_in NonClass nodes)
+        ≡ slots * (1048576 / granule)
     counted = below_counted nodes (slots * (1048576 / granule)) sound (granules_below nodes slots granule e f)

@@ -36,7 +36,12 @@ seen nodes loans policy = record {
   opened = 0;
   class_opened = 0;
   tallies = no_tallies;
-  limits = record { nodes = nodes.limits.nodes; granules = nodes.limits.granules; policy = policy; class_nodes = nodes.class_slots };
+  limits = record {
+    nodes = nodes.limits.nodes;
+    granules = nodes.limits.granules;
+    policy = policy;
+    class_nodes = nodes.class_slots;
+  };
 }
 
 pub no_loans : (n first : ℕ) → loans_from first (replicate n []) ≡ []
@@ -56,7 +61,8 @@ none_held policy slots = record {
   apart = refl;
 }
 
-pub empty_is_sound : (limits : Limits) → 1 ≤ limits.nodes → limits.nodes ≤ 64 → limits.class_nodes ≤ 16 → IsSoundLedger (empty_ledger limits)
+pub empty_is_sound : (limits : Limits) → 1 ≤ limits.nodes → limits.nodes ≤ 64 → limits.class_nodes ≤ 16
+    → IsSoundLedger (empty_ledger limits)
 empty_is_sound limits some few class_few = record {
   spaces = spaces;
   order = λ k h. absurd (omega arith);
@@ -80,7 +86,9 @@ empty_is_sound limits some few class_few = record {
       held = none_held limits.policy (class_slots limits.class_nodes);
       slots = IsStrictlyIncreasing-range 64 limits.class_nodes;
       below = All-from_get_or (IsSlotOf Class) (class_slots limits.class_nodes) 0 (λ i h.
-          let at_ = get_or-range_with_len 64 limits.class_nodes i 0 (omega (arith, h, length-range_with_len 64 limits.class_nodes)) in
+          let at_ =
+          get_or-range_with_len 64 limits.class_nodes i 0
+          (omega (arith, h, length-range_with_len 64 limits.class_nodes)) in
           (omega (arith, at_), omega (arith, at_, h, class_few, length-range_with_len 64 limits.class_nodes)));
       committed = none_committed limits.policy (class_slots limits.class_nodes);
       granules = omega arith;
@@ -88,7 +96,8 @@ empty_is_sound limits some few class_few = record {
     }
 
 -- What is kept at the start.
-pub none_are_sound : (limits : NodeLimits) (class_nodes : ℕ) → class_nodes ≤ 16 → IsGranuleSize limits.granule → AreSound (no_nodes limits class_nodes)
+pub none_are_sound : (limits : NodeLimits) (class_nodes : ℕ) → class_nodes ≤ 16 → IsGranuleSize limits.granule
+    → AreSound (no_nodes limits class_nodes)
 none_are_sound limits class_nodes few size = record {
   size = size;
   slots = record { rising = λ k h. absurd (omega arith); below = All-nil (λ (member : ℕ). member < 64) };
@@ -99,10 +108,16 @@ none_are_sound limits class_nodes few size = record {
   committed = omega arith;
 }
 
-pub starts_empty : (settings : Settings) (nodes : NodesState) (trees : List (List LentLeaf)) (count : ℕ) → trees ≡ replicate count []
-    → nodes ≡ no_nodes (record { nodes = settings.nodes; granules = settings.max_granules; granule = granule_of settings.policy }) settings.class_nodes
+pub starts_empty : (settings : Settings) (nodes : NodesState) (trees : List (List LentLeaf)) (count : ℕ)
+    → trees ≡ replicate count []
+    → nodes ≡ no_nodes
+    (record { nodes = settings.nodes; granules = settings.max_granules; granule = granule_of settings.policy })
+    settings.class_nodes
     → seen nodes (loans_from 0 trees) settings.policy ≡ empty_ledger (limits_of settings)
 starts_empty settings nodes trees count whole fresh =
     ap (λ (n : NodesState). seen n (loans_from 0 trees) settings.policy) fresh
-    ∙ ap (λ (loans : List Loan). seen (no_nodes (record { nodes = settings.nodes; granules = settings.max_granules; granule = granule_of settings.policy }) settings.class_nodes) loans settings.policy)
+    ∙ ap (λ (loans : List Loan). seen
+    (no_nodes
+    (record { nodes = settings.nodes; granules = settings.max_granules; granule = granule_of settings.policy })
+    settings.class_nodes) loans settings.policy)
     (ap (loans_from 0) whole ∙ no_loans count 0)

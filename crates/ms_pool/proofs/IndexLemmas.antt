@@ -1,6 +1,8 @@
 -- The index of the trees: what a bit told anew does to it, and that it is exact over whole trees.
 -- `note` and `Trees::whole` use these.
-use Rattle.std.proofs.Common.{◌≡◌, ◌<◌, ◌≤◌, ℕ, suc, zero, ◌+◌, ◌*◌, ◌%◌, ◌/◌, ◌^◌, Bool, true, false, cond, not, ◌&&◌, ◌||◌, ◌==◌, List, [], length, get_or, refl, sym, ap, ◌∙◌, inl, inr, arith, ne_eqb, bit_and}
+use Rattle.std.proofs.Common.{◌≡◌, ◌<◌, ◌≤◌, ℕ, suc, zero, ◌+◌, ◌*◌, ◌%◌, ◌/◌, ◌^◌, Bool, true, false, cond, not, ◌&&◌}
+use Rattle.std.proofs.Common.{◌||◌, ◌==◌, List, [], length, get_or, refl, sym, ap, ◌∙◌, inl, inr, arith, ne_eqb}
+use Rattle.std.proofs.Common.{bit_and}
 use Rattle.std.specs.Int.{bit_at}
 use Rattle.std.proofs.lemmas.Nat.Bits.{shr_and_one}
 use Rattle.std.specs.Prelude.{nat_le, nat_lt, replicate}
@@ -20,7 +22,8 @@ Tells old new place set = (number : ℕ) → is_among new number ≡ cond (numbe
 
 pub tells_set : (old new : List ℕ) (place : ℕ) → new ≡ with_range old place 1 → Tells old new place true
 tells_set old new place e number =
-    ap (λ (members : List ℕ). is_among members number) e ∙ is_among-with_range old place 1 number ∙ either (is_among old number)
+    ap (λ (members : List ℕ). is_among members number) e ∙ is_among-with_range old place 1 number
+    ∙ either (is_among old number)
   where
     either : (b : Bool) → (b || (nat_le place number && nat_lt number (place + 1))) ≡ cond (number == place) true b
     either true = grind (arith, nat_tests)
@@ -28,7 +31,8 @@ tells_set old new place e number =
 
 pub tells_clear : (old new : List ℕ) (place : ℕ) → new ≡ without_range old place 1 → Tells old new place false
 tells_clear old new place e number =
-    ap (λ (members : List ℕ). is_among members number) e ∙ is_among-without_range old place 1 number ∙ either (is_among old number)
+    ap (λ (members : List ℕ). is_among members number) e ∙ is_among-without_range old place 1 number
+    ∙ either (is_among old number)
   where
     either : (b : Bool) → (not (nat_le place number && nat_lt number (place + 1)) && b) ≡ cond (number == place) false b
     either true = grind (arith, nat_tests)
@@ -45,15 +49,18 @@ pub record AreTold (old new : List ℕ) (root levels below : ℕ) : Type 0 where
   pub here : (level : ℕ) → level < below → is_among new (place_in level root) ≡ has_level levels level
   pub others : (number : ℕ) → (number % 192 ≡ root → ⊥) → is_among new number ≡ is_among old number
 
-pub one_told : (old now new : List ℕ) (root levels below : ℕ) (set : Bool) → root < 192 → AreTold old now root levels below → Tells now new (place_in below root) set
+pub one_told : (old now new : List ℕ) (root levels below : ℕ) (set : Bool) → root < 192
+    → AreTold old now root levels below → Tells now new (place_in below root) set
     → has_level levels below ≡ set → AreTold old new root levels (below + 1)
 one_told old now new root levels below set h told tells is = record {
   here = λ level under. elim (cases_eq level below) [
     | inl same ↦ tells (place_in level root)
-        ∙ here_is (place_in level root) (place_in below root) set (is_among now (place_in level root)) (ap (λ (l : ℕ). place_in l root) same)
+        ∙ here_is (place_in level root) (place_in below root) set (is_among now (place_in level root))
+        (ap (λ (l : ℕ). place_in l root) same)
         ∙ sym is ∙ ap (has_level levels) (sym same)
     | inr other ↦ tells (place_in level root)
-        ∙ other_is (place_in level root) (place_in below root) set (is_among now (place_in level root)) (λ e. other (omega arith))
+        ∙ other_is (place_in level root) (place_in below root) set (is_among now (place_in level root))
+        (λ e. other (omega arith))
         ∙ told.here level (omega (arith, other))
   ];
   others = λ number elsewhere. tells number
@@ -67,17 +74,22 @@ read_replicate zero at_ = refl
 read_replicate (suc count) zero = refl
 read_replicate (suc count) (suc at_) = read_replicate count at_
 
-pub index_of_whole : (count : ℕ) (numbers : List ℕ) (trees : List (List LentLeaf)) → count ≤ 192 → numbers ≡ with_range [] 0 count → trees ≡ replicate count [] → length trees ≡ count → IsIndex numbers trees
+pub index_of_whole : (count : ℕ) (numbers : List ℕ) (trees : List (List LentLeaf)) → count ≤ 192
+    → numbers ≡ with_range [] 0 count → trees ≡ replicate count [] → length trees ≡ count → IsIndex numbers trees
 index_of_whole count numbers trees few e f size = record {
   few = omega (arith, size);
   exact = λ level root low there.
-      ap (λ (members : List ℕ). is_among members (place_in level root)) e ∙ is_among-with_range [] 0 count (place_in level root)
+      ap (λ (members : List ℕ). is_among members (place_in level root)) e
+      ∙ is_among-with_range [] 0 count (place_in level root)
       ∙ first_row level root count (omega (arith, there, size)) few
-      ∙ sym (ap (λ (tree : List LentLeaf). list_any (is_of level) (free_of tree)) (ap (λ (all : List (List LentLeaf)). get_or all root []) f ∙ read_replicate count root)
+      ∙ sym (ap (λ (tree : List LentLeaf). list_any (is_of level) (free_of tree))
+      (ap (λ (all : List (List LentLeaf)). get_or all root []) f ∙ read_replicate count root)
       ∙ ap (list_any (is_of level)) free_of-none);
 }
   where
-    first_row : (level root count : ℕ) → root < count → count ≤ 192 → (false || (nat_le 0 (192 * level + root) && nat_lt (192 * level + root) (0 + count))) ≡ ((0 == level) || false)
+    first_row : (level root count : ℕ) → root < count → count ≤ 192
+        → (false || (nat_le 0 (192 * level + root) && nat_lt (192 * level + root) (0 + count)))
+        ≡ ((0 == level) || false)
     first_row level root count h k = grind (arith, nat_tests)
 
 -- The test of a bit in the code.

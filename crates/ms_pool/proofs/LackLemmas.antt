@@ -14,14 +14,18 @@ use Rattle.ms_pool.specs.Searching.{lacking}
 use Rattle.ms_pool.proofs.EnoughLemmas.{of_space_at}
 use Rattle.ms_pool.proofs.SlotLoopLemmas.{committed_is}
 
-pub lacks : (space : Space) (lender : Lender) (chunk : Chunk) → IsKept lender → 1 ≤ chunk.front → IsRunOf space chunk.start chunk.front
+pub lacks : (space : Space) (lender : Lender) (chunk : Chunk) → IsKept lender → 1 ≤ chunk.front
+    → IsRunOf space chunk.start chunk.front
     → count_missing lender.nodes.granules (chunk.start / granule_of lender.policy)
     ((chunk.start + chunk.front - 1) / granule_of lender.policy + 1 - chunk.start / granule_of lender.policy)
     ≡ lacking (state_in space (ledger_of lender)) chunk
 unfolding lacking
 lacks space lender chunk kept some inside = ap length
-    (filter_agree_in (λ k. not (is_among lender.nodes.granules k)) (λ k. not (is_among (committed_of space (ledger_of lender)) k)) first count
-    (λ k low high. ap not (sym (ap (λ l. is_among l k) (committed_is space lender) ∙ is_among-filter (is_granule_of space (node_granules lender.nodes)) lender.nodes.granules k
+    (filter_agree_in (λ k. not (is_among lender.nodes.granules k))
+    (λ k. not (is_among (committed_of space (ledger_of lender)) k)) first count
+    (λ k low high. ap not
+    (sym (ap (λ l. is_among l k) (committed_is space lender)
+    ∙ is_among-filter (is_granule_of space (node_granules lender.nodes)) lender.nodes.granules k
     ∙ ap (λ b. b && is_among lender.nodes.granules k)
     (ap (λ (g : ℕ). is_granule_of space (slot_granules g) k) kept.granule
     ∙ of_space_at space lender.policy chunk.start chunk.front k some inside low (omega (arith, low, high)))))))

@@ -1,6 +1,7 @@
 -- The slots that hold no chunk go one after the other, and their granules with them. The proof of
 -- `purge` uses them.
-use Rattle.std.proofs.Common.{◌≡◌, ◌<◌, ◌≤◌, ℕ, ◌+◌, ◌*◌, ◌/◌, Bool, true, false, cond, not, ◌&&◌, ◌||◌, ◌==◌, List, [], ◌∷◌, length, refl, sym, ap, ap₂, subst, ◌∙◌, arith}
+use Rattle.std.proofs.Common.{◌≡◌, ◌<◌, ◌≤◌, ℕ, ◌+◌, ◌*◌, ◌/◌, Bool, true, false, cond, not, ◌&&◌, ◌||◌, ◌==◌, List, []}
+use Rattle.std.proofs.Common.{◌∷◌, length, refl, sym, ap, ap₂, subst, ◌∙◌, arith}
 use Rattle.std.specs.Prelude.{nat_le}
 use Rattle.std.specs.List.{AllByRecursion, filter, All}
 use Rattle.std.specs.List.Sorted.{IsStrictlyIncreasing}
@@ -45,47 +46,60 @@ purged_to at_ old = recommitted (record old { slots = slots_left at_ old })
 all_stay : (held : List Chunk) (slots : List ℕ) → filter (stays_at 0 held) slots ≡ slots
 all_stay held [] = refl
 all_stay held (slot ∷ slots) =
-    ap (λ (b : Bool). cond (b || has_chunk_in held slot) (slot ∷ filter (stays_at 0 held) slots) (filter (stays_at 0 held) slots)) (from_first slot)
+    ap (λ (b : Bool). cond (b || has_chunk_in held slot) (slot ∷ filter (stays_at 0 held) slots)
+    (filter (stays_at 0 held) slots)) (from_first slot)
     ∙ ap (λ (l : List ℕ). slot ∷ l) (all_stay held slots)
   where
     from_first : (n : ℕ) → nat_le 0 n ≡ true
     from_first n = grind (arith, nat_tests)
 
 pub purged_at_first : (old : Ledger) → IsSoundLedger old → old ≡ purged_to 0 old
-purged_at_first old sound = sym (ap (λ (l : List ℕ). recommitted (record old { slots = l })) (all_stay (held_in NonClass old) old.slots) ∙ settled_already old sound)
+purged_at_first old sound =
+    sym (ap (λ (l : List ℕ). recommitted (record old { slots = l })) (all_stay (held_in NonClass old) old.slots)
+    ∙ settled_already old sound)
 
 -- After all slots those with a chunk are left.
-past_all : (held : List Chunk) (slots : List ℕ) → AllByRecursion (λ slot. slot < 64) slots → filter (stays_at 64 held) slots ≡ filter (has_chunk_in held) slots
+past_all : (held : List Chunk) (slots : List ℕ) → AllByRecursion (λ slot. slot < 64) slots
+    → filter (stays_at 64 held) slots ≡ filter (has_chunk_in held) slots
 past_all held [] all = refl
 past_all held (slot ∷ slots) all =
-    ap (λ (b : Bool). cond (b || has_chunk_in held slot) (slot ∷ filter (stays_at 64 held) slots) (filter (stays_at 64 held) slots)) (under slot all.0)
+    ap (λ (b : Bool). cond (b || has_chunk_in held slot) (slot ∷ filter (stays_at 64 held) slots)
+    (filter (stays_at 64 held) slots)) (under slot all.0)
     ∙ ap (λ (l : List ℕ). cond (has_chunk_in held slot) (slot ∷ l) l) (past_all held slots all.1)
   where
     under : (n : ℕ) → n < 64 → nat_le 64 n ≡ false
     under n h = grind (arith, nat_tests)
 
-pub purged_at_last : (old mid : Ledger) (at_ : ℕ) → IsSoundLedger old → at_ ≡ 64 → mid ≡ purged_to at_ old → mid ≡ purged old
+pub purged_at_last : (old mid : Ledger) (at_ : ℕ) → IsSoundLedger old → at_ ≡ 64 → mid ≡ purged_to at_ old
+    → mid ≡ purged old
 purged_at_last old mid at_ sound end before =
     before ∙ ap (λ (n : ℕ). purged_to n old) end
     ∙ ap (λ (l : List ℕ). recommitted (record old { slots = l }))
-    (past_all (held_in NonClass old) old.slots (recursion_from_All (λ slot. slot < 64) old.slots (sound.spaces NonClass).below))
+    (past_all (held_in NonClass old) old.slots
+    (recursion_from_All (λ slot. slot < 64) old.slots (sound.spaces NonClass).below))
 
 -- A slot that isn't reserved, or has a chunk, changes nothing.
-unreserved_alike : (at_ : ℕ) (held : List Chunk) (slots : List ℕ) → is_among slots at_ ≡ false → filter (stays_at at_ held) slots ≡ filter (stays_at (at_ + 1) held) slots
+unreserved_alike : (at_ : ℕ) (held : List Chunk) (slots : List ℕ) → is_among slots at_ ≡ false
+    → filter (stays_at at_ held) slots ≡ filter (stays_at (at_ + 1) held) slots
 unreserved_alike at_ held [] none = refl
 unreserved_alike at_ held (slot ∷ slots) none =
     let parts = or_parts (slot == at_) (is_among slots at_) none in
-    ap (λ (b : Bool). cond (b || has_chunk_in held slot) (slot ∷ filter (stays_at at_ held) slots) (filter (stays_at at_ held) slots)) (alike at_ slot parts.0)
+    ap (λ (b : Bool). cond (b || has_chunk_in held slot) (slot ∷ filter (stays_at at_ held) slots)
+    (filter (stays_at at_ held) slots)) (alike at_ slot parts.0)
     ∙ ap (λ (l : List ℕ). cond (stays_at (at_ + 1) held slot) (slot ∷ l) l) (unreserved_alike at_ held slots parts.1)
   where
     alike : (a n : ℕ) → (n == a) ≡ false → nat_le a n ≡ nat_le (a + 1) n
     alike a n e = grind (arith, nat_tests)
 
-pub skips_unreserved : (old mid : Ledger) (at_ : ℕ) → mid ≡ purged_to at_ old → is_reserved mid.slots at_ ≡ false → mid ≡ purged_to (at_ + 1) old
+pub skips_unreserved : (old mid : Ledger) (at_ : ℕ) → mid ≡ purged_to at_ old → is_reserved mid.slots at_ ≡ false
+    → mid ≡ purged_to (at_ + 1) old
 skips_unreserved old mid at_ before none =
-    before ∙ ap (λ (l : List ℕ). recommitted (record old { slots = l })) (unreserved_alike at_ (held_in NonClass old) old.slots
-    (among (stays_at at_ (held_in NonClass old) at_) (is_among old.slots at_) (here at_ (has_chunk_in (held_in NonClass old) at_))
-    (sym (is_among-filter (stays_at at_ (held_in NonClass old)) old.slots at_) ∙ sym (ap (λ (l : Ledger). is_reserved l.slots at_) before) ∙ none)))
+    before ∙ ap (λ (l : List ℕ). recommitted (record old { slots = l }))
+    (unreserved_alike at_ (held_in NonClass old) old.slots
+    (among (stays_at at_ (held_in NonClass old) at_) (is_among old.slots at_)
+    (here at_ (has_chunk_in (held_in NonClass old) at_))
+    (sym (is_among-filter (stays_at at_ (held_in NonClass old)) old.slots at_)
+    ∙ sym (ap (λ (l : Ledger). is_reserved l.slots at_) before) ∙ none)))
   where
     here : (n : ℕ) (b : Bool) → (nat_le n n || b) ≡ true
     here n b = grind (arith, nat_tests)
@@ -94,7 +108,8 @@ skips_unreserved old mid at_ before none =
     among true b e f = f
     among false b e f = absurd (cc)
 
-held_alike : (at_ : ℕ) (held : List Chunk) (slot : ℕ) → has_chunk_in held at_ ≡ true → stays_at at_ held slot ≡ stays_at (at_ + 1) held slot
+held_alike : (at_ : ℕ) (held : List Chunk) (slot : ℕ) → has_chunk_in held at_ ≡ true
+    → stays_at at_ held slot ≡ stays_at (at_ + 1) held slot
 held_alike at_ held slot has = go (slot == at_) refl
   where
     alike : (a n : ℕ) → (n == a) ≡ false → nat_le a n ≡ nat_le (a + 1) n
@@ -110,21 +125,26 @@ held_alike at_ held slot has = go (slot == at_) refl
     or_held false false c e = refl
 
     go : (b : Bool) → (slot == at_) ≡ b → stays_at at_ held slot ≡ stays_at (at_ + 1) held slot
-    go true e = or_held (nat_le at_ slot) (nat_le (at_ + 1) slot) (has_chunk_in held slot) (ap (has_chunk_in held) (sym (same_number at_ slot e)) ∙ has)
+    go true e =
+        or_held (nat_le at_ slot) (nat_le (at_ + 1) slot) (has_chunk_in held slot)
+        (ap (has_chunk_in held) (sym (same_number at_ slot e)) ∙ has)
     go false e = ap (λ (b : Bool). b || has_chunk_in held slot) (alike at_ slot e)
 
-pub skips_held : (old mid : Ledger) (at_ : ℕ) → mid ≡ purged_to at_ old → has_chunk_in (held_in NonClass mid) at_ ≡ true → mid ≡ purged_to (at_ + 1) old
+pub skips_held : (old mid : Ledger) (at_ : ℕ) → mid ≡ purged_to at_ old → has_chunk_in (held_in NonClass mid) at_ ≡ true
+    → mid ≡ purged_to (at_ + 1) old
 skips_held old mid at_ before has =
     before ∙ ap (λ (l : List ℕ). recommitted (record old { slots = l }))
     (filter_agree (stays_at at_ (held_in NonClass old)) (stays_at (at_ + 1) (held_in NonClass old))
-    (λ slot. held_alike at_ (held_in NonClass old) slot (sym (ap (λ (l : Ledger). has_chunk_in (held_in NonClass l) at_) before) ∙ has)) old.slots)
+    (λ slot. held_alike at_ (held_in NonClass old) slot
+    (sym (ap (λ (l : Ledger). has_chunk_in (held_in NonClass l) at_) before) ∙ has)) old.slots)
 
 -- A slot without a chunk goes, and its granules.
 slot_goes : (at_ : ℕ) (held : List Chunk) (slots : List ℕ) → has_chunk_in held at_ ≡ false
     → without_number (filter (stays_at at_ held) slots) at_ ≡ filter (stays_at (at_ + 1) held) slots
 slot_goes at_ held slots none =
     filter-filter (stays_at at_ held) (λ slot. not (slot == at_)) slots
-    ∙ filter_agree (λ slot. stays_at at_ held slot && not (slot == at_)) (stays_at (at_ + 1) held) (λ slot. go slot (slot == at_) refl) slots
+    ∙ filter_agree (λ slot. stays_at at_ held slot && not (slot == at_)) (stays_at (at_ + 1) held)
+    (λ slot. go slot (slot == at_) refl) slots
   where
     alike : (a n : ℕ) → (n == a) ≡ false → nat_le a n ≡ nat_le (a + 1) n
     alike a n e = grind (arith, nat_tests)
@@ -145,29 +165,40 @@ slot_goes at_ held slots none =
     all_of true y e = e
     all_of false y e = e
 
-    go : (slot : ℕ) (b : Bool) → (slot == at_) ≡ b → (stays_at at_ held slot && not (slot == at_)) ≡ stays_at (at_ + 1) held slot
+    go : (slot : ℕ) (b : Bool) → (slot == at_) ≡ b
+        → (stays_at at_ held slot && not (slot == at_)) ≡ stays_at (at_ + 1) held slot
     go slot true e = ap (λ (b : Bool). stays_at at_ held slot && not b) e
-        ∙ none_of (stays_at at_ held slot) (nat_le (at_ + 1) slot) (has_chunk_in held slot) (gone at_ slot e) (ap (has_chunk_in held) (sym (same_number at_ slot e)) ∙ none)
+        ∙ none_of (stays_at at_ held slot) (nat_le (at_ + 1) slot) (has_chunk_in held slot) (gone at_ slot e)
+        (ap (has_chunk_in held) (sym (same_number at_ slot e)) ∙ none)
     go slot false e = ap (λ (b : Bool). stays_at at_ held slot && not b) e
-        ∙ all_of (stays_at at_ held slot) (stays_at (at_ + 1) held slot) (ap (λ (b : Bool). b || has_chunk_in held slot) (alike at_ slot e))
+        ∙ all_of (stays_at at_ held slot) (stays_at (at_ + 1) held slot)
+        (ap (λ (b : Bool). b || has_chunk_in held slot) (alike at_ slot e))
 
 some_granules : (policy : Policy) → 0 < slot_granules (granule_of policy)
 some_granules Balanced = omega arith
 some_granules Aggressive = omega arith
 some_granules Never = omega arith
 
-granules_go : (policy : Policy) (before slots : List ℕ) (held : List Chunk) (at_ n : ℕ) → IsStrictlyIncreasing slots → n ≡ slot_granules (granule_of policy)
-    → without_range (committed_with policy before held slots) (at_ * n) n ≡ committed_with policy before held (without_number slots at_)
+granules_go : (policy : Policy) (before slots : List ℕ) (held : List Chunk) (at_ n : ℕ) → IsStrictlyIncreasing slots
+    → n ≡ slot_granules (granule_of policy)
+    → without_range (committed_with policy before held slots) (at_ * n) n
+    ≡ committed_with policy before held (without_number slots at_)
 granules_go policy before slots held at_ n rise e =
-    granules_are_committed policy before held (without_number slots at_) (without_range (committed_with policy before held slots) (at_ * n) n)
+    granules_are_committed policy before held (without_number slots at_)
+    (without_range (committed_with policy before held slots) (at_ * n) n)
     (IsStrictlyIncreasing-filter (λ slot. not (slot == at_)) slots rise)
-    (IsStrictlyIncreasing-filter (λ k. not (is_in_range (at_ * n) n k)) (committed_with policy before held slots) (committed_rise policy before held slots rise))
+    (IsStrictlyIncreasing-filter (λ k. not (is_in_range (at_ * n) n k)) (committed_with policy before held slots)
+    (committed_rise policy before held slots rise))
     (λ k. is_among-without_range (committed_with policy before held slots) (at_ * n) n k
-    ∙ ap₂ (λ (a b : Bool). not a && b) (in_own_slot at_ n k (subst (λ (m : ℕ). 0 < m) (sym e) (some_granules policy))) (is_among-committed policy before held slots k)
-    ∙ ap (λ (m : ℕ). not (at_ == k / m) && (is_committed_now policy before held k && is_reserved slots (k / slot_granules (granule_of policy)))) e
-    ∙ ordered (at_ == k / slot_granules (granule_of policy)) (k / slot_granules (granule_of policy) == at_) (is_committed_now policy before held k)
+    ∙ ap₂ (λ (a b : Bool). not a && b) (in_own_slot at_ n k (subst (λ (m : ℕ). 0 < m) (sym e) (some_granules policy)))
+    (is_among-committed policy before held slots k)
+    ∙ ap (λ (m : ℕ). not (at_ == k / m)
+    && (is_committed_now policy before held k && is_reserved slots (k / slot_granules (granule_of policy)))) e
+    ∙ ordered (at_ == k / slot_granules (granule_of policy)) (k / slot_granules (granule_of policy) == at_)
+    (is_committed_now policy before held k)
     (is_reserved slots (k / slot_granules (granule_of policy))) (turned at_ (k / slot_granules (granule_of policy)))
-    ∙ ap (λ (b : Bool). is_committed_now policy before held k && b) (sym (is_among-filter (λ slot. not (slot == at_)) slots (k / slot_granules (granule_of policy)))))
+    ∙ ap (λ (b : Bool). is_committed_now policy before held k && b)
+    (sym (is_among-filter (λ slot. not (slot == at_)) slots (k / slot_granules (granule_of policy)))))
   where
     turned : (a b : ℕ) → (a == b) ≡ (b == a)
     turned a b = grind (arith, nat_tests)
@@ -181,7 +212,8 @@ granules_go policy before slots held at_ n rise e =
         all false true among = refl
         all false false among = refl
 
-pub drops : (old : Ledger) (mid : Lender) (at_ : ℕ) → IsSoundLedger old → at_ < 64 → mid.nodes.limits.granule ≡ granule_of old.limits.policy
+pub drops : (old : Ledger) (mid : Lender) (at_ : ℕ) → IsSoundLedger old → at_ < 64
+    → mid.nodes.limits.granule ≡ granule_of old.limits.policy
     → ledger_of mid ≡ purged_to at_ old → has_chunk_in (held_in NonClass (ledger_of mid)) at_ ≡ false
     → ledger_of (record mid { nodes = without_slot mid.nodes at_ }) ≡ purged_to (at_ + 1) old
 drops old mid at_ sound low granule before none =
@@ -189,7 +221,8 @@ drops old mid at_ sound low granule before none =
     (ap (λ (l : Ledger). without_number l.slots at_) before ∙ slot_goes at_ held old.slots clear)
     ((leaves_with_its_granules mid.nodes at_ low).out
     ∙ ap (λ (l : Ledger). without_range l.committed (at_ * n) n) before
-    ∙ granules_go old.limits.policy old.committed (slots_left at_ old) held at_ n (IsStrictlyIncreasing-filter (stays_at at_ held) old.slots (sound.spaces NonClass).slots) (ap slot_granules granule)
+    ∙ granules_go old.limits.policy old.committed (slots_left at_ old) held at_ n
+    (IsStrictlyIncreasing-filter (stays_at at_ held) old.slots (sound.spaces NonClass).slots) (ap slot_granules granule)
     ∙ ap (committed_with old.limits.policy old.committed held) (slot_goes at_ held old.slots clear))
     ∙ ap (λ (own : List ℕ). made (ledger_of mid) (slots_left (at_ + 1) old) now own)
     ((leaves_with_its_granules mid.nodes at_ low).class_stays ∙ ap (λ (l : Ledger). l.class_committed) before)
@@ -208,7 +241,8 @@ drops old mid at_ sound low granule before none =
     now = committed_with old.limits.policy old.committed held (slots_left (at_ + 1) old)
 
     made : Ledger → List ℕ → List ℕ → List ℕ → Ledger
-    made l slots committed class_committed = record l { slots = slots; committed = committed; class_committed = class_committed }
+    made l slots committed class_committed =
+        record l { slots = slots; committed = committed; class_committed = class_committed }
 
     clear : has_chunk_in held at_ ≡ false
     clear = sym (ap (λ (l : Ledger). has_chunk_in (held_in NonClass l) at_) before) ∙ none
@@ -216,7 +250,8 @@ drops old mid at_ sound low granule before none =
 -- No slot comes.
 pub no_more_slots : (old mid : Ledger) (at_ : ℕ) → mid ≡ purged_to at_ old → length mid.slots ≤ length old.slots
 no_more_slots old mid at_ before =
-    subst (λ (l : Ledger). length l.slots ≤ length old.slots) (sym before) (length_filter (stays_at at_ (held_in NonClass old)) old.slots)
+    subst (λ (l : Ledger). length l.slots ≤ length old.slots) (sym before)
+    (length_filter (stays_at at_ (held_in NonClass old)) old.slots)
 
 -- The slots below one were looked at, and nothing but the nodes has changed.
 pub record IsPurgedTo (old mid : Lender) (at_ : ℕ) : Type 0 where
@@ -225,23 +260,31 @@ pub record IsPurgedTo (old mid : Lender) (at_ : ℕ) : Type 0 where
   pub policy : mid.policy ≡ old.policy
   pub purged : ledger_of mid ≡ purged_to at_ (ledger_of old)
 
-pub passes : (old mid : Lender) (at_ : ℕ) → IsPurgedTo old mid at_ → ledger_of mid ≡ purged_to (at_ + 1) (ledger_of old) → IsPurgedTo old mid (at_ + 1)
-passes old mid at_ before purged = record { trees = before.trees; limits = before.limits; policy = before.policy; purged = purged }
+pub passes : (old mid : Lender) (at_ : ℕ) → IsPurgedTo old mid at_ → ledger_of mid ≡ purged_to (at_ + 1) (ledger_of old)
+    → IsPurgedTo old mid (at_ + 1)
+passes old mid at_ before purged =
+    record { trees = before.trees; limits = before.limits; policy = before.policy; purged = purged }
 
-pub drops_next : (old mid new : Lender) (at_ : ℕ) → IsKept old → IsPurgedTo old mid at_ → at_ < 64 → new ≡ record mid { nodes = without_slot mid.nodes at_ }
+pub drops_next : (old mid new : Lender) (at_ : ℕ) → IsKept old → IsPurgedTo old mid at_ → at_ < 64
+    → new ≡ record mid { nodes = without_slot mid.nodes at_ }
     → has_chunk_in (held_in NonClass (ledger_of mid)) at_ ≡ false → IsPurgedTo old new (at_ + 1)
-drops_next old mid new at_ kept before low is none = subst (λ (l : Lender). IsPurgedTo old l (at_ + 1)) (sym is) (record {
-  trees = before.trees;
-  limits = before.limits;
-  policy = before.policy;
-  purged = drops (ledger_of old) mid at_ kept.sound low (ap (λ (l : NodeLimits). l.granule) before.limits ∙ kept.granule) before.purged none;
-})
+drops_next old mid new at_ kept before low is none =
+    subst (λ (l : Lender). IsPurgedTo old l (at_ + 1)) (sym is) (record {
+      trees = before.trees;
+      limits = before.limits;
+      policy = before.policy;
+      purged = drops (ledger_of old) mid at_ kept.sound low
+          (ap (λ (l : NodeLimits). l.granule) before.limits ∙ kept.granule) before.purged none;
+    })
 
-pub kept_once_purged : (old mid : Lender) (at_ : ℕ) → IsKept old → IsPurgedTo old mid at_ → at_ ≡ 64 → AreSound mid.nodes → IsKept mid
+pub kept_once_purged : (old mid : Lender) (at_ : ℕ) → IsKept old → IsPurgedTo old mid at_ → at_ ≡ 64
+    → AreSound mid.nodes → IsKept mid
 kept_once_purged old mid at_ kept before end sound = record {
-  trees = ap (λ (trees : List (List LentLeaf)). length trees) before.trees ∙ kept.trees ∙ sym (ap (λ (l : Ledger). 2 * (64 + l.limits.class_nodes)) last);
+  trees = ap (λ (trees : List (List LentLeaf)). length trees) before.trees ∙ kept.trees
+      ∙ sym (ap (λ (l : Ledger). 2 * (64 + l.limits.class_nodes)) last);
   leaves = subst (All AreLeaves) (sym before.trees) kept.leaves;
-  granule = ap (λ (l : NodeLimits). l.granule) before.limits ∙ kept.granule ∙ sym (ap (λ (l : Ledger). granule_of l.limits.policy) last);
+  granule = ap (λ (l : NodeLimits). l.granule) before.limits ∙ kept.granule
+      ∙ sym (ap (λ (l : Ledger). granule_of l.limits.policy) last);
   nodes = sound;
   sound = subst IsSoundLedger (sym last) (purged_is_sound (ledger_of old) kept.sound);
 }

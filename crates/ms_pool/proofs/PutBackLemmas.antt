@@ -39,11 +39,13 @@ keeps_where Never e = refl
 abbrev pub place_of : Chunk → Span → Span
 place_of chunk part = raised_part (chunk.start / root_words * root_words) part
 
-back : (lender : Lender) (trees : List (List LentLeaf)) (chunk : Chunk) (part : Span) (of : IsOfSpace chunk.start) → IsKept lender
+back : (lender : Lender) (trees : List (List LentLeaf)) (chunk : Chunk) (part : Span) (of : IsOfSpace chunk.start)
+    → IsKept lender
     → is_lent_in (loans_from 0 lender.trees.items) chunk ≡ true → TakesBack lender.trees.items chunk part trees
     → IsBack (ledger_of lender) of.space chunk (place_of chunk part)
 back lender trees chunk part of kept lent put =
-    is_back (ledger_of lender) trees chunk part of.space kept.sound lent of.here of.there put.loans (recursion_from_All AreLeaves trees put.leaves)
+    is_back (ledger_of lender) trees chunk part of.space kept.sound lent of.here of.there put.loans
+    (recursion_from_All AreLeaves trees put.leaves)
     (omega (arith, put.there, put.count)) put.free
 
 -- The pool with other loans and nodes.
@@ -53,12 +55,19 @@ seen old loans nodes = record old {
   slots = nodes.slots;
   committed = granules_in NonClass nodes;
   class_committed = granules_in Class nodes;
-  limits = record old.limits { nodes = nodes.limits.nodes; granules = nodes.limits.granules; class_nodes = nodes.class_slots };
+  limits = record old.limits {
+    nodes = nodes.limits.nodes;
+    granules = nodes.limits.granules;
+    class_nodes = nodes.class_slots;
+  };
 }
 
-same_seen : (lender : Lender) (chunk : Chunk) (loans : List Loan) (granules : List ℕ) → loans ≡ without_loan chunk (loans_from 0 lender.trees.items)
-    → ((one : Space) → granules_in one (record lender.nodes { granules = granules }) ≡ granules_after (ledger_of lender) chunk one)
-    → seen (ledger_of lender) loans (record lender.nodes { granules = granules }) ≡ with_released (ledger_of lender) chunk
+same_seen : (lender : Lender) (chunk : Chunk) (loans : List Loan) (granules : List ℕ)
+    → loans ≡ without_loan chunk (loans_from 0 lender.trees.items)
+    → ((one : Space) → granules_in one (record lender.nodes { granules = granules })
+    ≡ granules_after (ledger_of lender) chunk one)
+    → seen (ledger_of lender) loans (record lender.nodes { granules = granules })
+    ≡ with_released (ledger_of lender) chunk
 same_seen lender chunk loans granules e f =
     ap (λ (l : List Loan). seen (ledger_of lender) l nodes) e
     ∙ ap (λ (own : List ℕ). made own (granules_in Class nodes)) (f NonClass)
@@ -75,33 +84,39 @@ same_seen lender chunk loans granules e f =
     }
 
 -- All granules stay.
-pub released_where_all_stay : (lender : Lender) (trees : List (List LentLeaf)) (chunk : Chunk) (part : Span) → IsKept lender
+pub released_where_all_stay : (lender : Lender) (trees : List (List LentLeaf)) (chunk : Chunk) (part : Span)
+    → IsKept lender
     → is_lent_in (loans_from 0 lender.trees.items) chunk ≡ true → TakesBack lender.trees.items chunk part trees
     → (keeps lender.policy ≡ true) ⊎ ((keeps lender.policy ≡ false) × (size_of part.level < granule_of lender.policy))
     → seen (ledger_of lender) (loans_from 0 trees) lender.nodes ≡ with_released (ledger_of lender) chunk
 released_where_all_stay lender trees chunk part kept lent put small =
     same_seen lender chunk (loans_from 0 trees) lender.nodes.granules put.loans
     (λ one. sym (committed_is one lender)
-    ∙ all_stay (ledger_of lender) of.space chunk (place_of chunk part) kept.sound (back lender trees chunk part of kept lent put) small one)
+    ∙ all_stay (ledger_of lender) of.space chunk (place_of chunk part) kept.sound
+    (back lender trees chunk part of kept lent put) small one)
   where
     of : IsOfSpace chunk.start
     of = of_space chunk.start
 
 -- The granules of the part leave.
 pub record LeaveThere (lender : Lender) (trees : List (List LentLeaf)) (chunk : Chunk) (part : Span) : Type 0 where
-  pub reserved : AreInReserved lender.nodes (first_of lender.policy (place_of chunk part)) (count_of lender.policy (place_of chunk part))
+  pub reserved : AreInReserved lender.nodes (first_of lender.policy (place_of chunk part))
+      (count_of lender.policy (place_of chunk part))
   pub released : seen (ledger_of lender) (loans_from 0 trees)
-      (without_granules lender.nodes (first_of lender.policy (place_of chunk part)) (count_of lender.policy (place_of chunk part)))
+      (without_granules lender.nodes (first_of lender.policy (place_of chunk part))
+      (count_of lender.policy (place_of chunk part)))
       ≡ with_released (ledger_of lender) chunk
 
-pub released_where_some_leave : (lender : Lender) (trees : List (List LentLeaf)) (chunk : Chunk) (part : Span) → IsKept lender
+pub released_where_some_leave : (lender : Lender) (trees : List (List LentLeaf)) (chunk : Chunk) (part : Span)
+    → IsKept lender
     → is_lent_in (loans_from 0 lender.trees.items) chunk ≡ true → TakesBack lender.trees.items chunk part trees
     → keeps lender.policy ≡ false → granule_of lender.policy ≤ size_of part.level
     → LeaveThere lender trees chunk part
 released_where_some_leave lender trees chunk part kept lent put leaves large = record {
   reserved = (is_range lender of.space chunk (place_of chunk part) kept its of.here large).reserved;
   released = same_seen lender chunk (loans_from 0 trees)
-      (without_granules lender.nodes (first_of lender.policy (place_of chunk part)) (count_of lender.policy (place_of chunk part))).granules put.loans
+      (without_granules lender.nodes (first_of lender.policy (place_of chunk part))
+      (count_of lender.policy (place_of chunk part))).granules put.loans
       (granules_leave lender of.space chunk (place_of chunk part) kept its of.here leaves large);
 }
   where

@@ -14,7 +14,8 @@ use Rattle.ms_pool.specs.Growing.{reached}
 use Rattle.ms_pool.specs.Keeping.{IsKept, ledger_of}
 use Rattle.ms_pool.specs.Placing.{MayBeReplaced}
 use Rattle.ms_pool.specs.Searching.{lacking}
-use Rattle.ms_pool.proofs.GrowingLemmas.{FitsThere, IsOwn, WellReached, fits_there, found_at, is_own, no_more, well_reached, within_space}
+use Rattle.ms_pool.proofs.GrowingLemmas.{FitsThere, IsOwn, WellReached, fits_there, found_at, is_own, no_more}
+use Rattle.ms_pool.proofs.GrowingLemmas.{well_reached, within_space}
 use Rattle.ms_pool.proofs.ReachLemmas.{grown_within, grown_stays}
 use Rattle.ms_pool.proofs.ledger.GreaterLemmas.{IsGreater, grown_is_greater}
 use Rattle.ms_pool.proofs.ledger.GrowLemmas.{GrownWell, grown_well, own_is_held, with_greater}
@@ -31,7 +32,8 @@ pub record IsFoundAt (lender : Lender) (account : AccountState) (start place : �
   pub own : IsOwn account.space lender account.owner chunk
 
 pub found_there : (lender : Lender) (account now : AccountState) (start place : ℕ) (chunk : Chunk) (items : List Chunk)
-    → IsKept lender → account ≡ now → Serves (ledger_of lender) now → AreChunks account.space account.chunks → items ≡ account.chunks
+    → IsKept lender → account ≡ now → Serves (ledger_of lender) now → AreChunks account.space account.chunks
+    → items ≡ account.chunks
     → place < length items → IfSome (slice_get items place) (λ (one : Chunk). one.start ≡ start)
     → chunk ≡ get_or account.chunks place chunk → IsFoundAt lender account start place chunk
 found_there lender account now start place chunk items kept same served chunks listed within starts read = record {
@@ -54,24 +56,29 @@ pub record IsReachedThere (lender : Lender) (account : AccountState) (chunk grea
   pub well : WellReached account.space lender chunk greater
   pub fits : FitsThere account.space greater
 
-pub reached_there : (lender : Lender) (account : AccountState) (start place : ℕ) (chunk greater : Chunk) (total : ℕ) (may_enlarge : Bool)
+pub reached_there : (lender : Lender) (account : AccountState) (start place : ℕ) (chunk greater : Chunk) (total : ℕ)
+    (may_enlarge : Bool)
     → IsKept lender → IsFoundAt lender account start place chunk → chunk.front < total
     → reached (state_in account.space (ledger_of lender)) chunk total may_enlarge ≡ Some greater
     → IsReachedThere lender account chunk greater
 reached_there lender account start place chunk greater total may_enlarge kept at_ more is =
-    let well = well_reached account.space lender chunk greater total may_enlarge at_.own.placed (omega (arith, more)) is in
+    let well = well_reached account.space lender chunk greater total may_enlarge at_.own.placed (omega (arith, more)) is
+    in
     record { well = well; fits = fits_there account.space lender chunk greater kept at_.own.there.reserved well }
 
 -- It is what the model says, and all is well with it.
-pub record GrowsThere (lender : Lender) (account : AccountState) (place : ℕ) (chunk greater : Chunk) (total : ℕ) (may_enlarge : Bool) : Type 0 where
+pub record GrowsThere (lender : Lender) (account : AccountState) (place : ℕ) (chunk greater : Chunk) (total : ℕ)
+    (may_enlarge : Bool) : Type 0 where
   pub answered : grown (state_in account.space (ledger_of lender)) chunk total may_enlarge ≡ Ok greater
   pub good : GrownWell (ledger_of lender) account place chunk greater total may_enlarge
   pub may : MayBeReplaced lender account.space chunk greater
 
-pub grows_there : (lender : Lender) (account : AccountState) (start place : ℕ) (chunk greater : Chunk) (total : ℕ) (may_enlarge : Bool)
+pub grows_there : (lender : Lender) (account : AccountState) (start place : ℕ) (chunk greater : Chunk) (total : ℕ)
+    (may_enlarge : Bool)
     → IsKept lender → IsFoundAt lender account start place chunk → chunk.front < total
     → reached (state_in account.space (ledger_of lender)) chunk total may_enlarge ≡ Some greater
-    → length lender.nodes.granules + lacking (state_in account.space (ledger_of lender)) greater ≤ lender.nodes.limits.granules
+    → length lender.nodes.granules + lacking (state_in account.space (ledger_of lender)) greater
+    ≤ lender.nodes.limits.granules
     → GrowsThere lender account place chunk greater total may_enlarge
 grows_there lender account start place chunk greater total may_enlarge kept at_ more is within = record {
   answered = answered;
@@ -94,34 +101,44 @@ grows_there lender account start place chunk greater total may_enlarge kept at_ 
         (within_space account.space lender greater kept within)
 
     good : GrownWell (ledger_of lender) account place chunk greater total may_enlarge
-    good = grown_well (ledger_of lender) account place chunk greater total may_enlarge kept.sound at_.served at_.chunks at_.found answered
+    good = grown_well (ledger_of lender) account place chunk greater total may_enlarge kept.sound at_.served at_.chunks
+        at_.found answered
 
     there : IsReachedThere lender account chunk greater
     there = reached_there lender account start place chunk greater total may_enlarge kept at_ more is
 
     above : IsGreater (state_in account.space (ledger_of lender)) chunk greater
-    above = grown_is_greater (state_in account.space (ledger_of lender)) chunk greater total may_enlarge (kept.sound.spaces account.space)
-        (own_is_held (ledger_of lender) account chunk at_.served at_.chunks (contains_at account.chunks place chunk at_.found)) answered
+    above = grown_is_greater (state_in account.space (ledger_of lender)) chunk greater total may_enlarge
+        (kept.sound.spaces account.space)
+        (own_is_held (ledger_of lender) account chunk at_.served at_.chunks
+        (contains_at account.chunks place chunk at_.found)) answered
 
 -- What the account has then: the chunk as it was, or the greater one in its place.
-pub stays_there : (lender : Lender) (account : AccountState) (start place : ℕ) (chunk : Chunk) (total : ℕ) (may_enlarge : Bool)
+pub stays_there : (lender : Lender) (account : AccountState) (start place : ℕ) (chunk : Chunk) (total : ℕ)
+    (may_enlarge : Bool)
     → IsKept lender → IsFoundAt lender account start place chunk → total ≤ chunk.front
     → Grows lender.policy start total may_enlarge account (span_of chunk) account
 stays_there lender account start place chunk total may_enlarge kept at_ fits =
     subst (λ (s : ℕ). Grows lender.policy s total may_enlarge account (span_of chunk) account) at_.starts
-    (subst (λ (l : List Chunk). Grows lender.policy chunk.start total may_enlarge account (span_of chunk) (record account { chunks = l })) (set_same account.chunks place chunk at_.found)
-    (grown_well (ledger_of lender) account place chunk chunk total may_enlarge kept.sound at_.served at_.chunks at_.found
+    (subst (λ (l : List Chunk). Grows lender.policy chunk.start total may_enlarge account (span_of chunk)
+    (record account { chunks = l })) (set_same account.chunks place chunk at_.found)
+    (grown_well (ledger_of lender) account place chunk chunk total may_enlarge kept.sound at_.served at_.chunks
+    at_.found
     (grown_stays (state_in account.space (ledger_of lender)) chunk total may_enlarge fits)).grows)
 
-pub rises_there : (lender : Lender) (account : AccountState) (start place : ℕ) (chunk greater : Chunk) (total : ℕ) (may_enlarge : Bool)
+pub rises_there : (lender : Lender) (account : AccountState) (start place : ℕ) (chunk greater : Chunk) (total : ℕ)
+    (may_enlarge : Bool)
     → IsFoundAt lender account start place chunk → GrowsThere lender account place chunk greater total may_enlarge
     → Grows lender.policy start total may_enlarge account (span_of greater) (with_greater account place greater)
 rises_there lender account start place chunk greater total may_enlarge at_ grows =
-    subst (λ (s : ℕ). Grows lender.policy s total may_enlarge account (span_of greater) (with_greater account place greater)) at_.starts grows.good.grows
+    subst (λ (s : ℕ). Grows lender.policy s total may_enlarge account (span_of greater)
+    (with_greater account place greater)) at_.starts grows.good.grows
 
 -- What the call answers for the chunk, it answers for the start.
-pub grew_there : (lender : Lender) (account : AccountState) (start place : ℕ) (chunk : Chunk) (total : ℕ) (may_enlarge : Bool) (answer : Result Span Refusal) (new : Ledger)
-    → IsFoundAt lender account start place chunk → GrewFrom (ledger_of lender) account chunk total may_enlarge answer new
+pub grew_there : (lender : Lender) (account : AccountState) (start place : ℕ) (chunk : Chunk) (total : ℕ)
+    (may_enlarge : Bool) (answer : Result Span Refusal) (new : Ledger)
+    → IsFoundAt lender account start place chunk
+    → GrewFrom (ledger_of lender) account chunk total may_enlarge answer new
     → Grew (ledger_of lender) account start total may_enlarge answer new
 grew_there lender account start place chunk total may_enlarge answer new at_ after =
     record { place = place; chunk = chunk; found = at_.found; starts = at_.starts; after = after }

@@ -1,6 +1,7 @@
 -- The first that a list of free parts has, in parts: over levels, over slots, and over the two roots
 -- of a slot. The searches' loops use these.
-use Rattle.std.proofs.Common.{◌≡◌, ◌<◌, ◌≤◌, ℕ, suc, ◌+◌, ◌-◌, min, Bool, true, false, cond, not, ◌&&◌, List, [], ◌∷◌, ◌++◌, length, refl, sym, ap, ne_eqb, ◌∙◌, arith, Option, Some, None}
+use Rattle.std.proofs.Common.{◌≡◌, ◌<◌, ◌≤◌, ℕ, suc, ◌+◌, ◌-◌, min, Bool, true, false, cond, not, ◌&&◌, List, [], ◌∷◌}
+use Rattle.std.proofs.Common.{◌++◌, length, refl, sym, ap, ne_eqb, ◌∙◌, arith, Option, Some, None}
 use Rattle.std.specs.Prelude.{nat_eq, slice_get}
 use Rattle.std.specs.Option.{option_or}
 use Rattle.std.specs.List.{filter, find, flat_map, list_all, range_with_len}
@@ -17,10 +18,11 @@ head-append (x ∷ xs) ys = refl
 
 pub head-filter : {X : Type 0} (p : X → Bool) (xs : List X) → slice_get (filter p xs) 0 ≡ find p xs
 head-filter p [] = refl
-head-filter p (x ∷ xs) = elim (p x) as (λ b. slice_get (cond b (x ∷ filter p xs) (filter p xs)) 0 ≡ cond b (Some x) (find p xs)) [
-  | true ↦ refl
-  | false ↦ head-filter p xs
-]
+head-filter p (x ∷ xs) =
+    elim (p x) as (λ b. slice_get (cond b (x ∷ filter p xs) (filter p xs)) 0 ≡ cond b (Some x) (find p xs)) [
+      | true ↦ refl
+      | false ↦ head-filter p xs
+    ]
 
 -- One step of a loop over numbers: the first of what each gives.
 range_step : (n end : ℕ) → n < end → range_with_len n (end - n) ≡ n ∷ range_with_len (n + 1) (end - (n + 1))
@@ -30,10 +32,13 @@ range_step n end h = ap (range_with_len n) one_more
     one_more = omega arith
 
 pub head_step : {X : Type 0} (f : ℕ → List X) (n end : ℕ) → n < end
-    → slice_get (flat_map f (range_with_len n (end - n))) 0 ≡ option_or (slice_get (f n) 0) (slice_get (flat_map f (range_with_len (n + 1) (end - (n + 1)))) 0)
-head_step f n end h = ap (λ (l : List ℕ). slice_get (flat_map f l) 0) (range_step n end h) ∙ head-append (f n) (flat_map f (range_with_len (n + 1) (end - (n + 1))))
+    → slice_get (flat_map f (range_with_len n (end - n))) 0
+    ≡ option_or (slice_get (f n) 0) (slice_get (flat_map f (range_with_len (n + 1) (end - (n + 1)))) 0)
+head_step f n end h = ap (λ (l : List ℕ). slice_get (flat_map f l) 0) (range_step n end h)
+    ∙ head-append (f n) (flat_map f (range_with_len (n + 1) (end - (n + 1))))
 
-pub head_end : {X : Type 0} (f : ℕ → List X) (n end : ℕ) → end ≤ n → slice_get (flat_map f (range_with_len n (end - n))) 0 ≡ None
+pub head_end : {X : Type 0} (f : ℕ → List X) (n end : ℕ) → end ≤ n
+    → slice_get (flat_map f (range_with_len n (end - n))) 0 ≡ None
 head_end f n end h = ap (λ (m : ℕ). slice_get (flat_map f (range_with_len n m)) 0) none
   where
     none : end - n ≡ 0
@@ -48,30 +53,38 @@ found_later {X = X} first rest e = ap (λ (o : Option X). option_or o rest) e
 
 -- The same of a test over a list of lists.
 pub find_step : {X : Type 0} (p : X → Bool) (f : ℕ → List X) (n end : ℕ) → n < end
-    → find p (flat_map f (range_with_len n (end - n))) ≡ option_or (find p (f n)) (find p (flat_map f (range_with_len (n + 1) (end - (n + 1)))))
-find_step p f n end h = ap (λ (l : List ℕ). find p (flat_map f l)) (range_step n end h) ∙ find-append p (f n) (flat_map f (range_with_len (n + 1) (end - (n + 1))))
+    → find p (flat_map f (range_with_len n (end - n)))
+    ≡ option_or (find p (f n)) (find p (flat_map f (range_with_len (n + 1) (end - (n + 1)))))
+find_step p f n end h = ap (λ (l : List ℕ). find p (flat_map f l)) (range_step n end h)
+    ∙ find-append p (f n) (flat_map f (range_with_len (n + 1) (end - (n + 1))))
 
-pub find_end : {X : Type 0} (p : X → Bool) (f : ℕ → List X) (n end : ℕ) → end ≤ n → find p (flat_map f (range_with_len n (end - n))) ≡ None
+pub find_end : {X : Type 0} (p : X → Bool) (f : ℕ → List X) (n end : ℕ) → end ≤ n
+    → find p (flat_map f (range_with_len n (end - n))) ≡ None
 find_end p f n end h = ap (λ (m : ℕ). find p (flat_map f (range_with_len n m))) none
   where
     none : end - n ≡ 0
     none = omega arith
 
 -- What some numbers of a list give is what those give that pass a test.
-pub flat_map-filter : {X : Type 0} (q : ℕ → Bool) (f : ℕ → List X) (xs : List ℕ) → flat_map f (filter q xs) ≡ flat_map (λ x. cond (q x) (f x) []) xs
+pub flat_map-filter : {X : Type 0} (q : ℕ → Bool) (f : ℕ → List X) (xs : List ℕ)
+    → flat_map f (filter q xs) ≡ flat_map (λ x. cond (q x) (f x) []) xs
 flat_map-filter q f [] = refl
-flat_map-filter q f (x ∷ xs) = elim (q x) as (λ b. flat_map f (cond b (x ∷ filter q xs) (filter q xs)) ≡ cond b (f x) [] ++ flat_map (λ y. cond (q y) (f y) []) xs) [
-  | true ↦ ap (λ l. f x ++ l) (flat_map-filter q f xs)
-  | false ↦ flat_map-filter q f xs
-]
+flat_map-filter q f (x ∷ xs) =
+    elim (q x) as (λ b. flat_map f (cond b (x ∷ filter q xs) (filter q xs))
+    ≡ cond b (f x) [] ++ flat_map (λ y. cond (q y) (f y) []) xs) [
+      | true ↦ ap (λ l. f x ++ l) (flat_map-filter q f xs)
+      | false ↦ flat_map-filter q f xs
+    ]
 
 -- No number of a list fails a test exactly where all pass it.
 pub none_missing : (p : ℕ → Bool) (xs : List ℕ) → nat_eq (length (filter (λ x. not (p x)) xs)) 0 ≡ list_all p xs
 none_missing p [] = refl
-none_missing p (x ∷ xs) = elim (p x) as (λ b. nat_eq (length (cond (not b) (x ∷ filter (λ y. not (p y)) xs) (filter (λ y. not (p y)) xs))) 0 ≡ (b && list_all p xs)) [
-  | true ↦ none_missing p xs
-  | false ↦ suc_is_some (length (filter (λ y. not (p y)) xs))
-]
+none_missing p (x ∷ xs) =
+    elim (p x) as (λ b. nat_eq (length (cond (not b) (x ∷ filter (λ y. not (p y)) xs) (filter (λ y. not (p y)) xs))) 0
+    ≡ (b && list_all p xs)) [
+      | true ↦ none_missing p xs
+      | false ↦ suc_is_some (length (filter (λ y. not (p y)) xs))
+    ]
   where
     suc_is_some : (n : ℕ) → nat_eq (suc n) 0 ≡ false
     suc_is_some n = ne_eqb (suc n) 0 (omega arith)
@@ -80,11 +93,13 @@ none_missing p (x ∷ xs) = elim (p x) as (λ b. nat_eq (length (cond (not b) (x
 pub first_at-is : (pool : PoolState) (words : ℕ) (committed : Bool) (level : ℕ)
     → first_at pool words committed level ≡ slice_get (found_at pool words committed level) 0
 unfolding first_at
-first_at-is pool words committed level = sym (head-filter (grants pool words committed level) (free_parts pool.held pool.slots))
+first_at-is pool words committed level =
+    sym (head-filter (grants pool words committed level) (free_parts pool.held pool.slots))
 
 of_five : {X : Type 0} (a b c d e : List X)
     → slice_get (a ++ (b ++ (c ++ (d ++ (e ++ []))))) 0
-    ≡ option_or (slice_get a 0) (option_or (slice_get b 0) (option_or (slice_get c 0) (option_or (slice_get d 0) (slice_get e 0))))
+    ≡ option_or (slice_get a 0)
+    (option_or (slice_get b 0) (option_or (slice_get c 0) (option_or (slice_get d 0) (slice_get e 0))))
 of_five (x ∷ a) b c d e = refl
 of_five [] (x ∷ b) c d e = refl
 of_five [] [] (x ∷ c) d e = refl
@@ -95,20 +110,28 @@ of_five [] [] [] [] [] = refl
 pub first_found-is : (pool : PoolState) (p m words : ℕ)
     → first_found pool p m words
     ≡ option_or (first_up pool words true p (min (p + 2) m)) (option_or (first_down pool words true p)
-    (option_or (first_up pool words true p m) (option_or (first_up pool words false p m) (first_down pool words false p))))
+    (option_or (first_up pool words true p m)
+    (option_or (first_up pool words false p m) (first_down pool words false p))))
 unfolding first_found first_up first_down
 first_found-is pool p m words =
-    of_five (flat_map (found_at pool words true) (levels_up p (min (p + 2) m))) (flat_map (found_at pool words true) (levels_down p))
-    (flat_map (found_at pool words true) (levels_up p m)) (flat_map (found_at pool words false) (levels_up p m)) (flat_map (found_at pool words false) (levels_down p))
+    of_five (flat_map (found_at pool words true) (levels_up p (min (p + 2) m)))
+    (flat_map (found_at pool words true) (levels_down p))
+    (flat_map (found_at pool words true) (levels_up p m)) (flat_map (found_at pool words false) (levels_up p m))
+    (flat_map (found_at pool words false) (levels_down p))
 
 -- A loop over levels: a turn that finds none, one that finds a part, and its end.
 pub none_here : {X : Type 0} (f : ℕ → List X) (n end : ℕ) (whole one : Option X) → n < end
     → whole ≡ slice_get (flat_map f (range_with_len n (end - n))) 0 → one ≡ slice_get (f n) 0 → one ≡ None
     → whole ≡ slice_get (flat_map f (range_with_len (n + 1) (end - (n + 1)))) 0
 none_here f n end whole one h is found none =
-    is ∙ head_step f n end h ∙ found_later (slice_get (f n) 0) (slice_get (flat_map f (range_with_len (n + 1) (end - (n + 1)))) 0) (sym found ∙ none)
+    is ∙ head_step f n end h
+    ∙ found_later (slice_get (f n) 0) (slice_get (flat_map f (range_with_len (n + 1) (end - (n + 1)))) 0)
+    (sym found ∙ none)
 
 pub some_here : {X : Type 0} (f : ℕ → List X) (n end : ℕ) (whole one : Option X) (x : X) → n < end
-    → whole ≡ slice_get (flat_map f (range_with_len n (end - n))) 0 → one ≡ slice_get (f n) 0 → one ≡ Some x → whole ≡ Some x
+    → whole ≡ slice_get (flat_map f (range_with_len n (end - n))) 0 → one ≡ slice_get (f n) 0 → one ≡ Some x
+    → whole ≡ Some x
 some_here f n end whole one x h is found some =
-    is ∙ head_step f n end h ∙ found_here (slice_get (f n) 0) (slice_get (flat_map f (range_with_len (n + 1) (end - (n + 1)))) 0) x (sym found ∙ some)
+    is ∙ head_step f n end h
+    ∙ found_here (slice_get (f n) 0) (slice_get (flat_map f (range_with_len (n + 1) (end - (n + 1)))) 0) x
+    (sym found ∙ some)

@@ -1,5 +1,6 @@
 -- The free parts of a space, slot by slot of those that it may have, and root by root.
-use Rattle.std.proofs.Common.{◌≡◌, ◌<◌, ◌≤◌, ℕ, ◌+◌, ◌-◌, ◌*◌, Bool, true, false, cond, ◌&&◌, ◌||◌, List, [], length, get_or, refl, sym, ap, ◌∙◌, arith, inl, inr, lt-ltb, le-leb}
+use Rattle.std.proofs.Common.{◌≡◌, ◌<◌, ◌≤◌, ℕ, ◌+◌, ◌-◌, ◌*◌, Bool, true, false, cond, ◌&&◌, ◌||◌, List, [], length}
+use Rattle.std.proofs.Common.{get_or, refl, sym, ap, ◌∙◌, arith, inl, inr, lt-ltb, le-leb}
 use Rattle.std.specs.Option.{option_or}
 use Rattle.std.specs.Prelude.{Option}
 use Rattle.std.specs.List.{filter, find, flat_map, range_with_len}
@@ -64,10 +65,12 @@ members_agree : (space : Space) (nodes : NodesState) (k : ℕ) → AreSound node
     → is_reserved (slots_of space nodes) k
     ≡ (is_reserved (all_slots nodes) k && is_in_range (first_slot space) (end_slot space nodes - first_slot space) k)
 members_agree NonClass nodes k sound = elim (cases_lt k 64) [
-  | inl low ↦ in_low (is_reserved nodes.slots k) (is_in_range 64 nodes.class_slots k) (is_in_range 0 64 k) true (grind (arith, nat_tests)) (grind (arith, nat_tests))
+  | inl low ↦ in_low (is_reserved nodes.slots k) (is_in_range 64 nodes.class_slots k) (is_in_range 0 64 k) true
+      (grind (arith, nat_tests)) (grind (arith, nat_tests))
       ∙ ap (λ b. b && is_in_range 0 64 k) (sym (reserved_either nodes k))
   | inr high ↦ none_high (is_reserved nodes.slots k) (is_in_range 0 64 k)
-      (false_from_ne_true (is_reserved nodes.slots k) (λ member. omega (arith, member_below 64 nodes.slots k sound.slots.below member)))
+      (false_from_ne_true (is_reserved nodes.slots k)
+      (λ member. omega (arith, member_below 64 nodes.slots k sound.slots.below member)))
       (grind (arith, nat_tests)) (is_in_range 64 nodes.class_slots k)
       ∙ ap (λ b. b && is_in_range 0 64 k) (sym (reserved_either nodes k))
 ]
@@ -81,14 +84,18 @@ members_agree Class nodes k sound =
     same_count = omega arith
 
 pub slots_are : (space : Space) (nodes : NodesState) → AreSound nodes
-    → slots_of space nodes ≡ filter (is_reserved (all_slots nodes)) (range_with_len (first_slot space) (end_slot space nodes - first_slot space))
+    → slots_of space nodes
+    ≡ filter (is_reserved (all_slots nodes))
+    (range_with_len (first_slot space) (end_slot space nodes - first_slot space))
 slots_are space nodes sound =
     same_sets (slots_of space nodes) (filter (is_reserved (all_slots nodes)) range)
     (sorted_from_strictly_increasing (slots_of space nodes) (slots_rise space nodes sound))
     (sorted_from_strictly_increasing (filter (is_reserved (all_slots nodes)) range)
-    (IsStrictlyIncreasing-filter (is_reserved (all_slots nodes)) range (IsStrictlyIncreasing-range (first_slot space) (end_slot space nodes - first_slot space))))
+    (IsStrictlyIncreasing-filter (is_reserved (all_slots nodes)) range
+    (IsStrictlyIncreasing-range (first_slot space) (end_slot space nodes - first_slot space))))
     (λ k. members_agree space nodes k sound
-    ∙ ap (λ b. is_reserved (all_slots nodes) k && b) (sym (is_among-range (first_slot space) (end_slot space nodes - first_slot space) k))
+    ∙ ap (λ b. is_reserved (all_slots nodes) k && b)
+    (sym (is_among-range (first_slot space) (end_slot space nodes - first_slot space) k))
     ∙ sym (is_among-filter (is_reserved (all_slots nodes)) range k))
   where
     range : List ℕ
@@ -99,50 +106,67 @@ abbrev pub given_by : NodesState → List Chunk → ℕ → List Span
 given_by nodes held slot = cond (is_reserved (all_slots nodes) slot) (free_in_slot held slot) []
 
 pub parts_by_slots : (space : Space) (nodes : NodesState) (held : List Chunk) → AreSound nodes
-    → free_parts held (slots_of space nodes) ≡ flat_map (given_by nodes held) (range_with_len (first_slot space) (end_slot space nodes - first_slot space))
+    → free_parts held (slots_of space nodes)
+    ≡ flat_map (given_by nodes held) (range_with_len (first_slot space) (end_slot space nodes - first_slot space))
 parts_by_slots space nodes held sound =
     ap (free_parts held) (slots_are space nodes sound)
-    ∙ flat_map-filter (is_reserved (all_slots nodes)) (free_in_slot held) (range_with_len (first_slot space) (end_slot space nodes - first_slot space))
+    ∙ flat_map-filter (is_reserved (all_slots nodes)) (free_in_slot held)
+    (range_with_len (first_slot space) (end_slot space nodes - first_slot space))
 
 -- The words of a slot of a space lie in it.
-pub root_in : (space : Space) (nodes : NodesState) (slot half : ℕ) → half ≤ 1 → first_slot space ≤ slot → slot < end_slot space nodes → IsRootIn space (2 * slot + half)
-root_in NonClass nodes slot half h low high offset within = lt-ltb (offset + (2 * slot + half) * root_words) 67108864 (omega arith)
-root_in Class nodes slot half h low high offset within = le-leb 67108864 (offset + (2 * slot + half) * root_words) (omega arith)
+pub root_in : (space : Space) (nodes : NodesState) (slot half : ℕ) → half ≤ 1 → first_slot space ≤ slot
+    → slot < end_slot space nodes → IsRootIn space (2 * slot + half)
+root_in NonClass nodes slot half h low high offset within =
+    lt-ltb (offset + (2 * slot + half) * root_words) 67108864 (omega arith)
+root_in Class nodes slot half h low high offset within =
+    le-leb 67108864 (offset + (2 * slot + half) * root_words) (omega arith)
 
-words_in_space : (space : Space) (nodes : NodesState) (slot half words : ℕ) → half ≤ 1 → first_slot space ≤ slot → slot < end_slot space nodes
+words_in_space : (space : Space) (nodes : NodesState) (slot half words : ℕ) → half ≤ 1 → first_slot space ≤ slot
+    → slot < end_slot space nodes
     → (offset : ℕ) → offset + words ≤ root_words → IsRunOf space (offset + (2 * slot + half) * root_words) words
 words_in_space NonClass nodes slot half words h low high offset within = omega arith
 words_in_space Class nodes slot half words h low high offset within = omega arith
 
-pub root_there : (space : Space) (nodes : NodesState) (slot half count : ℕ) → half ≤ 1 → first_slot space ≤ slot → slot < end_slot space nodes
+pub root_there : (space : Space) (nodes : NodesState) (slot half count : ℕ) → half ≤ 1 → first_slot space ≤ slot
+    → slot < end_slot space nodes
     → count ≡ 2 * (64 + nodes.class_slots) → 2 * slot + half < count
 root_there NonClass nodes slot half count h low high e = omega arith
 root_there Class nodes slot half count h low high e = omega arith
 
-pub committed_is : (space : Space) (lender : Lender) → committed_of space (ledger_of lender) ≡ granules_in space lender.nodes
+pub committed_is : (space : Space) (lender : Lender)
+    → committed_of space (ledger_of lender) ≡ granules_in space lender.nodes
 committed_is NonClass lender = refl
 committed_is Class lender = refl
 
 -- The first part of a root that grants, from its tree.
-root_found : (space : Space) (lender : Lender) (words : ℕ) (committed : Bool) (level slot half : ℕ) → IsKept lender → 1 ≤ words → words ≤ size_of level
+root_found : (space : Space) (lender : Lender) (words : ℕ) (committed : Bool) (level slot half : ℕ) → IsKept lender
+    → 1 ≤ words → words ≤ size_of level
     → half ≤ 1 → first_slot space ≤ slot → slot < end_slot space lender.nodes
-    → find (grants (state_in space (ledger_of lender)) words committed level) (free_within (held_in space (ledger_of lender)) 12 ((2 * slot + half) * root_words))
-    ≡ first_in lender.nodes.granules (granule_of lender.policy) words committed level (2 * slot + half) (get_or lender.trees.items (2 * slot + half) [])
+    → find (grants (state_in space (ledger_of lender)) words committed level)
+    (free_within (held_in space (ledger_of lender)) 12 ((2 * slot + half) * root_words))
+    ≡ first_in lender.nodes.granules (granule_of lender.policy) words committed level (2 * slot + half)
+    (get_or lender.trees.items (2 * slot + half) [])
 root_found space lender words committed level slot half kept some fits h low high =
     ap (find (grants (state_in space (ledger_of lender)) words committed level))
     (free_in_root space lender.trees.items (2 * slot + half)
     (root_there space lender.nodes slot half (length lender.trees.items) h low high kept.trees)
     (recursion_from_All AreLeaves lender.trees.items kept.leaves) (root_in space lender.nodes slot half h low high))
-    ∙ sym (first_in-is space lender.policy lender.nodes (state_in space (ledger_of lender)) words committed level (2 * slot + half)
+    ∙ sym (first_in-is space lender.policy lender.nodes (state_in space (ledger_of lender)) words committed level
+    (2 * slot + half)
     (get_or lender.trees.items (2 * slot + half) []) refl (committed_is space lender) kept.granule some fits
     (words_in_space space lender.nodes slot half words h low high))
 
 -- So that of a slot, from the trees of its two roots.
-pub slot_found : (space : Space) (lender : Lender) (words : ℕ) (committed : Bool) (level slot : ℕ) → IsKept lender → 1 ≤ words → words ≤ size_of level
+pub slot_found : (space : Space) (lender : Lender) (words : ℕ) (committed : Bool) (level slot : ℕ) → IsKept lender
+    → 1 ≤ words → words ≤ size_of level
     → first_slot space ≤ slot → slot < end_slot space lender.nodes
-    → find (grants (state_in space (ledger_of lender)) words committed level) (free_in_slot (held_in space (ledger_of lender)) slot)
-    ≡ option_or (first_in lender.nodes.granules (granule_of lender.policy) words committed level (2 * slot) (get_or lender.trees.items (2 * slot) []))
-    (first_in lender.nodes.granules (granule_of lender.policy) words committed level (2 * slot + 1) (get_or lender.trees.items (2 * slot + 1) []))
+    → find (grants (state_in space (ledger_of lender)) words committed level)
+    (free_in_slot (held_in space (ledger_of lender)) slot)
+    ≡ option_or
+    (first_in lender.nodes.granules (granule_of lender.policy) words committed level (2 * slot)
+    (get_or lender.trees.items (2 * slot) []))
+    (first_in lender.nodes.granules (granule_of lender.policy) words committed level (2 * slot + 1)
+    (get_or lender.trees.items (2 * slot + 1) []))
 slot_found space lender words committed level slot kept some fits low high =
     find-append test (free_within held 12 (slot * node_words)) (free_within held 12 (slot * node_words + size_of 0))
     ∙ ap (λ (o : Option Span). option_or o (find test (free_within held 12 (slot * node_words + size_of 0))))
@@ -160,7 +184,9 @@ slot_found space lender words committed level slot kept some fits low high =
     held = held_in space (ledger_of lender)
 
     in_root : ℕ → Option Span
-    in_root root = first_in lender.nodes.granules (granule_of lender.policy) words committed level root (get_or lender.trees.items root [])
+    in_root root =
+        first_in lender.nodes.granules (granule_of lender.policy) words committed level root
+        (get_or lender.trees.items root [])
 
     plain : 2 * slot + 0 ≡ 2 * slot
     plain = omega arith

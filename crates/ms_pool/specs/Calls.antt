@@ -6,12 +6,14 @@ use Rattle.ms_base.specs.declared.kind.Space.TheVariants.{NonClass, Class}
 use Rattle.ms_base.specs.declared.span.Chunk.{Chunk}
 use Rattle.ms_base.specs.declared.span.Span.{Span}
 use Rattle.ms_base.specs.declared.refusal.Refusal.{Refusal}
-use Rattle.ms_base.specs.declared.refusal.Refusal.TheVariants.{CommitLimit, ReserveLimit, OutOfMemory, IdsUsedUp, NoRoom}
+use Rattle.ms_base.specs.declared.refusal.Refusal.TheVariants.{CommitLimit, ReserveLimit, OutOfMemory, IdsUsedUp}
+use Rattle.ms_base.specs.declared.refusal.Refusal.TheVariants.{NoRoom}
 use Rattle.ms_base.specs.PoolSteps.{taken, grown}
 use Rattle.ms_pool.specs.Account.{AccountState}
 use Rattle.ms_pool.specs.Lending.{span_of}
 use Rattle.ms_pool.specs.Tallies.{Tallies, one_more}
-use Rattle.ms_pool.specs.Ledger.{Ledger, state_in, with_lent, with_grown, with_opened, with_closed, with_both_closed, purged, opened_in}
+use Rattle.ms_pool.specs.Ledger.{Ledger, state_in, with_lent, with_grown, with_opened, with_closed, with_both_closed}
+use Rattle.ms_pool.specs.Ledger.{purged, opened_in}
 use Rattle.ms_base.specs.Totals.{PoolSums, pool_sums}
 use Rattle.ms_pool.specs.declared.totals.PoolTotals.{PoolTotals}
 

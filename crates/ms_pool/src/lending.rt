@@ -1,6 +1,7 @@
 //! Lending, growing and taking back: the calls that change which chunks are lent.
 
-ghost use Rattle.std.specs.Prelude.{◌≡◌, ◌+◌, ◌<◌, ◌≤◌, ◌^◌, true, false, length, IsSome, IfSome, OnSome, IfNone, IfOk, OnErr, Some, ◌-◌, ◌*◌, ◌/◌, ◌%◌, IsTrue, IsFalse, slice_get, ◌↔◌};
+ghost use Rattle.std.specs.Prelude.{◌≡◌, ◌+◌, ◌<◌, ◌≤◌, ◌^◌, true, false, length, IsSome, IfSome, OnSome, IfNone, IfOk};
+ghost use Rattle.std.specs.Prelude.{OnErr, Some, ◌-◌, ◌*◌, ◌/◌, ◌%◌, IsTrue, IsFalse, slice_get, ◌↔◌};
 ghost use Rattle.ms_base.specs.declared.kind.Space.TheVariants.{NonClass, Class};
 ghost use Rattle.std.specs.List.{All};
 ghost use Rattle.ms_base.specs.Part.{is_reserved, slot_of};

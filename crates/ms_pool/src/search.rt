@@ -21,7 +21,8 @@ ghost use Rattle.ms_commit.specs.Nodes.{all_slots};
 ghost use Rattle.ms_pool.specs.Ledger.{state_in};
 ghost use Rattle.ms_pool.specs.Lending.{MayTake};
 ghost use Rattle.ms_pool.specs.Keeping.{IsKept, ledger_of};
-ghost use Rattle.ms_pool.specs.Searching.{least_granule, are_among, first_at, first_down, first_found, first_in, first_in_slot, first_up};
+ghost use Rattle.ms_pool.specs.Searching.{least_granule, are_among, first_at, first_down, first_found, first_in};
+ghost use Rattle.ms_pool.specs.Searching.{first_in_slot, first_up};
 
 use crate::lender::Lender;
 use ms_base::{Level, Policy, ROOT_WORDS, SLOTS, Space, Span, granule};

@@ -10,7 +10,8 @@
 //! that level. A root that isn't reserved is whole, so at level 0 it has its bit, and whoever asks
 //! looks whether its slot is reserved. Each change of a tree tells the 13 bits of its root anew. The
 //! places of trees and index are made once.
-ghost use Rattle.std.specs.Prelude.{◌≡◌, ℕ, ◌+◌, ◌-◌, ◌*◌, ◌/◌, ◌%◌, ◌<◌, ◌≤◌, false, [], get_or, length, replicate, IfOk, IfSome, IfNone, IsTrue, IsFalse, Some};
+ghost use Rattle.std.specs.Prelude.{◌≡◌, ℕ, ◌+◌, ◌-◌, ◌*◌, ◌/◌, ◌%◌, ◌<◌, ◌≤◌, false, [], get_or, length, replicate};
+ghost use Rattle.std.specs.Prelude.{IfOk, IfSome, IfNone, IsTrue, IsFalse, Some};
 ghost use Rattle.std.specs.List.{All, find};
 ghost use Rattle.ms_base.specs.Committed.{is_among};
 ghost use Rattle.ms_base.specs.Level.{root_words};

@@ -1,26 +1,42 @@
 -- Lengths of padded texts and of lines made of them. Used by `laws`.
-use Rattle.std.proofs.Common.{◌≡◌, ◌≤◌, ◌<◌, ℕ, ◌+◌, ◌-◌, ◌^◌, List, [], ◌∷◌, ◌++◌, length, replicate, ap, ◌∙◌, sym, refl, arith, length-append, suc, zero}
+use Rattle.std.proofs.Common.{◌≡◌, ◌≤◌, ◌<◌, ℕ, ◌+◌, ◌-◌, ◌^◌, List, [], ◌∷◌, ◌++◌, length, replicate}
+use Rattle.std.proofs.Common.{refl, arith, length-append, suc, zero}
 use Rattle.std.specs.Fmt.{decimal}
 use Rattle.std.proofs.lemmas.List.{length-replicate}
 use Rattle.std.proofs.Math.Nat.{pow-le-pow_right}
 use Rattle.std.proofs.lemmas.Fmt.{length-decimal-le}
 use Rattle.ms_base.specs.Level.{size_of}
 use Rattle.ms_base.specs.Totals.{LoaderRow}
-use Rattle.ms_report.specs.Layout.{left_in, right_in, number_line, Table, cells, table_line, level_table, level_texts, loader_table, loader_texts, kind_text}
+use Rattle.ms_report.specs.Layout.{left_in, right_in, number_line, Table, cells, table_line, level_table, level_texts}
+use Rattle.ms_report.specs.Layout.{loader_table, loader_texts, kind_text}
 use Rattle.ms_base.proofs.free.HalvesLemmas.{size_falls}
 use Rattle.ms_base.specs.declared.kind.Kind.{Kind}
 use Rattle.ms_base.specs.declared.kind.Kind.TheVariants.{Standard, Boot, Reflection, Hidden}
 use Rattle.ms_report.specs.LayoutLaws.{IsWithin}
 
 left_fits : (places : ℕ) (text : List ℕ) → length text ≤ places → length (left_in places text) ≡ places
-left_fits places text fits = omega (arith, length-append text (replicate (places - length text) 32), length-replicate {A = ℕ} (places - length text) 32, fits)
+left_fits places text fits =
+    omega (
+      arith,
+      length-append text (replicate (places - length text) 32),
+      length-replicate {A = ℕ} (places - length text) 32,
+      fits,
+    )
 
 right_fits : (places : ℕ) (text : List ℕ) → length text ≤ places → length (right_in places text) ≡ places
-right_fits places text fits = omega (arith, length-append (replicate (places - length text) 32) text, length-replicate {A = ℕ} (places - length text) 32, fits)
+right_fits places text fits =
+    omega (
+      arith,
+      length-append (replicate (places - length text) 32) text,
+      length-replicate {A = ℕ} (places - length text) 32,
+      fits,
+    )
 
-pub number_line_length : (label : List ℕ) (number : ℕ) → length label ≤ 12 → number < 10 ^ 12 → length (number_line label number) ≡ 27
+pub number_line_length : (label : List ℕ) (number : ℕ) → length label ≤ 12 → number < 10 ^ 12
+    → length (number_line label number) ≡ 27
 number_line_length label number short small =
-    let digits : length (decimal number) ≤ 12 = length-decimal-le 12 number (omega arith) small (omega (arith, small)) in
+    let digits : length (decimal number) ≤ 12 =
+    length-decimal-le 12 number (omega arith) small (omega (arith, small)) in
     omega (
       arith,
       left_fits 12 label short,
@@ -40,14 +56,21 @@ abbrev places_of : Table → ℕ
 places_of [] = 0
 places_of (column ∷ columns) = column.1 + places_of columns
 
-cells_length : (table : Table) (texts : List (List ℕ)) → FitIn table texts → length (cells table texts) ≡ places_of table
+cells_length : (table : Table) (texts : List (List ℕ)) → FitIn table texts
+    → length (cells table texts) ≡ places_of table
 cells_length [] [] fit = refl
 cells_length [] (text ∷ texts) fit = absurd fit
 cells_length (column ∷ columns) [] fit = absurd fit
 cells_length (column ∷ columns) (text ∷ texts) fit =
-    omega (arith, right_fits column.1 text fit.0, length-append (right_in column.1 text) (cells columns texts), cells_length columns texts fit.1)
+    omega (
+      arith,
+      right_fits column.1 text fit.0,
+      length-append (right_in column.1 text) (cells columns texts),
+      cells_length columns texts fit.1,
+    )
 
-line_length : (table : Table) (texts : List (List ℕ)) → FitIn table texts → length (table_line table texts) ≡ places_of table + 3
+line_length : (table : Table) (texts : List (List ℕ)) → FitIn table texts
+    → length (table_line table texts) ≡ places_of table + 3
 line_length table texts fit = omega (arith, length-append (cells table texts) (10 ∷ []), cells_length table texts fit)
 
 pub level_line_length : (level held free : ℕ) → level ≤ 12 → held ≤ 655360 → free ≤ 655360
@@ -83,7 +106,8 @@ loader_line_length row within =
         (
           length-decimal-le 8 row.chunks (omega arith) (omega (arith, within.chunks)) (omega (arith, within.chunks)),
           (
-            length-decimal-le 10 row.capacity (omega arith) (omega (arith, within.capacity)) (omega (arith, within.capacity)),
+            length-decimal-le 10 row.capacity (omega arith) (omega (arith, within.capacity))
+                (omega (arith, within.capacity)),
             (
               length-decimal-le 10 row.used (omega arith) (omega (arith, within.used)) (omega (arith, within.used)),
               (
@@ -97,7 +121,8 @@ loader_line_length row within =
     )
 
 -- A text that is shorter than its column has a space before it.
-before_short : (places : ℕ) (text : List ℕ) → length text < places → (rest : List ℕ) × (right_in places text ≡ 32 ∷ rest)
+before_short : (places : ℕ) (text : List ℕ) → length text < places
+    → (rest : List ℕ) × (right_in places text ≡ 32 ∷ rest)
 before_short places text short = spaces (places - length text) (omega (arith, short))
   where
     spaces : (count : ℕ) → 0 < count → (rest : List ℕ) × (replicate count 32 ++ text ≡ 32 ∷ rest)
@@ -107,5 +132,6 @@ before_short places text short = spaces (places - length text) (omega (arith, sh
 pub digits_stand_apart : (places number : ℕ) → 0 < places → places ≤ 18 → number < 10 ^ places
     → (rest : List ℕ) × (right_in (places + 1) (decimal number) ≡ 32 ∷ rest)
 digits_stand_apart places number some few below =
-    let small : number < 2 ^ 64 = let most = pow-le-pow_right {n = 10} (omega arith) few in omega (arith, below, most) in
+    let small : number < 2 ^ 64 = let most = pow-le-pow_right {n = 10} (omega arith) few in
+    omega (arith, below, most) in
     before_short (places + 1) (decimal number) (omega (arith, length-decimal-le places number some below small))

@@ -6,7 +6,8 @@ pub adds_two : (old mid new a b : List ℕ) → mid ≡ old ++ a → new ≡ mid
 adds_two old mid new a b first second = second ∙ ap (λ (text : List ℕ). text ++ b) first ∙ append_assoc old a b
 
 pub adds_three : (old t1 t2 t3 a b c : List ℕ) → t1 ≡ old ++ a → t2 ≡ t1 ++ b → t3 ≡ t2 ++ c → t3 ≡ old ++ (a ++ b ++ c)
-adds_three old t1 t2 t3 a b c first second third = adds_two old t2 t3 (a ++ b) c (adds_two old t1 t2 a b first second) third
+adds_three old t1 t2 t3 a b c first second third =
+    adds_two old t2 t3 (a ++ b) c (adds_two old t1 t2 a b first second) third
 
 pub adds_four : (old t1 t2 t3 t4 a b c d : List ℕ) → t1 ≡ old ++ a → t2 ≡ t1 ++ b → t3 ≡ t2 ++ c → t4 ≡ t3 ++ d
     → t4 ≡ old ++ (a ++ b ++ c ++ d)

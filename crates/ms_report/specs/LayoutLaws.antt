@@ -3,7 +3,8 @@
 use Rattle.std.specs.Prelude.{◌≡◌, ℕ, ◌+◌, ◌≤◌, ◌<◌, ◌^◌, List, ◌∷◌, length}
 use Rattle.std.specs.Fmt.{decimal}
 use Rattle.ms_base.specs.Totals.{LoaderRow}
-use Rattle.ms_report.specs.Layout.{number_line, right_in, table_line, header, level_table, level_texts, loader_table, loader_texts}
+use Rattle.ms_report.specs.Layout.{number_line, right_in, table_line, header, level_table, level_texts, loader_table}
+use Rattle.ms_report.specs.Layout.{loader_texts}
 
 -- A line of a label and a number has 26 bytes and a newline.
 abbrev pub NumbersLineUp : Type 0

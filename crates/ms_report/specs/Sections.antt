@@ -1,7 +1,8 @@
 -- The text of a report: its sections in their order (this project's choice).
-use Rattle.std.specs.Prelude.{ℕ, ◌==◌, List, [], ◌∷◌, ◌++◌, codes, if◌then◌else◌}
+use Rattle.std.specs.Prelude.{ℕ, ◌==◌, List, [], ◌++◌, codes, if◌then◌else◌}
 use Rattle.ms_base.specs.Totals.{SpaceSums, LoaderRow, Sums}
-use Rattle.ms_report.specs.Layout.{number_line, number_lines, space_rows, header, level_table, level_lines, loader_table, loader_lines}
+use Rattle.ms_report.specs.Layout.{number_line, number_lines, space_rows, header, level_table, level_lines}
+use Rattle.ms_report.specs.Layout.{loader_table, loader_lines}
 
 -- A space's levels: the headings, then thirteen lines.
 abbrev pub levels_part : SpaceSums → List ℕ

@@ -5,7 +5,8 @@
 //! for the totals. `text` takes memory for the text alone.
 ghost use Rattle.std.specs.Prelude.{◌≡◌, ◌++◌, IfOk, OnOk, string_bytes, map};
 ghost use Rattle.ms_loaders.specs.Sums.{sums_in, space_in, row_in};
-ghost use Rattle.ms_report.specs.Layout.{number_lines, space_rows, kind_text, level_table, level_texts, loader_table, loader_lines, loader_texts, table_line};
+ghost use Rattle.ms_report.specs.Layout.{number_lines, space_rows, kind_text, level_table, level_texts, loader_table};
+ghost use Rattle.ms_report.specs.Layout.{loader_lines, loader_texts, table_line};
 ghost use Rattle.ms_report.specs.Sections.{levels_part, main_part, class_part, class_lines, loaders_part, report_text};
 
 use crate::layout::{

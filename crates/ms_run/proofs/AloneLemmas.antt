@@ -22,10 +22,13 @@ answers_append old mid new (line ∷ lines) more (answer ∷ answers) added firs
 
 -- The first lines are answered, and then the next one, which adds an answer.
 abbrev pub AddsNext : Machine → Line → List Answer → List Answer → Machine → Type 0
-AddsNext mid line answers whole new = (added : Answer) × (whole ≡ answers ++ added ∷ []) × Answers mid (line ∷ []) (added ∷ []) new
+AddsNext mid line answers whole new =
+    (added : Answer) × (whole ≡ answers ++ added ∷ []) × Answers mid (line ∷ []) (added ∷ []) new
 
 pub answers_next : (old mid new : Machine) (lines : List Line) (at : ℕ) (line : Line) (answers whole : List Answer)
-    → Answers old (take at lines) answers mid → at < length lines → AddsNext mid (get_or lines at line) answers whole new
+    → Answers old (take at lines) answers mid → at < length lines
+    → AddsNext mid (get_or lines at line) answers whole new
     → Answers old (take (at + 1) lines) whole new
 answers_next old mid new lines at line answers whole first more next =
-    rw (next.1, take_more lines at line more) (answers_append old mid new (take at lines) (get_or lines at line ∷ []) answers (next.0 ∷ []) first next.2)
+    rw (next.1, take_more lines at line more)
+    (answers_append old mid new (take at lines) (get_or lines at line ∷ []) answers (next.0 ∷ []) first next.2)

@@ -1,5 +1,8 @@
 -- Lines and loaders dealt to shares by their places. For `deal`.
-use Rattle.std.proofs.Common.{◌≡◌, ◌≢◌, ◌≤◌, ◌<◌, ◌+◌, ◌-◌, ℕ, zero, suc, Bool, true, false, cond, ◌||◌, Option, Some, None, List, [], ◌∷◌, ◌++◌, map, length, refl, sym, ap, ◌∙◌, subst, ◌⊎◌, inl, inr, ⊎_elim, arith, eq-eqb, ne_eqb, take, drop, get_or, slice_get, replicate, vec_len, vec_capacity, Vec, Global, slice_set, append-nil}
+use Rattle.std.proofs.Common.{◌≡◌, ◌≢◌, ◌≤◌, ◌<◌, ◌+◌, ◌-◌, ℕ, zero, suc, Bool, true, false, cond, ◌||◌, Option, Some}
+use Rattle.std.proofs.Common.{None, List, [], ◌∷◌, ◌++◌, map, length, refl, sym, ap, ◌∙◌, subst, ◌⊎◌, inl, inr, ⊎_elim}
+use Rattle.std.proofs.Common.{arith, eq-eqb, ne_eqb, take, drop, get_or, slice_get, replicate, vec_len, vec_capacity}
+use Rattle.std.proofs.Common.{Vec, Global, slice_set, append-nil}
 use Rattle.std.specs.Prelude.{◌==◌, IsTrue}
 use Rattle.std.specs.Ordering.{nat_cmp}
 use Rattle.std.specs.List.{All, AllByRecursion, filter}
@@ -36,12 +39,14 @@ use Rattle.ms_run.specs.declared.share.Task.{Task}
 use Rattle.ms_run.specs.declared.share.Share.{Share}
 use Rattle.ms_run.specs.Manned.{IsManned}
 use Rattle.ms_run.specs.Shares.{Place, IsReady, tasks_of, task_of, tasks_at, AreDealt, AreWithin}
-use Rattle.ms_run.specs.Dealing.{Loaded, AreBeside, AreCrews, IsHanded, AreHanded, AreSeats, IsShareAt, AreSharesFrom, AreDealtTo, is_placed, TaskLists, AreListed, AreEmpty, AreAdded}
+use Rattle.ms_run.specs.Dealing.{Loaded, AreBeside, AreCrews, IsHanded, AreHanded, AreSeats, IsShareAt, AreSharesFrom}
+use Rattle.ms_run.specs.Dealing.{AreDealtTo, is_placed, TaskLists, AreListed, AreEmpty, AreAdded}
 
 -- The loader of a name went over, or is where it was.
 abbrev pub IsEither : Loaded → Loaded → Loaded → ℕ → Type 0
 IsEither loaders after others name =
-    ((named others name ≡ named loaders name) × (named after name ≡ None)) ⊎ ((named others name ≡ None) × (named after name ≡ named loaders name))
+    ((named others name ≡ named loaders name) × (named after name ≡ None))
+    ⊎ ((named others name ≡ None) × (named after name ≡ named loaders name))
 
 -- The loaders of a place, while they go over: those of the names that are left haven't.
 pub record IsHanding (place : Place) (at : ℕ) (loaders after others : Loaded) (names : List ℕ) : Type 0 where
@@ -54,15 +59,18 @@ or_false_right : (b : Bool) {c : Bool} → (b || c) ≡ false → c ≡ false
 or_false_right true nope = absurd (cc)
 or_false_right false nope = nope
 
-among_rest : (b : Bool) (x name : ℕ) (xs : List ℕ) → is_among (cond b (x ∷ xs) xs) name ≡ false → is_among xs name ≡ false
+among_rest : (b : Bool) (x name : ℕ) (xs : List ℕ) → is_among (cond b (x ∷ xs) xs) name ≡ false
+    → is_among xs name ≡ false
 among_rest true x name xs nope = or_false_right (x == name) nope
 among_rest false x name xs nope = nope
 
 not_both : (b : Bool) → b ≡ true → b ≡ false → ⊥
 not_both b holds nope = absurd (cc)
 
-among_first : (b : Bool) (x name : ℕ) (xs : List ℕ) → b ≡ true → x ≡ name → is_among (cond b (x ∷ xs) xs) name ≡ false → ⊥
-among_first true x name xs holds same nope = not_both (is_among (x ∷ xs) name) (ap (λ c. c || is_among xs name) (eq-eqb x name same)) nope
+among_first : (b : Bool) (x name : ℕ) (xs : List ℕ) → b ≡ true → x ≡ name → is_among (cond b (x ∷ xs) xs) name ≡ false
+    → ⊥
+among_first true x name xs holds same nope =
+    not_both (is_among (x ∷ xs) name) (ap (λ c. c || is_among xs name) (eq-eqb x name same)) nope
 among_first false x name xs holds same nope = absurd (cc)
 
 none_there : (place : Place) (at : ℕ) (loaders : Loaded) (name : ℕ) → place (Some name) ≡ at
@@ -71,20 +79,25 @@ none_there place at [] name is nope = refl
 none_there place at (e ∷ es) name is nope =
     elim (is_at (nat_cmp name) e.0) as (λ b. is_at (nat_cmp name) e.0 ≡ b → cond b (Some e.1) (named es name) ≡ None) [
       | true ↦ λ here. absurd (among_first (place (Some e.0) == at) e.0 name (filter (is_placed place at) (keys_of es))
-          (eq-eqb (place (Some e.0)) at (ap (λ (n : ℕ). place (Some n)) (same_name name e.0 here) ∙ is)) (same_name name e.0 here) nope)
-      | false ↦ λ past. none_there place at es name is (among_rest (place (Some e.0) == at) e.0 name (filter (is_placed place at) (keys_of es)) nope)
+          (eq-eqb (place (Some e.0)) at (ap (λ (n : ℕ). place (Some n)) (same_name name e.0 here) ∙ is))
+          (same_name name e.0 here) nope)
+      | false ↦ λ past. none_there place at es name is
+          (among_rest (place (Some e.0) == at) e.0 name (filter (is_placed place at) (keys_of es)) nope)
     ] refl
 
-all_placed : (place : Place) (at : ℕ) (names : List ℕ) → AllByRecursion (λ (name : ℕ). place (Some name) ≡ at) (filter (is_placed place at) names)
+all_placed : (place : Place) (at : ℕ) (names : List ℕ)
+    → AllByRecursion (λ (name : ℕ). place (Some name) ≡ at) (filter (is_placed place at) names)
 all_placed place at [] = tt
 all_placed place at (x ∷ xs) =
     elim (place (Some x) == at) as (λ b. (place (Some x) == at) ≡ b
-    → AllByRecursion (λ (name : ℕ). place (Some name) ≡ at) (cond b (x ∷ filter (is_placed place at) xs) (filter (is_placed place at) xs))) [
+    → AllByRecursion (λ (name : ℕ). place (Some name) ≡ at)
+    (cond b (x ∷ filter (is_placed place at) xs) (filter (is_placed place at) xs))) [
       | true ↦ λ here. (eqb-true (place (Some x)) at here, all_placed place at xs)
       | false ↦ λ past. all_placed place at xs
     ] refl
 
-pub handing_starts : (place : Place) (at : ℕ) (loaders others : Loaded) (names : List ℕ) → others ≡ [] → names ≡ filter (is_placed place at) (keys_of loaders)
+pub handing_starts : (place : Place) (at : ℕ) (loaders others : Loaded) (names : List ℕ) → others ≡ []
+    → names ≡ filter (is_placed place at) (keys_of loaders)
     → IsHanding place at loaders loaders others names
 handing_starts place at loaders others names nothing are = rw (nothing, are) (record {
   apart = λ name differs. (refl, refl);
@@ -94,21 +107,26 @@ handing_starts place at loaders others names nothing are = rw (nothing, are) (re
 })
 
 pub handing_on : (place : Place) (at : ℕ) (loaders after others after' others' : Loaded) (name : ℕ) (names : List ℕ)
-    → IsHanding place at loaders after others (name ∷ names) → IsHanded name after others after' others' → IsHanding place at loaders after' others' names
+    → IsHanding place at loaders after others (name ∷ names) → IsHanded name after others after' others'
+    → IsHanding place at loaders after' others' names
 handing_on place at loaders after others after' others' name names its went = record {
   apart = λ n differs.
       let stay = went.stay n (λ same. differs (ap (λ (k : ℕ). place (Some k)) (sym same) ∙ its.placed.0)) in
       (stay.1 ∙ (its.apart n differs).0, stay.0 ∙ (its.apart n differs).1);
-  each = λ n. dite (ℕ_discrete name n) (λ same. subst (IsEither loaders after' others') same here) (λ differs. past n differs);
+  each = λ n. dite (ℕ_discrete name n) (λ same. subst (IsEither loaders after' others') same here)
+      (λ differs. past n differs);
   none = λ n is nope. dite (ℕ_discrete name n) (λ same. subst (λ (k : ℕ). named after' k ≡ None) same went.gone)
-      (λ differs. (went.stay n differs).0 ∙ its.none n is (ap (λ b. b || is_among names n) (ne_eqb name n differs) ∙ nope));
+      (λ differs. (went.stay n differs).0
+      ∙ its.none n is (ap (λ b. b || is_among names n) (ne_eqb name n differs) ∙ nope));
   placed = its.placed.1;
 }
   where
     here : IsEither loaders after' others' name
     here = ⊎_elim
-        (λ some. ⊎_elim (λ gone. absurd (some.0 gone.1)) (λ not_yet. inl (some.1 ∙ not_yet.1, went.gone)) (its.each name))
-        (λ none. ⊎_elim (λ gone. inl (none.1 ∙ gone.0, went.gone)) (λ not_yet. inr (none.1 ∙ not_yet.0, went.gone ∙ sym none.0 ∙ not_yet.1)) (its.each name))
+        (λ some. ⊎_elim (λ gone. absurd (some.0 gone.1)) (λ not_yet. inl (some.1 ∙ not_yet.1, went.gone))
+        (its.each name))
+        (λ none. ⊎_elim (λ gone. inl (none.1 ∙ gone.0, went.gone))
+        (λ not_yet. inr (none.1 ∙ not_yet.0, went.gone ∙ sym none.0 ∙ not_yet.1)) (its.each name))
         went.there
 
     past : (n : ℕ) → name ≢ n → IsEither loaders after' others' n
@@ -117,43 +135,53 @@ handing_on place at loaders after others after' others' name names its went = re
         (λ not_yet. inr ((went.stay n differs).1 ∙ not_yet.0, (went.stay n differs).0 ∙ not_yet.1))
         (its.each n)
 
-pub handing_ends : (place : Place) (at : ℕ) (loaders after others : Loaded) → IsHanding place at loaders after others [] → AreHanded place at loaders after others
+pub handing_ends : (place : Place) (at : ℕ) (loaders after others : Loaded) → IsHanding place at loaders after others []
+    → AreHanded place at loaders after others
 handing_ends place at loaders after others its = record {
-  here = λ name is. (⊎_elim (λ gone. gone.0) (λ not_yet. not_yet.0 ∙ sym (its.none name is refl) ∙ not_yet.1) (its.each name), its.none name is refl);
+  here = λ name is. (
+    ⊎_elim (λ gone. gone.0) (λ not_yet. not_yet.0 ∙ sym (its.none name is refl) ∙ not_yet.1) (its.each name),
+    its.none name is refl,
+  );
   apart = its.apart;
 }
 
 -- Names that are listed, and those to come.
-pub names_more : (p : ℕ → Bool) (names names' : List ℕ) (name : ℕ) (rest all : List ℕ) → names' ≡ names ++ filter p (name ∷ [])
+pub names_more : (p : ℕ → Bool) (names names' : List ℕ) (name : ℕ) (rest all : List ℕ)
+    → names' ≡ names ++ filter p (name ∷ [])
     → names ++ filter p (name ∷ rest) ≡ all → names' ++ filter p rest ≡ all
 names_more p names names' name rest all step before =
     ap (λ (l : List ℕ). l ++ filter p rest) step ∙ append_assoc names (filter p (name ∷ [])) (filter p rest)
     ∙ ap (λ (l : List ℕ). names ++ l) (sym (filter-append p (name ∷ []) rest)) ∙ before
 
 -- Tasks of one line more.
-task_joined : (line : Line) (step : Option Step) (tasks more : List Task) → task_of line step (tasks ++ more) ≡ task_of line step tasks ++ more
+task_joined : (line : Line) (step : Option Step) (tasks more : List Task)
+    → task_of line step (tasks ++ more) ≡ task_of line step tasks ++ more
 task_joined line None tasks more = refl
 task_joined line (Some step) tasks more = refl
 
 tasks_joined : (lines more : List Line) → tasks_of (lines ++ more) ≡ tasks_of lines ++ tasks_of more
 tasks_joined [] more = refl
 tasks_joined (line ∷ lines) more =
-    ap (task_of line (step_of line.command)) (tasks_joined lines more) ∙ task_joined line (step_of line.command) (tasks_of lines) (tasks_of more)
+    ap (task_of line (step_of line.command)) (tasks_joined lines more)
+    ∙ task_joined line (step_of line.command) (tasks_of lines) (tasks_of more)
 
 abbrev goes_to : Place → ℕ → Task → Bool
 goes_to place at task = place (loader_of task.step) == at
 
 -- What stands at a place where one was set.
-set_there : {X : Type 0} (xs : List X) (i k : ℕ) (x y : X) → slice_get (slice_set xs i y) k ≡ Some x → ((k ≡ i) × (x ≡ y)) ⊎ ((k ≢ i) × (slice_get xs k ≡ Some x))
+set_there : {X : Type 0} (xs : List X) (i k : ℕ) (x y : X) → slice_get (slice_set xs i y) k ≡ Some x
+    → ((k ≡ i) × (x ≡ y)) ⊎ ((k ≢ i) × (slice_get xs k ≡ Some x))
 set_there [] i k x y found = absurd (cc)
 set_there (z ∷ xs) zero zero x y found = inl (refl, cc)
 set_there (z ∷ xs) zero (suc k) x y found = inr ((λ same. omega (arith, same)), found)
 set_there (z ∷ xs) (suc i) zero x y found = inr ((λ same. omega (arith, same)), found)
 set_there (z ∷ xs) (suc i) (suc k) x y found =
-    ⊎_elim (λ here. inl (ap (λ (n : ℕ). suc n) here.0, here.1)) (λ there. inr ((λ same. there.0 (omega (arith, same))), there.1)) (set_there xs i k x y found)
+    ⊎_elim (λ here. inl (ap (λ (n : ℕ). suc n) here.0, here.1))
+    (λ there. inr ((λ same. there.0 (omega (arith, same))), there.1)) (set_there xs i k x y found)
 
 -- A task goes to one list.
-added_by : (place : Place) (task : Task) (i : ℕ) (lists : TaskLists) (was new : Vec Task Global) → i ≡ place (loader_of task.step) → slice_get lists i ≡ Some was
+added_by : (place : Place) (task : Task) (i : ℕ) (lists : TaskLists) (was new : Vec Task Global)
+    → i ≡ place (loader_of task.step) → slice_get lists i ≡ Some was
     → new.items ≡ was.items ++ task ∷ [] → AreAdded (task ∷ []) place lists (slice_set lists i new)
 added_by place task i lists was new goes stood more at list found =
     ⊎_elim
@@ -161,13 +189,16 @@ added_by place task i lists was new goes stood more at list found =
       was,
       ap (λ (n : ℕ). slice_get lists n) here.0 ∙ stood,
       ap (λ (v : Vec Task Global). v.items) here.1 ∙ more
-          ∙ ap (λ (l : List Task). was.items ++ l) (sym (is_kept (goes_to place at task) (eq-eqb (place (loader_of task.step)) at (sym goes ∙ sym here.0)))),
+          ∙ ap (λ (l : List Task). was.items ++ l)
+          (sym (is_kept (goes_to place at task) (eq-eqb (place (loader_of task.step)) at (sym goes ∙ sym here.0)))),
     ))
     (λ there. (
       list,
       there.1,
       sym (append-nil list.items)
-          ∙ ap (λ (l : List Task). list.items ++ l) (sym (not_kept (goes_to place at task) (ne_eqb (place (loader_of task.step)) at (λ same. there.0 (sym same ∙ sym goes))))),
+          ∙ ap (λ (l : List Task). list.items ++ l)
+          (sym (not_kept (goes_to place at task)
+          (ne_eqb (place (loader_of task.step)) at (λ same. there.0 (sym same ∙ sym goes))))),
     ))
     (set_there lists i at list new found)
   where
@@ -177,11 +208,13 @@ added_by place task i lists was new goes stood more at list found =
     not_kept : (b : Bool) → b ≡ false → cond b (task ∷ []) [] ≡ []
     not_kept b e = ap (λ c. cond c (task ∷ []) []) e
 
-pub one_added : (place : Place) (line : Line) (step : Step) (i : ℕ) (lists : TaskLists) (was new : Vec Task Global) → line.command ≡ Asks step → i ≡ place (loader_of step)
+pub one_added : (place : Place) (line : Line) (step : Step) (i : ℕ) (lists : TaskLists) (was new : Vec Task Global)
+    → line.command ≡ Asks step → i ≡ place (loader_of step)
     → slice_get lists i ≡ Some was → new.items ≡ was.items ++ record { line = line.number; step = step } ∷ []
     → AreAdded (tasks_of (line ∷ [])) place lists (slice_set lists i new)
 one_added place line step i lists was new asks goes stood more =
-    subst (λ (l : List Task). AreAdded l place lists (slice_set lists i new)) (ap (λ (c : Command). task_of line (step_of c) []) (sym asks))
+    subst (λ (l : List Task). AreAdded l place lists (slice_set lists i new))
+    (ap (λ (c : Command). task_of line (step_of c) []) (sym asks))
     (added_by place (record { line = line.number; step = step }) i lists was new goes stood more)
 
 -- A line that asks no step adds none.
@@ -190,16 +223,19 @@ none_asked (Asks step) other = absurd (other step refl)
 none_asked Sync other = refl
 none_asked Report other = refl
 
-pub none_added : (place : Place) (line : Line) (lists : TaskLists) → ((step : Step) → line.command ≡ Asks step → ⊥) → AreAdded (tasks_of (line ∷ [])) place lists lists
+pub none_added : (place : Place) (line : Line) (lists : TaskLists) → ((step : Step) → line.command ≡ Asks step → ⊥)
+    → AreAdded (tasks_of (line ∷ [])) place lists lists
 none_added place line lists other =
-    subst (λ (l : List Task). AreAdded l place lists lists) (ap (λ (o : Option Step). task_of line o []) (sym (none_asked line.command other)))
+    subst (λ (l : List Task). AreAdded l place lists lists)
+    (ap (λ (o : Option Step). task_of line o []) (sym (none_asked line.command other)))
     (λ at list found. (list, found, sym (append-nil list.items)))
 
 -- The lists of some lines, and of one line more.
 pub listed_none : (place : Place) (lists : TaskLists) → AreEmpty lists → AreListed place [] lists
 listed_none place lists empty = λ at list found. empty at list found
 
-pub listed_more : (place : Place) (lines : List Line) (i : ℕ) (d : Line) (lists new : TaskLists) → i < length lines → AreListed place (take i lines) lists
+pub listed_more : (place : Place) (lines : List Line) (i : ℕ) (d : Line) (lists new : TaskLists) → i < length lines
+    → AreListed place (take i lines) lists
     → AreAdded (tasks_of (get_or lines i d ∷ [])) place lists new → AreListed place (take (i + 1) lines) new
 listed_more place lines i d lists new within before added = λ at list found.
     let its = added at list found in
@@ -209,14 +245,18 @@ listed_more place lines i d lists new within before added = λ at list found.
     ∙ ap (tasks_at place at) (sym (take_more lines i d within))
 
 -- One more list that is empty.
-at_end : {X : Type 0} (xs : List X) (x : X) (k : ℕ) (y : X) → slice_get (xs ++ x ∷ []) k ≡ Some y → (slice_get xs k ≡ Some y) ⊎ (y ≡ x)
+at_end : {X : Type 0} (xs : List X) (x : X) (k : ℕ) (y : X) → slice_get (xs ++ x ∷ []) k ≡ Some y
+    → (slice_get xs k ≡ Some y) ⊎ (y ≡ x)
 at_end [] x zero y found = inr (cc)
 at_end [] x (suc k) y found = absurd (cc)
 at_end (z ∷ xs) x zero y found = inl found
 at_end (z ∷ xs) x (suc k) y found = at_end xs x k y found
 
-pub empty_more : (lists new : TaskLists) (list : Vec Task Global) → AreEmpty lists → new ≡ lists ++ list ∷ [] → list.items ≡ [] → AreEmpty new
-empty_more lists new list empty are none = rw are (λ at one found. ⊎_elim (λ was. empty at one was) (λ is. ap (λ (v : Vec Task Global). v.items) is ∙ none) (at_end lists list at one found))
+pub empty_more : (lists new : TaskLists) (list : Vec Task Global) → AreEmpty lists → new ≡ lists ++ list ∷ []
+    → list.items ≡ [] → AreEmpty new
+empty_more lists new list empty are none =
+    rw are (λ at one found. ⊎_elim (λ was. empty at one was) (λ is. ap (λ (v : Vec Task Global). v.items) is ∙ none)
+    (at_end lists list at one found))
 
 -- A seat that serves no loader.
 pub none_manned : (limits : Limits) → IsManned (knows_limits limits) []
@@ -232,7 +272,8 @@ none_manned limits = record {
     nothing Class = refl
 
 -- The first seat serves all loaders of the pool.
-has_fresh : (pool : Ledger) (owner first n : ℕ) → first < owner → owner ≤ first + n → Has (fresh pool first n) owner (chunks_of pool owner)
+has_fresh : (pool : Ledger) (owner first n : ℕ) → first < owner → owner ≤ first + n
+    → Has (fresh pool first n) owner (chunks_of pool owner)
 has_fresh pool owner first zero low up = absurd (omega (arith, low, up))
 has_fresh pool owner first (suc n) low up =
     dite (ℕ_discrete (first + suc n) owner)
@@ -240,43 +281,58 @@ has_fresh pool owner first (suc n) low up =
     (λ differs. inr (has_fresh pool owner first n low (less differs)))
   where
     less : (first + suc n) ≢ owner → owner ≤ first + n
-    less differs = dite (dec_le owner (first + n)) (λ y. y) (λ nope. absurd (differs (omega (arith, up, lt_of_not-le nope))))
+    less differs =
+        dite (dec_le owner (first + n)) (λ y. y) (λ nope. absurd (differs (omega (arith, up, lt_of_not-le nope))))
 
-serves_all : (pool : Ledger) (accounts : List AccountState) → AllByRecursion (Serves pool) accounts → AllByRecursion (ServesBy (knows_all pool)) accounts
+serves_all : (pool : Ledger) (accounts : List AccountState) → AllByRecursion (Serves pool) accounts
+    → AllByRecursion (ServesBy (knows_all pool)) accounts
 serves_all pool [] all = tt
 serves_all pool (account ∷ accounts) all = (
-  record { chunks = chunks_of pool account.owner; entry = has_fresh pool account.owner 0 pool.given all.0.some (omega (arith, all.0.given)); same = all.0.chunks },
+  record {
+    chunks = chunks_of pool account.owner;
+    entry = has_fresh pool account.owner 0 pool.given all.0.some (omega (arith, all.0.given));
+    same = all.0.chunks;
+  },
   serves_all pool accounts all.1,
 )
 
-lent_to : (owners : List ℕ) (owner : ℕ) (loans : List Loan) → AllByRecursion (λ (loan : Loan). IsTrue (is_among owners loan.owner)) loans
+lent_to : (owners : List ℕ) (owner : ℕ) (loans : List Loan)
+    → AllByRecursion (λ (loan : Loan). IsTrue (is_among owners loan.owner)) loans
     → (map (λ (loan : Loan). loan.chunk) (filter (is_owned_by owner) loans) ≡ []) ⊎ IsTrue (is_among owners owner)
 lent_to owners owner [] all = inl refl
 lent_to owners owner (loan ∷ loans) all =
     elim (loan.owner == owner) as (λ b. (loan.owner == owner) ≡ b
-    → (map (λ (l : Loan). l.chunk) (cond b (loan ∷ filter (is_owned_by owner) loans) (filter (is_owned_by owner) loans)) ≡ []) ⊎ IsTrue (is_among owners owner)) [
+    → (map (λ (l : Loan). l.chunk) (cond b (loan ∷ filter (is_owned_by owner) loans) (filter (is_owned_by owner) loans))
+    ≡ []) ⊎ IsTrue (is_among owners owner)) [
       | true ↦ λ same. inr (subst (λ (n : ℕ). IsTrue (is_among owners n)) (eqb-true loan.owner owner same) all.0)
       | false ↦ λ past. lent_to owners owner loans all.1
     ] refl
 
-pub all_manned : (pool : Ledger) (loaders : Loaded) → MaySettle pool loaders → open_accounts pool ≡ accounts_in loaders → IsManned (knows_all pool) loaders
+pub all_manned : (pool : Ledger) (loaders : Loaded) → MaySettle pool loaders → open_accounts pool ≡ accounts_in loaders
+    → IsManned (knows_all pool) loaders
 all_manned pool loaders may all = record {
-  served = All-from_recursion (ServesBy (knows_all pool)) (accounts_of loaders) (serves_all pool (accounts_of loaders) (recursion_from_All (Serves pool) (accounts_of loaders) may.served));
+  served = All-from_recursion (ServesBy (knows_all pool)) (accounts_of loaders)
+      (serves_all pool (accounts_of loaders) (recursion_from_All (Serves pool) (accounts_of loaders) may.served));
   distinct = may.distinct;
-  no_other = λ owner chunks here. ⊎_elim (λ none. inl (sym (its owner chunks here).chunks_are ∙ none)) (λ among. inr among)
-      (lent_to (owners_of loaders) owner pool.loans (recursion_from_All (λ (loan : Loan). IsTrue (is_among (owners_of loaders) loan.owner)) pool.loans (may.no_other (omega (arith, all)))));
+  no_other =
+      λ owner chunks here. ⊎_elim (λ none. inl (sym (its owner chunks here).chunks_are ∙ none)) (λ among. inr among)
+      (lent_to (owners_of loaders) owner pool.loans
+      (recursion_from_All (λ (loan : Loan). IsTrue (is_among (owners_of loaders) loan.owner)) pool.loans
+      (may.no_other (omega (arith, all)))));
   opened = λ space. counted space;
 }
   where
     its : (owner : ℕ) (chunks : List Chunk) → Has (fresh pool 0 pool.given) owner chunks → IsRecord pool owner chunks
-    its owner chunks here = has_record pool (fresh pool 0 pool.given) owner chunks (fresh_records pool 0 pool.given (omega arith)) here
+    its owner chunks here =
+        has_record pool (fresh pool 0 pool.given) owner chunks (fresh_records pool 0 pool.given (omega arith)) here
 
     counted : (space : Space) → opened_by (knows_all pool) space ≡ length loaders
     counted NonClass = omega (arith, all, may.opened, may.class_opened)
     counted Class = omega (arith, all, may.opened, may.class_opened)
 
 pub seats_are : (shared : LockState) (count : ℕ) (seats : List SeatState) (pool : Ledger) (loaders : Loaded)
-    → seats ≡ record { id = shared.id; knows = knows_all pool } ∷ replicate (count - 1) (record { id = shared.id; knows = knows_limits pool.limits })
+    → seats ≡ record { id = shared.id; knows = knows_all pool } ∷ replicate (count - 1)
+    (record { id = shared.id; knows = knows_limits pool.limits })
     → MaySettle pool loaders → open_accounts pool ≡ accounts_in loaders → AreSeats shared seats loaders
 seats_are shared count seats pool loaders are may all = record {
   first = record { id = shared.id; knows = knows_all pool };
@@ -289,7 +345,8 @@ seats_are shared count seats pool loaders are may all = record {
 }
 
 -- Beside a seat that serves nothing.
-pub beside_none : (from to : SeatView) (loaders others : Loaded) → others ≡ [] → IsManned from loaders → AreNamed loaders → IsManned to [] → AreBeside from loaders to others
+pub beside_none : (from to : SeatView) (loaders others : Loaded) → others ≡ [] → IsManned from loaders
+    → AreNamed loaders → IsManned to [] → AreBeside from loaders to others
 beside_none from to loaders others nothing manned names to_manned = rw nothing (record {
   manned = manned;
   to_manned = to_manned;
@@ -299,7 +356,8 @@ beside_none from to loaders others nothing manned names to_manned = rw nothing (
 
 -- Shares are made of the places from 1 on, while the first seat has the loaders of place 0 and of all
 -- that are to come.
-pub record IsDealing (place : Place) (shared : LockState) (count : ℕ) (lines : List Line) (loaders : Loaded) (first : SeatState) (left : Loaded) (rest : List SeatState) (shares : List Share) : Type 0 where
+pub record IsDealing (place : Place) (shared : LockState) (count : ℕ) (lines : List Line) (loaders : Loaded)
+    (first : SeatState) (left : Loaded) (rest : List SeatState) (shares : List Share) : Type 0 where
   pub own : first.id ≡ shared.id
   pub manned : IsManned first.knows left
   pub names : AreNamed left
@@ -307,27 +365,35 @@ pub record IsDealing (place : Place) (shared : LockState) (count : ℕ) (lines :
   pub count_is : length shares + length rest + 1 ≡ count
   pub each : AreSharesFrom place shared lines loaders 1 shares
   pub gone : (name : ℕ) → 1 ≤ place (Some name) → place (Some name) ≤ length shares → named left name ≡ None
-  pub there : (name : ℕ) → (place (Some name) ≡ 0) ⊎ (length shares < place (Some name)) → named left name ≡ named loaders name
+  pub there : (name : ℕ) → (place (Some name) ≡ 0) ⊎ (length shares < place (Some name))
+      → named left name ≡ named loaders name
 
-shares_more : (place : Place) (shared : LockState) (lines : List Line) (loaders : Loaded) (at : ℕ) (shares : List Share) (share : Share)
-    → AreSharesFrom place shared lines loaders at shares → IsShareAt place shared lines loaders (at + length shares) share
+shares_more : (place : Place) (shared : LockState) (lines : List Line) (loaders : Loaded) (at : ℕ) (shares : List Share)
+    (share : Share)
+    → AreSharesFrom place shared lines loaders at shares
+    → IsShareAt place shared lines loaders (at + length shares) share
     → AreSharesFrom place shared lines loaders at (shares ++ share ∷ [])
 shares_more place shared lines loaders at [] share all more =
     let same : at + 0 ≡ at = omega arith in
     (subst (λ (n : ℕ). IsShareAt place shared lines loaders n share) same more, tt)
 shares_more place shared lines loaders at (x ∷ shares) share all more =
-    let same : at + suc (length shares) ≡ suc at + length shares = omega arith in
-    (all.0, shares_more place shared lines loaders (suc at) shares share all.1 (subst (λ (n : ℕ). IsShareAt place shared lines loaders n share) same more))
+    let same : at + suc (length shares) ≡ suc at + length shares = omega arith in (
+      all.0,
+      shares_more place shared lines loaders (suc at) shares share all.1
+          (subst (λ (n : ℕ). IsShareAt place shared lines loaders n share) same more),
+    )
 
 -- The share of a place that was made of its seat and loaders.
-pub record IsMade (place : Place) (lines : List Line) (at : ℕ) (seat : SeatState) (loaders : Loaded) (share : Share) : Type 0 where
+pub record IsMade (place : Place) (lines : List Line) (at : ℕ) (seat : SeatState) (loaders : Loaded)
+    (share : Share) : Type 0 where
   pub seat_is : share.seat ≡ seat
   pub loaders_are : share.loaders ≡ loaders
   pub tasks : share.tasks.items ≡ tasks_at place at lines
   pub room : vec_len share.tasks ≤ vec_capacity share.replies
   pub none : share.replies.items ≡ []
 
-is_ready : (place : Place) (shared : LockState) (lines : List Line) (at : ℕ) (seat : SeatState) (loaders : Loaded) (share : Share) → IsMade place lines at seat loaders share
+is_ready : (place : Place) (shared : LockState) (lines : List Line) (at : ℕ) (seat : SeatState) (loaders : Loaded)
+    (share : Share) → IsMade place lines at seat loaders share
     → seat.id ≡ shared.id → IsManned seat.knows loaders → IsReady shared share
 is_ready place shared lines at seat loaders share made own manned = record {
   own = ap (λ (s : SeatState). s.id) made.seat_is ∙ own;
@@ -336,24 +402,30 @@ is_ready place shared lines at seat loaders share made own manned = record {
   none = made.none;
 }
 
-pub dealing_on : (place : Place) (shared : LockState) (count : ℕ) (lines : List Line) (loaders : Loaded) (first first' : SeatState) (left left' : Loaded)
-    (seat : SeatState) (others : Loaded) (next : SeatState) (rest : List SeatState) (shares shares' : List Share) (share : Share) (at : ℕ)
+pub dealing_on : (place : Place) (shared : LockState) (count : ℕ) (lines : List Line) (loaders : Loaded)
+    (first first' : SeatState) (left left' : Loaded)
+    (seat : SeatState) (others : Loaded) (next : SeatState) (rest : List SeatState) (shares shares' : List Share)
+    (share : Share) (at : ℕ)
     → IsDealing place shared count lines loaders first left (next ∷ rest) shares → at ≡ length shares + 1
     → AreCrews shared first' left' seat others → AreHanded place at left left' others
-    → IsMade place lines at seat others share → shares' ≡ shares ++ share ∷ [] → IsDealing place shared count lines loaders first' left' rest shares'
-dealing_on place shared count lines loaders first first' left left' seat others next rest shares shares' share at its at_is crews handed made added = record {
-  own = crews.own;
-  manned = crews.beside.manned;
-  names = crews.beside.names;
-  free = All-from_recursion (λ (s : SeatState). (s.id ≡ shared.id) × IsManned s.knows []) rest
-      (recursion_from_All (λ (s : SeatState). (s.id ≡ shared.id) × IsManned s.knows []) (next ∷ rest) its.free).1;
-  count_is = omega (arith, its.count_is, long);
-  each = subst (AreSharesFrom place shared lines loaders 1) (sym added) (shares_more place shared lines loaders 1 shares share its.each
-      (subst (λ (n : ℕ). IsShareAt place shared lines loaders n share) there_is is_there));
-  gone = λ name low up. dite (ℕ_discrete (place (Some name)) at) (λ is. (handed.here name is).1)
-      (λ differs. (handed.apart name differs).1 ∙ its.gone name low (below name up differs));
-  there = λ name cases. (handed.apart name (elsewhere name cases)).1 ∙ its.there name (⊎_elim (λ none. inl none) (λ above. inr (omega (arith, above, long))) cases);
-}
+    → IsMade place lines at seat others share → shares' ≡ shares ++ share ∷ []
+    → IsDealing place shared count lines loaders first' left' rest shares'
+dealing_on place shared count lines loaders first first' left left' seat others next rest shares shares' share at its
+    at_is crews handed made added = record {
+      own = crews.own;
+      manned = crews.beside.manned;
+      names = crews.beside.names;
+      free = All-from_recursion (λ (s : SeatState). (s.id ≡ shared.id) × IsManned s.knows []) rest
+          (recursion_from_All (λ (s : SeatState). (s.id ≡ shared.id) × IsManned s.knows []) (next ∷ rest) its.free).1;
+      count_is = omega (arith, its.count_is, long);
+      each = subst (AreSharesFrom place shared lines loaders 1) (sym added)
+          (shares_more place shared lines loaders 1 shares share its.each
+          (subst (λ (n : ℕ). IsShareAt place shared lines loaders n share) there_is is_there));
+      gone = λ name low up. dite (ℕ_discrete (place (Some name)) at) (λ is. (handed.here name is).1)
+          (λ differs. (handed.apart name differs).1 ∙ its.gone name low (below name up differs));
+      there = λ name cases. (handed.apart name (elsewhere name cases)).1
+          ∙ its.there name (⊎_elim (λ none. inl none) (λ above. inr (omega (arith, above, long))) cases);
+    }
   where
     long : length shares' ≡ length shares + 1
     long = ap length added ∙ length-append shares (share ∷ [])
@@ -362,7 +434,9 @@ dealing_on place shared count lines loaders first first' left left' seat others 
     there_is = omega (arith, at_is)
 
     below : (name : ℕ) → place (Some name) ≤ length shares' → place (Some name) ≢ at → place (Some name) ≤ length shares
-    below name up differs = dite (dec_le (place (Some name)) (length shares)) (λ y. y) (λ nope. absurd (differs (omega (arith, up, long, at_is, lt_of_not-le nope))))
+    below name up differs =
+        dite (dec_le (place (Some name)) (length shares)) (λ y. y)
+        (λ nope. absurd (differs (omega (arith, up, long, at_is, lt_of_not-le nope))))
 
     elsewhere : (name : ℕ) → (place (Some name) ≡ 0) ⊎ (length shares' < place (Some name)) → place (Some name) ≢ at
     elsewhere name (inl none) is = omega (arith, none, is, at_is)
@@ -372,66 +446,87 @@ dealing_on place shared count lines loaders first first' left left' seat others 
     is_there = record {
       ready = is_ready place shared lines at seat others share made crews.to_own crews.beside.to_manned;
       apart = λ name differs. ap (λ (l : Loaded). named l name) made.loaders_are ∙ (handed.apart name differs).0;
-      here = λ name is. ap (λ (l : Loaded). named l name) made.loaders_are ∙ (handed.here name is).0 ∙ its.there name (inr (omega (arith, is, at_is)));
+      here = λ name is. ap (λ (l : Loaded). named l name) made.loaders_are ∙ (handed.here name is).0
+          ∙ its.there name (inr (omega (arith, is, at_is)));
       tasks = made.tasks;
     }
 
-pub dealing_ends : (place : Place) (shared : LockState) (count : ℕ) (lines : List Line) (loaders : Loaded) (first : SeatState) (left : Loaded) (rest : List SeatState)
-    (shares shares' : List Share) (share : Share) → rest ≡ [] → IsDealing place shared count lines loaders first left rest shares → IsMade place lines 0 first left share
+pub dealing_ends : (place : Place) (shared : LockState) (count : ℕ) (lines : List Line) (loaders : Loaded)
+    (first : SeatState) (left : Loaded) (rest : List SeatState)
+    (shares shares' : List Share) (share : Share) → rest ≡ []
+    → IsDealing place shared count lines loaders first left rest shares → IsMade place lines 0 first left share
     → shares' ≡ share ∷ shares → AreDealtTo place shared count lines loaders shares'
-dealing_ends place shared count lines loaders first left rest shares shares' share nothing its made added = rw added (record {
-  count_is = omega (arith, its.count_is, ap length nothing);
-  each = λ within. (
-    record {
-      ready = is_ready place shared lines 0 first left share made its.own its.manned;
-      apart = λ name differs. ap (λ (l : Loaded). named l name) made.loaders_are ∙ its.gone name (some (place (Some name)) differs) (omega (arith, within name, its.count_is, ap length nothing));
-      here = λ name is. ap (λ (l : Loaded). named l name) made.loaders_are ∙ its.there name (inl is);
-      tasks = made.tasks;
-    },
-    its.each,
-  );
-})
+dealing_ends place shared count lines loaders first left rest shares shares' share nothing its made added =
+    rw added (record {
+      count_is = omega (arith, its.count_is, ap length nothing);
+      each = λ within. (
+        record {
+          ready = is_ready place shared lines 0 first left share made its.own its.manned;
+          apart = λ name differs. ap (λ (l : Loaded). named l name) made.loaders_are
+              ∙ its.gone name (some (place (Some name)) differs)
+              (omega (arith, within name, its.count_is, ap length nothing));
+          here = λ name is. ap (λ (l : Loaded). named l name) made.loaders_are ∙ its.there name (inl is);
+          tasks = made.tasks;
+        },
+        its.each,
+      );
+    })
   where
     some : (n : ℕ) → n ≢ 0 → 1 ≤ n
     some zero differs = absurd (differs refl)
     some (suc n) differs = omega arith
 
-pub dealing_starts : (place : Place) (shared : LockState) (count : ℕ) (lines : List Line) (loaders : Loaded) (seats : List SeatState)
-    (first : SeatState) (rest : List SeatState) (shares : List Share) → AreSeats shared seats loaders → AreNamed loaders → first ≡ get_or seats 0 first → rest ≡ drop 1 seats → length seats ≡ count → shares ≡ []
+pub dealing_starts : (place : Place) (shared : LockState) (count : ℕ) (lines : List Line) (loaders : Loaded)
+    (seats : List SeatState)
+    (first : SeatState) (rest : List SeatState) (shares : List Share) → AreSeats shared seats loaders → AreNamed loaders
+    → first ≡ get_or seats 0 first → rest ≡ drop 1 seats → length seats ≡ count → shares ≡ []
     → IsDealing place shared count lines loaders first loaders rest shares
-dealing_starts place shared count lines loaders seats first rest shares its names first_is rest_are count_is nothing = rw nothing (record {
-  own = ap (λ (s : SeatState). s.id) same.0 ∙ its.own;
-  manned = subst (λ (s : SeatState). IsManned s.knows loaders) (sym same.0) its.manned;
-  names = names;
-  free = subst (λ (l : List SeatState). All (λ (s : SeatState). (s.id ≡ shared.id) × IsManned s.knows []) l) (sym same.1) its.free;
-  count_is = omega (arith, ap length its.are, ap length same.1, count_is);
-  each = tt;
-  gone = λ name low up. absurd (omega (arith, low, up));
-  there = λ name cases. refl;
-})
+dealing_starts place shared count lines loaders seats first rest shares its names first_is rest_are count_is nothing =
+    rw nothing (record {
+      own = ap (λ (s : SeatState). s.id) same.0 ∙ its.own;
+      manned = subst (λ (s : SeatState). IsManned s.knows loaders) (sym same.0) its.manned;
+      names = names;
+      free = subst (λ (l : List SeatState). All (λ (s : SeatState). (s.id ≡ shared.id) × IsManned s.knows []) l)
+          (sym same.1) its.free;
+      count_is = omega (arith, ap length its.are, ap length same.1, count_is);
+      each = tt;
+      gone = λ name low up. absurd (omega (arith, low, up));
+      there = λ name cases. refl;
+    })
   where
     same : (first ≡ its.first) × (rest ≡ its.others)
-    same = (first_is ∙ ap (λ (l : List SeatState). get_or l 0 first) its.are, rest_are ∙ ap (λ (l : List SeatState). drop 1 l) its.are)
+    same = (
+      first_is ∙ ap (λ (l : List SeatState). get_or l 0 first) its.are,
+      rest_are
+          ∙ ap (λ (l : List SeatState). drop 1 l) its.are,
+    )
 
 -- The share at each place.
-share_at : (place : Place) (shared : LockState) (lines : List Line) (loaders : Loaded) (from : ℕ) (shares : List Share) (at : ℕ) (share : Share)
-    → AreSharesFrom place shared lines loaders from shares → slice_get shares at ≡ Some share → IsShareAt place shared lines loaders (from + at) share
+share_at : (place : Place) (shared : LockState) (lines : List Line) (loaders : Loaded) (from : ℕ) (shares : List Share)
+    (at : ℕ) (share : Share)
+    → AreSharesFrom place shared lines loaders from shares → slice_get shares at ≡ Some share
+    → IsShareAt place shared lines loaders (from + at) share
 share_at place shared lines loaders from [] at share all found = absurd (cc)
 share_at place shared lines loaders from (x ∷ shares) zero share all found =
     let same : from ≡ from + 0 = omega arith in
     let is : x ≡ share = cc in
-    subst (λ (n : ℕ). IsShareAt place shared lines loaders n share) same (subst (IsShareAt place shared lines loaders from) is all.0)
+    subst (λ (n : ℕ). IsShareAt place shared lines loaders n share) same
+    (subst (IsShareAt place shared lines loaders from) is all.0)
 share_at place shared lines loaders from (x ∷ shares) (suc at) share all found =
     let same : suc from + at ≡ from + suc at = omega arith in
-    subst (λ (n : ℕ). IsShareAt place shared lines loaders n share) same (share_at place shared lines loaders (suc from) shares at share all.1 found)
+    subst (λ (n : ℕ). IsShareAt place shared lines loaders n share) same
+    (share_at place shared lines loaders (suc from) shares at share all.1 found)
 
 all_ready : (place : Place) (shared : LockState) (lines : List Line) (loaders : Loaded) (from : ℕ) (shares : List Share)
     → AreSharesFrom place shared lines loaders from shares → AllByRecursion (IsReady shared) shares
 all_ready place shared lines loaders from [] all = tt
-all_ready place shared lines loaders from (x ∷ shares) all = (all.0.ready, all_ready place shared lines loaders (suc from) shares all.1)
+all_ready place shared lines loaders from (x ∷ shares) all =
+    (all.0.ready, all_ready place shared lines loaders (suc from) shares all.1)
 
-pub are_dealt : (place : Place) (shared : LockState) (count : ℕ) (lines : List Line) (loaders : Loaded) (shares : List Share)
-    → AreDealtTo place shared count lines loaders shares → AreWithin place count → shared.seats ≡ count → AreDealt place shared shares lines loaders
+pub are_dealt : (place : Place) (shared : LockState) (count : ℕ) (lines : List Line) (loaders : Loaded)
+    (shares : List Share)
+    → AreDealtTo place shared count lines loaders shares → AreWithin place count → shared.seats ≡ count
+    → AreDealt place shared shares lines loaders
 are_dealt place shared count lines loaders shares its within seats = record {
   ready = All-from_recursion (IsReady shared) shares (all_ready place shared lines loaders 0 shares all);
   count = seats ∙ sym its.count_is;
@@ -446,37 +541,51 @@ are_dealt place shared count lines loaders shares its within seats = record {
 
     one : (at : ℕ) (share : Share) → slice_get shares at ≡ Some share → IsShareAt place shared lines loaders at share
     one at share found = let same : 0 + at ≡ at = omega arith in
-        subst (λ (n : ℕ). IsShareAt place shared lines loaders n share) same (share_at place shared lines loaders 0 shares at share all found)
+        subst (λ (n : ℕ). IsShareAt place shared lines loaders n share) same
+        (share_at place shared lines loaders 0 shares at share all found)
 
 pub none_left : {X : Type 0} (xs : List X) → length xs ≡ 0 → xs ≡ []
 none_left [] none = refl
 none_left (x ∷ xs) none = absurd (omega (arith, none))
 
 -- The next seat is of the lock and serves nothing.
-pub next_free : (place : Place) (shared : LockState) (count : ℕ) (lines : List Line) (loaders : Loaded) (first : SeatState) (left : Loaded)
-    (next : SeatState) (rest others : List SeatState) (shares : List Share) → rest ≡ next ∷ others → IsDealing place shared count lines loaders first left rest shares → (next.id ≡ shared.id) × IsManned next.knows []
+pub next_free : (place : Place) (shared : LockState) (count : ℕ) (lines : List Line) (loaders : Loaded)
+    (first : SeatState) (left : Loaded)
+    (next : SeatState) (rest others : List SeatState) (shares : List Share) → rest ≡ next ∷ others
+    → IsDealing place shared count lines loaders first left rest shares
+    → (next.id ≡ shared.id) × IsManned next.knows []
 next_free place shared count lines loaders first left next rest others shares are its =
     (recursion_from_All (λ (s : SeatState). (s.id ≡ shared.id) × IsManned s.knows []) (next ∷ others)
-    (subst (λ (l : List SeatState). All (λ (s : SeatState). (s.id ≡ shared.id) × IsManned s.knows []) l) are its.free)).0
+    (subst (λ (l : List SeatState). All (λ (s : SeatState). (s.id ≡ shared.id) × IsManned s.knows []) l) are
+    its.free)).0
 
 -- As many seats as were asked for.
 pub seats_count : (shared : LockState) (count : ℕ) (seats : List SeatState) (pool : Ledger) → 1 ≤ count
-    → seats ≡ record { id = shared.id; knows = knows_all pool } ∷ replicate (count - 1) (record { id = shared.id; knows = knows_limits pool.limits })
+    → seats ≡ record { id = shared.id; knows = knows_all pool } ∷ replicate (count - 1)
+    (record { id = shared.id; knows = knows_limits pool.limits })
     → length seats ≡ count
 seats_count shared count seats pool some are =
-    omega (arith, ap (λ (l : List SeatState). length l) are, length-replicate (count - 1) (the_seat shared pool.limits), some)
+    omega (
+      arith,
+      ap (λ (l : List SeatState). length l) are,
+      length-replicate (count - 1) (the_seat shared pool.limits),
+      some,
+    )
   where
     the_seat : LockState → Limits → SeatState
     the_seat lock limits = record { id = lock.id; knows = knows_limits limits }
 
 -- The lists that were not taken yet: the first one, and those of the places to come.
 abbrev pub AreLeft : Place → List Line → ℕ → TaskLists → Type 0
-AreLeft place lines done lists = (at : ℕ) (list : Vec Task Global) → (at ≡ 0) ⊎ (done < at) → slice_get lists at ≡ Some list → list.items ≡ tasks_at place at lines
+AreLeft place lines done lists = (at : ℕ) (list : Vec Task Global) → (at ≡ 0) ⊎ (done < at)
+    → slice_get lists at ≡ Some list → list.items ≡ tasks_at place at lines
 
-pub left_starts : (place : Place) (lines : List Line) (done : ℕ) (lists : TaskLists) → AreListed place lines lists → AreLeft place lines done lists
+pub left_starts : (place : Place) (lines : List Line) (done : ℕ) (lists : TaskLists) → AreListed place lines lists
+    → AreLeft place lines done lists
 left_starts place lines done lists listed = λ at list cases found. listed at list found
 
-pub left_more : (place : Place) (lines : List Line) (done more at : ℕ) (lists new : TaskLists) → AreLeft place lines done lists → more ≡ done + 1 → at ≡ done + 1
+pub left_more : (place : Place) (lines : List Line) (done more at : ℕ) (lists new : TaskLists)
+    → AreLeft place lines done lists → more ≡ done + 1 → at ≡ done + 1
     → ((other : ℕ) → other ≢ at → slice_get new other ≡ slice_get lists other) → AreLeft place lines more new
 left_more place lines done more at lists new its more_is at_is others = λ k list cases found.
     its k list (⊎_elim (λ none. inl none) (λ above. inr (omega (arith, above, more_is))) cases)

@@ -1,6 +1,7 @@
 -- A seat and its loaders where both accounts of a loader are closed. For `unload`, and for `new_loader`
 -- where memory for the loader is refused.
-use Rattle.std.proofs.Common.{◌≡◌, ◌≢◌, ◌+◌, ◌<◌, ℕ, true, cond, Some, None, List, refl, [], ◌∷◌, ◌++◌, map, length, sym, ap, ◌∙◌, subst, ◌⊎◌, inl, inr, ⊎_elim, IsTrue, arith}
+use Rattle.std.proofs.Common.{◌≡◌, ◌≢◌, ◌+◌, ◌<◌, ℕ, true, cond, Some, None, List, refl, [], ◌∷◌, ◌++◌, map, length}
+use Rattle.std.proofs.Common.{sym, ap, ◌∙◌, subst, ◌⊎◌, inl, inr, ⊎_elim, IsTrue, arith}
 use Rattle.std.specs.BTreeMap.{is_at}
 use Rattle.std.specs.List.{AllByRecursion}
 use Rattle.std.specs.Ordering.{nat_cmp, match_ordering, is_eq}
@@ -34,13 +35,17 @@ use Rattle.ms_run.proofs.LifetimeLemmas.{NoOther, no_other_then, served_apart, w
 -- Two accounts are closed over the lock.
 pub record Closes (old new : SeatState) (account class_account : AccountState) : Type 0 where
   pub event : OverLock (λ before after. ClosedBoth before account class_account after) old new
-  pub others : (other : AccountState) → other.owner ≢ account.owner → other.owner ≢ class_account.owner → ServesBy old.knows other → ServesBy new.knows other
+  pub others : (other : AccountState) → other.owner ≢ account.owner → other.owner ≢ class_account.owner
+      → ServesBy old.knows other → ServesBy new.knows other
   pub counted : (space : Space) → opened_by new.knows space + 1 ≡ opened_by old.knows space
 
 -- They are a loader's.
-pub closes_loader : (old new : SeatState) (v : LoaderView) (back : AccountState × AccountState) → back.0 ≡ account_in NonClass v → back.1 ≡ account_in Class v
+pub closes_loader : (old new : SeatState) (v : LoaderView) (back : AccountState × AccountState)
+    → back.0 ≡ account_in NonClass v → back.1 ≡ account_in Class v
     → Closes old new back.0 back.1 → Closes old new (account_in NonClass v) (account_in Class v)
-closes_loader old new v back first second closes = subst (λ (a : AccountState). Closes old new a (account_in Class v)) first (subst (Closes old new back.0) second closes)
+closes_loader old new v back first second closes =
+    subst (λ (a : AccountState). Closes old new a (account_in Class v)) first
+    (subst (Closes old new back.0) second closes)
 
 module _ (loaders : List (ℕ × LoaderView)) (name : ℕ) (v : LoaderView) (found : named loaders name ≡ Some v) where
   split : Split loaders name v
@@ -65,24 +70,31 @@ module _ (loaders : List (ℕ × LoaderView)) (name : ℕ) (v : LoaderView) (fou
   now = ap accounts_of split.gone ∙ accounts_joined split.before split.after
 
   owners_before : owners_of loaders ≡ first_owners ++ v.owner ∷ v.class_owner ∷ last_owners
-  owners_before = ap (map owner_of) before ∙ map-append owner_of first (account_in NonClass v ∷ account_in Class v ∷ last)
+  owners_before =
+      ap (map owner_of) before ∙ map-append owner_of first (account_in NonClass v ∷ account_in Class v ∷ last)
 
   owners_now : owners_of (without loaders name) ≡ first_owners ++ last_owners
   owners_now = ap (map owner_of) now ∙ map-append owner_of first last
 
-  counts : (number : ℕ) → times number (owners_of loaders) ≡ times number first_owners + is_it number v.owner + is_it number v.class_owner + times number last_owners
+  counts : (number : ℕ)
+      → times number (owners_of loaders) ≡ times number first_owners + is_it number v.owner + is_it number v.class_owner
+      + times number last_owners
   counts number = ap (times number) owners_before ∙ times_split number first_owners last_owners v.owner v.class_owner
 
-  counts_now : (number : ℕ) → times number (owners_of (without loaders name)) ≡ times number first_owners + times number last_owners
+  counts_now : (number : ℕ)
+      → times number (owners_of (without loaders name)) ≡ times number first_owners + times number last_owners
   counts_now number = ap (times number) owners_now ∙ sum_by-append (is_it number) first_owners last_owners
 
   long : length loaders ≡ length (without loaders name) + 1
-  long = ap length split.is ∙ length-append split.before ((name, v) ∷ split.after) ∙ omega (arith, ap length split.gone, length-append split.before split.after)
+  long = ap length split.is ∙ length-append split.before ((name, v) ∷ split.after)
+      ∙ omega (arith, ap length split.gone, length-append split.before split.after)
 
   parts : (seat : SeatView) → IsManned seat loaders
-      → AllByRecursion (ServesBy seat) first × ServesBy seat (account_in NonClass v) × ServesBy seat (account_in Class v) × AllByRecursion (ServesBy seat) last
+      → AllByRecursion (ServesBy seat) first × ServesBy seat (account_in NonClass v)
+      × ServesBy seat (account_in Class v) × AllByRecursion (ServesBy seat) last
   parts seat its = all_parts (ServesBy seat) first last (account_in NonClass v) (account_in Class v)
-      (subst (AllByRecursion (ServesBy seat)) before (recursion_from_All (ServesBy seat) (accounts_of loaders) its.served))
+      (subst (AllByRecursion (ServesBy seat)) before
+      (recursion_from_All (ServesBy seat) (accounts_of loaders) its.served))
 
   -- A seat that serves the loaders serves the accounts of one of them, and counts some.
   pub serves_first : (seat : SeatView) → IsManned seat loaders → ServesBy seat (account_in NonClass v)
@@ -94,7 +106,8 @@ module _ (loaders : List (ℕ × LoaderView)) (name : ℕ) (v : LoaderView) (fou
   pub counts_some : (seat : SeatView) → IsManned seat loaders → (space : Space) → 0 < opened_by seat space
   counts_some seat its space = omega (arith, its.opened space, long)
 
-  module _ (old new : SeatState) (closes : Closes old new (account_in NonClass v) (account_in Class v)) (its : IsManned old.knows loaders) where
+  module _ (old new : SeatState) (closes : Closes old new (account_in NonClass v) (account_in Class v))
+      (its : IsManned old.knows loaders) where
     abbrev pool : Ledger
     pool = closes.event.before
 
@@ -107,12 +120,15 @@ module _ (loaders : List (ℕ × LoaderView)) (name : ℕ) (v : LoaderView) (fou
       | inl same ↦ inl (ap (chunks_of later) same ∙ ap (λ (l : Ledger). chunks_of l v.owner) closes.event.called
           ∙ none_still v.owner _ (others_than v.owner pool.loans) (none_left v.owner pool.loans))
       | inr differs ↦ elim (cases_eq owner v.class_owner) [
-        | inl same ↦ inl (ap (chunks_of later) same ∙ ap (λ (l : Ledger). chunks_of l v.class_owner) closes.event.called ∙ none_left v.class_owner (others_than v.owner pool.loans))
+        | inl same ↦
+            inl (ap (chunks_of later) same ∙ ap (λ (l : Ledger). chunks_of l v.class_owner) closes.event.called
+            ∙ none_left v.class_owner (others_than v.owner pool.loans))
         | inr too ↦ ⊎_elim
             (λ empty. inl (ap (λ (l : Ledger). chunks_of l owner) closes.event.called
             ∙ both_closed_keeps_others pool (account_in NonClass v) (account_in Class v) owner differs too ∙ empty))
             (λ among. inr (without_one first_owners last_owners v.class_owner owner too
-            (without_one first_owners (v.class_owner ∷ last_owners) v.owner owner differs (subst (λ (owners : List ℕ). is_among owners owner ≡ true) owners_before among))))
+            (without_one first_owners (v.class_owner ∷ last_owners) v.owner owner differs
+            (subst (λ (owners : List ℕ). is_among owners owner ≡ true) owners_before among))))
             told
       ]
     ]
@@ -120,17 +136,22 @@ module _ (loaders : List (ℕ × LoaderView)) (name : ℕ) (v : LoaderView) (fou
     none_now : NoOther (owners_of (without loaders name)) new.knows
     none_now = subst (λ (s : SeatState). NoOther (owners_of (without loaders name)) s.knows) (sym closes.event.left)
         (subst (λ (owners : List ℕ). NoOther owners (view_after pool later old.knows)) (sym owners_now)
-        (no_other_then pool later old.knows (owners_of loaders) (first_owners ++ last_owners) closes.event.known its.no_other each_then
+        (no_other_then pool later old.knows (owners_of loaders) (first_owners ++ last_owners) closes.event.known
+        its.no_other each_then
         (λ owner more. let same : later.given ≡ pool.given = ap (λ (l : Ledger). l.given) closes.event.called in
         let low = more.0 in let up = more.1 in absurd (omega arith))))
 
     pub manned_closed : IsManned new.knows (without loaders name)
     manned_closed = let served = parts old.knows its in record {
-      served = All-from_recursion (ServesBy new.knows) (accounts_of (without loaders name)) (subst (AllByRecursion (ServesBy new.knows)) (sym now)
-          (both_all (ServesBy new.knows) first last (served_apart old.knows new.knows v.owner v.class_owner closes.others first
-          (omega (arith, its.distinct v.owner, counts v.owner, it_is v.owner)) (omega (arith, its.distinct v.class_owner, counts v.class_owner, it_is v.class_owner)) served.0)
+      served = All-from_recursion (ServesBy new.knows) (accounts_of (without loaders name))
+          (subst (AllByRecursion (ServesBy new.knows)) (sym now)
+          (both_all (ServesBy new.knows) first last
+          (served_apart old.knows new.knows v.owner v.class_owner closes.others first
+          (omega (arith, its.distinct v.owner, counts v.owner, it_is v.owner))
+          (omega (arith, its.distinct v.class_owner, counts v.class_owner, it_is v.class_owner)) served.0)
           (served_apart old.knows new.knows v.owner v.class_owner closes.others last
-          (omega (arith, its.distinct v.owner, counts v.owner, it_is v.owner)) (omega (arith, its.distinct v.class_owner, counts v.class_owner, it_is v.class_owner)) served.3)));
+          (omega (arith, its.distinct v.owner, counts v.owner, it_is v.owner))
+          (omega (arith, its.distinct v.class_owner, counts v.class_owner, it_is v.class_owner)) served.3)));
       distinct = λ number. omega (arith, its.distinct number, counts number, counts_now number);
       no_other = none_now;
       opened = λ space. omega (arith, closes.counted space, its.opened space, long);

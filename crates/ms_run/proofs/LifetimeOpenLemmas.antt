@@ -1,5 +1,6 @@
 -- A seat and its loaders where both accounts of a loader are opened, or are refused. For `new_loader`.
-use Rattle.std.proofs.Common.{◌≡◌, ◌+◌, ◌≤◌, ℕ, true, None, List, [], ◌∷◌, ◌++◌, map, length, sym, ap, ◌∙◌, subst, ◌⊎◌, inl, inr, ⊎_elim, arith}
+use Rattle.std.proofs.Common.{◌≡◌, ◌+◌, ◌≤◌, ℕ, true, None, List, [], ◌∷◌, ◌++◌, map, length, sym, ap, ◌∙◌, subst, ◌⊎◌}
+use Rattle.std.proofs.Common.{inl, inr, ⊎_elim, arith}
 use Rattle.std.specs.Prelude.{Ok, Err}
 use Rattle.std.specs.List.{AllByRecursion}
 use Rattle.std.proofs.lemmas.Bool.{ne_eqb, cases_lt, cases_eq}
@@ -35,11 +36,14 @@ pub manned_refused : (old new : SeatState) (loaders : List (ℕ × LoaderView)) 
     → IsManned old.knows loaders → IsManned new.knows loaders
 manned_refused old new loaders refusal event others counted its = record {
   served = All-from_recursion (ServesBy new.knows) (accounts_of loaders)
-      (all_served old.knows new.knows others (accounts_of loaders) (recursion_from_All (ServesBy old.knows) (accounts_of loaders) its.served));
+      (all_served old.knows new.knows others (accounts_of loaders)
+      (recursion_from_All (ServesBy old.knows) (accounts_of loaders) its.served));
   distinct = its.distinct;
   no_other = subst (λ (s : SeatState). NoOther (owners_of loaders) s.knows) (sym event.left)
       (no_other_then event.before event.after old.knows (owners_of loaders) (owners_of loaders) event.known its.no_other
-      (λ owner. ⊎_elim (λ empty. inl (both_opened_keeps event.before (Err refusal) event.after event.called owner ∙ empty)) (λ among. inr among))
+      (λ owner. ⊎_elim
+      (λ empty. inl (both_opened_keeps event.before (Err refusal) event.after event.called owner ∙ empty))
+      (λ among. inr among))
       (λ owner more. let same : event.after.given ≡ event.before.given = ap (λ (l : Ledger). l.given) event.called.2 in
       let low = more.0 in let up = more.1 in absurd (omega arith)));
   opened = λ space. counted space ∙ its.opened space;
@@ -52,7 +56,8 @@ first_of pool = new_account (pool.given + 1) NonClass
 abbrev second_of : Ledger → AccountState
 second_of pool = new_account (pool.given + 2) Class
 
-module _ (old new : SeatState) (loaders : List (ℕ × LoaderView)) (name : ℕ) (kind : Kind) (accounts : AccountState × AccountState) (unused : named loaders name ≡ None)
+module _ (old new : SeatState) (loaders : List (ℕ × LoaderView)) (name : ℕ) (kind : Kind)
+    (accounts : AccountState × AccountState) (unused : named loaders name ≡ None)
     (event : OverLock (λ before after. OpenedBoth before (Ok accounts) after) old new)
     (first_served : ServesBy new.knows accounts.0) (second_served : ServesBy new.knows accounts.1)
     (others : (other : AccountState) → ServesBy old.knows other → ServesBy new.knows other)
@@ -82,18 +87,28 @@ module _ (old new : SeatState) (loaders : List (ℕ × LoaderView)) (name : ℕ)
   owners_joined : owners_of loaders ≡ map owner_of first ++ map owner_of last
   owners_joined = ap (map owner_of) joined ∙ map-append owner_of first last
 
-  owners_now : owners_of (with_new loaders name v) ≡ map owner_of first ++ (pool.given + 1) ∷ (pool.given + 2) ∷ map owner_of last
+  owners_now : owners_of (with_new loaders name v) ≡ map owner_of first ++ (pool.given + 1) ∷ (pool.given + 2)
+      ∷ map owner_of last
   owners_now = ap (map owner_of) now ∙ map-append owner_of first (first_of pool ∷ second_of pool ∷ last)
 
   long : length (with_new loaders name v) ≡ length loaders + 1
-  long = ap length (gap.made v) ∙ length-append gap.before ((name, v) ∷ gap.after) ∙ omega (arith, ap length gap.is, length-append gap.before gap.after)
+  long = ap length (gap.made v) ∙ length-append gap.before ((name, v) ∷ gap.after)
+      ∙ omega (arith, ap length gap.is, length-append gap.before gap.after)
 
   all_before : AllByRecursion (ServesBy old.knows) (accounts_of loaders)
   all_before = recursion_from_All (ServesBy old.knows) (accounts_of loaders) its.served
 
-  distinct_now : (number : ℕ) → times number (map owner_of first ++ (pool.given + 1) ∷ (pool.given + 2) ∷ map owner_of last) ≤ 1
+  distinct_now : (number : ℕ)
+      → times number (map owner_of first ++ (pool.given + 1) ∷ (pool.given + 2) ∷ map owner_of last) ≤ 1
   distinct_now number = elim (cases_lt pool.given number) [
-    | inl above ↦ omega (arith, parts, few (pool.given + 1) (pool.given + 2) number (omega arith), below_given pool old.knows number event.known above (accounts_of loaders) all_before, before)
+    | inl above ↦
+        omega (
+          arith,
+          parts,
+          few (pool.given + 1) (pool.given + 2) number (omega arith),
+          below_given pool old.knows number event.known above (accounts_of loaders) all_before,
+          before,
+        )
     | inr below ↦ omega (
       arith,
       parts,
@@ -105,7 +120,8 @@ module _ (old new : SeatState) (loaders : List (ℕ × LoaderView)) (name : ℕ)
   ]
     where
       parts : times number (map owner_of first ++ (pool.given + 1) ∷ (pool.given + 2) ∷ map owner_of last)
-          ≡ times number (map owner_of first) + is_it number (pool.given + 1) + is_it number (pool.given + 2) + times number (map owner_of last)
+          ≡ times number (map owner_of first) + is_it number (pool.given + 1) + is_it number (pool.given + 2)
+          + times number (map owner_of last)
       parts = times_split number (map owner_of first) (map owner_of last) (pool.given + 1) (pool.given + 2)
 
       before : times number (owners_of loaders) ≡ times number (map owner_of first) + times number (map owner_of last)
@@ -113,21 +129,32 @@ module _ (old new : SeatState) (loaders : List (ℕ × LoaderView)) (name : ℕ)
 
   one_of_two : (owner : ℕ) → IsNew pool event.after owner → (pool.given + 1 ≡ owner) ⊎ (pool.given + 2 ≡ owner)
   one_of_two owner more =
-      let given : event.after.given ≡ pool.given + 1 + 1 = ap (λ (l : Ledger). l.given) event.called.1 in let low = more.0 in let up = more.1 in
-      elim (cases_eq (pool.given + 1) owner) [ inl same ↦ inl same | inr differ ↦ inr (omega (arith, differ, given, low, up)) ]
+      let given : event.after.given ≡ pool.given + 1 + 1 = ap (λ (l : Ledger). l.given) event.called.1 in let low =
+      more.0 in let up = more.1 in
+      elim (cases_eq (pool.given + 1) owner) [
+        | inl same ↦ inl same
+        | inr differ ↦
+            inr (omega (arith, differ, given, low, up))
+      ]
 
   none_now : NoOther (owners_of (with_new loaders name v)) new.knows
   none_now = subst (λ (s : SeatState). NoOther (owners_of (with_new loaders name v)) s.knows) (sym event.left)
       (subst (λ (owners : List ℕ). NoOther owners (view_after pool event.after old.knows)) (sym owners_now)
-      (no_other_then pool event.after old.knows (owners_of loaders) (map owner_of first ++ (pool.given + 1) ∷ (pool.given + 2) ∷ map owner_of last) event.known its.no_other
+      (no_other_then pool event.after old.knows (owners_of loaders)
+      (map owner_of first ++ (pool.given + 1) ∷ (pool.given + 2) ∷ map owner_of last) event.known its.no_other
       (λ owner. ⊎_elim (λ empty. inl (both_opened_keeps pool (Ok accounts) event.after event.called owner ∙ empty))
-      (λ among. inr (among_more owner (map owner_of first) (map owner_of last) (pool.given + 1) (pool.given + 2) (subst (λ (owners : List ℕ). is_among owners owner ≡ true) owners_joined among))))
-      (λ owner more. among_new owner (map owner_of first) (map owner_of last) (pool.given + 1) (pool.given + 2) (one_of_two owner more))))
+      (λ among. inr
+      (among_more owner (map owner_of first) (map owner_of last) (pool.given + 1) (pool.given + 2)
+      (subst (λ (owners : List ℕ). is_among owners owner ≡ true) owners_joined among))))
+      (λ owner more. among_new owner (map owner_of first) (map owner_of last) (pool.given + 1) (pool.given + 2)
+      (one_of_two owner more))))
 
   manned_made : IsManned new.knows (with_new loaders name v)
   manned_made = record {
-    served = All-from_recursion (ServesBy new.knows) (accounts_of (with_new loaders name v)) (subst (AllByRecursion (ServesBy new.knows)) (sym now)
-        (all_joined (ServesBy new.knows) first last (first_of pool) (second_of pool) (all_served old.knows new.knows others first parts.0)
+    served = All-from_recursion (ServesBy new.knows) (accounts_of (with_new loaders name v))
+        (subst (AllByRecursion (ServesBy new.knows)) (sym now)
+        (all_joined (ServesBy new.knows) first last (first_of pool) (second_of pool)
+        (all_served old.knows new.knows others first parts.0)
         (subst (λ (two : AccountState × AccountState). ServesBy new.knows two.0) event.called.0 first_served)
         (subst (λ (two : AccountState × AccountState). ServesBy new.knows two.1) event.called.0 second_served)
         (all_served old.knows new.knows others last parts.1)));
@@ -136,7 +163,8 @@ module _ (old new : SeatState) (loaders : List (ℕ × LoaderView)) (name : ℕ)
     opened = λ space. counted space ∙ ap (λ (n : ℕ). n + 1) (its.opened space) ∙ sym long;
   }
     where
-      both : (b a : List AccountState) → AllByRecursion (ServesBy old.knows) (b ++ a) → AllByRecursion (ServesBy old.knows) b × AllByRecursion (ServesBy old.knows) a
+      both : (b a : List AccountState) → AllByRecursion (ServesBy old.knows) (b ++ a)
+          → AllByRecursion (ServesBy old.knows) b × AllByRecursion (ServesBy old.knows) a
       both [] a all = (tt, all)
       both (x ∷ b) a all = let rest = both b a all.1 in ((all.0, rest.0), rest.1)
 
@@ -144,4 +172,6 @@ module _ (old new : SeatState) (loaders : List (ℕ × LoaderView)) (name : ℕ)
       parts = both first last (subst (AllByRecursion (ServesBy old.knows)) joined all_before)
 
   pub manned_opened : IsManned new.knows (with_new loaders name (new_loader accounts.0 accounts.1 kind))
-  manned_opened = subst (λ (two : AccountState × AccountState). IsManned new.knows (with_new loaders name (new_loader two.0 two.1 kind))) (sym event.called.0) manned_made
+  manned_opened =
+      subst (λ (two : AccountState × AccountState). IsManned new.knows
+      (with_new loaders name (new_loader two.0 two.1 kind))) (sym event.called.0) manned_made

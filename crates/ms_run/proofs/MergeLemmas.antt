@@ -1,11 +1,14 @@
 -- Replies taken share by share, in the order of the lines: of each share so many are taken as it has
 -- tasks among the lines so far. Used by `merge`.
-use Rattle.std.proofs.Common.{◌≡◌, ◌<◌, ◌≤◌, ◌+◌, ◌==◌, ℕ, Bool, true, false, cond, Some, None, Option, List, [], ◌∷◌, ◌++◌}
-use Rattle.std.proofs.Common.{map, length, refl, sym, ap, ◌∙◌, subst, arith, slice_get, slice_set, get_or, take, drop, replicate, append-nil, append_assoc, eq-eqb}
+use Rattle.std.proofs.Common.{◌≡◌, ◌<◌, ◌≤◌, ◌+◌, ◌==◌, ℕ, Bool, true, false, cond, Some, None, Option, List, [], ◌∷◌}
+use Rattle.std.proofs.Common.{◌++◌}
+use Rattle.std.proofs.Common.{map, length, refl, sym, ap, ◌∙◌, subst, arith, slice_get, slice_set, get_or, take, drop}
+use Rattle.std.proofs.Common.{replicate, append-nil, append_assoc, eq-eqb}
 use Rattle.std.specs.List.{filter}
 use Rattle.std.proofs.Math.Seq.{get_or-append_seam}
 use Rattle.std.proofs.lemmas.Bool.{eqb-true, eqb-false}
-use Rattle.std.proofs.lemmas.List.{take_more, take_all, take-append-drop, length-append, length-map, length-set, get_or-set_same, get_or-set_other, get_or-replicate, get_or-map}
+use Rattle.std.proofs.lemmas.List.{take_more, take_all, take-append-drop, length-append, length-map, length-set}
+use Rattle.std.proofs.lemmas.List.{get_or-set_same, get_or-set_other, get_or-replicate, get_or-map}
 use Rattle.std.proofs.lemmas.List.Elements.{filter-append}
 use Rattle.std.proofs.lemmas.Option.{slice_get_within}
 use Rattle.std.proofs.lemmas.Slice.Zip.{length-zip, get_or-zip}
@@ -22,7 +25,8 @@ use Rattle.ms_run.specs.declared.share.Share.{Share}
 use Rattle.ms_run.specs.Shares.{said_in, Place, task_of, tasks_of, tasks_at, AreAnswered, AreMerged}
 
 -- The lines up to a place are merged.
-pub record SoFar (place : Place) (lines : List Line) (shares : List Share) (before : List Answer) (at : ℕ) (answers : List Answer) (taken : List ℕ) : Type 0 where
+pub record SoFar (place : Place) (lines : List Line) (shares : List Share) (before : List Answer) (at : ℕ)
+    (answers : List Answer) (taken : List ℕ) : Type 0 where
   pub added : List Answer
   pub said : List Said
   pub is : answers ≡ before ++ added
@@ -30,22 +34,27 @@ pub record SoFar (place : Place) (lines : List Line) (shares : List Share) (befo
   pub long : length taken ≡ length shares
   pub counts : (k d : ℕ) → k < length shares → get_or taken k d ≡ length (tasks_at place k (take at lines))
   pub told : (k : ℕ) (share : Share) → slice_get shares k ≡ Some share
-      → filter (λ (s : Said). place (loader_of s.0) == k) said ≡ take (length (tasks_at place k (take at lines))) (said_in share.tasks.items share.replies.items)
+      → filter (λ (s : Said). place (loader_of s.0) == k) said
+      ≡ take (length (tasks_at place k (take at lines))) (said_in share.tasks.items share.replies.items)
 
-pub starts : (place : Place) (lines : List Line) (shares : List Share) (before : List Answer) (count : ℕ) (taken : List ℕ)
-    → taken ≡ replicate count 0 → length taken ≡ count → count ≡ length shares → SoFar place lines shares before 0 before taken
+pub starts : (place : Place) (lines : List Line) (shares : List Share) (before : List Answer) (count : ℕ)
+    (taken : List ℕ)
+    → taken ≡ replicate count 0 → length taken ≡ count → count ≡ length shares
+    → SoFar place lines shares before 0 before taken
 starts place lines shares before count taken zeros long all = record {
   added = [];
   said = [];
   is = sym (append-nil before);
   said_are = tt;
   long = long ∙ all;
-  counts = λ k d within. ap (λ (l : List ℕ). get_or l k d) zeros ∙ get_or-replicate count k 0 d (omega (arith, within, all));
+  counts = λ k d within. ap (λ (l : List ℕ). get_or l k d) zeros
+      ∙ get_or-replicate count k 0 d (omega (arith, within, all));
   told = λ k share found. refl;
 }
 
 -- What is said of lines, and of others after them.
-said_append : (lines more : List Line) (answers others : List Answer) (said told : List Said) → AreSaid lines answers said → AreSaid more others told
+said_append : (lines more : List Line) (answers others : List Answer) (said told : List Said)
+    → AreSaid lines answers said → AreSaid more others told
     → AreSaid (lines ++ more) (answers ++ others) (said ++ told)
 said_append [] more [] others [] told first second = second
 said_append [] more [] others (s ∷ said) told first second = absurd first
@@ -59,12 +68,14 @@ said_append (line ∷ lines) more (answer ∷ answers) others (s ∷ said) told 
 tasks_append : (lines more : List Line) → tasks_of (lines ++ more) ≡ tasks_of lines ++ tasks_of more
 tasks_append [] more = refl
 tasks_append (line ∷ lines) more =
-    elim (step_of line.command) as (λ o. task_of line o (tasks_of (lines ++ more)) ≡ task_of line o (tasks_of lines) ++ tasks_of more) [
+    elim (step_of line.command) as (λ o. task_of line o (tasks_of (lines ++ more))
+    ≡ task_of line o (tasks_of lines) ++ tasks_of more) [
       | None ↦ tasks_append lines more
       | Some step ↦ ap (λ (l : List Task). record { line = line.number; step = step } ∷ l) (tasks_append lines more)
     ]
 
-at_append : (place : Place) (k : ℕ) (lines more : List Line) → tasks_at place k (lines ++ more) ≡ tasks_at place k lines ++ tasks_at place k more
+at_append : (place : Place) (k : ℕ) (lines more : List Line)
+    → tasks_at place k (lines ++ more) ≡ tasks_at place k lines ++ tasks_at place k more
 at_append place k lines more =
     ap (filter (λ (task : Task). place (loader_of task.step) == k)) (tasks_append lines more)
     ∙ filter-append (λ (task : Task). place (loader_of task.step) == k) (tasks_of lines) (tasks_of more)
@@ -74,39 +85,51 @@ task_in line step = record { line = line.number; step = step }
 
 at_one : (place : Place) (k : ℕ) (line : Line) (step : Step) → step_of line.command ≡ Some step
     → tasks_at place k (line ∷ []) ≡ cond (place (loader_of step) == k) (task_in line step ∷ []) []
-at_one place k line step asks = ap (λ (o : Option Step). filter (λ (task : Task). place (loader_of task.step) == k) (task_of line o [])) asks
+at_one place k line step asks =
+    ap (λ (o : Option Step). filter (λ (task : Task). place (loader_of task.step) == k) (task_of line o [])) asks
 
 -- The lines up to the next place have one task more, in one share.
-at_next : (place : Place) (k : ℕ) (lines : List Line) (at : ℕ) (line : Line) (step : Step) → take (at + 1) lines ≡ take at lines ++ line ∷ []
+at_next : (place : Place) (k : ℕ) (lines : List Line) (at : ℕ) (line : Line) (step : Step)
+    → take (at + 1) lines ≡ take at lines ++ line ∷ []
     → step_of line.command ≡ Some step
-    → tasks_at place k (take (at + 1) lines) ≡ tasks_at place k (take at lines) ++ cond (place (loader_of step) == k) (task_in line step ∷ []) []
+    → tasks_at place k (take (at + 1) lines) ≡ tasks_at place k (take at lines) ++ cond (place (loader_of step) == k)
+    (task_in line step ∷ []) []
 at_next place k lines at line step more asks =
-    ap (tasks_at place k) more ∙ at_append place k (take at lines) (line ∷ []) ∙ ap (λ (l : List Task). tasks_at place k (take at lines) ++ l) (at_one place k line step asks)
+    ap (tasks_at place k) more ∙ at_append place k (take at lines) (line ∷ [])
+    ∙ ap (λ (l : List Task). tasks_at place k (take at lines) ++ l) (at_one place k line step asks)
 
 -- That task, where it goes.
-at_there : (place : Place) (lines : List Line) (at : ℕ) (line : Line) (step : Step) → take (at + 1) lines ≡ take at lines ++ line ∷ []
+at_there : (place : Place) (lines : List Line) (at : ℕ) (line : Line) (step : Step)
+    → take (at + 1) lines ≡ take at lines ++ line ∷ []
     → step_of line.command ≡ Some step
-    → tasks_at place (place (loader_of step)) (take (at + 1) lines) ≡ tasks_at place (place (loader_of step)) (take at lines) ++ task_in line step ∷ []
+    → tasks_at place (place (loader_of step)) (take (at + 1) lines)
+    ≡ tasks_at place (place (loader_of step)) (take at lines) ++ task_in line step ∷ []
 at_there place lines at line step more asks =
     at_next place (place (loader_of step)) lines at line step more asks
-    ∙ ap (λ (b : Bool). tasks_at place (place (loader_of step)) (take at lines) ++ cond b (task_in line step ∷ []) []) (eq-eqb (place (loader_of step)) (place (loader_of step)) refl)
+    ∙ ap (λ (b : Bool). tasks_at place (place (loader_of step)) (take at lines) ++ cond b (task_in line step ∷ []) [])
+    (eq-eqb (place (loader_of step)) (place (loader_of step)) refl)
 
-all_there : (place : Place) (lines : List Line) (at : ℕ) (line : Line) (step : Step) → take (at + 1) lines ≡ take at lines ++ line ∷ []
+all_there : (place : Place) (lines : List Line) (at : ℕ) (line : Line) (step : Step)
+    → take (at + 1) lines ≡ take at lines ++ line ∷ []
     → step_of line.command ≡ Some step
     → tasks_at place (place (loader_of step)) lines
-    ≡ tasks_at place (place (loader_of step)) (take at lines) ++ task_in line step ∷ tasks_at place (place (loader_of step)) (drop (at + 1) lines)
+    ≡ tasks_at place (place (loader_of step)) (take at lines) ++ task_in line step ∷ tasks_at place
+    (place (loader_of step)) (drop (at + 1) lines)
 all_there place lines at line step more asks =
     let p = place (loader_of step) in
-    ap (tasks_at place p) (sym (take-append-drop (at + 1) lines)) ∙ at_append place p (take (at + 1) lines) (drop (at + 1) lines)
+    ap (tasks_at place p) (sym (take-append-drop (at + 1) lines))
+    ∙ at_append place p (take (at + 1) lines) (drop (at + 1) lines)
     ∙ ap (λ (l : List Task). l ++ tasks_at place p (drop (at + 1) lines)) (at_there place lines at line step more asks)
     ∙ append_assoc (tasks_at place p (take at lines)) (task_in line step ∷ []) (tasks_at place p (drop (at + 1) lines))
 
 -- One more of what is said in a share.
-said_more : (tasks : List Task) (replies : List Reply) (n : ℕ) (task : Task) (reply : Reply) → n < length tasks → n < length replies
+said_more : (tasks : List Task) (replies : List Reply) (n : ℕ) (task : Task) (reply : Reply) → n < length tasks
+    → n < length replies
     → get_or tasks n task ≡ task → reply ≡ get_or replies n reply
     → take (n + 1) (said_in tasks replies) ≡ take n (said_in tasks replies) ++ (task.step, reply) ∷ []
 said_more tasks replies n task reply in_tasks in_replies task_is reply_is =
-    take_more (said_in tasks replies) n (task.step, reply) within ∙ ap (λ (s : Said). take n (said_in tasks replies) ++ s ∷ []) is
+    take_more (said_in tasks replies) n (task.step, reply) within
+    ∙ ap (λ (s : Said). take n (said_in tasks replies) ++ s ∷ []) is
   where
     steps : List Step
     steps = map (λ (t : Task). t.step) tasks
@@ -128,19 +151,29 @@ some_same : {X : Type 0} (x y : X) → Some x ≡ Some y → x ≡ y
 some_same x y e = cc
 
 -- The next line: its step, the place of its share, and what stands there.
-pub record Next (place : Place) (lines : List Line) (shares : List Share) (at : ℕ) (taken : List ℕ) (line : Line) (step : Step) (there : ℕ) (share : Share) (next : ℕ) : Type 0 where
+pub record Next (place : Place) (lines : List Line) (shares : List Share) (at : ℕ) (taken : List ℕ) (line : Line)
+    (step : Step) (there : ℕ) (share : Share) (next : ℕ) : Type 0 where
   pub more : take (at + 1) lines ≡ take at lines ++ line ∷ []
   pub asks : step_of line.command ≡ Some step
   pub goes : there ≡ place (loader_of step)
   pub found : slice_get shares there ≡ Some share
   pub is_next : next ≡ get_or taken there next
 
-pub next_line : (place : Place) (lines : List Line) (shares : List Share) (at : ℕ) (taken : List ℕ) (past : Line) (there : ℕ) (share : Share) (next : ℕ)
+pub next_line : (place : Place) (lines : List Line) (shares : List Share) (at : ℕ) (taken : List ℕ) (past : Line)
+    (there : ℕ) (share : Share) (next : ℕ)
     → (asked : (step : Step) × (step_of (get_or lines at past).command ≡ Some step))
-    → ((step : Step) → step_of (get_or lines at past).command ≡ Some step → there ≡ place (loader_of step)) → at < length lines
-    → slice_get shares there ≡ Some share → next ≡ get_or taken there next → Next place lines shares at taken (get_or lines at past) asked.0 there share next
+    → ((step : Step) → step_of (get_or lines at past).command ≡ Some step → there ≡ place (loader_of step))
+    → at < length lines
+    → slice_get shares there ≡ Some share → next ≡ get_or taken there next
+    → Next place lines shares at taken (get_or lines at past) asked.0 there share next
 next_line place lines shares at taken past there share next asked goes within found is_next =
-    record { more = take_more lines at past within; asks = asked.1; goes = goes asked.0 asked.1; found = found; is_next = is_next }
+    record {
+      more = take_more lines at past within;
+      asks = asked.1;
+      goes = goes asked.0 asked.1;
+      found = found;
+      is_next = is_next;
+    }
 
 -- Its task is the next of its share, and there is a reply to it.
 pub record HasReply (share : Share) (next : ℕ) (task : Task) : Type 0 where
@@ -148,9 +181,11 @@ pub record HasReply (share : Share) (next : ℕ) (task : Task) : Type 0 where
   pub in_replies : next < length share.replies.items
   pub task_is : get_or share.tasks.items next task ≡ task
 
-pub has_reply : (place : Place) (lines : List Line) (shares : List Share) (before : List Answer) (at : ℕ) (answers : List Answer) (taken : List ℕ)
+pub has_reply : (place : Place) (lines : List Line) (shares : List Share) (before : List Answer) (at : ℕ)
+    (answers : List Answer) (taken : List ℕ)
     (line : Line) (step : Step) (there : ℕ) (share : Share) (next : ℕ)
-    → AreAnswered place shares lines → SoFar place lines shares before at answers taken → Next place lines shares at taken line step there share next
+    → AreAnswered place shares lines → SoFar place lines shares before at answers taken
+    → Next place lines shares at taken line step there share next
     → HasReply share next (task_in line step)
 has_reply place lines shares before at answers taken line step there share next answered so_far goes_on =
     record { in_tasks = in_tasks; in_replies = in_replies; task_is = task_is }
@@ -181,30 +216,40 @@ has_reply place lines shares before at answers taken line step there share next 
         ∙ get_or-append_seam firsts (task_in line step) later (task_in line step)
 
 -- What was said of a share grows as its tasks do, and the count of its replies.
-grows : (b : Bool) (told : List Said) (s : Said) (firsts : List Task) (task : Task) (whole : List Said) → told ≡ take (length firsts) whole
+grows : (b : Bool) (told : List Said) (s : Said) (firsts : List Task) (task : Task) (whole : List Said)
+    → told ≡ take (length firsts) whole
     → (b ≡ true → take (length firsts + 1) whole ≡ take (length firsts) whole ++ s ∷ [])
     → told ++ cond b (s ∷ []) [] ≡ take (length (firsts ++ cond b (task ∷ []) [])) whole
 grows true told s firsts task whole is more =
-    ap (λ (l : List Said). l ++ s ∷ []) is ∙ sym (more refl) ∙ ap (λ (n : ℕ). take n whole) (sym (length-append firsts (task ∷ [])))
-grows false told s firsts task whole is more = append-nil told ∙ is ∙ ap (λ (l : List Task). take (length l) whole) (sym (append-nil firsts))
+    ap (λ (l : List Said). l ++ s ∷ []) is ∙ sym (more refl)
+    ∙ ap (λ (n : ℕ). take n whole) (sym (length-append firsts (task ∷ [])))
+grows false told s firsts task whole is more =
+    append-nil told ∙ is ∙ ap (λ (l : List Task). take (length l) whole) (sym (append-nil firsts))
 
-counted : (b : Bool) (count : ℕ) (firsts : List Task) (task : Task) → (b ≡ true → count ≡ length firsts + 1) → (b ≡ false → count ≡ length firsts)
+counted : (b : Bool) (count : ℕ) (firsts : List Task) (task : Task) → (b ≡ true → count ≡ length firsts + 1)
+    → (b ≡ false → count ≡ length firsts)
     → count ≡ length (firsts ++ cond b (task ∷ []) [])
 counted true count firsts task one same = one refl ∙ sym (length-append firsts (task ∷ []))
 counted false count firsts task one same = same refl ∙ ap length (sym (append-nil firsts))
 
 -- With its reply the next line is merged.
-pub merges_next : (place : Place) (lines : List Line) (shares : List Share) (before : List Answer) (at : ℕ) (answers : List Answer) (taken : List ℕ)
+pub merges_next : (place : Place) (lines : List Line) (shares : List Share) (before : List Answer) (at : ℕ)
+    (answers : List Answer) (taken : List ℕ)
     (line : Line) (step : Step) (there : ℕ) (share : Share) (next : ℕ) (reply : Reply)
-    → AreAnswered place shares lines → SoFar place lines shares before at answers taken → Next place lines shares at taken line step there share next
+    → AreAnswered place shares lines → SoFar place lines shares before at answers taken
+    → Next place lines shares at taken line step there share next
     → reply ≡ get_or share.replies.items next reply
-    → SoFar place lines shares before (at + 1) (answers ++ record { line = line.number; reply = reply; report = None } ∷ []) (slice_set taken there (next + 1))
-merges_next place lines shares before at answers taken line step there share next reply answered so_far goes_on reply_is =
+    → SoFar place lines shares before (at + 1)
+    (answers ++ record { line = line.number; reply = reply; report = None } ∷ []) (slice_set taken there (next + 1))
+merges_next place lines shares before at answers taken line step there share next reply answered so_far goes_on
+    reply_is =
     record {
       added = so_far.added ++ answer ∷ [];
       said = so_far.said ++ (step, reply) ∷ [];
       is = ap (λ (l : List Answer). l ++ answer ∷ []) so_far.is ∙ append_assoc before so_far.added (answer ∷ []);
-      said_are = rw goes_on.more (said_append (take at lines) (line ∷ []) so_far.added (answer ∷ []) so_far.said ((step, reply) ∷ [])
+      said_are =
+          rw goes_on.more
+          (said_append (take at lines) (line ∷ []) so_far.added (answer ∷ []) so_far.said ((step, reply) ∷ [])
           so_far.said_are (goes_on.asks, refl, refl, refl, tt));
       long = length-set taken there (next + 1) ∙ so_far.long;
       counts = counts;
@@ -226,41 +271,56 @@ merges_next place lines shares before at answers taken line step there share nex
     next_is : next ≡ length (firsts there)
     next_is = goes_on.is_next ∙ so_far.counts there next (slice_get_within shares there share goes_on.found)
 
-    more : (k : ℕ) → tasks_at place k (take (at + 1) lines) ≡ firsts k ++ cond (place (loader_of step) == k) (task_in line step ∷ []) []
+    more : (k : ℕ)
+        → tasks_at place k (take (at + 1) lines)
+        ≡ firsts k ++ cond (place (loader_of step) == k) (task_in line step ∷ []) []
     more k = at_next place k lines at line step goes_on.more goes_on.asks
 
-    counts : (k d : ℕ) → k < length shares → get_or (slice_set taken there (next + 1)) k d ≡ length (tasks_at place k (take (at + 1) lines))
+    counts : (k d : ℕ) → k < length shares
+        → get_or (slice_set taken there (next + 1)) k d ≡ length (tasks_at place k (take (at + 1) lines))
     counts k d inside =
-        counted (place (loader_of step) == k) (get_or (slice_set taken there (next + 1)) k d) (firsts k) (task_in line step)
-        (λ e. ap (λ (j : ℕ). get_or (slice_set taken there (next + 1)) j d) (sym (here k e)) ∙ get_or-set_same taken there (next + 1) d within
+        counted (place (loader_of step) == k) (get_or (slice_set taken there (next + 1)) k d) (firsts k)
+        (task_in line step)
+        (λ e. ap (λ (j : ℕ). get_or (slice_set taken there (next + 1)) j d) (sym (here k e))
+        ∙ get_or-set_same taken there (next + 1) d within
         ∙ ap (λ (n : ℕ). n + 1) next_is ∙ ap (λ (j : ℕ). length (firsts j) + 1) (here k e))
-        (λ e. get_or-set_other taken there k (next + 1) d (λ same. eqb-false (place (loader_of step)) k e (sym goes_on.goes ∙ sym same)) ∙ so_far.counts k d inside)
+        (λ e. get_or-set_other taken there k (next + 1) d
+        (λ same. eqb-false (place (loader_of step)) k e (sym goes_on.goes ∙ sym same)) ∙ so_far.counts k d inside)
         ∙ ap length (sym (more k))
 
     one_more : (k : ℕ) (other : Share) → slice_get shares k ≡ Some other → (place (loader_of step) == k) ≡ true
         → take (length (firsts k) + 1) (said_in other.tasks.items other.replies.items)
         ≡ take (length (firsts k)) (said_in other.tasks.items other.replies.items) ++ (step, reply) ∷ []
     one_more k other found e =
-        let same : share ≡ other = some_same share other (sym goes_on.found ∙ ap (slice_get shares) (here k e) ∙ found) in
-        let has = has_reply place lines shares before at answers taken line step there share next answered so_far goes_on in
-        let said_so = said_more share.tasks.items share.replies.items next (task_in line step) reply has.in_tasks has.in_replies has.task_is reply_is in
+        let same : share ≡ other = some_same share other (sym goes_on.found ∙ ap (slice_get shares) (here k e) ∙ found)
+        in
+        let has =
+        has_reply place lines shares before at answers taken line step there share next answered so_far goes_on in
+        let said_so =
+        said_more share.tasks.items share.replies.items next (task_in line step) reply has.in_tasks has.in_replies
+        has.task_is reply_is in
         let count : next ≡ length (firsts k) = next_is ∙ ap (λ (j : ℕ). length (firsts j)) (here k e) in
-        subst (λ (n : ℕ). take (n + 1) (said_in other.tasks.items other.replies.items) ≡ take n (said_in other.tasks.items other.replies.items) ++ (step, reply) ∷ []) count
-        (subst (λ (s : Share). take (next + 1) (said_in s.tasks.items s.replies.items) ≡ take next (said_in s.tasks.items s.replies.items) ++ (step, reply) ∷ []) same said_so)
+        subst (λ (n : ℕ). take (n + 1) (said_in other.tasks.items other.replies.items)
+        ≡ take n (said_in other.tasks.items other.replies.items) ++ (step, reply) ∷ []) count
+        (subst (λ (s : Share). take (next + 1) (said_in s.tasks.items s.replies.items)
+        ≡ take next (said_in s.tasks.items s.replies.items) ++ (step, reply) ∷ []) same said_so)
 
     told : (k : ℕ) (other : Share) → slice_get shares k ≡ Some other
         → filter (λ (s : Said). place (loader_of s.0) == k) (so_far.said ++ (step, reply) ∷ [])
         ≡ take (length (tasks_at place k (take (at + 1) lines))) (said_in other.tasks.items other.replies.items)
     told k other found =
         filter-append (λ (s : Said). place (loader_of s.0) == k) so_far.said ((step, reply) ∷ [])
-        ∙ grows (place (loader_of step) == k) (filter (λ (s : Said). place (loader_of s.0) == k) so_far.said) (step, reply) (firsts k) (task_in line step)
+        ∙ grows (place (loader_of step) == k) (filter (λ (s : Said). place (loader_of s.0) == k) so_far.said)
+        (step, reply) (firsts k) (task_in line step)
         (said_in other.tasks.items other.replies.items) (so_far.told k other found) (one_more k other found)
         ∙ ap (λ (l : List Task). take (length l) (said_in other.tasks.items other.replies.items)) (sym (more k))
 
 -- Once all lines are merged, all that was said in the shares is.
-pub all_merged : (place : Place) (lines : List Line) (shares : List Share) (before : List Answer) (at : ℕ) (answers : List Answer) (taken : List ℕ)
+pub all_merged : (place : Place) (lines : List Line) (shares : List Share) (before : List Answer) (at : ℕ)
+    (answers : List Answer) (taken : List ℕ)
     → AreAnswered place shares lines → SoFar place lines shares before at answers taken → length lines ≤ at
-    → (added : List Answer) × (said : List Said) × (answers ≡ before ++ added) × AreSaid lines added said × AreMerged place shares said
+    → (added : List Answer) × (said : List Said) × (answers ≡ before ++ added) × AreSaid lines added said
+    × AreMerged place shares said
 all_merged place lines shares before at answers taken answered so_far ends = (
   so_far.added,
   so_far.said,
@@ -281,4 +341,5 @@ all_merged place lines shares before at answers taken answered so_far ends = (
         let its = answered k share found in
         let count = ap (λ (l : List Line). length (tasks_at place k l)) whole ∙ ap length (sym its.0) in
         so_far.told k share found ∙ ap (λ (n : ℕ). take n (said_in share.tasks.items share.replies.items)) count
-        ∙ take_all (length share.tasks.items) (said_in share.tasks.items share.replies.items) (short share.tasks.items share.replies.items)
+        ∙ take_all (length share.tasks.items) (said_in share.tasks.items share.replies.items)
+        (short share.tasks.items share.replies.items)

@@ -8,11 +8,14 @@ pub moved_none : (seat : MeterSeatState) (used : ℕ) → IsMoved seat used seat
 moved_none seat used = record { meter = refl; amount = refl }
 
 pub moved_then : (a b c : MeterSeatState) (u v w : ℕ) → IsMoved a u b v → IsMoved b v c w → IsMoved a u c w
-moved_then a b c u v w first second = record { meter = second.meter ∙ first.meter; amount = omega (arith, first.amount, second.amount) }
+moved_then a b c u v w first second =
+    record { meter = second.meter ∙ first.meter; amount = omega (arith, first.amount, second.amount) }
 
 -- A step adds what the words in use have risen by.
-pub moved_up : (old new : MeterSeatState) (used used_now before after : ℕ) → before < 2 ^ 64 → used_now + before ≡ used + after
+pub moved_up : (old new : MeterSeatState) (used used_now before after : ℕ) → before < 2 ^ 64
+    → used_now + before ≡ used + after
     → new ≡ record { id = old.id; amount = added old.amount ((after + (2 ^ 64 - before)) % 2 ^ 64) }
     → IsMoved old used new used_now
-moved_up old new used used_now before after fits is new_is = subst (λ (s : MeterSeatState). IsMoved old used s used_now) (sym new_is)
+moved_up old new used used_now before after fits is new_is =
+    subst (λ (s : MeterSeatState). IsMoved old used s used_now) (sym new_is)
     (record { meter = refl; amount = omega arith })

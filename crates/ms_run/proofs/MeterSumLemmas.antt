@@ -1,5 +1,6 @@
 -- The words in use of shares, and what their seats of the meter sum to. For `gather` and `run_phase`.
-use Rattle.std.proofs.Common.{◌≡◌, ℕ, ◌+◌, ◌%◌, List, [], ◌∷◌, ◌++◌, map, refl, sym, ap, ◌∙◌, subst, arith, replicate, zero, suc, ◌^◌}
+use Rattle.std.proofs.Common.{◌≡◌, ℕ, ◌+◌, ◌%◌, List, [], ◌∷◌, ◌++◌, map, refl, sym, ap, ◌∙◌, subst, arith, replicate}
+use Rattle.std.proofs.Common.{zero, suc, ◌^◌}
 use Rattle.std.specs.List.{All, AllByRecursion, sum_by}
 use Rattle.std.specs.Map.{values_of}
 use Rattle.std.proofs.lemmas.List.Sums.{sum_by-cons, sum_by-append}
@@ -49,7 +50,8 @@ used_with old part new joined = omega (
   sum_by-append used_entry old part,
 )
 
-pub used_joined : (old : Loaders) (shares : List Share) (new : Loaders) → AreJoined old shares new → used_in new ≡ used_in old + used_over shares
+pub used_joined : (old : Loaders) (shares : List Share) (new : Loaders) → AreJoined old shares new
+    → used_in new ≡ used_in old + used_over shares
 used_joined old [] new joined = omega (arith, ap used_in joined)
 used_joined old (share ∷ shares) new joined = omega (
   arith,
@@ -62,7 +64,8 @@ pub used_gathered : (shares : List Share) (new : Loaders) → AreJoined [] share
 used_gathered shares new joined = omega (arith, used_joined [] shares new joined)
 
 -- Two equations modulo a number, added up.
-both_mod : (m a b c d w x y z : ℕ) → (a + b) % m ≡ (c + d) % m → (w + x) % m ≡ (y + z) % m → (a + w + (b + x)) % m ≡ (c + y + (d + z)) % m
+both_mod : (m a b c d w x y z : ℕ) → (a + b) % m ≡ (c + d) % m → (w + x) % m ≡ (y + z) % m
+    → (a + w + (b + x)) % m ≡ (c + y + (d + z)) % m
 both_mod m a b c d w x y z first rest =
     ap (λ (n : ℕ). n % m) (regrouped a w b x) ∙ add-mod (a + b) (w + x) m
     ∙ ap (λ (n : ℕ). (n + (w + x) % m) % m) first ∙ ap (λ (n : ℕ). ((c + d) % m + n) % m) rest
@@ -80,7 +83,8 @@ none_amount count meter = omega (arith, sum_by-replicate (λ (seat : MeterSeatSt
 
 -- Worked shares' seats moved together as the words in use of all loaders did.
 moved_over : (shares others : List Share) → AllWorked shares others
-    → (used_over shares + amounts (map meter_of others)) % 2 ^ 64 ≡ (used_over others + amounts (map meter_of shares)) % 2 ^ 64
+    → (used_over shares + amounts (map meter_of others)) % 2 ^ 64
+    ≡ (used_over others + amounts (map meter_of shares)) % 2 ^ 64
 moved_over [] [] all = refl
 moved_over [] (done ∷ others) all = absurd all
 moved_over (share ∷ shares) [] all = absurd all
@@ -95,7 +99,8 @@ moved_over (share ∷ shares) (done ∷ others) all =
     all.0.moved.amount (moved_over shares others all.1))
 
 -- Each seat is of the meter that all were made with, before the work and after.
-all_of_meter : (meter : MeterState) (count : ℕ) (shares : List Share) → map meter_of shares ≡ replicate count (unmoved meter)
+all_of_meter : (meter : MeterState) (count : ℕ) (shares : List Share)
+    → map meter_of shares ≡ replicate count (unmoved meter)
     → AllByRecursion (λ (share : Share). share.meter.id ≡ meter.id) shares
 all_of_meter meter count [] same = tt
 all_of_meter meter zero (share ∷ shares) same = absurd (cc)
@@ -104,30 +109,38 @@ all_of_meter meter (suc count) (share ∷ shares) same =
     let rest : map meter_of shares ≡ replicate count (unmoved meter) = cc in
     (ap (λ (seat : MeterSeatState). seat.id) here, all_of_meter meter count shares rest)
 
-pub ready_for : (shared : LockState) (meter : MeterState) (count : ℕ) (shares : List Share) → All (IsReady shared) shares
+pub ready_for : (shared : LockState) (meter : MeterState) (count : ℕ) (shares : List Share)
+    → All (IsReady shared) shares
     → map meter_of shares ≡ replicate count (unmoved meter) → All (IsReadyFor shared meter) shares
 ready_for shared meter count shares ready same =
-    All-from_recursion (IsReadyFor shared meter) shares (both shares (recursion_from_All (IsReady shared) shares ready) (all_of_meter meter count shares same))
+    All-from_recursion (IsReadyFor shared meter) shares
+    (both shares (recursion_from_All (IsReady shared) shares ready) (all_of_meter meter count shares same))
   where
-    both : (xs : List Share) → AllByRecursion (IsReady shared) xs → AllByRecursion (λ (share : Share). share.meter.id ≡ meter.id) xs → AllByRecursion (IsReadyFor shared meter) xs
+    both : (xs : List Share) → AllByRecursion (IsReady shared) xs
+        → AllByRecursion (λ (share : Share). share.meter.id ≡ meter.id) xs → AllByRecursion (IsReadyFor shared meter) xs
     both [] all own = tt
     both (x ∷ xs) all own = ((all.0, own.0), both xs all.1 own.1)
 
-still_of_meter : (meter : MeterState) (shares others : List Share) → AllWorked shares others → AllByRecursion (λ (share : Share). share.meter.id ≡ meter.id) shares
+still_of_meter : (meter : MeterState) (shares others : List Share) → AllWorked shares others
+    → AllByRecursion (λ (share : Share). share.meter.id ≡ meter.id) shares
     → AllByRecursion (λ (seat : MeterSeatState). seat.id ≡ meter.id) (map meter_of others)
 still_of_meter meter [] [] all own = tt
 still_of_meter meter [] (done ∷ others) all own = absurd all
 still_of_meter meter (share ∷ shares) [] all own = absurd all
-still_of_meter meter (share ∷ shares) (done ∷ others) all own = (all.0.moved.meter ∙ own.0, still_of_meter meter shares others all.1 own.1)
+still_of_meter meter (share ∷ shares) (done ∷ others) all own =
+    (all.0.moved.meter ∙ own.0, still_of_meter meter shares others all.1 own.1)
 
-pub own_meters : (meter : MeterState) (count : ℕ) (shares others : List Share) (seats : List MeterSeatState) → map meter_of shares ≡ replicate count (unmoved meter)
+pub own_meters : (meter : MeterState) (count : ℕ) (shares others : List Share) (seats : List MeterSeatState)
+    → map meter_of shares ≡ replicate count (unmoved meter)
     → AllWorked shares others → seats ≡ map meter_of others → All (λ (seat : MeterSeatState). seat.id ≡ meter.id) seats
 own_meters meter count shares others seats same all are =
     subst (All (λ (seat : MeterSeatState). seat.id ≡ meter.id)) (sym are)
-    (All-from_recursion (λ (seat : MeterSeatState). seat.id ≡ meter.id) (map meter_of others) (still_of_meter meter shares others all (all_of_meter meter count shares same)))
+    (All-from_recursion (λ (seat : MeterSeatState). seat.id ≡ meter.id) (map meter_of others)
+    (still_of_meter meter shares others all (all_of_meter meter count shares same)))
 
 -- A phase's sum, added to the words in use before it, gives those in use after it.
-pub used_after : (meter : MeterState) (count : ℕ) (shares others : List Share) (seats : List MeterSeatState) (before sum : ℕ) (after : Machine)
+pub used_after : (meter : MeterState) (count : ℕ) (shares others : List Share) (seats : List MeterSeatState)
+    (before sum : ℕ) (after : Machine)
     → map meter_of shares ≡ replicate count (unmoved meter) → AllWorked shares others → seats ≡ map meter_of others
     → before ≡ used_over shares → sum ≡ amount_of seats → used_words_of after ≡ used_over others → IsGood after
     → (before + sum) % 2 ^ 64 ≡ used_words_of after

@@ -1,7 +1,9 @@
 -- A phase put together from its parts: how its lines and loaders were dealt to shares, how each share
 -- was worked, and how replies and loaders came together again. Used by `run_phase`.
-use Rattle.std.proofs.Common.{◌≡◌, ◌≢◌, ◌<◌, ◌==◌, ℕ, zero, suc, Bool, true, false, cond, Some, None, Option, List, [], ◌∷◌}
-use Rattle.std.proofs.Common.{map, length, refl, sym, ap, ◌∙◌, subst, arith, slice_get, get_or, option_map, append-nil, ◌++◌}
+use Rattle.std.proofs.Common.{◌≡◌, ◌≢◌, ◌<◌, ◌==◌, ℕ, zero, suc, Bool, true, false, cond, Some, None, Option, List, []}
+use Rattle.std.proofs.Common.{◌∷◌}
+use Rattle.std.proofs.Common.{map, length, refl, sym, ap, ◌∙◌, subst, arith, slice_get, get_or, option_map, append-nil}
+use Rattle.std.proofs.Common.{◌++◌}
 use Rattle.std.specs.List.{All, AllByRecursion, filter}
 use Rattle.std.proofs.lemmas.Bool.{eq-eqb, eqb-true, false_from_ne_true}
 use Rattle.std.proofs.lemmas.Option.{slice_get-get_or, slice_get_within, get_or_from_slice_get}
@@ -28,7 +30,8 @@ use Rattle.ms_run.specs.Manned.{IsManned}
 use Rattle.ms_run.specs.Replay.{AreSaid, IsPhase}
 use Rattle.ms_run.specs.declared.share.Task.{Task}
 use Rattle.ms_run.specs.declared.share.Share.{Share}
-use Rattle.ms_run.specs.Shares.{said_in, IsReady, IsWorked, AllWorked, Place, tasks_of, AreApart, HaveTasks, AreDealt, AreAnswered, AreMerged, IsGathered}
+use Rattle.ms_run.specs.Shares.{said_in, IsReady, IsWorked, AllWorked, Place, tasks_of, AreApart, HaveTasks, AreDealt}
+use Rattle.ms_run.specs.Shares.{AreAnswered, AreMerged, IsGathered}
 
 -- The share that became one that is worked.
 pub record WorkedFrom (shares : List Share) (at : ℕ) (done : Share) : Type 0 where
@@ -36,15 +39,18 @@ pub record WorkedFrom (shares : List Share) (at : ℕ) (done : Share) : Type 0 w
   pub is : slice_get shares at ≡ Some share
   pub worked : IsWorked share done
 
-pub worked_from : (shares others : List Share) (at : ℕ) (done : Share) → AllWorked shares others → slice_get others at ≡ Some done
+pub worked_from : (shares others : List Share) (at : ℕ) (done : Share) → AllWorked shares others
+    → slice_get others at ≡ Some done
     → WorkedFrom shares at done
 worked_from [] [] at done all found = absurd (cc)
 worked_from [] (other ∷ others) at done all found = absurd all
 worked_from (share ∷ shares) [] at done all found = absurd all
 worked_from (share ∷ shares) (other ∷ others) zero done all found =
-    let same : other ≡ done = cc in record { share = share; is = refl; worked = subst (λ (d : Share). IsWorked share d) same all.0 }
+    let same : other ≡ done =
+    cc in record { share = share; is = refl; worked = subst (λ (d : Share). IsWorked share d) same all.0 }
 worked_from (share ∷ shares) (other ∷ others) (suc at) done all found =
-    let rest = worked_from shares others at done all.1 found in record { share = rest.share; is = rest.is; worked = rest.worked }
+    let rest = worked_from shares others at done all.1 found in
+    record { share = rest.share; is = rest.is; worked = rest.worked }
 
 pub same_count : (shares others : List Share) → AllWorked shares others → length others ≡ length shares
 same_count [] [] all = refl
@@ -53,28 +59,33 @@ same_count (share ∷ shares) [] all = absurd all
 same_count (share ∷ shares) (other ∷ others) all = ap (λ (n : ℕ). suc n) (same_count shares others all.1)
 
 -- What holds of each place's share holds of each.
-each_place : (P : Share → Type 0) (shares : List Share) → ((at : ℕ) (share : Share) → slice_get shares at ≡ Some share → P share) → All P shares
+each_place : (P : Share → Type 0) (shares : List Share)
+    → ((at : ℕ) (share : Share) → slice_get shares at ≡ Some share → P share) → All P shares
 each_place P shares holds = λ k d within. holds k (get_or shares k d) (slice_get-get_or shares k d within)
 
-at_place : (P : Share → Type 0) (shares : List Share) (at : ℕ) (share : Share) → All P shares → slice_get shares at ≡ Some share → P share
+at_place : (P : Share → Type 0) (shares : List Share) (at : ℕ) (share : Share) → All P shares
+    → slice_get shares at ≡ Some share → P share
 at_place P shares at share all found =
     subst P (get_or_from_slice_get shares at share share found) (all at share (slice_get_within shares at share found))
 
 -- Worked shares stand over the lock that they stood over, and serve their loaders.
-pub own_seats : (shared : LockState) (shares others : List Share) → All (IsReady shared) shares → AllWorked shares others
+pub own_seats : (shared : LockState) (shares others : List Share) → All (IsReady shared) shares
+    → AllWorked shares others
     → All (λ (share : Share). share.seat.id ≡ shared.id) others
 own_seats shared shares others ready all =
     each_place (λ (share : Share). share.seat.id ≡ shared.id) others
     (λ at done found. let from = worked_from shares others at done all found in
     from.worked.id ∙ (at_place (IsReady shared) shares at from.share ready from.is).own)
 
-pub all_manned : (shares others : List Share) → AllWorked shares others → All (λ (share : Share). IsManned share.seat.knows share.loaders) others
+pub all_manned : (shares others : List Share) → AllWorked shares others
+    → All (λ (share : Share). IsManned share.seat.knows share.loaders) others
 all_manned shares others all =
     each_place (λ (share : Share). IsManned share.seat.knows share.loaders) others
     (λ at done found. (worked_from shares others at done all found).worked.manned)
 
 -- Each has its tasks still, and a reply to each.
-pub all_answered : (place : Place) (shares others : List Share) (lines : List Line) → HaveTasks place shares lines → AllWorked shares others
+pub all_answered : (place : Place) (shares others : List Share) (lines : List Line) → HaveTasks place shares lines
+    → AllWorked shares others
     → AreAnswered place others lines
 all_answered place shares others lines tasks all = λ at done found.
     let from = worked_from shares others at done all found in (
@@ -87,16 +98,19 @@ after_wider : {X : Type 0} (test wider : X → Bool) → ((x : X) → test x ≡
     → filter test (filter wider xs) ≡ filter test xs
 after_wider test wider lets [] = refl
 after_wider {X} test wider lets (x ∷ xs) =
-    elim (wider x) as (λ b. wider x ≡ b → filter test (cond b (x ∷ filter wider xs) (filter wider xs)) ≡ filter test (x ∷ xs)) [
+    elim (wider x) as (λ b. wider x ≡ b → filter test (cond b (x ∷ filter wider xs) (filter wider xs))
+    ≡ filter test (x ∷ xs)) [
       | true ↦ λ passes. ap (λ (l : List X). cond (test x) (x ∷ l) l) (after_wider test wider lets xs)
       | false ↦ λ stops. let none : test x ≡ false = false_from_ne_true (test x) (λ e. let yes = lets x e in cc) in
           rw none (after_wider test wider lets xs)
     ] refl
 
 -- A step that names a loader goes to the loader's share.
-goes_there : (place : Place) (name : ℕ) (wanted : Option ℕ) → is_name name wanted ≡ true → (place wanted == place (Some name)) ≡ true
+goes_there : (place : Place) (name : ℕ) (wanted : Option ℕ) → is_name name wanted ≡ true
+    → (place wanted == place (Some name)) ≡ true
 goes_there place name None e = absurd (cc)
-goes_there place name (Some other) e = let same = eqb-true other name e in eq-eqb _ _ (ap (λ (n : ℕ). place (Some n)) same)
+goes_there place name (Some other) e = let same = eqb-true other name e in
+    eq-eqb _ _ (ap (λ (n : ℕ). place (Some n)) same)
 
 -- Of what a loader's share said it is said what all said of it.
 own_of_merged : (place : Place) (name : ℕ) (said : List Said)
@@ -106,13 +120,15 @@ own_of_merged place name said =
     (λ s e. goes_there place name (loader_of s.0) e) said
 
 -- In another share nothing is said of it.
-other_name : (place : Place) (at name : ℕ) → place (Some name) ≢ at → (wanted : Option ℕ) → (place wanted == at) ≡ true → is_name name wanted ≡ false
+other_name : (place : Place) (at name : ℕ) → place (Some name) ≢ at → (wanted : Option ℕ) → (place wanted == at) ≡ true
+    → is_name name wanted ≡ false
 other_name place at name away None here = refl
 other_name place at name away (Some other) here = false_from_ne_true (other == name)
     (λ e. away (ap (λ (n : ℕ). place (Some n)) (sym (eqb-true other name e)) ∙ eqb-true (place (Some other)) at here))
 
 first_unsaid : (name : ℕ) (task : Task) (tasks : List Task) → is_name name (loader_of task.step) ≡ false
-    → ((replies : List Reply) → own_said name (said_in tasks replies) ≡ []) → (replies : List Reply) → own_said name (said_in (task ∷ tasks) replies) ≡ []
+    → ((replies : List Reply) → own_said name (said_in tasks replies) ≡ []) → (replies : List Reply)
+    → own_said name (said_in (task ∷ tasks) replies) ≡ []
 first_unsaid name task tasks other rest [] = refl
 first_unsaid name task tasks other rest (reply ∷ replies) = rw other (rest replies)
 
@@ -121,15 +137,20 @@ nothing_said : (place : Place) (at name : ℕ) → place (Some name) ≢ at → 
 nothing_said place at name away [] replies = refl
 nothing_said place at name away (task ∷ tasks) replies =
     elim (place (loader_of task.step) == at) as (λ b. (place (loader_of task.step) == at) ≡ b
-    → own_said name (said_in (cond b (task ∷ filter (λ (t : Task). place (loader_of t.step) == at) tasks) (filter (λ (t : Task). place (loader_of t.step) == at) tasks)) replies) ≡ []) [
-      | true ↦ λ here. first_unsaid name task _ (other_name place at name away (loader_of task.step) here) (nothing_said place at name away tasks) replies
+    → own_said name
+    (said_in (cond b (task ∷ filter (λ (t : Task). place (loader_of t.step) == at) tasks)
+    (filter (λ (t : Task). place (loader_of t.step) == at) tasks)) replies) ≡ []) [
+      | true ↦ λ here. first_unsaid name task _ (other_name place at name away (loader_of task.step) here)
+          (nothing_said place at name away tasks) replies
       | false ↦ λ past. nothing_said place at name away tasks replies
     ] refl
 
 -- A run without steps changes nothing.
 no_run : (before after : Option OwnLoader) (said : List Said) → said ≡ [] → OwnRun before said after → after ≡ before
 no_run before after said none run =
-    with_flags run.0 (subst (λ (l : List Said). OwnReplies before (map (λ (s : Said). s.0) l) run.0 (map (λ (s : Said). s.1) l) after) none run.1)
+    with_flags run.0
+    (subst (λ (l : List Said). OwnReplies before (map (λ (s : Said). s.0) l) run.0 (map (λ (s : Said). s.1) l)
+    after) none run.1)
   where
     with_flags : (flags : List Bool) → OwnReplies before [] flags [] after → after ≡ before
     with_flags [] told = told
@@ -139,7 +160,8 @@ no_run before after said none run =
 abbrev state_in : LoaderView → LoaderState
 state_in loader = loader.state
 
-state_named : (entries : List (ℕ × LoaderView)) (name : ℕ) → named (states_of entries) name ≡ option_map state_in (named entries name)
+state_named : (entries : List (ℕ × LoaderView)) (name : ℕ)
+    → named (states_of entries) name ≡ option_map state_in (named entries name)
 state_named entries name = lookup-map_values state_in (is_at (nat_cmp name)) entries
 
 same_own : (entries others : List (ℕ × LoaderView)) (name : ℕ) → named entries name ≡ named others name
@@ -147,10 +169,12 @@ same_own : (entries others : List (ℕ × LoaderView)) (name : ℕ) → named en
 same_own entries others name same =
     ap own_of (state_named entries name ∙ ap (option_map state_in) same ∙ sym (state_named others name))
 
-own_none : (entries : List (ℕ × LoaderView)) (name : ℕ) → named entries name ≡ None → own_in (states_of entries) name ≡ None
+own_none : (entries : List (ℕ × LoaderView)) (name : ℕ) → named entries name ≡ None
+    → own_in (states_of entries) name ≡ None
 own_none entries name none = ap own_of (state_named entries name ∙ ap (option_map state_in) none)
 
-named_none : (entries : List (ℕ × LoaderView)) (name : ℕ) → own_in (states_of entries) name ≡ None → named entries name ≡ None
+named_none : (entries : List (ℕ × LoaderView)) (name : ℕ) → own_in (states_of entries) name ≡ None
+    → named entries name ≡ None
 named_none entries name none = back (named entries name) (sym (ap own_of (state_named entries name)) ∙ none)
   where
     back : (found : Option LoaderView) → own_of (option_map state_in found) ≡ None → found ≡ None
@@ -158,17 +182,20 @@ named_none entries name none = back (named entries name) (sym (ap own_of (state_
     back (Some loader) e = absurd (cc)
 
 -- A loader isn't begun in a share that its lines don't go to.
-pub still_apart : (place : Place) (shares others : List Share) (lines : List Line) → AreApart place shares → HaveTasks place shares lines
+pub still_apart : (place : Place) (shares others : List Share) (lines : List Line) → AreApart place shares
+    → HaveTasks place shares lines
     → AllWorked shares others → AreApart place others
 still_apart place shares others lines apart tasks all = λ at done name found away.
     let from = worked_from shares others at done all found in
-    let nothing = subst (λ (l : List Task). own_said name (said_in l done.replies.items) ≡ []) (sym (tasks at from.share from.is))
+    let nothing =
+    subst (λ (l : List Task). own_said name (said_in l done.replies.items) ≡ []) (sym (tasks at from.share from.is))
     (nothing_said place at name away (tasks_of lines) done.replies.items) in
     let stays = no_run _ _ _ nothing (from.worked.own name) in
     named_none done.loaders name (stays ∙ own_none from.share.loaders name (apart at from.share name from.is away))
 
 -- The same run, of the same told in other words.
-same_run : (before began after ended : Option OwnLoader) (said told : List Said) → before ≡ began → said ≡ told → after ≡ ended
+same_run : (before began after ended : Option OwnLoader) (said told : List Said) → before ≡ began → said ≡ told
+    → after ≡ ended
     → OwnRun began told ended → OwnRun before said after
 same_run before began after ended said told begins says ends run = rw (begins, says, ends) run
 
@@ -186,18 +213,23 @@ purged_all : (wider : Said → Bool) → ((s : Said) → s.0 ≡ Purge → wider
     → AllByRecursion IsDoneIfPurge (filter wider said) → AllByRecursion IsDoneIfPurge said
 purged_all wider lets [] all = tt
 purged_all wider lets (s ∷ said) all =
-    elim (wider s) as (λ b. wider s ≡ b → AllByRecursion IsDoneIfPurge (cond b (s ∷ filter wider said) (filter wider said)) → AllByRecursion IsDoneIfPurge (s ∷ said)) [
+    elim (wider s) as (λ b. wider s ≡ b
+    → AllByRecursion IsDoneIfPurge (cond b (s ∷ filter wider said) (filter wider said))
+    → AllByRecursion IsDoneIfPurge (s ∷ said)) [
       | true ↦ λ goes all. (all.0, purged_all wider lets said all.1)
       | false ↦ λ stays all. ((λ e. let yes = lets s e in absurd (cc)), purged_all wider lets said all)
     ] refl all
 
 -- What a phase's parts say of it together.
-pub phase_of : (place : Place) (shared : LockState) (shares others : List Share) (lines : List Line) (added : List Answer) (said : List Said)
+pub phase_of : (place : Place) (shared : LockState) (shares others : List Share) (lines : List Line)
+    (added : List Answer) (said : List Said)
     (loaders : List (ℕ × LoaderView)) (old new : Machine)
     → old.loaders ≡ states_of loaders → AreDealt place shared shares lines loaders → AllWorked shares others
-    → AreSaid lines added said → AreMerged place others said → IsGathered place others new.loaders → IsGood new → new.limits ≡ old.limits
+    → AreSaid lines added said → AreMerged place others said → IsGathered place others new.loaders → IsGood new
+    → new.limits ≡ old.limits
     → IsPhase old lines added new
-phase_of place shared shares others lines added said loaders old new old_is dealt all said_are merged gathered good limits =
+phase_of place shared shares others lines added said loaders old new old_is dealt all said_are merged gathered good
+    limits =
     record { said = said; said_are = said_are; own = own; purges = purges; good = good; limits = limits }
   where
     there : (name : Option ℕ) → (done : Share) × (slice_get others (place name) ≡ Some done)
@@ -209,7 +241,8 @@ phase_of place shared shares others lines added said loaders old new old_is deal
         let found = (there (Some name)).1 in
         let from = worked_from shares others (place (Some name)) done all found in
         same_run _ _ _ _ _ _
-        (ap (λ (l : List (ℕ × LoaderState)). own_in l name) old_is ∙ same_own loaders from.share.loaders name (sym (dealt.here _ from.share name from.is refl)))
+        (ap (λ (l : List (ℕ × LoaderState)). own_in l name) old_is
+        ∙ same_own loaders from.share.loaders name (sym (dealt.here _ from.share name from.is refl)))
         (sym (own_of_merged place name said) ∙ ap (own_said name) (merged _ done found)
         ∙ ap (λ (l : List Task). own_said name (said_in l done.replies.items)) from.worked.tasks)
         (ap own_of (gathered _ done name found refl))
@@ -220,10 +253,12 @@ phase_of place shared shares others lines added said loaders old new old_is deal
         let done = (there None).0 in
         let found = (there None).1 in
         let from = worked_from shares others (place None) done all found in
-        let its = recursion_from_All IsDoneIfPurge (said_in from.share.tasks.items done.replies.items) from.worked.purges in
+        let its =
+        recursion_from_All IsDoneIfPurge (said_in from.share.tasks.items done.replies.items) from.worked.purges in
         let whole = merged _ done found ∙ ap (λ (l : List Task). said_in l done.replies.items) from.worked.tasks in
         All-from_recursion IsDoneIfPurge said
-        (purged_all (λ (s : Said). place (loader_of s.0) == place None) (λ s e. eq-eqb _ _ (ap (λ (step : Step). place (loader_of step)) e)) said
+        (purged_all (λ (s : Said). place (loader_of s.0) == place None)
+        (λ s e. eq-eqb _ _ (ap (λ (step : Step). place (loader_of step)) e)) said
         (subst (AllByRecursion IsDoneIfPurge) (sym whole) its))
 
 -- Without lines a phase changes nothing.
@@ -245,16 +280,21 @@ no_lines (line ∷ lines) none = absurd (omega (arith, eqb-true _ _ none))
 abbrev pub Adds : List Line → List Answer → List Answer → Machine → Machine → Type 0
 Adds lines before after old new = (added : List Answer) × (after ≡ before ++ added) × IsPhase old lines added new
 
-pub ended_empty : (lines : List Line) (answers : List Answer) (state : Machine) → (length lines == 0) ≡ true → IsGood state → Adds lines answers answers state state
-ended_empty lines answers state none good = ([], sym (append-nil answers), rw (no_lines lines none) (empty_phase state good))
+pub ended_empty : (lines : List Line) (answers : List Answer) (state : Machine) → (length lines == 0) ≡ true
+    → IsGood state → Adds lines answers answers state state
+ended_empty lines answers state none good =
+    ([], sym (append-nil answers), rw (no_lines lines none) (empty_phase state good))
 
 -- What merging adds.
 abbrev pub Merges : Place → List Share → List Line → List Answer → List Answer → Type 0
 Merges place others lines before after =
-    (added : List Answer) × (said : List Said) × (after ≡ before ++ added) × AreSaid lines added said × AreMerged place others said
+    (added : List Answer) × (said : List Said) × (after ≡ before ++ added) × AreSaid lines added said
+    × AreMerged place others said
 
-pub ended : (place : Place) (shared : LockState) (shares others : List Share) (lines : List Line) (before after : List Answer) (loaders : List (ℕ × LoaderView)) (old new : Machine)
-    → old.loaders ≡ states_of loaders → AreDealt place shared shares lines loaders → AllWorked shares others → Merges place others lines before after
+pub ended : (place : Place) (shared : LockState) (shares others : List Share) (lines : List Line)
+    (before after : List Answer) (loaders : List (ℕ × LoaderView)) (old new : Machine)
+    → old.loaders ≡ states_of loaders → AreDealt place shared shares lines loaders → AllWorked shares others
+    → Merges place others lines before after
     → ((where_to : Place) → AreApart where_to others → IsGathered where_to others new.loaders) → IsGood new
     → new.limits ≡ shared.limits → shared.limits ≡ old.limits → Adds lines before after old new
 ended place shared shares others lines before after loaders old new old_is dealt all merges gathered good limits same = (

@@ -1,6 +1,7 @@
 -- A pool that comes out of its lock and the loaders of all shares may be settled, and no account is
 -- left: each share's seat serves its loaders, and each owner is served once. For `gather`.
-use Rattle.std.proofs.Common.{◌≡◌, ℕ, ◌+◌, ◌≤◌, Bool, true, false, cond, ◌||◌, inl, inr, List, [], ◌∷◌, ◌++◌, map, length, refl, sym, ap, ◌∙◌, subst, eq-eqb, ne_eqb, zero-add, arith}
+use Rattle.std.proofs.Common.{◌≡◌, ℕ, ◌+◌, ◌≤◌, Bool, true, false, cond, ◌||◌, inl, inr, List, [], ◌∷◌, ◌++◌, map}
+use Rattle.std.proofs.Common.{length, refl, sym, ap, ◌∙◌, subst, eq-eqb, ne_eqb, zero-add, arith}
 use Rattle.std.specs.Prelude.{◌==◌}
 use Rattle.std.specs.List.{All, AllByRecursion, sum_by, filter}
 use Rattle.std.specs.List.Sorted.{IsPermutation}
@@ -45,11 +46,13 @@ owned_sum owner (e ∷ es) = omega (
 abbrev OfBoth : (AccountState → Type 0) → ℕ × LoaderView → Type 0
 OfBoth P entry = P (account_in NonClass entry.1) × P (account_in Class entry.1)
 
-by_loader : (P : AccountState → Type 0) (loaders : Loaders) → AllByRecursion P (accounts_of loaders) → AllByRecursion (OfBoth P) loaders
+by_loader : (P : AccountState → Type 0) (loaders : Loaders) → AllByRecursion P (accounts_of loaders)
+    → AllByRecursion (OfBoth P) loaders
 by_loader P [] all = tt
 by_loader P (e ∷ es) all = ((all.0, all.1.0), by_loader P es all.1.1)
 
-by_account : (P : AccountState → Type 0) (loaders : Loaders) → AllByRecursion (OfBoth P) loaders → AllByRecursion P (accounts_of loaders)
+by_account : (P : AccountState → Type 0) (loaders : Loaders) → AllByRecursion (OfBoth P) loaders
+    → AllByRecursion P (accounts_of loaders)
 by_account P [] all = tt
 by_account P (e ∷ es) all = (all.0.0, (all.0.1, by_account P es all.1))
 
@@ -63,19 +66,31 @@ ones (e ∷ es) = omega (arith, sum_by-cons one e es, ones es)
 
 -- Sums over shares.
 module _ (f g : Share → ℕ) where
-  sums_le : (shares : List Share) → AllByRecursion (λ (share : Share). f share ≤ g share) shares → sum_by f shares ≤ sum_by g shares
+  sums_le : (shares : List Share) → AllByRecursion (λ (share : Share). f share ≤ g share) shares
+      → sum_by f shares ≤ sum_by g shares
   sums_le [] all = omega arith
-  sums_le (share ∷ shares) all = omega (arith, all.0, sums_le shares all.1, sum_by-cons f share shares, sum_by-cons g share shares)
+  sums_le (share ∷ shares) all =
+      omega (arith, all.0, sums_le shares all.1, sum_by-cons f share shares, sum_by-cons g share shares)
 
-  sums_same : (shares : List Share) → AllByRecursion (λ (share : Share). f share ≡ g share) shares → sum_by f shares ≡ sum_by g shares
+  sums_same : (shares : List Share) → AllByRecursion (λ (share : Share). f share ≡ g share) shares
+      → sum_by f shares ≡ sum_by g shares
   sums_same [] all = refl
-  sums_same (share ∷ shares) all = omega (arith, all.0, sums_same shares all.1, sum_by-cons f share shares, sum_by-cons g share shares)
+  sums_same (share ∷ shares) all =
+      omega (arith, all.0, sums_same shares all.1, sum_by-cons f share shares, sum_by-cons g share shares)
 
-seats_sum : (f : SeatState → ℕ) (shares : List Share) → sum_by f (map seat_of shares) ≡ sum_by (λ (share : Share). f share.seat) shares
+seats_sum : (f : SeatState → ℕ) (shares : List Share)
+    → sum_by f (map seat_of shares) ≡ sum_by (λ (share : Share). f share.seat) shares
 seats_sum f [] = refl
-seats_sum f (share ∷ shares) = omega (arith, seats_sum f shares, sum_by-cons f share.seat (map seat_of shares), sum_by-cons (λ (s : Share). f s.seat) share shares)
+seats_sum f (share ∷ shares) =
+    omega (
+      arith,
+      seats_sum f shares,
+      sum_by-cons f share.seat (map seat_of shares),
+      sum_by-cons (λ (s : Share). f s.seat) share shares,
+    )
 
-all_seats : (P : SeatState → Type 0) (shares : List Share) → AllByRecursion P (map seat_of shares) → AllByRecursion (λ (share : Share). P share.seat) shares
+all_seats : (P : SeatState → Type 0) (shares : List Share) → AllByRecursion P (map seat_of shares)
+    → AllByRecursion (λ (share : Share). P share.seat) shares
 all_seats P [] all = tt
 all_seats P (share ∷ shares) all = (all.0, all_seats P shares all.1)
 
@@ -83,7 +98,8 @@ all_seats P (share ∷ shares) all = (all.0, all_seats P shares all.1)
 among : (number : ℕ) (numbers : List ℕ) → is_among numbers number ≡ true → 1 ≤ times number numbers
 among number [] there = absurd (cc)
 among number (n ∷ numbers) there =
-    elim (n == number) as (λ b. (n == number) ≡ b → (b || is_among numbers number) ≡ true → 1 ≤ times number (n ∷ numbers)) [
+    elim (n == number) as (λ b. (n == number) ≡ b → (b || is_among numbers number) ≡ true
+    → 1 ≤ times number (n ∷ numbers)) [
       | true ↦ λ here there. omega (arith, sum_by-cons (is_it number) n numbers, ap one_if here)
       | false ↦ λ past there. omega (arith, sum_by-cons (is_it number) n numbers, among number numbers there)
     ] refl there
@@ -93,7 +109,8 @@ counted_among number [] some = absurd (omega (arith, some))
 counted_among number (n ∷ numbers) some =
     elim (n == number) as (λ b. (n == number) ≡ b → (b || is_among numbers number) ≡ true) [
       | true ↦ λ here. refl
-      | false ↦ λ past. counted_among number numbers (omega (arith, some, sum_by-cons (is_it number) n numbers, ap one_if past))
+      | false ↦ λ past. counted_among number numbers
+          (omega (arith, some, sum_by-cons (is_it number) n numbers, ap one_if past))
     ] refl
 
 -- A seat's entries of an owner.
@@ -106,7 +123,8 @@ has_some owner [] some = absurd (omega (arith, some))
 has_some owner (entry ∷ entries) some =
     elim (cases_eq entry.0 owner) [
       | inl here ↦ record { chunks = entry.1; entry = inl (ap (λ (n : ℕ). (n, entry.1)) here) }
-      | inr past ↦ let rest = has_some owner entries (later (entry.0 == owner) (ne_eqb entry.0 owner past) some) in record { chunks = rest.chunks; entry = inr rest.entry }
+      | inr past ↦ let rest = has_some owner entries (later (entry.0 == owner) (ne_eqb entry.0 owner past) some) in
+          record { chunks = rest.chunks; entry = inr rest.entry }
     ]
   where
     later : (b : Bool) → b ≡ false → 1 ≤ entry_if b + entries_of owner entries → 1 ≤ entries_of owner entries
@@ -114,26 +132,46 @@ has_some owner (entry ∷ entries) some =
     later false e some = omega (arith, some)
 
 -- One share: its seat has as many entries of an owner as it has accounts of it, or more.
-owner_served : (seat : SeatView) (owner : ℕ) (accounts : List AccountState) → AllByRecursion (ServesBy seat) accounts → 1 ≤ times owner (map owner_of accounts)
+owner_served : (seat : SeatView) (owner : ℕ) (accounts : List AccountState) → AllByRecursion (ServesBy seat) accounts
+    → 1 ≤ times owner (map owner_of accounts)
     → 1 ≤ entries_of owner seat.served
 owner_served seat owner [] all some = absurd (omega (arith, some))
 owner_served seat owner (account ∷ accounts) all some = elim (cases_eq account.owner owner) [
-  | inl here ↦ subst (λ (n : ℕ). 1 ≤ entries_of n seat.served) here (omega (arith, has_times seat.served account.owner all.0.chunks all.0.entry))
-  | inr past ↦ owner_served seat owner accounts all.1 (omega (arith, some, sum_by-cons (is_it owner) account.owner (map owner_of accounts), ap one_if (ne_eqb account.owner owner past)))
+  | inl here ↦ subst (λ (n : ℕ). 1 ≤ entries_of n seat.served) here
+      (omega (arith, has_times seat.served account.owner all.0.chunks all.0.entry))
+  | inr past ↦ owner_served seat owner accounts all.1
+      (omega (
+        arith,
+        some,
+        sum_by-cons (is_it owner) account.owner (map owner_of accounts),
+        ap one_if (ne_eqb account.owner owner past),
+      ))
 ]
 
-within_entries : (share : Share) (owner : ℕ) → IsManned share.seat.knows share.loaders → times owner (owners_of share.loaders) ≤ entries_of owner share.seat.knows.served
+within_entries : (share : Share) (owner : ℕ) → IsManned share.seat.knows share.loaders
+    → times owner (owners_of share.loaders) ≤ entries_of owner share.seat.knows.served
 within_entries share owner manned = elim (cases_lt (times owner (owners_of share.loaders)) 1) [
   | inl none ↦ omega (arith, none)
-  | inr some ↦ omega (arith, manned.distinct owner, owner_served share.seat.knows owner (accounts_of share.loaders) (recursion_from_All _ (accounts_of share.loaders) manned.served) some)
+  | inr some ↦
+      omega (
+        arith,
+        manned.distinct owner,
+        owner_served share.seat.knows owner (accounts_of share.loaders)
+            (recursion_from_All _ (accounts_of share.loaders) manned.served) some,
+      )
 ]
 
 -- Its accounts are served by the pool.
-all_serve : (pool : Ledger) (seat : SeatView) (accounts : List AccountState) → AreRecords pool seat.served → AllByRecursion (ServesBy seat) accounts → AllByRecursion (Serves pool) accounts
+all_serve : (pool : Ledger) (seat : SeatView) (accounts : List AccountState) → AreRecords pool seat.served
+    → AllByRecursion (ServesBy seat) accounts → AllByRecursion (Serves pool) accounts
 all_serve pool seat [] records all = tt
 all_serve pool seat (account ∷ accounts) records all =
     let its = has_record pool seat.served account.owner all.0.chunks records all.0.entry in (
-      record { some = its.some; given = its.given; chunks = subst (λ (l : List Chunk). IsPermutation l account.chunks) (sym its.chunks_are) all.0.same },
+      record {
+        some = its.some;
+        given = its.given;
+        chunks = subst (λ (l : List Chunk). IsPermutation l account.chunks) (sym its.chunks_are) all.0.same;
+      },
       all_serve pool seat accounts records all.1,
     )
 
@@ -142,10 +180,13 @@ record IsOurs (pool : Ledger) (share : Share) : Type 0 where
   manned : IsManned share.seat.knows share.loaders
   records : AreRecords pool share.seat.knows.served
 
-both_facts : (pool : Ledger) (shares : List Share) → AllByRecursion (λ (share : Share). IsManned share.seat.knows share.loaders) shares
-    → AllByRecursion (λ (share : Share). AreRecords pool share.seat.knows.served) shares → AllByRecursion (IsOurs pool) shares
+both_facts : (pool : Ledger) (shares : List Share)
+    → AllByRecursion (λ (share : Share). IsManned share.seat.knows share.loaders) shares
+    → AllByRecursion (λ (share : Share). AreRecords pool share.seat.knows.served) shares
+    → AllByRecursion (IsOurs pool) shares
 both_facts pool [] manned records = tt
-both_facts pool (share ∷ shares) manned records = (record { manned = manned.0; records = records.0 }, both_facts pool shares manned.1 records.1)
+both_facts pool (share ∷ shares) manned records =
+    (record { manned = manned.0; records = records.0 }, both_facts pool shares manned.1 records.1)
 
 module _ {P Q : Share → Type 0} (weaker : (share : Share) → P share → Q share) where
   each : (shares : List Share) → AllByRecursion P shares → AllByRecursion Q shares
@@ -159,7 +200,8 @@ owners_in owner share = times owner (owners_of share.loaders)
 abbrev entries_in : ℕ → Share → ℕ
 entries_in owner share = entries_of owner share.seat.knows.served
 
-holder_here : (pool : Ledger) (owner : ℕ) (share : Share) → IsOurs pool share → (chunks_of pool owner ≡ [] → ⊥) → 1 ≤ entries_in owner share → 1 ≤ owners_in owner share
+holder_here : (pool : Ledger) (owner : ℕ) (share : Share) → IsOurs pool share → (chunks_of pool owner ≡ [] → ⊥)
+    → 1 ≤ entries_in owner share → 1 ≤ owners_in owner share
 holder_here pool owner share ours holds some =
     let its = has_some owner share.seat.knows.served some in
     let is = has_record pool share.seat.knows.served owner its.chunks ours.records its.entry in
@@ -168,11 +210,18 @@ holder_here pool owner share ours holds some =
       | inr there ↦ among owner (owners_of share.loaders) there
     ]
 
-holder_there : (pool : Ledger) (owner : ℕ) → (chunks_of pool owner ≡ [] → ⊥) → (shares : List Share) → AllByRecursion (IsOurs pool) shares
+holder_there : (pool : Ledger) (owner : ℕ) → (chunks_of pool owner ≡ [] → ⊥) → (shares : List Share)
+    → AllByRecursion (IsOurs pool) shares
     → 1 ≤ sum_by (entries_in owner) shares → 1 ≤ sum_by (owners_in owner) shares
 holder_there pool owner holds [] all some = absurd (omega (arith, some))
 holder_there pool owner holds (share ∷ shares) all some = elim (cases_lt (entries_in owner share) 1) [
-  | inl none ↦ omega (arith, sum_by-cons (owners_in owner) share shares, holder_there pool owner holds shares all.1 (omega (arith, some, none, sum_by-cons (entries_in owner) share shares)))
+  | inl none ↦
+      omega (
+        arith,
+        sum_by-cons (owners_in owner) share shares,
+        holder_there pool owner holds shares all.1
+            (omega (arith, some, none, sum_by-cons (entries_in owner) share shares)),
+      )
   | inr here ↦ omega (arith, sum_by-cons (owners_in owner) share shares, holder_here pool owner share all.0 holds here)
 ]
 
@@ -180,7 +229,8 @@ owner_holds : (owner : ℕ) (before after : List Loan) (loan : Loan) → loan.ow
     → map chunk_of (filter (is_owned_by owner) (before ++ loan ∷ after)) ≡ [] → ⊥
 owner_holds owner [] after loan same none =
     let own = filter (is_owned_by owner) after in
-    absurd (let first = ap (λ b. map chunk_of (cond b (loan ∷ own) own)) (eq-eqb loan.owner owner same) in let e = sym first ∙ none in cc)
+    absurd (let first = ap (λ b. map chunk_of (cond b (loan ∷ own) own)) (eq-eqb loan.owner owner same) in
+    let e = sym first ∙ none in cc)
 owner_holds owner (one ∷ before) after loan same none =
     let own = filter (is_owned_by owner) (before ++ loan ∷ after) in
     elim (one.owner == owner) as (λ b. map chunk_of (cond b (one ∷ own) own) ≡ [] → ⊥) [
@@ -191,14 +241,17 @@ owner_holds owner (one ∷ before) after loan same none =
 given_once : (owner given : ℕ) → 1 ≤ owner → owner ≤ given → once_given owner given ≡ 1
 given_once owner given low up = rw (le-leb 1 owner low) (rw (le-leb owner given up) refl)
 
-module _ (pool : Ledger) (shares : List Share) (loaders : Loaders) (sound : IsSoundLedger pool) (gathers : Gathers (map seat_of shares) pool)
-    (all_manned : All (λ (share : Share). IsManned share.seat.knows share.loaders) shares) (joined : AreJoined [] shares loaders) where
+module _ (pool : Ledger) (shares : List Share) (loaders : Loaders) (sound : IsSoundLedger pool)
+    (gathers : Gathers (map seat_of shares) pool)
+    (all_manned : All (λ (share : Share). IsManned share.seat.knows share.loaders) shares)
+    (joined : AreJoined [] shares loaders) where
   manned : AllByRecursion (λ (share : Share). IsManned share.seat.knows share.loaders) shares
   manned = recursion_from_All _ shares all_manned
 
   ours : AllByRecursion (IsOurs pool) shares
   ours = both_facts pool shares manned
-      (all_seats (λ (seat : SeatState). AreRecords pool seat.knows.served) shares (recursion_from_All _ (map seat_of shares) gathers.served))
+      (all_seats (λ (seat : SeatState). AreRecords pool seat.knows.served) shares
+      (recursion_from_All _ (map seat_of shares) gathers.served))
 
   all_sum : (f : ℕ × LoaderView → ℕ) → sum_by f loaders ≡ sum_by (λ (share : Share). sum_by f share.loaders) shares
   all_sum f = joined_sum f [] shares loaders joined ∙ zero-add _
@@ -206,42 +259,52 @@ module _ (pool : Ledger) (shares : List Share) (loaders : Loaders) (sound : IsSo
   -- The owners of all loaders.
   all_owners : (owner : ℕ) → times owner (owners_of loaders) ≡ sum_by (owners_in owner) shares
   all_owners owner = owned_sum owner loaders ∙ all_sum (owned owner)
-      ∙ sym (sums_same (owners_in owner) (λ (share : Share). sum_by (owned owner) share.loaders) shares (each (λ share its. owned_sum owner share.loaders) shares ours))
+      ∙ sym (sums_same (owners_in owner) (λ (share : Share). sum_by (owned owner) share.loaders) shares
+      (each (λ share its. owned_sum owner share.loaders) shares ours))
 
   all_entries : (owner : ℕ) → sum_by (entries_in owner) shares ≡ once_given owner pool.given
-  all_entries owner = sym (seats_sum (λ (seat : SeatState). entries_of owner seat.knows.served) shares) ∙ gathers.once owner
+  all_entries owner = sym (seats_sum (λ (seat : SeatState). entries_of owner seat.knows.served) shares)
+      ∙ gathers.once owner
 
   distinct : (owner : ℕ) → times owner (owners_of loaders) ≤ 1
   distinct owner = omega (
     arith,
     all_owners owner,
-    sums_le (owners_in owner) (entries_in owner) shares (each (λ share its. within_entries share owner its.manned) shares ours),
+    sums_le (owners_in owner) (entries_in owner) shares
+        (each (λ share its. within_entries share owner its.manned) shares ours),
     all_entries owner,
     once_given-le owner pool.given,
   )
 
   -- Each account is served.
   served : AllByRecursion (Serves pool) (accounts_of loaders)
-  served = by_account (Serves pool) loaders (recursion_from_All _ loaders (joined_all (OfBoth (Serves pool)) [] shares loaders joined (All-nil (OfBoth (Serves pool)))
+  served = by_account (Serves pool) loaders
+      (recursion_from_All _ loaders
+      (joined_all (OfBoth (Serves pool)) [] shares loaders joined (All-nil (OfBoth (Serves pool)))
       (each (λ share its. All-from_recursion _ share.loaders (by_loader (Serves pool) share.loaders
-      (all_serve pool share.seat.knows (accounts_of share.loaders) its.records (recursion_from_All _ (accounts_of share.loaders) its.manned.served)))) shares ours)))
+      (all_serve pool share.seat.knows (accounts_of share.loaders) its.records
+      (recursion_from_All _ (accounts_of share.loaders) its.manned.served)))) shares ours)))
 
   -- As many accounts are open in each space as there are loaders.
   pub as_many : (space : Space) → opened_in pool space ≡ length loaders
   as_many space = gathers.opened space ∙ seats_sum (λ (seat : SeatState). opened_by seat.knows space) shares
-      ∙ sums_same (λ (share : Share). opened_by share.seat.knows space) (λ (share : Share). sum_by one share.loaders) shares
+      ∙ sums_same (λ (share : Share). opened_by share.seat.knows space) (λ (share : Share). sum_by one share.loaders)
+      shares
       (each (λ share its. its.manned.opened space ∙ sym (ones share.loaders)) shares ours)
       ∙ sym (all_sum one) ∙ ones loaders
 
   -- No other owner has a loan.
-  no_others : (before rest : List Loan) → before ++ rest ≡ pool.loans → AllByRecursion (λ (loan : Loan). (1 ≤ loan.owner) × (loan.owner ≤ pool.given)) rest
+  no_others : (before rest : List Loan) → before ++ rest ≡ pool.loans
+      → AllByRecursion (λ (loan : Loan). (1 ≤ loan.owner) × (loan.owner ≤ pool.given)) rest
       → AllByRecursion (λ (loan : Loan). is_among (owners_of loaders) loan.owner ≡ true) rest
   no_others before [] is all = tt
   no_others before (loan ∷ rest) is all = (
     counted_among loan.owner (owners_of loaders) (omega (
       arith,
       all_owners loan.owner,
-      holder_there pool loan.owner (λ none. owner_holds loan.owner before rest loan refl (ap (λ (l : List Loan). map chunk_of (filter (is_owned_by loan.owner) l)) is ∙ none)) shares ours
+      holder_there pool loan.owner
+          (λ none. owner_holds loan.owner before rest loan refl
+          (ap (λ (l : List Loan). map chunk_of (filter (is_owned_by loan.owner) l)) is ∙ none)) shares ours
           (omega (arith, all_entries loan.owner, given_once loan.owner pool.given all.0.0 all.0.1)),
     )),
     no_others (before ++ loan ∷ []) rest (append_assoc before (loan ∷ []) rest ∙ is) all.1,
@@ -253,7 +316,9 @@ module _ (pool : Ledger) (shares : List Share) (loaders : Loaders) (sound : IsSo
     distinct = distinct;
     opened = omega (arith, as_many NonClass);
     class_opened = omega (arith, as_many Class);
-    no_other = λ few. All-from_recursion _ pool.loans (no_others [] pool.loans refl (recursion_from_All _ pool.loans sound.owners));
+    no_other =
+        λ few. All-from_recursion _ pool.loans
+        (no_others [] pool.loans refl (recursion_from_All _ pool.loans sound.owners));
   }
 
   pub no_more : open_accounts pool ≤ accounts_in loaders

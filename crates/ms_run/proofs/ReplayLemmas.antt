@@ -1,6 +1,8 @@
 -- A replay phase by phase, and by one worker: each line that asks a step is a phase of its own; for
 -- `replaying`.
-use Rattle.std.proofs.Common.{◌≡◌, ◌≢◌, ◌≤◌, ◌<◌, ◌+◌, ℕ, Bool, true, false, cond, Option, Some, None, List, [], ◌∷◌, ◌++◌, length, take, drop, ◌-◌, get_or, slice_get, refl, sym, ap, ◌∙◌, subst, append_assoc, arith}
+use Rattle.std.proofs.Common.{◌≡◌, ◌≢◌, ◌≤◌, ◌<◌, ◌+◌, ℕ, Bool, true, false, cond, Option, Some, None, List, [], ◌∷◌}
+use Rattle.std.proofs.Common.{◌++◌, length, take, drop, ◌-◌, get_or, slice_get, refl, sym, ap, ◌∙◌, subst, append_assoc}
+use Rattle.std.proofs.Common.{arith}
 use Rattle.std.specs.Prelude.{◌==◌, ◌&&◌, ◌||◌}
 use Rattle.std.specs.List.{All, filter, flat_map}
 use Rattle.std.specs.List.Sorted.{IsStrictlyIncreasing}
@@ -41,10 +43,12 @@ use Rattle.ms_run.specs.Own.{Said, own_said, own_in, OwnRun}
 use Rattle.ms_run.specs.Metering.{used_words_of}
 use Rattle.ms_run.specs.Replay.{Advances, Reports, Answers, IsPhase, IsEnd, IsReplay, Replays, starts, runs, ends}
 use Rattle.ms_run.specs.Shares.{AreSteps}
-use Rattle.ms_run.proofs.OwnStepLemmas.{IsOwn, transition_own, transition_others, transition_limits, transition_good, purge_done}
+use Rattle.ms_run.proofs.OwnStepLemmas.{IsOwn, transition_own, transition_others, transition_limits, transition_good}
+use Rattle.ms_run.proofs.OwnStepLemmas.{purge_done}
 
 -- Where a step is asked there is no report.
-none_reported : (command : Command) (asked : Step) (m : Machine) (report : Option Totals) → step_of command ≡ Some asked → Reports command m report → report ≡ None
+none_reported : (command : Command) (asked : Step) (m : Machine) (report : Option Totals) → step_of command ≡ Some asked
+    → Reports command m report → report ≡ None
 none_reported (Asks step) asked m report asks told = told
 none_reported Sync asked m report asks told = told
 none_reported Report asked m report asks told = absurd (cc)
@@ -62,64 +66,84 @@ otherwise o other name e differ f =
     unequal other name same differ
 
 -- What one request says of a loader, whether it names it or not.
-own_of_one : (step : Step) (reply : Reply) (before after : Option OwnLoader) (name : ℕ) → (loader_of step ≡ Some name → IsOwn before step reply after)
+own_of_one : (step : Step) (reply : Reply) (before after : Option OwnLoader) (name : ℕ)
+    → (loader_of step ≡ Some name → IsOwn before step reply after)
     → (loader_of step ≢ Some name → after ≡ before) → OwnRun before (own_said name ((step, reply) ∷ [])) after
 own_of_one step reply before after name own others =
-    elim (loader_of step) as (λ o. loader_of step ≡ o → OwnRun before (cond (is_name name o) ((step, reply) ∷ []) []) after) [
+    elim (loader_of step) as (λ o. loader_of step ≡ o
+    → OwnRun before (cond (is_name name o) ((step, reply) ∷ []) []) after) [
       | None ↦ λ is. ([], others (unnamed (loader_of step) name is))
       | Some other ↦ λ is. named_or_not other is (other == name) refl
     ] refl
   where
-    named_or_not : (other : ℕ) → loader_of step ≡ Some other → (b : Bool) → (other == name) ≡ b → OwnRun before (cond b ((step, reply) ∷ []) []) after
+    named_or_not : (other : ℕ) → loader_of step ≡ Some other → (b : Bool) → (other == name) ≡ b
+        → OwnRun before (cond b ((step, reply) ∷ []) []) after
     named_or_not other is true same =
         let its = own (is ∙ ap (λ (n : ℕ). Some n) (eqb-true other name same)) in
         (its.0 ∷ [], (after, its.1, refl))
     named_or_not other is false differ = ([], others (otherwise (loader_of step) other name is differ))
 
 -- A line that asks a step is a phase.
-pub phase_of_step : (old new : Machine) (line : Line) (answer : Answer) (step : Step) → step_of line.command ≡ Some step → answer.line ≡ line.number
-    → Transition old step answer.reply new → Reports line.command new answer.report → IsGood old → IsPhase old (line ∷ []) (answer ∷ []) new
+pub phase_of_step : (old new : Machine) (line : Line) (answer : Answer) (step : Step) → step_of line.command ≡ Some step
+    → answer.line ≡ line.number
+    → Transition old step answer.reply new → Reports line.command new answer.report → IsGood old
+    → IsPhase old (line ∷ []) (answer ∷ []) new
 phase_of_step old new line answer step asks number told report good = record {
   said = (step, answer.reply) ∷ [];
   said_are = (asks, number, refl, none_reported line.command step new answer.report asks report, tt);
   own = λ name. own_of_one step answer.reply (own_in old.loaders name) (own_in new.loaders name) name
       (transition_own old new step answer.reply good told name) (transition_others old new step answer.reply told name);
-  purges = All-from_recursion (λ (s : Said). s.0 ≡ Purge → s.1 ≡ Done) ((step, answer.reply) ∷ []) (purge_done old new step answer.reply told, tt);
+  purges = All-from_recursion (λ (s : Said). s.0 ≡ Purge → s.1 ≡ Done) ((step, answer.reply) ∷ [])
+      (purge_done old new step answer.reply told, tt);
   good = transition_good old new step answer.reply told good;
   limits = transition_limits old new step answer.reply told;
 }
 
 -- One line, and then the others.
-one_more : (first old new : Machine) (before : List Line) (line : Line) (lines : List Line) (said : List Answer) (answer : Answer) (answers : List Answer)
-    → Replays first ((before ++ line ∷ []) ++ lines) ((said ++ answer ∷ []) ++ answers) new → Replays first (before ++ line ∷ lines) (said ++ answer ∷ answers) new
+one_more : (first old new : Machine) (before : List Line) (line : Line) (lines : List Line) (said : List Answer)
+    (answer : Answer) (answers : List Answer)
+    → Replays first ((before ++ line ∷ []) ++ lines) ((said ++ answer ∷ []) ++ answers) new
+    → Replays first (before ++ line ∷ lines) (said ++ answer ∷ answers) new
 one_more first old new before line lines said answer answers all =
     subst (λ (l : List Line). Replays first l (said ++ answer ∷ answers) new) (append_assoc before (line ∷ []) lines)
-    (subst (λ (a : List Answer). Replays first ((before ++ line ∷ []) ++ lines) a new) (append_assoc said (answer ∷ []) answers) all)
+    (subst (λ (a : List Answer). Replays first ((before ++ line ∷ []) ++ lines) a new)
+    (append_assoc said (answer ∷ []) answers) all)
 
 -- A line's answer, by what it asks.
-line_replays : (first old mid : Machine) (before : List Line) (line : Line) (said : List Answer) (answer : Answer) → Replays first before said old → IsGood old
-    → (asks : Option Step) → step_of line.command ≡ asks → answer.line ≡ line.number → Advances asks old answer.reply mid → Reports line.command mid answer.report
+line_replays : (first old mid : Machine) (before : List Line) (line : Line) (said : List Answer) (answer : Answer)
+    → Replays first before said old → IsGood old
+    → (asks : Option Step) → step_of line.command ≡ asks → answer.line ≡ line.number
+    → Advances asks old answer.reply mid → Reports line.command mid answer.report
     → Replays first (before ++ line ∷ []) (said ++ answer ∷ []) mid × IsGood mid
 line_replays first old mid before line said answer so_far good (Some step) asks number told report = (
-  runs before (line ∷ []) said (answer ∷ []) old mid so_far (phase_of_step old mid line answer step asks number told report good),
+  runs before (line ∷ []) said (answer ∷ []) old mid so_far
+      (phase_of_step old mid line answer step asks number told report good),
   transition_good old mid step answer.reply told good,
 )
 line_replays first old mid before line said answer so_far good None asks number told report = (
   subst (λ (m : Machine). Replays first (before ++ line ∷ []) (said ++ answer ∷ []) m) (sym told.1)
       (ends before said old line answer so_far
-      (record { no_step = asks; number = number; done = told.0; report = subst (λ (m : Machine). Reports line.command m answer.report) told.1 report })),
+      (record {
+        no_step = asks;
+        number = number;
+        done = told.0;
+        report = subst (λ (m : Machine). Reports line.command m answer.report) told.1 report;
+      })),
   subst IsGood (sym told.1) good,
 )
 
 -- Lines that one worker answers are answered phase by phase.
-pub answers_replay : (first old new : Machine) (before lines : List Line) (said answers : List Answer) → Replays first before said old → IsGood old
+pub answers_replay : (first old new : Machine) (before lines : List Line) (said answers : List Answer)
+    → Replays first before said old → IsGood old
     → Answers old lines answers new → Replays first (before ++ lines) (said ++ answers) new
 answers_replay first old new before [] said answers so_far good told =
     subst (λ (m : Machine). Replays first (before ++ []) (said ++ answers) m) (sym told.1)
     (rw (told.0, append-nil before, append-nil said) so_far)
 answers_replay first old new before (line ∷ lines) said [] so_far good told = absurd told
 answers_replay first old new before (line ∷ lines) said (answer ∷ answers) so_far good told =
-    let next = line_replays first old told.0 before line said answer so_far good (step_of line.command) refl told.1 told.2 told.3 in
+    let next =
+    line_replays first old told.0 before line said answer so_far good (step_of line.command) refl told.1 told.2
+    told.3 in
     one_more first old new before line lines said answer answers
     (answers_replay first told.0 new (before ++ line ∷ []) lines (said ++ answer ∷ []) answers next.0 next.1 told.4)
 
@@ -154,7 +178,8 @@ slots_below n few = λ i d within.
     let is = get_or-range_with_len 64 n i d (omega (arith, within, length-range_with_len 64 n)) in
     (omega (arith, is), omega (arith, is, within, few, length-range_with_len 64 n))
 
-empty_pool : (space : Space) (limits : Limits) → limits.class_nodes ≤ 16 → IsSoundPool (pool_of space (empty_machine limits))
+empty_pool : (space : Space) (limits : Limits) → limits.class_nodes ≤ 16
+    → IsSoundPool (pool_of space (empty_machine limits))
 empty_pool NonClass limits few = record {
   held = none_held limits.policy [];
   slots = λ k within. absurd (omega (arith, within));
@@ -167,7 +192,10 @@ empty_pool Class limits few = record {
   held = none_held limits.policy (class_slots limits.class_nodes);
   slots = slots_rise limits.class_nodes;
   below = slots_below limits.class_nodes few;
-  committed = sym (none_pass (is_committed_now limits.policy [] []) (flat_map (granules_of (granule_of limits.policy)) (class_slots limits.class_nodes)) (nothing_before limits.policy));
+  committed =
+      sym (none_pass (is_committed_now limits.policy [] [])
+      (flat_map (granules_of (granule_of limits.policy)) (class_slots limits.class_nodes))
+      (nothing_before limits.policy));
   granules = omega arith;
   reserved = omega (arith, length-range_with_len 64 limits.class_nodes);
 }
@@ -181,34 +209,45 @@ good_when_empty limits few = record {
 }
 
 -- The first lines that ask steps.
-pub steps_more : (lines : List Line) (at : ℕ) (line : Line) (step : Step) → at < length lines → AreSteps (take at lines) → (get_or lines at line).command ≡ Asks step
+pub steps_more : (lines : List Line) (at : ℕ) (line : Line) (step : Step) → at < length lines → AreSteps (take at lines)
+    → (get_or lines at line).command ≡ Asks step
     → AreSteps (take (at + 1) lines)
 steps_more lines at line step more first is =
-    rw (take_more lines at line more) (All-append (λ (one : Line). (asked : Step) × (step_of one.command ≡ Some asked)) (take at lines) (get_or lines at line ∷ []) first
-    (All-from_recursion (λ (one : Line). (asked : Step) × (step_of one.command ≡ Some asked)) (get_or lines at line ∷ []) ((step, ap step_of is), tt)))
+    rw (take_more lines at line more)
+    (All-append (λ (one : Line). (asked : Step) × (step_of one.command ≡ Some asked)) (take at lines)
+    (get_or lines at line ∷ []) first
+    (All-from_recursion (λ (one : Line). (asked : Step) × (step_of one.command ≡ Some asked))
+    (get_or lines at line ∷ []) ((step, ap step_of is), tt)))
 
 none_asked : (command : Command) → ((step : Step) → command ≡ Asks step → ⊥) → step_of command ≡ None
 none_asked (Asks step) none = absurd (none step refl)
 none_asked Sync none = refl
 none_asked Report none = refl
 
-pub stops_there : (lines : List Line) (at : ℕ) (line : Line) → ((step : Step) → (get_or lines at line).command ≡ Asks step → ⊥)
+pub stops_there : (lines : List Line) (at : ℕ) (line : Line)
+    → ((step : Step) → (get_or lines at line).command ≡ Asks step → ⊥)
     → (next : Line) → slice_get lines at ≡ Some next → step_of next.command ≡ None
 stops_there lines at line none next found =
-    subst (λ (l : Line). step_of l.command ≡ None) (get_or_from_slice_get lines at next line found) (none_asked (get_or lines at line).command none)
+    subst (λ (l : Line). step_of l.command ≡ None) (get_or_from_slice_get lines at next line found)
+    (none_asked (get_or lines at line).command none)
 
-pub stops_past : (lines : List Line) (at : ℕ) → length lines ≤ at → (next : Line) → slice_get lines at ≡ Some next → step_of next.command ≡ None
-stops_past lines at past next found = let both : None ≡ Some next = sym (slice_get_past lines at past) ∙ found in absurd (cc)
+pub stops_past : (lines : List Line) (at : ℕ) → length lines ≤ at → (next : Line) → slice_get lines at ≡ Some next
+    → step_of next.command ≡ None
+stops_past lines at past next found = let both : None ≡ Some next = sym (slice_get_past lines at past) ∙ found in
+    absurd (cc)
 
 -- The first lines are answered phase by phase, and the state is good.
 abbrev pub PhasesFirst : Machine → List Line → ℕ → List Answer → Machine → Type 0
-PhasesFirst first lines at answers state = (at ≤ length lines) × Replays first (take at lines) answers state × IsGood state
+PhasesFirst first lines at answers state =
+    (at ≤ length lines) × Replays first (take at lines) answers state × IsGood state
 
 -- A system without loaders has no words in use.
-pub used_none : (state : Machine) (settings : Settings) → state ≡ empty_machine (limits_of settings) → 0 ≡ used_words_of state
+pub used_none : (state : Machine) (settings : Settings) → state ≡ empty_machine (limits_of settings)
+    → 0 ≡ used_words_of state
 used_none state settings is = sym (ap used_words_of is)
 
-pub phases_start : (settings : Settings) (lines : List Line) (answers : List Answer) (state : Machine) → answers ≡ [] → state ≡ empty_machine (limits_of settings)
+pub phases_start : (settings : Settings) (lines : List Line) (answers : List Answer) (state : Machine) → answers ≡ []
+    → state ≡ empty_machine (limits_of settings)
     → PhasesFirst (empty_machine (limits_of settings)) lines 0 answers state
 phases_start settings lines answers state none is =
     rw (none, is) (omega arith, starts, good_when_empty (limits_of settings) (omega (arith, settings.class_nodes_few)))
@@ -221,26 +260,32 @@ steps_there lines at count steps =
     rw same (rw (take_rest lines at) at steps)
 
 pub stops_next : (lines : List Line) (at count : ℕ) (line : Line)
-    → ((next : Line) → slice_get (take (length lines - at) (drop at lines)) count ≡ Some next → step_of next.command ≡ None) → at + count < length lines
+    → ((next : Line) → slice_get (take (length lines - at) (drop at lines)) count ≡ Some next
+    → step_of next.command ≡ None) → at + count < length lines
     → step_of (get_or lines (at + count) line).command ≡ None
 stops_next lines at count line stops more =
     let left = rw (take_rest lines at) at stops in
     let found = slice_get-get_or (drop at lines) count line (omega (arith, more, length-drop at lines)) in
-    subst (λ (l : Line). step_of l.command ≡ None) (get_or-drop at lines count line) (left (get_or (drop at lines) count line) found)
+    subst (λ (l : Line). step_of l.command ≡ None) (get_or-drop at lines count line)
+    (left (get_or (drop at lines) count line) found)
 
 -- A phase more.
 abbrev pub AddsPhase : Machine → List Line → List Answer → List Answer → Machine → Type 0
-AddsPhase state lines answers whole after = (added : List Answer) × (whole ≡ answers ++ added) × IsPhase state lines added after
+AddsPhase state lines answers whole after =
+    (added : List Answer) × (whole ≡ answers ++ added) × IsPhase state lines added after
 
-pub phases_more : (first state after : Machine) (lines : List Line) (at count : ℕ) (answers whole : List Answer) → PhasesFirst first lines at answers state
-    → count ≤ length (take (length lines - at) (drop at lines)) → AddsPhase state (take (at + count - at) (drop at lines)) answers whole after
+pub phases_more : (first state after : Machine) (lines : List Line) (at count : ℕ) (answers whole : List Answer)
+    → PhasesFirst first lines at answers state
+    → count ≤ length (take (length lines - at) (drop at lines))
+    → AddsPhase state (take (at + count - at) (drop at lines)) answers whole after
     → PhasesFirst first lines (at + count) whole after
 phases_more first state after lines at count answers whole so_far within more =
     let fits = rw (take_rest lines at, length-drop at lines) at within in
     let same : at + count - at ≡ count = omega arith in
     let phase = rw same at more.2 in (
       omega (arith, fits, so_far.0),
-      rw (more.1, take-add at count lines) (runs (take at lines) (take count (drop at lines)) answers more.0 state after so_far.1 phase),
+      rw (more.1, take-add at count lines)
+          (runs (take at lines) (take count (drop at lines)) answers more.0 state after so_far.1 phase),
       more.2.good,
     )
 
@@ -248,17 +293,21 @@ phases_more first state after lines at count answers whole so_far within more =
 abbrev pub AddsEnd : Machine → Line → List Answer → List Answer → Type 0
 AddsEnd state line answers whole = (added : Answer) × (whole ≡ answers ++ added ∷ []) × IsEnd state line added
 
-pub phases_next : (first state : Machine) (lines : List Line) (at : ℕ) (line : Line) (answers whole : List Answer) → PhasesFirst first lines at answers state
-    → at < length lines → AddsEnd state (get_or lines at line) answers whole → PhasesFirst first lines (at + 1) whole state
+pub phases_next : (first state : Machine) (lines : List Line) (at : ℕ) (line : Line) (answers whole : List Answer)
+    → PhasesFirst first lines at answers state
+    → at < length lines → AddsEnd state (get_or lines at line) answers whole
+    → PhasesFirst first lines (at + 1) whole state
 phases_next first state lines at line answers whole so_far more next = (
   omega (arith, more),
-  rw (next.1, take_more lines at line more) (ends (take at lines) answers state (get_or lines at line) next.0 so_far.1 next.2),
+  rw (next.1, take_more lines at line more)
+      (ends (take at lines) answers state (get_or lines at line) next.0 so_far.1 next.2),
   so_far.2,
 )
 
 -- So all are in the end.
 pub phases_end : (settings : Settings) (lines : List Line) (at : ℕ) (answers : List Answer) (state : Machine)
-    → PhasesFirst (empty_machine (limits_of settings)) lines at answers state → length lines ≤ at → IsReplay (limits_of settings) lines answers
+    → PhasesFirst (empty_machine (limits_of settings)) lines at answers state
+    → length lines ≤ at → IsReplay (limits_of settings) lines answers
 phases_end settings lines at answers state so_far past =
     let ends_there : at ≡ length lines = omega (arith, so_far.0, past) in
     record {
@@ -269,10 +318,13 @@ phases_end settings lines at answers state so_far past =
 
 -- A trace that one worker answers is replayed.
 pub alone_replays : (settings : Settings) (lines lent : List Line) (answers : List Answer) → lent ≡ lines
-    → (last : Machine) × Answers (empty_machine (limits_of settings)) lent answers last → IsReplay (limits_of settings) lines answers
+    → (last : Machine) × Answers (empty_machine (limits_of settings)) lent answers last
+    → IsReplay (limits_of settings) lines answers
 alone_replays settings lines lent answers same told = record {
   last = told.0;
-  replays = answers_replay (empty_machine (limits_of settings)) (empty_machine (limits_of settings)) told.0 [] lines [] answers starts
+  replays =
+      answers_replay (empty_machine (limits_of settings)) (empty_machine (limits_of settings)) told.0 [] lines []
+      answers starts
       (good_when_empty (limits_of settings) (omega (arith, settings.class_nodes_few)))
       (subst (λ (l : List Line). Answers (empty_machine (limits_of settings)) l answers told.0) same told.1);
 }

@@ -1,6 +1,7 @@
 -- That a share may go to another thread, and that threads may look at the lock and the meter; and what
 -- the threads' promises say of all shares.
-use Rattle.std.proofs.Common.{◌≡◌, ◌<◌, ℕ, zero, suc, List, [], ◌∷◌, ◌++◌, length, map, get_or, refl, ap, sym, ◌∙◌, subst, arith}
+use Rattle.std.proofs.Common.{◌≡◌, ◌<◌, ℕ, zero, suc, List, [], ◌∷◌, ◌++◌, length, map, get_or, refl, ap, sym, ◌∙◌}
+use Rattle.std.proofs.Common.{subst, arith}
 use Rattle.std.proofs.lemmas.List.{append-nil}
 use Rattle.std.specs.List.{All}
 use Rattle.ms_shared.specs.SeatView.{LockState}
@@ -40,22 +41,37 @@ use Rattle.ms_run.proofs.share.Task.TheSendSync as task
 use Rattle.ms_run.specs.contracts.share.Share as share
 
 loaders_send : IsSend loaders.the_row
-loaders_send = search (sendable, crosses, BTreeMap-send, send-Tree, send-Fork, rows.the_send, block.the_send, account.the_send) depth 60 fits 30000
+loaders_send =
+    search (sendable, crosses, BTreeMap-send, send-Tree, send-Fork, rows.the_send, block.the_send, account.the_send)
+    depth 60 fits 30000
 
 seat_send : IsSend seat.the_row
-seat_send = search (sendable, crosses, option.the_send, table_seat.the_send, node.send-Node, mask.the_send, nodes.the_send) depth 60
+seat_send =
+    search (sendable, crosses, option.the_send, table_seat.the_send, node.send-Node, mask.the_send, nodes.the_send)
+    depth 60
 
 meter_seat_send : IsSend meter_seat.the_row
 meter_seat_send = search (sendable, crosses, table_seat.the_send) depth 20
 
 pub share_send : IsSend share.the_row
-share_send = search (loaders_send, seat_send, meter_seat_send, sendable, crosses, task.the_send, reply.the_send) depth 20
+share_send =
+    search (loaders_send, seat_send, meter_seat_send, sendable, crosses, task.the_send, reply.the_send) depth 20
 
 pool_send : IsSend pool.the_row
 pool_send = search (sendable, crosses, node.send-Node, mask.the_send, nodes.the_send) depth 60 fits 30000
 
 pub shared_sync : IsSync shared.the_row
-shared_sync = search (pool_send, sendable, crosses, option.the_send, table.the_sync, lease.the_sync, global.the_send, global.the_sync) depth 60 fits 30000
+shared_sync =
+    search (
+      pool_send,
+      sendable,
+      crosses,
+      option.the_send,
+      table.the_sync,
+      lease.the_sync,
+      global.the_send,
+      global.the_sync,
+    ) depth 60 fits 30000
 
 meter_sync : IsSync meter.the_row
 meter_sync = search (sendable, crosses, table.the_sync, lease.the_sync, global.the_send, global.the_sync) depth 20
@@ -73,7 +89,8 @@ handed l m k n R G =
     ∷ []
 
 -- That may go there.
-pub handed_send : (name : List ℕ) (l m k n : NamedLft) (R G : RattleType) → IsSync (param 0 R) → IsSync (param 1 G) → IsSend (TupleAt name (handed l m k n R G))
+pub handed_send : (name : List ℕ) (l m k n : NamedLft) (R G : RattleType) → IsSync (param 0 R) → IsSync (param 1 G)
+    → IsSend (TupleAt name (handed l m k n R G))
 handed_send name l m k n R G r g = declared_send (type_at name (handed l m k n R G)) (
   as_row_send (row_field (shr_ref_field l (param 0 R) tt).row) (search (r, sendable)),
   (
@@ -84,7 +101,10 @@ handed_send name l m k n R G r g = declared_send (type_at name (handed l m k n R
         as_row_send (row_field (shr_ref_field k meter.the_row tt).row) (search (meter_sync, sendable)),
         (
           as_row_send (row_field u64-field.row) (search sendable),
-          (as_row_send (row_field (shr_ref_field n (param 1 G) tt).row) (search (g, sendable)), (as_row_send (row_field share.the_row) share_send, tt)),
+          (
+            as_row_send (row_field (shr_ref_field n (param 1 G) tt).row) (search (g, sendable)),
+            (as_row_send (row_field share.the_row) share_send, tt),
+          ),
         ),
       ),
     ),
@@ -92,17 +112,21 @@ handed_send name l m k n R G r g = declared_send (type_at name (handed l m k n R
 )
 
 -- A thread more, and a share less.
-added : {H : Type 0} (of : H → Share) (old : List H) (handle : H) (after : List Share) → map of (old ++ handle ∷ []) ++ after ≡ map of old ++ of handle ∷ after
+added : {H : Type 0} (of : H → Share) (old : List H) (handle : H) (after : List Share)
+    → map of (old ++ handle ∷ []) ++ after ≡ map of old ++ of handle ∷ after
 added of [] handle after = refl
 added of (x ∷ old) handle after = ap (λ shares. of x ∷ shares) (added of old handle after)
 
-pub one_more : {H : Type 0} (of : H → Share) (old new : List H) (handle : H) (share : Share) (before after shares : List Share) → new ≡ old ++ handle ∷ [] → before ≡ share ∷ after
+pub one_more : {H : Type 0} (of : H → Share) (old new : List H) (handle : H) (share : Share)
+    (before after shares : List Share) → new ≡ old ++ handle ∷ [] → before ≡ share ∷ after
     → of handle ≡ share → map of old ++ before ≡ shares → map of new ++ after ≡ shares
 one_more of old new handle share before after shares new_is before_is of_is all =
     ap (λ handles. map of handles ++ after) new_is
-    ∙ (added of old handle after ∙ (ap (λ s. map of old ++ s ∷ after) of_is ∙ (ap (λ others. map of old ++ others) (sym before_is) ∙ all)))
+    ∙ (added of old handle after
+    ∙ (ap (λ s. map of old ++ s ∷ after) of_is ∙ (ap (λ others. map of old ++ others) (sym before_is) ∙ all)))
 
-pub fewer_ready : (shared : LockState) (meter : MeterState) (share : Share) (before after : List Share) → before ≡ share ∷ after
+pub fewer_ready : (shared : LockState) (meter : MeterState) (share : Share) (before after : List Share)
+    → before ≡ share ∷ after
     → All (IsReadyFor shared meter) before → All (IsReadyFor shared meter) after
 fewer_ready shared meter share before after is ready k d below =
     subst (All (IsReadyFor shared meter)) is ready (suc k) d (omega arith)
@@ -113,10 +137,13 @@ only shares (x ∷ rest) all none is = absurd (omega arith)
 
 -- Each result is its own share's.
 pub all_worked : {H : Type 0} (of : H → Share) (handles : List H) (done : List Share) → length done ≡ length handles
-    → ((i : ℕ) (d : Share) → i < length handles → (h : H) × (h ≡ get_or handles i h) × IsWorked (of h) (get_or done i d)) → AllWorked (map of handles) done
+    → ((i : ℕ) (d : Share) → i < length handles
+    → (h : H) × (h ≡ get_or handles i h) × IsWorked (of h) (get_or done i d)) → AllWorked (map of handles) done
 all_worked of [] [] same each = tt
 all_worked of [] (result ∷ done) same each = absurd (omega arith)
 all_worked of (handle ∷ handles) [] same each = absurd (omega arith)
 all_worked of (handle ∷ handles) (result ∷ done) same each =
-    let first = each zero result (omega arith) in
-    (subst (λ h. IsWorked (of h) result) first.1 first.2, all_worked of handles done (omega arith) (λ i d below. each (suc i) d (omega arith)))
+    let first = each zero result (omega arith) in (
+      subst (λ h. IsWorked (of h) result) first.1 first.2,
+      all_worked of handles done (omega arith) (λ i d below. each (suc i) d (omega arith)),
+    )

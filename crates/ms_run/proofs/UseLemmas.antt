@@ -1,6 +1,7 @@
 -- The words in use of loaders of which one changes: what it gained or lost is what their sum did. For
 -- metering.rt.
-use Rattle.std.proofs.Common.{◌≡◌, ◌≢◌, ◌+◌, ℕ, Bool, true, false, cond, Option, Some, None, List, [], ◌∷◌, refl, sym, ap, ◌∙◌, inl, inr, subst, option_map, arith}
+use Rattle.std.proofs.Common.{◌≡◌, ◌≢◌, ◌+◌, ℕ, Bool, true, false, cond, Option, Some, None, List, [], ◌∷◌, refl, sym}
+use Rattle.std.proofs.Common.{ap, ◌∙◌, inl, inr, subst, option_map, arith}
 use Rattle.std.specs.Ordering.{nat_cmp}
 use Rattle.std.specs.BTreeMap.{is_at}
 use Rattle.std.specs.Map.{values_of}
@@ -29,16 +30,25 @@ some_same : {a b : ℕ} → Some a ≡ Some b → a ≡ b
 some_same e = cc
 
 -- The sum without one loader.
-used_apart : (loaders : List (ℕ × LoaderView)) (name : ℕ) → used_in loaders ≡ used_at (named loaders name) + used_in (without loaders name)
+used_apart : (loaders : List (ℕ × LoaderView)) (name : ℕ)
+    → used_in loaders ≡ used_at (named loaders name) + used_in (without loaders name)
 used_apart [] name = refl
 used_apart (e ∷ es) name =
-    elim (is_at (nat_cmp name) e.0) as (λ b. used_in (e ∷ es) ≡ used_at (cond b (Some e.1) (named es name)) + used_in (cond b es (e ∷ without es name))) [
+    elim (is_at (nat_cmp name) e.0) as (λ b. used_in (e ∷ es)
+    ≡ used_at (cond b (Some e.1) (named es name)) + used_in (cond b es (e ∷ without es name))) [
       | true ↦ sum_by-cons use_of e.1 (values_of es)
-      | false ↦ omega (arith, used_apart es name, sum_by-cons use_of e.1 (values_of es), sum_by-cons use_of e.1 (values_of (without es name)))
+      | false ↦
+          omega (
+            arith,
+            used_apart es name,
+            sum_by-cons use_of e.1 (values_of es),
+            sum_by-cons use_of e.1 (values_of (without es name)),
+          )
     ]
 
 -- The loader that a step names changes, comes or goes.
-pub used_moved : (old new : List (ℕ × LoaderView)) (at : Option ℕ) (name : ℕ) → at ≡ Some name → AreNamed old → AreNamed new
+pub used_moved : (old new : List (ℕ × LoaderView)) (at : Option ℕ) (name : ℕ) → at ≡ Some name → AreNamed old
+    → AreNamed new
     → ((other : ℕ) → at ≢ Some other → named new other ≡ named old other)
     → used_in new + used_at (named old name) ≡ used_in old + used_at (named new name)
 used_moved old new at name names rises rises_too others =
@@ -48,23 +58,28 @@ used_moved old new at name names rises rises_too others =
     same other = elim (cases_eq name other) [
       | inl is ↦ subst (λ (n : ℕ). named (without new name) n ≡ named (without old name) n) is
           (named_without_same new name rises_too ∙ sym (named_without_same old name rises))
-      | inr differs ↦ named_without_other new name other differs ∙ others other (λ e. differs (some_same (sym names ∙ e)))
+      | inr differs ↦ named_without_other new name other differs
+          ∙ others other (λ e. differs (some_same (sym names ∙ e)))
           ∙ sym (named_without_other old name other differs)
     ]
 
     rest : without new name ≡ without old name
-    rest = same_entries (without new name) (without old name) (rises_without new name rises_too) (rises_without old name rises) same
+    rest = same_entries (without new name) (without old name) (rises_without new name rises_too)
+        (rises_without old name rises) same
 
 -- The loader that a step names, if it names one, has in use what it had.
 pub used_stays : (old new : List (ℕ × LoaderView)) (at : Option ℕ) → AreNamed old → AreNamed new
     → ((name : ℕ) → at ≢ Some name → named new name ≡ named old name)
     → ((name : ℕ) → used_at (named new name) ≡ used_at (named old name))
     → used_in new ≡ used_in old
-used_stays old new None rises rises_too others same = ap used_in (same_entries new old rises_too rises (λ name. others name (λ e. absurd (cc))))
-used_stays old new (Some name) rises rises_too others same = omega (arith, used_moved old new (Some name) name refl rises rises_too others, same name)
+used_stays old new None rises rises_too others same =
+    ap used_in (same_entries new old rises_too rises (λ name. others name (λ e. absurd (cc))))
+used_stays old new (Some name) rises rises_too others same =
+    omega (arith, used_moved old new (Some name) name refl rises rises_too others, same name)
 
 -- An unloaded loader is gone, whatever the reply, and its words with it.
-is_gone : (before after : Option OwnLoader) (name : ℕ) (refused : Bool) (reply : Reply) → OwnReply before (Unload name) refused reply after → after ≡ None
+is_gone : (before after : Option OwnLoader) (name : ℕ) (refused : Bool) (reply : Reply)
+    → OwnReply before (Unload name) refused reply after → after ≡ None
 is_gone None after name true (Refused refusal) own = absurd (own.0)
 is_gone (Some was) after name true (Refused refusal) own = absurd (own.0)
 is_gone before after name true Done own = absurd own
@@ -81,9 +96,13 @@ none_used (Some loader) none = absurd (cc)
 
 pub used_gone : (old new : List (ℕ × LoaderView)) (name : ℕ) (reply : Reply) → AreNamed old → AreNamed new
     → ((other : ℕ) → Some name ≢ Some other → named new other ≡ named old other)
-    → (refused : Bool) × OwnReply (own_in (states_of old) name) (Unload name) refused reply (own_in (states_of new) name)
+    → (refused : Bool)
+    × OwnReply (own_in (states_of old) name) (Unload name) refused reply (own_in (states_of new) name)
     → used_in new + used_at (named old name) ≡ used_in old
-used_gone old new name reply rises rises_too others own = omega (arith, used_moved old new (Some name) name refl rises rises_too others, none)
+used_gone old new name reply rises rises_too others own =
+    omega (arith, used_moved old new (Some name) name refl rises rises_too others, none)
   where
     none : used_at (named new name) ≡ 0
-    none = none_used (named new name) (sym (ap own_of (named_states new name)) ∙ is_gone (own_in (states_of old) name) (own_in (states_of new) name) name own.0 reply own.1)
+    none = none_used (named new name)
+        (sym (ap own_of (named_states new name))
+        ∙ is_gone (own_in (states_of old) name) (own_in (states_of new) name) name own.0 reply own.1)

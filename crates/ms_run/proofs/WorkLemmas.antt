@@ -1,5 +1,7 @@
 -- The work on a share, task by task: for working.rt.
-use Rattle.std.proofs.Common.{◌≡◌, ◌≢◌, ℕ, ◌+◌, ◌<◌, ◌≤◌, ◌⊎◌, inl, inr, Bool, true, false, Option, Some, None, List, [], ◌∷◌, ◌++◌, map, length, get_or, Vec, Global, vec_len, vec_capacity, option_map, refl, sym, ap, ◌∙◌, subst, arith}
+use Rattle.std.proofs.Common.{◌≡◌, ◌≢◌, ℕ, ◌+◌, ◌<◌, ◌≤◌, ◌⊎◌, inl, inr, Bool, true, false, Option, Some, None, List}
+use Rattle.std.proofs.Common.{[], ◌∷◌, ◌++◌, map, length, get_or, Vec, Global, vec_len, vec_capacity, option_map, refl}
+use Rattle.std.proofs.Common.{sym, ap, ◌∙◌, subst, arith}
 use Rattle.std.proofs.lemmas.Bool.{eq-eqb, ne_eqb}
 use Rattle.std.proofs.lemmas.List.{map-append, append-nil}
 use Rattle.std.proofs.lemmas.List.Elements.{filter-append, All-append, All-from_recursion}
@@ -29,10 +31,13 @@ use Rattle.ms_run.specs.declared.share.Task.{Task}
 use Rattle.ms_run.specs.declared.share.Share.{Share}
 
 -- One reply more.
-replies_more : (before : Option OwnLoader) (steps : List Step) (flags : List Bool) (replies : List Reply) (mid : Option OwnLoader) (step : Step) (refused : Bool) (reply : Reply)
+replies_more : (before : Option OwnLoader) (steps : List Step) (flags : List Bool) (replies : List Reply)
+    (mid : Option OwnLoader) (step : Step) (refused : Bool) (reply : Reply)
     (after : Option OwnLoader)
-    → OwnReplies before steps flags replies mid → OwnReply mid step refused reply after → OwnReplies before (steps ++ step ∷ []) (flags ++ refused ∷ []) (replies ++ reply ∷ []) after
-replies_more before [] [] [] mid step refused reply after run one = (after, subst (λ (own : Option OwnLoader). OwnReply own step refused reply after) run one, refl)
+    → OwnReplies before steps flags replies mid → OwnReply mid step refused reply after
+    → OwnReplies before (steps ++ step ∷ []) (flags ++ refused ∷ []) (replies ++ reply ∷ []) after
+replies_more before [] [] [] mid step refused reply after run one =
+    (after, subst (λ (own : Option OwnLoader). OwnReply own step refused reply after) run one, refl)
 replies_more before (s ∷ steps) (f ∷ flags) (r ∷ replies) mid step refused reply after run one =
     (run.0, run.1, replies_more run.0 steps flags replies mid step refused reply after run.2 one)
 replies_more before [] [] (r ∷ replies) mid step refused reply after run one = absurd run
@@ -47,7 +52,8 @@ abbrev reply_in : Said → Reply
 reply_in s = s.1
 
 run_more : (before : Option OwnLoader) (said : List Said) (mid : Option OwnLoader) (s : Said) (after : Option OwnLoader)
-    → OwnRun before said mid → (refused : Bool) × OwnReply mid s.0 refused s.1 after → OwnRun before (said ++ s ∷ []) after
+    → OwnRun before said mid → (refused : Bool) × OwnReply mid s.0 refused s.1 after
+    → OwnRun before (said ++ s ∷ []) after
 run_more before said mid s after run one = (
   run.0 ++ one.0 ∷ [],
   rw (map-append step_in said (s ∷ []), map-append reply_in said (s ∷ []))
@@ -55,58 +61,74 @@ run_more before said mid s after run one = (
 )
 
 -- Whether a step is of a name.
-by_name : (name : ℕ) (asked : Option ℕ) → ((asked ≡ Some name) × (is_name name asked ≡ true)) ⊎ ((asked ≢ Some name) × (is_name name asked ≡ false))
+by_name : (name : ℕ) (asked : Option ℕ) → ((asked ≡ Some name) × (is_name name asked ≡ true))
+    ⊎ ((asked ≢ Some name) × (is_name name asked ≡ false))
 by_name name None = inr ((λ e. absurd (cc)), refl)
 by_name name (Some other) =
-    dite (ℕ_discrete other name) (λ e. inl (ap Some e, eq-eqb other name e)) (λ n. inr ((λ e. n (cc)), ne_eqb other name n))
+    dite (ℕ_discrete other name) (λ e. inl (ap Some e, eq-eqb other name e))
+    (λ n. inr ((λ e. n (cc)), ne_eqb other name n))
 
 -- The replies to each loader's requests are its own.
 abbrev pub AreOwn : List (ℕ × LoaderView) → List Said → List (ℕ × LoaderView) → Type 0
-AreOwn start said end = (name : ℕ) → OwnRun (own_in (states_of start) name) (own_said name said) (own_in (states_of end) name)
+AreOwn start said end =
+    (name : ℕ) → OwnRun (own_in (states_of start) name) (own_said name said) (own_in (states_of end) name)
 
 pub none_said : (start : List (ℕ × LoaderView)) → AreOwn start [] start
 none_said start name = ([], refl)
 
 -- What an answer to one step tells.
 abbrev TellsOwn : List (ℕ × LoaderView) → Step → Reply → List (ℕ × LoaderView) → Type 0
-TellsOwn mid step reply end = (name : ℕ) → loader_of step ≡ Some name → (refused : Bool) × OwnReply (own_in (states_of mid) name) step refused reply (own_in (states_of end) name)
+TellsOwn mid step reply end = (name : ℕ) → loader_of step ≡ Some name
+    → (refused : Bool) × OwnReply (own_in (states_of mid) name) step refused reply (own_in (states_of end) name)
 
 abbrev LeavesOthers : List (ℕ × LoaderView) → Step → List (ℕ × LoaderView) → Type 0
 LeavesOthers mid step end = (name : ℕ) → loader_of step ≢ Some name → named end name ≡ named mid name
 
-same_own : (mid end : List (ℕ × LoaderView)) (name : ℕ) → named end name ≡ named mid name → own_in (states_of end) name ≡ own_in (states_of mid) name
-same_own mid end name same = ap own_of (named_states end name ∙ ap (option_map state_of) same ∙ sym (named_states mid name))
+same_own : (mid end : List (ℕ × LoaderView)) (name : ℕ) → named end name ≡ named mid name
+    → own_in (states_of end) name ≡ own_in (states_of mid) name
+same_own mid end name same =
+    ap own_of (named_states end name ∙ ap (option_map state_of) same ∙ sym (named_states mid name))
 
 abbrev is_of : ℕ → Said → Bool
 is_of name s = is_name name (loader_of s.0)
 
-own_more : (start mid end : List (ℕ × LoaderView)) (said : List Said) (step : Step) (reply : Reply) → AreOwn start said mid → TellsOwn mid step reply end → LeavesOthers mid step end
+own_more : (start mid end : List (ℕ × LoaderView)) (said : List Said) (step : Step) (reply : Reply)
+    → AreOwn start said mid → TellsOwn mid step reply end → LeavesOthers mid step end
     → AreOwn start (said ++ (step, reply) ∷ []) end
-own_more start mid end said step reply run own others name = rw (filter-append (is_of name) said ((step, reply) ∷ [])) (elim (by_name name (loader_of step)) [
-  | inl its ↦ rw its.1 (run_more (own_in (states_of start) name) (own_said name said) (own_in (states_of mid) name) (step, reply) (own_in (states_of end) name) (run name) (own name its.0))
-  | inr other ↦ rw other.1 (rw (append-nil (own_said name said), same_own mid end name (others name other.0)) (run name))
-])
+own_more start mid end said step reply run own others name =
+    rw (filter-append (is_of name) said ((step, reply) ∷ [])) (elim (by_name name (loader_of step)) [
+      | inl its ↦
+          rw its.1 (run_more (own_in (states_of start) name) (own_said name said) (own_in (states_of mid) name)
+          (step, reply) (own_in (states_of end) name) (run name) (own name its.0))
+      | inr other ↦
+          rw other.1 (rw (append-nil (own_said name said), same_own mid end name (others name other.0)) (run name))
+    ])
 
 -- One task more.
 said_more : (tasks : List Task) (replies : List Reply) (d : Task) (reply : Reply) → length replies < length tasks
-    → said_in tasks (replies ++ reply ∷ []) ≡ said_in tasks replies ++ ((get_or tasks (length replies) d).step, reply) ∷ []
+    → said_in tasks (replies ++ reply ∷ []) ≡ said_in tasks replies ++ ((get_or tasks (length replies) d).step, reply)
+    ∷ []
 said_more [] replies d reply within = absurd (omega arith)
 said_more (t ∷ tasks) [] d reply within = no_replies tasks
   where
     no_replies : (tasks : List Task) → said_in (t ∷ tasks) (reply ∷ []) ≡ (t.step, reply) ∷ []
     no_replies [] = refl
     no_replies (u ∷ tasks) = refl
-said_more (t ∷ tasks) (r ∷ replies) d reply within = ap (λ (said : List Said). (t.step, r) ∷ said) (said_more tasks replies d reply (omega arith))
+said_more (t ∷ tasks) (r ∷ replies) d reply within =
+    ap (λ (said : List Said). (t.step, r) ∷ said) (said_more tasks replies d reply (omega arith))
 
-purged_more : (said : List Said) (step : Step) (reply : Reply) → ArePurged said → (step ≡ Purge → reply ≡ Done) → ArePurged (said ++ (step, reply) ∷ [])
-purged_more said step reply all one = All-append IsDone said ((step, reply) ∷ []) all (All-from_recursion IsDone ((step, reply) ∷ []) (one, tt))
+purged_more : (said : List Said) (step : Step) (reply : Reply) → ArePurged said → (step ≡ Purge → reply ≡ Done)
+    → ArePurged (said ++ (step, reply) ∷ [])
+purged_more said step reply all one =
+    All-append IsDone said ((step, reply) ∷ []) all (All-from_recursion IsDone ((step, reply) ∷ []) (one, tt))
   where
     IsDone : Said → Type 0
     IsDone s = s.0 ≡ Purge → s.1 ≡ Done
 
 -- The share is worked so far: the seat serves the loaders, so many tasks have their reply, each
 -- loader's replies are its own, and the meter's seat moved as the words in use did.
-pub record IsWorkedTo (share : Share) (pool : SeatState) (counted : MeterSeatState) (loaders : List (ℕ × LoaderView)) (tasks : List Task) (index : ℕ) (replies : Vec Reply Global) : Type 0 where
+pub record IsWorkedTo (share : Share) (pool : SeatState) (counted : MeterSeatState) (loaders : List (ℕ × LoaderView))
+    (tasks : List Task) (index : ℕ) (replies : Vec Reply Global) : Type 0 where
   pub manned : IsManned pool.knows loaders
   pub id : pool.id ≡ share.seat.id
   pub count : vec_len replies ≡ index
@@ -115,8 +137,10 @@ pub record IsWorkedTo (share : Share) (pool : SeatState) (counted : MeterSeatSta
   pub purges : ArePurged (said_in tasks replies.items)
   pub moved : IsMoved share.meter (used_in share.loaders) counted (used_in loaders)
 
-pub work_begins : (share : Share) (pool : SeatState) (tasks : List Task) → IsManned share.seat.knows share.loaders → vec_len share.tasks ≤ vec_capacity share.replies → share.replies.items ≡ []
-    → pool ≡ share.seat → length tasks ≡ vec_len share.tasks → IsWorkedTo share pool share.meter share.loaders tasks 0 share.replies
+pub work_begins : (share : Share) (pool : SeatState) (tasks : List Task) → IsManned share.seat.knows share.loaders
+    → vec_len share.tasks ≤ vec_capacity share.replies → share.replies.items ≡ []
+    → pool ≡ share.seat → length tasks ≡ vec_len share.tasks
+    → IsWorkedTo share pool share.meter share.loaders tasks 0 share.replies
 work_begins share pool tasks manned room none seat count = record {
   manned = subst (λ (s : SeatState). IsManned s.knows share.loaders) (sym seat) manned;
   id = ap (λ (s : SeatState). s.id) seat;
@@ -137,24 +161,30 @@ work_begins share pool tasks manned room none seat count = record {
     none_purged : ArePurged []
     none_purged = All-from_recursion (λ (s : Said). s.0 ≡ Purge → s.1 ≡ Done) [] tt
 
-pub work_goes_on : (share : Share) (pool new_pool : SeatState) (counted mid_counted new_counted : MeterSeatState) (loaders new_loaders : List (ℕ × LoaderView)) (tasks : List Task) (index : ℕ)
+pub work_goes_on : (share : Share) (pool new_pool : SeatState) (counted mid_counted new_counted : MeterSeatState)
+    (loaders new_loaders : List (ℕ × LoaderView)) (tasks : List Task) (index : ℕ)
     (replies new_replies : Vec Reply Global) (d : Task) (reply : Reply)
     → IsWorkedTo share pool counted loaders tasks index replies → index < length tasks → new_pool.id ≡ pool.id
     → IsAnswered loaders (get_or tasks index d).step reply new_pool.knows new_loaders
     → IsMoved counted (used_in loaders) mid_counted (used_in new_loaders) → new_counted ≡ mid_counted
-    → new_replies.items ≡ replies.items ++ reply ∷ [] → vec_len new_replies ≡ vec_len replies + 1 → vec_capacity new_replies ≡ vec_capacity replies
+    → new_replies.items ≡ replies.items ++ reply ∷ [] → vec_len new_replies ≡ vec_len replies + 1
+    → vec_capacity new_replies ≡ vec_capacity replies
     → IsWorkedTo share new_pool new_counted new_loaders tasks (index + 1) new_replies
-work_goes_on share pool new_pool counted mid_counted new_counted loaders new_loaders tasks index replies new_replies d reply its within id answered moved looked items count capacity = record {
-  manned = answered.manned;
-  id = id ∙ its.id;
-  count = let before = its.count in omega arith;
-  room = let before = its.room in omega arith;
-  own = subst (λ (l : List Said). AreOwn share.loaders l new_loaders) (sym said)
-      (own_more share.loaders loaders new_loaders (said_in tasks replies.items) (get_or tasks index d).step reply its.own answered.own answered.others);
-  purges = subst ArePurged (sym said) (purged_more (said_in tasks replies.items) (get_or tasks index d).step reply its.purges answered.purge);
-  moved = moved_then share.meter counted new_counted (used_in share.loaders) (used_in loaders) (used_in new_loaders) its.moved
-      (subst (λ (s : MeterSeatState). IsMoved counted (used_in loaders) s (used_in new_loaders)) (sym looked) moved);
-}
+work_goes_on share pool new_pool counted mid_counted new_counted loaders new_loaders tasks index replies new_replies d
+    reply its within id answered moved looked items count capacity = record {
+      manned = answered.manned;
+      id = id ∙ its.id;
+      count = let before = its.count in omega arith;
+      room = let before = its.room in omega arith;
+      own = subst (λ (l : List Said). AreOwn share.loaders l new_loaders) (sym said)
+          (own_more share.loaders loaders new_loaders (said_in tasks replies.items) (get_or tasks index d).step reply
+          its.own answered.own answered.others);
+      purges = subst ArePurged (sym said)
+          (purged_more (said_in tasks replies.items) (get_or tasks index d).step reply its.purges answered.purge);
+      moved = moved_then share.meter counted new_counted (used_in share.loaders) (used_in loaders)
+          (used_in new_loaders) its.moved
+          (subst (λ (s : MeterSeatState). IsMoved counted (used_in loaders) s (used_in new_loaders)) (sym looked) moved);
+    }
   where
     at_it : length replies.items ≡ index
     at_it = sym replies.ok.0 ∙ its.count
@@ -163,10 +193,19 @@ work_goes_on share pool new_pool counted mid_counted new_counted loaders new_loa
     said = ap (said_in tasks) items ∙ said_more tasks replies.items d reply (omega (arith, at_it))
         ∙ ap (λ (n : ℕ). said_in tasks replies.items ++ ((get_or tasks n d).step, reply) ∷ []) at_it
 
-pub work_ends : (share : Share) (pool seat : SeatState) (counted : MeterSeatState) (loaders : List (ℕ × LoaderView)) (tasks : List Task) (index : ℕ) (replies : Vec Reply Global)
+pub work_ends : (share : Share) (pool seat : SeatState) (counted : MeterSeatState) (loaders : List (ℕ × LoaderView))
+    (tasks : List Task) (index : ℕ) (replies : Vec Reply Global)
     → IsWorkedTo share pool counted loaders tasks index replies
     → seat ≡ pool → tasks ≡ share.tasks.items → index ≡ vec_len share.tasks
-    → IsWorked share (record { worker = share.worker; seat = seat; meter = counted; loaders = loaders; tasks = share.tasks; replies = replies })
+    → IsWorked share
+    (record {
+      worker = share.worker;
+      seat = seat;
+      meter = counted;
+      loaders = loaders;
+      tasks = share.tasks;
+      replies = replies;
+    })
 work_ends share pool seat counted loaders tasks index replies its seat_is tasks_are all = record {
   id = ap (λ (s : SeatState). s.id) seat_is ∙ its.id;
   manned = subst (λ (s : SeatState). IsManned s.knows loaders) (sym seat_is) its.manned;

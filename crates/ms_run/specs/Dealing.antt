@@ -1,5 +1,6 @@
 -- Loaders handed on from seat to seat, and the shares that come of it.
-use Rattle.std.specs.Prelude.{◌≡◌, ◌≢◌, ℕ, suc, ◌+◌, ◌<◌, ◌≤◌, ◌==◌, ◌⊎◌, Bool, List, [], ◌∷◌, length, map, replicate, Some, None, Vec, slice_get, ◌++◌}
+use Rattle.std.specs.Prelude.{◌≡◌, ◌≢◌, ℕ, suc, ◌+◌, ◌<◌, ◌≤◌, ◌==◌, ◌⊎◌, Bool, List, [], ◌∷◌, length, map, replicate}
+use Rattle.std.specs.Prelude.{Some, None, Vec, slice_get, ◌++◌}
 use Rattle.std.specs.List.{All, count_by, filter}
 use Rattle.std.specs.declared.alloc.Global.{Global}
 use Rattle.ms_base.specs.Names.{AreNamed, named}

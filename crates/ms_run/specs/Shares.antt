@@ -1,5 +1,6 @@
 -- A worker's share of a phase, before and after its work.
-use Rattle.std.specs.Prelude.{◌≡◌, ◌≢◌, ℕ, ◌<◌, ◌≤◌, ◌==◌, List, [], ◌∷◌, length, map, Option, Some, None, vec_len, vec_capacity, slice_get}
+use Rattle.std.specs.Prelude.{◌≡◌, ◌≢◌, ℕ, ◌<◌, ◌≤◌, ◌==◌, List, [], ◌∷◌, length, map, Option, Some, None, vec_len}
+use Rattle.std.specs.Prelude.{vec_capacity, slice_get}
 use Rattle.std.specs.List.{All, filter, zip}
 use Rattle.ms_base.specs.declared.step.Step.{Step}
 use Rattle.ms_base.specs.declared.step.Reply.{Reply}

@@ -4,7 +4,8 @@
 //! share's seat serves all at first, and hands each account on. Each share has a seat of the phase's
 //! meter, with nothing counted yet. Takes memory for seats, lists of tasks and of replies, and places
 //! of loaders; nothing waits.
-ghost use Rattle.std.specs.Prelude.{◌≡◌, ◌+◌, ◌++◌, ◌∷◌, [], ◌≤◌, map, IfOk, IfErr, OnOk, vec_len, vec_capacity, ◌<◌, ◌≢◌, ℕ, Some, slice_get};
+ghost use Rattle.std.specs.Prelude.{◌≡◌, ◌+◌, ◌++◌, ◌∷◌, [], ◌≤◌, map, IfOk, IfErr, OnOk, vec_len, vec_capacity, ◌<◌};
+ghost use Rattle.std.specs.Prelude.{◌≢◌, ℕ, Some, slice_get};
 ghost use Rattle.std.specs.List.{filter};
 ghost use Rattle.std.specs.Map.{keys_of};
 ghost use Rattle.ms_base.specs.Names.{AreNamed};
@@ -12,7 +13,8 @@ ghost use Rattle.ms_run.specs.Turn.{shares_in, place_in};
 ghost use Rattle.ms_loaders.specs.Used.{used_in};
 ghost use Rattle.ms_run.specs.Metering.{used_over, meter_of};
 ghost use Rattle.ms_run.specs.Shares.{AreDealt, AreSteps, tasks_of};
-ghost use Rattle.ms_run.specs.Dealing.{AreCrews, AreListed, AreEmpty, AreAdded, IsHanded, AreHanded, AreSeats, AreDealtTo, HaveMeters, MayBeDealt, is_placed};
+ghost use Rattle.ms_run.specs.Dealing.{AreCrews, AreListed, AreEmpty, AreAdded, IsHanded, AreHanded, AreSeats};
+ghost use Rattle.ms_run.specs.Dealing.{AreDealtTo, HaveMeters, MayBeDealt, is_placed};
 
 use crate::fault::RunFault;
 use crate::share::{Share, Task};

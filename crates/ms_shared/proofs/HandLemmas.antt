@@ -1,5 +1,6 @@
 -- An account handed on: the seats are cut and joined, and each knows what it is to. For `hand`.
-use Rattle.std.proofs.Common.{◌≡◌, ◌≢◌, inl, inr, ⊎_elim, ℕ, ◌+◌, ◌<◌, ◌==◌, Bool, true, false, not, cond, List, [], ◌∷◌, ◌++◌, refl, sym, ap, ◌∙◌, arith, eq-eqb, ne_eqb}
+use Rattle.std.proofs.Common.{◌≡◌, ◌≢◌, inl, inr, ⊎_elim, ℕ, ◌+◌, ◌<◌, ◌==◌, Bool, true, false, not, cond, List, []}
+use Rattle.std.proofs.Common.{◌∷◌, ◌++◌, refl, sym, ap, ◌∙◌, arith, eq-eqb, ne_eqb}
 use Rattle.std.proofs.lemmas.List.{append-nil}
 use Rattle.atomic_table.specs.Seated.{TableId}
 use Rattle.ms_base.specs.declared.kind.Space.{Space}
@@ -11,14 +12,16 @@ use Rattle.ms_pool.specs.Tallies.{Tallies, no_tallies}
 use Rattle.ms_shared.specs.declared.lock_rule.SeatView.{SeatView}
 use Rattle.ms_shared.specs.declared.lock_rule.LockView.{LockView}
 use Rattle.ms_shared.specs.Entries.{Entry, Has, only, all_but}
-use Rattle.ms_shared.specs.SeatView.{ServesBy, HandsOn, opened_by, tallies_of_both, knows_limits, knows_both, without_account, account_alone, with_account}
+use Rattle.ms_shared.specs.SeatView.{ServesBy, HandsOn, opened_by, tallies_of_both, knows_limits, knows_both}
+use Rattle.ms_shared.specs.SeatView.{without_account, account_alone, with_account}
 use Rattle.ms_shared.specs.LockRule.{Sat, both, view_without, note_of, less_part, spare_part}
 use Rattle.ms_shared.proofs.SeatCutLemmas.{Cuts, no_tally}
 use Rattle.ms_shared.proofs.RecordLemmas.{times_cut, records_cut, has_left, has_right}
 use Rattle.ms_shared.proofs.SeatDealLemmas.{seat_of, seen_as}
 
 opened_cut : (owner : ℕ) (space one : Space) (view : SeatView) → 0 < opened_by view space
-    → opened_by (without_account owner space view) one + opened_by (account_alone owner space view) one ≡ opened_by view one
+    → opened_by (without_account owner space view) one + opened_by (account_alone owner space view) one
+    ≡ opened_by view one
 opened_cut owner NonClass NonClass view some = omega arith
 opened_cut owner NonClass Class view some = omega arith
 opened_cut owner Class NonClass view some = omega arith
@@ -62,7 +65,8 @@ both_and_none view limits = λ i. record {
   limits = view.limits;
 }
 
-both_and_account : (owner : ℕ) (space : Space) (from view : SeatView) → knows_both view (account_alone owner space from) ≡ with_account owner space from view
+both_and_account : (owner : ℕ) (space : Space) (from view : SeatView)
+    → knows_both view (account_alone owner space from) ≡ with_account owner space from view
 both_and_account owner NonClass from view = λ i. record {
   served = view.served ++ only owner from.served;
   opened = view.opened + 1;
@@ -80,13 +84,15 @@ both_and_account owner Class from view = λ i. record {
 
 -- What callers see of the seats.
 pub from_is : (id id' : TableId) (me : Sat) (from to : LockView) (owner : ℕ) (space : Space) → id' ≡ id
-    → me ≡ (both (view_without owner space from) (spare_part to), []) → seat_of id' me.0.knows ≡ seat_of id (without_account owner space from.knows)
+    → me ≡ (both (view_without owner space from) (spare_part to), [])
+    → seat_of id' me.0.knows ≡ seat_of id (without_account owner space from.knows)
 from_is id id' me from to owner space same is =
     seen_as id id' (without_account owner space from.knows) me.0.knows same
     (ap (λ (m : Sat). m.0.knows) is ∙ both_and_none (without_account owner space from.knows) to.knows.limits)
 
 pub to_is : (id id' : TableId) (me : Sat) (from to : LockView) (owner : ℕ) (space : Space) → id' ≡ id
-    → me ≡ (less_part (both to (note_of owner space from)), []) → seat_of id' me.0.knows ≡ seat_of id (with_account owner space from.knows to.knows)
+    → me ≡ (less_part (both to (note_of owner space from)), [])
+    → seat_of id' me.0.knows ≡ seat_of id (with_account owner space from.knows to.knows)
 to_is id id' me from to owner space same is =
     seen_as id id' (with_account owner space from.knows to.knows) me.0.knows same
     (ap (λ (m : Sat). m.0.knows) is ∙ both_and_account owner space from.knows to.knows)
@@ -102,7 +108,8 @@ has_only owner (x ∷ xs) chunks here =
     step true rest = inr rest
     step false rest = rest
 
-has_all_but : (owner other : ℕ) → other ≢ owner → (xs : List Entry) (chunks : List Chunk) → Has xs other chunks → Has (all_but owner xs) other chunks
+has_all_but : (owner other : ℕ) → other ≢ owner → (xs : List Entry) (chunks : List Chunk) → Has xs other chunks
+    → Has (all_but owner xs) other chunks
 has_all_but owner other differs [] chunks here = absurd here
 has_all_but owner other differs (x ∷ xs) chunks here =
     ⊎_elim
@@ -111,19 +118,23 @@ has_all_but owner other differs (x ∷ xs) chunks here =
     rw (ne_eqb x.0 owner (λ q. differs (sym same ∙ q))) (inl is))
     (λ there. step (x.0 == owner) (has_all_but owner other differs xs chunks there)) here
   where
-    step : (b : Bool) → Has (all_but owner xs) other chunks → Has (cond (not b) (x ∷ all_but owner xs) (all_but owner xs)) other chunks
+    step : (b : Bool) → Has (all_but owner xs) other chunks
+        → Has (cond (not b) (x ∷ all_but owner xs) (all_but owner xs)) other chunks
     step true rest = rest
     step false rest = inr rest
 
 -- The account is the other seat's from then on, and no other account changes its seat.
-pub handed_serves : (from to : SeatView) (account : AccountState) → ServesBy from account → ServesBy (with_account account.owner account.space from to) account
+pub handed_serves : (from to : SeatView) (account : AccountState) → ServesBy from account
+    → ServesBy (with_account account.owner account.space from to) account
 handed_serves from to account serves = record {
   chunks = serves.chunks;
-  entry = has_right to.served (only account.owner from.served) account.owner serves.chunks (has_only account.owner from.served serves.chunks serves.entry);
+  entry = has_right to.served (only account.owner from.served) account.owner serves.chunks
+      (has_only account.owner from.served serves.chunks serves.entry);
   same = serves.same;
 }
 
-pub left_serves : (from : SeatView) (owner : ℕ) (space : Space) (other : AccountState) → other.owner ≢ owner → ServesBy from other
+pub left_serves : (from : SeatView) (owner : ℕ) (space : Space) (other : AccountState) → other.owner ≢ owner
+    → ServesBy from other
     → ServesBy (without_account owner space from) other
 left_serves from owner space other differs serves = record {
   chunks = serves.chunks;
@@ -131,14 +142,16 @@ left_serves from owner space other differs serves = record {
   same = serves.same;
 }
 
-pub taker_serves : (from to : SeatView) (owner : ℕ) (space : Space) (other : AccountState) → ServesBy to other → ServesBy (with_account owner space from to) other
+pub taker_serves : (from to : SeatView) (owner : ℕ) (space : Space) (other : AccountState) → ServesBy to other
+    → ServesBy (with_account owner space from to) other
 taker_serves from to owner space other serves = record {
   chunks = serves.chunks;
   entry = has_left to.served (only owner from.served) other.owner serves.chunks serves.entry;
   same = serves.same;
 }
 
-taker_counts : (from to : SeatView) (owner : ℕ) (space : Space) → opened_by (with_account owner space from to) space ≡ opened_by to space + 1
+taker_counts : (from to : SeatView) (owner : ℕ) (space : Space)
+    → opened_by (with_account owner space from to) space ≡ opened_by to space + 1
 taker_counts from to owner NonClass = refl
 taker_counts from to owner Class = refl
 
@@ -147,8 +160,10 @@ left_counts : (from : SeatView) (owner : ℕ) (space : Space) → 0 < opened_by 
 left_counts from owner NonClass some = omega arith
 left_counts from owner Class some = omega arith
 
-pub hands_on : (from to left taker : SeatView) (account : AccountState) → left ≡ without_account account.owner account.space from
-    → taker ≡ with_account account.owner account.space from to → ServesBy from account → 0 < opened_by from account.space
+pub hands_on : (from to left taker : SeatView) (account : AccountState)
+    → left ≡ without_account account.owner account.space from
+    → taker ≡ with_account account.owner account.space from to → ServesBy from account
+    → 0 < opened_by from account.space
     → HandsOn from to account left taker
 hands_on from to left taker account left_is taker_is serves some = rw (left_is, taker_is) (record {
   served = handed_serves from to account serves;

@@ -1,5 +1,7 @@
 -- Taking the pool and putting it back keep the rule of the lock. For `seize` and `let_go`.
-use Rattle.std.proofs.Common.{◌≡◌, ◌≢◌, ℕ, ◌+◌, ◌-◌, ◌%◌, ◌^◌, ◌<◌, ⊎_elim, ◌==◌, Bool, true, false, cond, List, [], ◌∷◌, ◌++◌, set, slice_index, sym, refl, ap, ◌∙◌, subst, arith, Option, Some, None, length-set, get_or-set_same, eq-eqb, ne_eqb}
+use Rattle.std.proofs.Common.{◌≡◌, ◌≢◌, ℕ, ◌+◌, ◌-◌, ◌%◌, ◌^◌, ◌<◌, ⊎_elim, ◌==◌, Bool, true, false, cond, List, []}
+use Rattle.std.proofs.Common.{◌∷◌, ◌++◌, set, slice_index, sym, refl, ap, ◌∙◌, subst, arith, Option, Some, None}
+use Rattle.std.proofs.Common.{length-set, get_or-set_same, eq-eqb, ne_eqb}
 use Rattle.std.specs.List.{sum_by}
 use mathlib.Core.Logic.{dite}
 use mathlib.Core.Option.{some, none}
@@ -17,10 +19,13 @@ use Rattle.ms_pool.specs.Ledger.{Ledger, opened_in}
 use Rattle.ms_shared.specs.declared.lock_rule.SeatView.{SeatView}
 use Rattle.ms_shared.specs.declared.lock_rule.LockView.{LockView}
 use Rattle.ms_shared.specs.Entries.{times, once_given, refreshed, fresh}
-use Rattle.ms_shared.specs.SeatView.{TallyKind, commit_of_take, reserve_of_take, commit_of_grow, room_of_grow, ids_of_open, tally_of, opened_by, IsKnown, raised_with, tallies_after, view_after}
-use Rattle.ms_shared.specs.LockRule.{IsLocked, Fits, Sat, has_pool, count_some, with_pool, Seizes, Moves, after, some_pool, taken_of}
+use Rattle.ms_shared.specs.SeatView.{TallyKind, commit_of_take, reserve_of_take, commit_of_grow, room_of_grow}
+use Rattle.ms_shared.specs.SeatView.{ids_of_open, tally_of, opened_by, IsKnown, raised_with, tallies_after, view_after}
+use Rattle.ms_shared.specs.LockRule.{IsLocked, Fits, Sat, has_pool, count_some, with_pool, Seizes, Moves, after}
+use Rattle.ms_shared.specs.LockRule.{some_pool, taken_of}
 use Rattle.ms_shared.proofs.TotalLemmas.{total-set, total_at, total_two, total_kept, mod_shift, mod_in}
-use Rattle.ms_shared.proofs.RecordLemmas.{times-append, times-refreshed, times_fresh, records_append, refreshed_records, fresh_records, same_records, once_given-le}
+use Rattle.ms_shared.proofs.RecordLemmas.{times-append, times-refreshed, times_fresh, records_append, refreshed_records}
+use Rattle.ms_shared.proofs.RecordLemmas.{fresh_records, same_records, once_given-le}
 
 pub some_apart : (pool : Ledger) → None ≡ Some pool → ⊥
 some_apart pool is = let one : ◌≡◌ {A = ℕ} 0 1 = ap count_some is in absurd (omega arith)
@@ -29,32 +34,42 @@ some_apart pool is = let one : ◌≡◌ {A = ℕ} 0 1 = ap count_some is in abs
 pub each_set : (P : LockView → Type 0) (views : List LockView) (seat : ℕ) (view : LockView) → P view
     → ((other : ℕ) (w : LockView) → get_elem? views other ≡ some w → other ≢ seat → P w)
     → (other : ℕ) (w : LockView) → get_elem? (set views seat view) other ≡ some w → P w
-each_set P views seat view here others other w at = ⊎_elim (λ t. subst P t.1 here) (λ t. others other w t.1 t.0) (at_set views seat other view w at)
+each_set P views seat view here others other w at =
+    ⊎_elim (λ t. subst P t.1 here) (λ t. others other w t.1 t.0) (at_set views seat other view w at)
 
 pub each_snoc : (P : LockView → Type 0) (views : List LockView) (view : LockView) → P view
     → ((other : ℕ) (w : LockView) → get_elem? views other ≡ some w → P w)
     → (other : ℕ) (w : LockView) → get_elem? (views ++ view ∷ []) other ≡ some w → P w
-each_snoc P views view here others other w at = ⊎_elim (λ t. others other w t) (λ t. subst P t here) (at_snoc views view w other at)
+each_snoc P views view here others other w at =
+    ⊎_elim (λ t. others other w t) (λ t. subst P t here) (at_snoc views view w other at)
 
 -- A view's pool is the one that there is.
 abbrev pub HasOnly : Ledger → LockView → Type 0
 HasOnly pool view = (taken : Ledger) → view.taken ≡ Some taken → taken ≡ pool
 
 module _ (made : ℕ) (limits : Limits) where
-  known_in : (state : State (Option Ledger) LockView) (rule : IsLocked made limits state) (id : ℕ) (view : LockView) → 0 < view.parts
+  known_in : (state : State (Option Ledger) LockView) (rule : IsLocked made limits state) (id : ℕ) (view : LockView)
+      → 0 < view.parts
       → get_elem? state.views id ≡ some view → IsKnown rule.pool view.knows
   known_in state rule id view live at =
       let fits = rule.fits id view at in record {
         served = fits.served;
         limits = sym (fits.limits live);
-        opened = λ space. let own = total_at (λ (v : LockView). opened_by v.knows space) state.views id view at in let all = rule.opened space in omega arith;
+        opened = λ space. let own = total_at (λ (v : LockView). opened_by v.knows space) state.views id view at in
+            let all = rule.opened space in omega arith;
       }
 
   module _ (id : ℕ) (view : LockView) (live : 0 < view.parts) (idle : view.taken ≡ None) where
     -- The lock is free, and the seat takes the pool.
-    taken_now : (state : State (Option Ledger) LockView) (rule : IsLocked made limits state) → get_elem? state.views id ≡ some view
+    taken_now : (state : State (Option Ledger) LockView) (rule : IsLocked made limits state)
+        → get_elem? state.views id ≡ some view
         → slice_index state.words 0 ≡ 0
-        → IsLocked made limits (record { words = set state.words 0 1; homes = set state.homes 0 none; views = set state.views id (with_pool view rule.pool) })
+        → IsLocked made limits
+        (record {
+          words = set state.words 0 1;
+          homes = set state.homes 0 none;
+          views = set state.views id (with_pool view rule.pool);
+        })
     taken_now state rule at free =
         let new = with_pool view rule.pool in let fits = rule.fits id view at in let long = rule.word in
         let one = get_or-set_same state.words 0 1 0 (omega arith) in let locks = rule.lock in
@@ -66,22 +81,37 @@ module _ (made : ℕ) (limits : Limits) where
           home = length-set state.homes 0 none ∙ rule.home;
           lock = omega arith;
           free = λ zero_now. absurd (omega arith);
-          out = λ seat w taken at' has. each_set (HasOnly rule.pool) state.views id new (λ t r. sym (ap some_pool r)) (λ other x t differs y r. rule.out other x y t r) seat w at' taken has;
-          fits = each_set (Fits rule.pool) state.views id new (record { served = fits.served; limits = fits.limits; idle = λ none'. absurd (omega arith) }) (λ other x t differs. rule.fits other x t);
-          once = λ owner. total_kept (λ (v : LockView). times owner v.knows.served) state.views id view new refl at ∙ rule.once owner;
-          opened = λ space. total_kept (λ (v : LockView). opened_by v.knows space) state.views id view new refl at ∙ rule.opened space;
-          tallies = λ kind. rule.tallies kind ∙ ap (λ n. n % 2 ^ 64) (sym (total_kept (λ (v : LockView). tally_of kind v.knows.tallies) state.views id view new refl at));
+          out = λ seat w taken at' has. each_set (HasOnly rule.pool) state.views id new (λ t r. sym (ap some_pool r))
+              (λ other x t differs y r. rule.out other x y t r) seat w at' taken has;
+          fits = each_set (Fits rule.pool) state.views id new
+              (record { served = fits.served; limits = fits.limits; idle = λ none'. absurd (omega arith) })
+              (λ other x t differs. rule.fits other x t);
+          once = λ owner. total_kept (λ (v : LockView). times owner v.knows.served) state.views id view new
+              refl at ∙ rule.once owner;
+          opened = λ space. total_kept (λ (v : LockView). opened_by v.knows space) state.views id view new
+              refl at ∙ rule.opened space;
+          tallies =
+              λ kind. rule.tallies kind
+              ∙ ap (λ n. n % 2 ^ 64)
+              (sym (total_kept (λ (v : LockView). tally_of kind v.knows.tallies) state.views id view new refl at));
           limits_are = rule.limits_are;
           parts = total_kept (λ (v : LockView). v.parts) state.views id view new refl at ∙ rule.parts;
         }
 
     -- The lock isn't free, and nothing changes.
-    same_now : (state : State (Option Ledger) LockView) → IsLocked made limits state → get_elem? state.views id ≡ some view
-        → IsLocked made limits (record { words = set state.words 0 (slice_index state.words 0); homes = state.homes; views = set state.views id view })
+    same_now : (state : State (Option Ledger) LockView) → IsLocked made limits state
+        → get_elem? state.views id ≡ some view
+        → IsLocked made limits
+        (record {
+          words = set state.words 0 (slice_index state.words 0);
+          homes = state.homes;
+          views = set state.views id view;
+        })
     same_now state rule at =
         let long = rule.word in let one = get_or-set_same state.words 0 (slice_index state.words 0) 0 (omega arith) in
         let locks = rule.lock in let bit_is = rule.bit in
-        subst (λ (views : List LockView). IsLocked made limits (record { words = set state.words 0 (slice_index state.words 0); homes = state.homes; views = views }))
+        subst (λ (views : List LockView). IsLocked made limits
+        (record { words = set state.words 0 (slice_index state.words 0); homes = state.homes; views = views }))
         (sym (set_again state.views id view at)) (record {
           pool = rule.pool;
           word = length-set state.words 0 _ ∙ rule.word;
@@ -112,7 +142,12 @@ module _ (made : ℕ) (limits : Limits) where
           with_pool view rule.pool,
           takes 0 (Some rule.pool),
           rule.free free,
-          subst (λ n. IsLocked made limits (record { words = set state.words 0 n; homes = set state.homes 0 none; views = set state.views id (with_pool view rule.pool) }))
+          subst (λ n. IsLocked made limits
+              (record {
+                words = set state.words 0 n;
+                homes = set state.homes 0 none;
+                views = set state.views id (with_pool view rule.pool);
+              }))
               (hits (slice_index state.words 0) free) (taken_now state rule at free),
           ((λ zero_now. (rule.pool, refl, known_in state rule id view live at)), (λ differs. absurd (differs free))),
         ))
@@ -120,23 +155,28 @@ module _ (made : ℕ) (limits : Limits) where
           view,
           keeps,
           tt,
-          subst (λ n. IsLocked made limits (record { words = set state.words 0 n; homes = state.homes; views = set state.views id view }))
+          subst (λ n. IsLocked made limits
+              (record { words = set state.words 0 n; homes = state.homes; views = set state.views id view }))
               (misses (slice_index state.words 0) held) (same_now state rule at),
           ((λ zero_now. absurd (held zero_now)), (λ differs. refl)),
         ))
 
 -- The same for a seat's whole state.
 pub tries_at : (made : ℕ) (limits : Limits) (slots id : ℕ) (me : Sat) → 0 < me.0.parts → me.0.taken ≡ None → me.1 ≡ []
-    → Allows (IsLocked made limits) slots id me 0 (λ n. either (n == 0) 1 n) (λ found new. (found ≡ 0 → Seizes me new) × (found ≢ 0 → new ≡ me))
+    → Allows (IsLocked made limits) slots id me 0 (λ n. either (n == 0) 1 n)
+    (λ found new. (found ≡ 0 → Seizes me new) × (found ≢ 0 → new ≡ me))
 tries_at made limits slots id me live idle none_taken =
-    subst (λ (taken : List (ℕ × Option Ledger)). Allows (IsLocked made limits) slots id (me.0, taken) 0 (λ n. either (n == 0) 1 n)
+    subst (λ (taken : List (ℕ × Option Ledger)). Allows (IsLocked made limits) slots id (me.0, taken) 0
+    (λ n. either (n == 0) 1 n)
     (λ found new. (found ≡ 0 → Seizes (me.0, taken) new) × (found ≢ 0 → new ≡ (me.0, taken))))
     (sym none_taken) (tries_here made limits id me.0 live idle slots)
 
 -- Where the seat has the pool, no other view serves an owner that its own does.
-apart_from : (made : ℕ) (limits : Limits) (state : State (Option Ledger) LockView) (rule : IsLocked made limits state) (id other : ℕ) (view w : LockView)
+apart_from : (made : ℕ) (limits : Limits) (state : State (Option Ledger) LockView) (rule : IsLocked made limits state)
+    (id other : ℕ) (view w : LockView)
     → other ≢ id → get_elem? state.views id ≡ some view
-    → get_elem? state.views other ≡ some w → (owner : ℕ) → 0 < times owner w.knows.served → times owner view.knows.served ≡ 0
+    → get_elem? state.views other ≡ some w → (owner : ℕ) → 0 < times owner w.knows.served
+    → times owner view.knows.served ≡ 0
 apart_from made limits state rule id other view w differs at at' owner there =
     let two = total_two (λ (v : LockView). times owner v.knows.served) state.views other id w view differs at' at in
     let once = rule.once owner in let most = once_given-le owner rule.pool.given in omega arith
@@ -149,16 +189,19 @@ others_fit old new view w moves apart fits = record {
   idle = fits.idle;
 }
 
-own_fits : (old new : Ledger) (view : LockView) → Moves view.knows old new → 0 < view.parts → Fits old view → Fits new (after view old new)
+own_fits : (old new : Ledger) (view : LockView) → Moves view.knows old new → 0 < view.parts → Fits old view
+    → Fits new (after view old new)
 own_fits old new view moves live fits = let more = moves.given in record {
   served = records_append new (refreshed new view.knows.served) (fresh new old.given (new.given - old.given))
-      (refreshed_records old new moves.given view.knows.served fits.served) (fresh_records new old.given (new.given - old.given) (omega arith));
+      (refreshed_records old new moves.given view.knows.served fits.served)
+      (fresh_records new old.given (new.given - old.given) (omega arith));
   limits = λ live'. fits.limits live ∙ sym moves.limits;
   idle = λ none'. absurd (omega arith);
 }
 
 pub tally_after : (kind : TallyKind) (before after tallies : Tallies)
-    → tally_of kind (tallies_after before after tallies) ≡ raised_with (tally_of kind before) (tally_of kind after) (tally_of kind tallies)
+    → tally_of kind (tallies_after before after tallies)
+    ≡ raised_with (tally_of kind before) (tally_of kind after) (tally_of kind tallies)
 tally_after commit_of_take before after tallies = refl
 tally_after reserve_of_take before after tallies = refl
 tally_after commit_of_grow before after tallies = refl
@@ -166,21 +209,27 @@ tally_after room_of_grow before after tallies = refl
 tally_after ids_of_open before after tallies = refl
 
 pub opened_after : (space : Space) (before after : Ledger) (view : SeatView)
-    → opened_by (view_after before after view) space ≡ (opened_by view space + opened_in after space) - opened_in before space
+    → opened_by (view_after before after view) space
+    ≡ (opened_by view space + opened_in after space) - opened_in before space
 opened_after NonClass before after view = refl
 opened_after Class before after view = refl
 
 -- A tally that is the sum of the seats' stays so where both are raised or neither.
-sum_raised : (same : Bool) (total' total tally old new : ℕ) → total' + tally ≡ total + cond same tally (one_more tally) → old ≡ total % 2 ^ 64
+sum_raised : (same : Bool) (total' total tally old new : ℕ) → total' + tally ≡ total + cond same tally (one_more tally)
+    → old ≡ total % 2 ^ 64
     → (same ≡ true → new ≡ old) → (same ≡ false → new ≡ one_more old) → new ≡ total' % 2 ^ 64
-sum_raised true total' total tally old new sum is kept more = let equal : total' ≡ total = omega arith in kept refl ∙ is ∙ ap (λ n. n % 2 ^ 64) (sym equal)
+sum_raised true total' total tally old new sum is kept more = let equal : total' ≡ total = omega arith in
+    kept refl ∙ is ∙ ap (λ n. n % 2 ^ 64) (sym equal)
 sum_raised false total' total tally old new sum is kept more =
-    more refl ∙ ap (λ n. (n + 1) % 2 ^ 64) is ∙ mod_in total 1 (2 ^ 64) ∙ sym (mod_shift total' total tally 1 (2 ^ 64) sum)
+    more refl ∙ ap (λ n. (n + 1) % 2 ^ 64) is ∙ mod_in total 1 (2 ^ 64)
+    ∙ sym (mod_shift total' total tally 1 (2 ^ 64) sum)
 
-nobody_has : (views : List LockView) (seat : ℕ) (view : LockView) (taken : Ledger) → sum_by has_pool views ≡ 0 → get_elem? views seat ≡ some view
+nobody_has : (views : List LockView) (seat : ℕ) (view : LockView) (taken : Ledger) → sum_by has_pool views ≡ 0
+    → get_elem? views seat ≡ some view
     → view.taken ≡ Some taken → ⊥
 nobody_has views seat view taken zero_all at has =
-    let own = total_at has_pool views seat view at in let one : has_pool view ≡ 1 = ap count_some has in absurd (omega arith)
+    let own = total_at has_pool views seat view at in let one : has_pool view ≡ 1 = ap count_some has in
+    absurd (omega arith)
 
 abbrev has_one : Ledger → List (ℕ × Option Ledger)
 has_one pool = (0, Some pool) ∷ []
@@ -188,49 +237,70 @@ has_one pool = (0, Some pool) ∷ []
 abbrev with_none : LockView → Sat
 with_none view = (view, [])
 
-module _ (made : ℕ) (limits : Limits) (id : ℕ) (view : LockView) (live : 0 < view.parts) (old new : Ledger) (has : view.taken ≡ Some old) (moves : Moves view.knows old new) where
-  once_after : (owner : ℕ) (state : State (Option Ledger) LockView) (rule : IsLocked made limits state) → get_elem? state.views id ≡ some view → old ≡ rule.pool
-      → sum_by (λ (v : LockView). times owner v.knows.served) (set state.views id (after view old new)) ≡ once_given owner new.given
+module _ (made : ℕ) (limits : Limits) (id : ℕ) (view : LockView) (live : 0 < view.parts) (old new : Ledger)
+    (has : view.taken ≡ Some old) (moves : Moves view.knows old new) where
+  once_after : (owner : ℕ) (state : State (Option Ledger) LockView) (rule : IsLocked made limits state)
+      → get_elem? state.views id ≡ some view → old ≡ rule.pool
+      → sum_by (λ (v : LockView). times owner v.knows.served) (set state.views id (after view old new))
+      ≡ once_given owner new.given
   once_after owner state rule at is =
-      let total = total-set (λ (v : LockView). times owner v.knows.served) state.views id view (after view old new) at in
+      let total =
+      total-set (λ (v : LockView). times owner v.knows.served) state.views id view (after view old new) at in
       let joined = times-append owner (refreshed new view.knows.served) (fresh new old.given (new.given - old.given)) in
       let own = times-refreshed new owner view.knows.served in
       let added = times_fresh new owner old.given (new.given - old.given) in
       let more = moves.given in let sum : old.given + (new.given - old.given) ≡ new.given = omega arith in
-      let given : once_given owner (old.given + (new.given - old.given)) ≡ once_given owner new.given = ap (once_given owner) sum in
-      let was : once_given owner old.given ≡ once_given owner rule.pool.given = ap (λ (pool : Ledger). once_given owner pool.given) is in
+      let given : once_given owner (old.given + (new.given - old.given)) ≡ once_given owner new.given =
+      ap (once_given owner) sum in
+      let was : once_given owner old.given ≡ once_given owner rule.pool.given =
+      ap (λ (pool : Ledger). once_given owner pool.given) is in
       let all = rule.once owner in omega arith
 
-  opened_then : (space : Space) (state : State (Option Ledger) LockView) (rule : IsLocked made limits state) → get_elem? state.views id ≡ some view → old ≡ rule.pool
-      → sum_by (λ (v : LockView). opened_by v.knows space) (set state.views id (after view old new)) ≡ opened_in new space
+  opened_then : (space : Space) (state : State (Option Ledger) LockView) (rule : IsLocked made limits state)
+      → get_elem? state.views id ≡ some view → old ≡ rule.pool
+      → sum_by (λ (v : LockView). opened_by v.knows space) (set state.views id (after view old new))
+      ≡ opened_in new space
   opened_then space state rule at is =
       let total = total-set (λ (v : LockView). opened_by v.knows space) state.views id view (after view old new) at in
       let own = opened_after space old new view.knows in let enough = moves.counted space in
       let was : opened_in old space ≡ opened_in rule.pool space = ap (λ (pool : Ledger). opened_in pool space) is in
       let all = rule.opened space in omega arith
 
-  tallies_then : (kind : TallyKind) (state : State (Option Ledger) LockView) (rule : IsLocked made limits state) → get_elem? state.views id ≡ some view → old ≡ rule.pool
-      → tally_of kind new.tallies ≡ sum_by (λ (v : LockView). tally_of kind v.knows.tallies) (set state.views id (after view old new)) % 2 ^ 64
+  tallies_then : (kind : TallyKind) (state : State (Option Ledger) LockView) (rule : IsLocked made limits state)
+      → get_elem? state.views id ≡ some view → old ≡ rule.pool
+      → tally_of kind new.tallies
+      ≡ sum_by (λ (v : LockView). tally_of kind v.knows.tallies) (set state.views id (after view old new)) % 2 ^ 64
   tallies_then kind state rule at is =
-      let total = total-set (λ (v : LockView). tally_of kind v.knows.tallies) state.views id view (after view old new) at in
+      let total =
+      total-set (λ (v : LockView). tally_of kind v.knows.tallies) state.views id view (after view old new) at in
       let own = tally_after kind old.tallies new.tallies view.knows.tallies in
-      sum_raised (tally_of kind new.tallies == tally_of kind old.tallies) _ (sum_by (λ (v : LockView). tally_of kind v.knows.tallies) state.views)
+      sum_raised (tally_of kind new.tallies == tally_of kind old.tallies) _
+      (sum_by (λ (v : LockView). tally_of kind v.knows.tallies) state.views)
       (tally_of kind view.knows.tallies) (tally_of kind old.tallies) (tally_of kind new.tallies) (omega arith)
       (ap (λ (pool : Ledger). tally_of kind pool.tallies) is ∙ rule.tallies kind)
       (λ e. eqb-true (tally_of kind new.tallies) (tally_of kind old.tallies) e)
-      (λ e. ⊎_elim (λ q. absurd (eqb-false (tally_of kind new.tallies) (tally_of kind old.tallies) e q)) (λ q. q) (moves.tallies kind))
+      (λ e. ⊎_elim (λ q. absurd (eqb-false (tally_of kind new.tallies) (tally_of kind old.tallies) e q)) (λ q. q)
+      (moves.tallies kind))
 
   -- The seat puts the pool back.
-  put_back_now : (state : State (Option Ledger) LockView) (rule : IsLocked made limits state) → get_elem? state.views id ≡ some view
-      → IsLocked made limits (record { words = set state.words 0 0; homes = set state.homes 0 (some (Some new)); views = set state.views id (after view old new) })
+  put_back_now : (state : State (Option Ledger) LockView) (rule : IsLocked made limits state)
+      → get_elem? state.views id ≡ some view
+      → IsLocked made limits
+      (record {
+        words = set state.words 0 0;
+        homes = set state.homes 0 (some (Some new));
+        views = set state.views id (after view old new);
+      })
   put_back_now state rule at =
       let next = after view old new in let is : old ≡ rule.pool = rule.out id view old at has in
       let long = rule.word in let zero_now = get_or-set_same state.words 0 0 0 (omega arith) in
       let locks = rule.lock in let bit_is = rule.bit in let home_is = rule.home in
-      let total = total-set has_pool state.views id view next at in let own = total_at has_pool state.views id view at in
+      let total = total-set has_pool state.views id view next at in let own =
+      total_at has_pool state.views id view at in
       let some_before : has_pool view ≡ 1 = ap count_some has in let none_now : has_pool next ≡ 0 = refl in
       let nobody : sum_by has_pool (set state.views id next) ≡ 0 = omega arith in
-      let old_fits : (seat : ℕ) (w : LockView) → get_elem? state.views seat ≡ some w → Fits old w = λ seat w t. subst (λ (pool : Ledger). Fits pool w) (sym is) (rule.fits seat w t) in
+      let old_fits : (seat : ℕ) (w : LockView) → get_elem? state.views seat ≡ some w → Fits old w =
+      λ seat w t. subst (λ (pool : Ledger). Fits pool w) (sym is) (rule.fits seat w t) in
       record {
         pool = new;
         word = length-set state.words 0 0 ∙ rule.word;
@@ -240,7 +310,8 @@ module _ (made : ℕ) (limits : Limits) (id : ℕ) (view : LockView) (live : 0 <
         free = λ zero_then. set_here state.homes 0 (some (Some new)) (omega arith);
         out = λ seat w taken t q. absurd (nobody_has (set state.views id next) seat w taken nobody t q);
         fits = each_set (Fits new) state.views id next (own_fits old new view moves live (old_fits id view at))
-            (λ seat w t differs. others_fit old new view w moves (apart_from made limits state rule id seat view w differs at t) (old_fits seat w t));
+            (λ seat w t differs. others_fit old new view w moves
+            (apart_from made limits state rule id seat view w differs at t) (old_fits seat w t));
         once = λ owner. once_after owner state rule at is;
         opened = λ space. opened_then space state rule at is;
         tallies = λ kind. tallies_then kind state rule at is;
@@ -255,16 +326,19 @@ module _ (made : ℕ) (limits : Limits) (id : ℕ) (view : LockView) (live : 0 <
     gives,
     tt,
     put_back_now state rule at,
-    λ next same. ap (λ (taken : List (ℕ × Option Ledger)). with_none (after view old (some_pool (first_of taken)))) same,
+    λ next same. ap (λ (taken : List (ℕ × Option Ledger)). with_none (after view old (some_pool (first_of taken))))
+        same,
   )
     where
       first_of : List (ℕ × Option Ledger) → Option Ledger
       first_of [] = None
       first_of (x ∷ xs) = x.1
 
-pub lets_go_at : (made : ℕ) (limits : Limits) (slots id : ℕ) (me : Sat) (new : Ledger) → 0 < me.0.parts → me.0.taken ≡ Some (taken_of me.0)
+pub lets_go_at : (made : ℕ) (limits : Limits) (slots id : ℕ) (me : Sat) (new : Ledger) → 0 < me.0.parts
+    → me.0.taken ≡ Some (taken_of me.0)
     → Moves me.0.knows (taken_of me.0) new → me.1 ≡ has_one new
-    → Allows (IsLocked made limits) slots id me 0 (λ _. 0) (λ _ n. (next : Ledger) → me.1 ≡ has_one next → n ≡ with_none (after me.0 (taken_of me.0) next))
+    → Allows (IsLocked made limits) slots id me 0 (λ _. 0)
+    (λ _ n. (next : Ledger) → me.1 ≡ has_one next → n ≡ with_none (after me.0 (taken_of me.0) next))
 lets_go_at made limits slots id me new live has moves one_taken =
     subst (λ (taken : List (ℕ × Option Ledger)). Allows (IsLocked made limits) slots id (me.0, taken) 0 (λ _. 0)
     (λ _ n. (next : Ledger) → taken ≡ has_one next → n ≡ with_none (after me.0 (taken_of me.0) next)))

@@ -1,6 +1,7 @@
 -- Each step on a meter's word keeps its rule, and so do cutting and joining seats; where all seats
 -- have become one, the word is its amount. For the calls of UsedMeter.
-use Rattle.std.proofs.Common.{◌≡◌, ℕ, ◌+◌, ◌%◌, ◌^◌, ◌<◌, List, [], ◌∷◌, ◌++◌, get_or, set, sym, refl, ap, ◌∙◌, subst, arith, ⊎_elim, length-set, get_or-set_same, slice_index}
+use Rattle.std.proofs.Common.{◌≡◌, ℕ, ◌+◌, ◌%◌, ◌^◌, ◌<◌, List, [], ◌∷◌, ◌++◌, get_or, set, sym, refl, ap, ◌∙◌, subst}
+use Rattle.std.proofs.Common.{arith, ⊎_elim, length-set, get_or-set_same, slice_index}
 use Rattle.std.proofs.lemmas.List.Sums.{sum_by_push}
 use mathlib.Core.Option.{some, some-injective, some-ne-none}
 use lib.ListN.{get_elem?}
@@ -10,28 +11,38 @@ use Rattle.ms_shared.specs.MeterRule.{added, meter_view, less_part, joined, IsMe
 use Rattle.ms_shared.specs.declared.meter_rule.MeterView.{MeterView}
 use Rattle.ms_shared.proofs.TotalLemmas.{total-set, alone, mod_shift, mod_in}
 
-idle_set : (views : List MeterView) (seat : ℕ) (view : MeterView) → (view.parts ≡ 0 → view.amount ≡ 0) → IdleIsEmpty views
+idle_set : (views : List MeterView) (seat : ℕ) (view : MeterView) → (view.parts ≡ 0 → view.amount ≡ 0)
+    → IdleIsEmpty views
     → IdleIsEmpty (set views seat view)
 idle_set views seat view new idle other w at none =
-    ⊎_elim (λ here. let is = here.1 in ap (λ (v : MeterView). v.amount) (sym is) ∙ new (ap (λ (v : MeterView). v.parts) is ∙ none))
+    ⊎_elim (λ here. let is = here.1 in ap (λ (v : MeterView). v.amount) (sym is)
+    ∙ new (ap (λ (v : MeterView). v.parts) is ∙ none))
     (λ there. idle other w there.1 none) (at_set views seat other view w at)
 
 idle_snoc : (views : List MeterView) (view : MeterView) → (view.parts ≡ 0 → view.amount ≡ 0) → IdleIsEmpty views
     → IdleIsEmpty (views ++ view ∷ [])
 idle_snoc views view new idle other w at none =
     ⊎_elim (λ there. idle other w there none)
-    (λ is. ap (λ (v : MeterView). v.amount) (sym is) ∙ new (ap (λ (v : MeterView). v.parts) is ∙ none)) (at_snoc views view w other at)
+    (λ is. ap (λ (v : MeterView). v.amount) (sym is) ∙ new (ap (λ (v : MeterView). v.parts) is ∙ none))
+    (at_snoc views view w other at)
 
 -- The rule holds of a new meter.
 pub begins : (made : ℕ) → IsMetered made (opening (0 ∷ []) [] (meter_view made 0))
-begins made = record { sum = refl; word = refl; parts = omega arith; idle = idle_snoc [] (meter_view made 0) (λ none. refl) (λ seat view at. absurd (nothing seat view at)) }
+begins made =
+    record {
+      sum = refl;
+      word = refl;
+      parts = omega arith;
+      idle = idle_snoc [] (meter_view made 0) (λ none. refl) (λ seat view at. absurd (nothing seat view at));
+    }
   where
     nothing : (seat : ℕ) (view : MeterView) → get_elem? [] seat ≡ some view → ⊥
     nothing seat view at = some-ne-none view (sym at)
 
 -- A step that adds k to the word and to the seat's amount.
 pub shifts : (made slots id k : ℕ) (me : Me ℕ MeterView) → me.0.parts ≡ 1
-    → Allows (IsMetered made) slots id me 0 (λ n. (n + k) % 2 ^ 64) (λ found new. new ≡ (meter_view me.0.parts (added me.0.amount k), me.1))
+    → Allows (IsMetered made) slots id me 0 (λ n. (n + k) % 2 ^ 64)
+    (λ found new. new ≡ (meter_view me.0.parts (added me.0.amount k), me.1))
 shifts made slots id k me one state rule wide at fits =
     let old = me.0 in let new = meter_view old.parts (added old.amount k) in
     let amounts = total-set (λ (v : MeterView). v.amount) state.views id old new at in
@@ -41,7 +52,8 @@ shifts made slots id k me one state rule wide at fits =
       keeps,
       tt,
       record {
-        sum = get_or-set_same state.words 0 _ 0 (omega arith) ∙ ap (λ n. (n + k) % 2 ^ 64) rule.sum ∙ mod_in _ k (2 ^ 64) ∙ sym (mod_shift _ _ old.amount k (2 ^ 64) amounts);
+        sum = get_or-set_same state.words 0 _ 0 (omega arith) ∙ ap (λ n. (n + k) % 2 ^ 64) rule.sum
+            ∙ mod_in _ k (2 ^ 64) ∙ sym (mod_shift _ _ old.amount k (2 ^ 64) amounts);
         word = length-set state.words 0 _ ∙ rule.word;
         parts = omega arith;
         idle = idle_set state.views id new (λ none. absurd (omega arith)) rule.idle;
@@ -50,20 +62,30 @@ shifts made slots id k me one state rule wide at fits =
     )
 
 -- A step that reads the word.
-pub looks : (made slots id : ℕ) (me : Me ℕ MeterView) → Allows (IsMetered made) slots id me 0 (λ n. n) (λ found new. new ≡ me)
+pub looks : (made slots id : ℕ) (me : Me ℕ MeterView)
+    → Allows (IsMetered made) slots id me 0 (λ n. n) (λ found new. new ≡ me)
 looks made slots id me state rule wide at fits =
     let long = rule.word in let made_is = rule.parts in
     let same = set_again state.views id me.0 at in (
       me.0,
       keeps,
       tt,
-      subst (λ views. IsMetered made (record { words = set state.words 0 (get_or state.words 0 0); homes = state.homes; views = views })) (sym same)
-          (record { sum = get_or-set_same state.words 0 _ 0 (omega arith) ∙ rule.sum; word = length-set state.words 0 _ ∙ rule.word; parts = rule.parts; idle = rule.idle }),
+      subst (λ views. IsMetered made
+          (record { words = set state.words 0 (get_or state.words 0 0); homes = state.homes; views = views }))
+          (sym same)
+          (record {
+            sum = get_or-set_same state.words 0 _ 0 (omega arith) ∙ rule.sum;
+            word = length-set state.words 0 _
+                ∙ rule.word;
+            parts = rule.parts;
+            idle = rule.idle;
+          }),
       refl,
     )
 
 -- A part is cut off.
-pub cuts : (made id : ℕ) (view : MeterView) → 1 < view.parts → Splits (IsMetered made) id view (less_part view) (meter_view 1 0)
+pub cuts : (made id : ℕ) (view : MeterView) → 1 < view.parts
+    → Splits (IsMetered made) id view (less_part view) (meter_view 1 0)
 cuts made id view some_left state rule at =
     let left = less_part view in let right = meter_view 1 0 in let views = set state.views id left in
     let a = total-set (λ (v : MeterView). v.amount) state.views id view left at in
@@ -76,7 +98,8 @@ cuts made id view some_left state rule at =
       sum = rule.sum ∙ ap (λ n. n % 2 ^ 64) (sym same);
       word = rule.word;
       parts = omega arith;
-      idle = idle_snoc views right (λ none. absurd (omega arith)) (idle_set state.views id left (λ none. absurd (omega arith)) rule.idle);
+      idle = idle_snoc views right (λ none. absurd (omega arith))
+          (idle_set state.views id left (λ none. absurd (omega arith)) rule.idle);
     }
 
 -- Two seats become one.
@@ -94,7 +117,8 @@ joins made id other view another live state rule at apart at' =
       sum = rule.sum ∙ ap (λ n. n % 2 ^ 64) (sym same);
       word = rule.word;
       parts = omega arith;
-      idle = idle_set views other spent (λ none. refl) (idle_set state.views id both (λ none. absurd (omega arith)) rule.idle);
+      idle = idle_set views other spent (λ none. refl)
+          (idle_set state.views id both (λ none. absurd (omega arith)) rule.idle);
     }
 
 first_word : (words : List ℕ) (n : ℕ) → get_elem? words 0 ≡ some n → n ≡ slice_index words 0
@@ -106,5 +130,7 @@ pub settled : (made id n : ℕ) (view : MeterView) (words slots : List ℕ) → 
     → Final (Seen (IsMetered made) id view) words slots → get_elem? words 0 ≡ some n → n ≡ view.amount % 2 ^ 64
 settled made id n view words slots all final at =
     let state = final.0 in let rule = final.1.0 in let here = final.1.1 in let made_is = rule.parts in
-    let sum = alone (λ (v : MeterView). v.amount) (λ (v : MeterView). v.parts) state.views id view rule.idle here (made_is ∙ sym all) in
+    let sum =
+    alone (λ (v : MeterView). v.amount) (λ (v : MeterView). v.parts) state.views id view rule.idle here
+    (made_is ∙ sym all) in
     first_word words n at ∙ sym (ap (λ list. slice_index list 0) final.2) ∙ rule.sum ∙ ap (λ k. k % 2 ^ 64) sum

@@ -18,22 +18,27 @@ use Rattle.ms_shared.proofs.LockCallLemmas.{served_by_pool}
 abbrev one_if_level : ℕ → Chunk → ℕ
 one_if_level level chunk = cond (chunk.level == level) 1 0
 
-pub counts_own : (pool : Ledger) (seat : SeatState) (account : AccountState) (totals : PoolTotals) → IsKnown pool seat.knows
+pub counts_own : (pool : Ledger) (seat : SeatState) (account : AccountState) (totals : PoolTotals)
+    → IsKnown pool seat.knows
     → ServesBy seat.knows account
-    → AreChunks account.space account.chunks → sums_in totals ≡ pool_sums (state_in account.space pool) (opened_in pool account.space)
+    → AreChunks account.space account.chunks
+    → sums_in totals ≡ pool_sums (state_in account.space pool) (opened_in pool account.space)
     → CountsOwn seat account totals
 counts_own pool seat account totals known serves chunks sums =
     let served = served_by_pool pool seat.knows account known serves in
     let within = λ (amount : Chunk → ℕ). own_sum_within pool account amount served chunks in record {
       lent = λ level below.
           let counted = λ (n : ℕ). count_by (λ (chunk : Chunk). chunk.level == n) (held_in account.space pool) in
-          let all = ap (λ (s : PoolSums). get_or s.lent level 0) sums ∙ get_or-map-range_with_len counted 0 13 level level 0 below (omega arith) in
+          let all = ap (λ (s : PoolSums). get_or s.lent level 0) sums
+          ∙ get_or-map-range_with_len counted 0 13 level level 0 below (omega arith) in
           let own = within (λ chunk. one_if_level level chunk) in omega arith;
       capacity =
-          let all : totals.capacity ≡ sum_by (λ (chunk : Chunk). size_of chunk.level) (held_in account.space pool) = ap (λ (s : PoolSums). s.capacity) sums in
+          let all : totals.capacity ≡ sum_by (λ (chunk : Chunk). size_of chunk.level) (held_in account.space pool) =
+          ap (λ (s : PoolSums). s.capacity) sums in
           let own = within (λ chunk. size_of chunk.level) in omega arith;
       fronts =
-          let all : totals.fronts ≡ sum_by (λ (chunk : Chunk). chunk.front) (held_in account.space pool) = ap (λ (s : PoolSums). s.fronts) sums in
+          let all : totals.fronts ≡ sum_by (λ (chunk : Chunk). chunk.front) (held_in account.space pool) =
+          ap (λ (s : PoolSums). s.fronts) sums in
           let own = within (λ chunk. chunk.front) in omega arith;
       accounts =
           let all : totals.accounts ≡ opened_in pool account.space = ap (λ (s : PoolSums). s.accounts) sums in

@@ -14,8 +14,11 @@ use Rattle.ms_pool.specs.Ledger.{Ledger, opened_in}
 use Rattle.ms_shared.specs.declared.lock_rule.SeatView.{SeatView}
 use Rattle.ms_shared.specs.declared.lock_rule.LockView.{LockView}
 use Rattle.ms_shared.specs.Entries.{times, AreRecords}
-use Rattle.ms_shared.specs.SeatView.{TallyKind, commit_of_take, reserve_of_take, commit_of_grow, room_of_grow, ids_of_open, tally_of, tallies_of_both, opened_by, knows_limits, knows_all, knows_both}
-use Rattle.ms_shared.specs.LockRule.{IsLocked, Fits, IsIdle, has_pool, count_some, first_view, blank, both, nothing, no_limits}
+use Rattle.ms_shared.specs.SeatView.{TallyKind, commit_of_take, reserve_of_take, commit_of_grow, room_of_grow}
+use Rattle.ms_shared.specs.SeatView.{ids_of_open, tally_of, tallies_of_both, opened_by, knows_limits, knows_all}
+use Rattle.ms_shared.specs.SeatView.{knows_both}
+use Rattle.ms_shared.specs.LockRule.{IsLocked, Fits, IsIdle, has_pool, count_some, first_view, blank, both, nothing}
+use Rattle.ms_shared.specs.LockRule.{no_limits}
 use Rattle.ms_shared.proofs.TotalLemmas.{total_cut, total_joined}
 use Rattle.ms_shared.proofs.RecordLemmas.{times-append, records_append, times_fresh, fresh_records, once_given-none}
 use Rattle.ms_shared.proofs.LockLemmas.{HasOnly, each_set, each_snoc, some_apart}
@@ -25,22 +28,38 @@ pub record Cuts (view left right : LockView) : Type 0 where
   pub parts : left.parts + right.parts ≡ view.parts
   pub some_left : 0 < left.parts
   pub some_right : 0 < right.parts
-  pub times : (owner : ℕ) → times owner left.knows.served + times owner right.knows.served ≡ times owner view.knows.served
-  pub records : (pool : Ledger) → AreRecords pool view.knows.served → AreRecords pool left.knows.served × AreRecords pool right.knows.served
+  pub times : (owner : ℕ) → times owner left.knows.served + times owner right.knows.served
+      ≡ times owner view.knows.served
+  pub records : (pool : Ledger) → AreRecords pool view.knows.served
+      → AreRecords pool left.knows.served × AreRecords pool right.knows.served
   pub opened : (space : Space) → opened_by left.knows space + opened_by right.knows space ≡ opened_by view.knows space
-  pub tallies : (kind : TallyKind) → tally_of kind left.knows.tallies + tally_of kind right.knows.tallies ≡ tally_of kind view.knows.tallies
+  pub tallies : (kind : TallyKind) → tally_of kind left.knows.tallies + tally_of kind right.knows.tallies
+      ≡ tally_of kind view.knows.tallies
   pub limits_left : left.knows.limits ≡ view.knows.limits
   pub limits_right : right.knows.limits ≡ view.knows.limits
   pub taken_left : left.taken ≡ view.taken
   pub taken_right : right.taken ≡ None
 
-pub cut : (made : ℕ) (limits : Limits) (id : ℕ) (view left right : LockView) → Cuts view left right → Splits (IsLocked made limits) id view left right
+pub cut : (made : ℕ) (limits : Limits) (id : ℕ) (view left right : LockView) → Cuts view left right
+    → Splits (IsLocked made limits) id view left right
 cut made limits id view left right cuts state rule at =
-    let fits = rule.fits id view at in let some_left = cuts.some_left in let some_right = cuts.some_right in let parts = cuts.parts in
+    let fits = rule.fits id view at in let some_left = cuts.some_left in let some_right = cuts.some_right in let parts =
+    cuts.parts in
     let live : 0 < view.parts = omega arith in let records = cuts.records rule.pool fits.served in
-    let left_has : has_pool left ≡ has_pool view = ap count_some cuts.taken_left in let right_has : has_pool right ≡ 0 = ap count_some cuts.taken_right in
-    let left_fits : Fits rule.pool left = record { served = records.0; limits = λ l. cuts.limits_left ∙ fits.limits live; idle = λ z. absurd (omega arith) } in
-    let right_fits : Fits rule.pool right = record { served = records.1; limits = λ l. cuts.limits_right ∙ fits.limits live; idle = λ z. absurd (omega arith) } in
+    let left_has : has_pool left ≡ has_pool view = ap count_some cuts.taken_left in let right_has : has_pool right ≡ 0 =
+    ap count_some cuts.taken_right in
+    let left_fits : Fits rule.pool left =
+    record {
+      served = records.0;
+      limits = λ l. cuts.limits_left ∙ fits.limits live;
+      idle = λ z. absurd (omega arith);
+    } in
+    let right_fits : Fits rule.pool right =
+    record {
+      served = records.1;
+      limits = λ l. cuts.limits_right ∙ fits.limits live;
+      idle = λ z. absurd (omega arith);
+    } in
     record {
       pool = rule.pool;
       word = rule.word;
@@ -48,19 +67,26 @@ cut made limits id view left right cuts state rule at =
       home = rule.home;
       lock = total_cut has_pool state.views id view left right (omega arith) at ∙ rule.lock;
       free = rule.free;
-      out = λ seat w taken t q. each_snoc (HasOnly rule.pool) (set state.views id left) right (λ y r. absurd (some_apart y (sym cuts.taken_right ∙ r)))
-          (each_set (HasOnly rule.pool) state.views id left (λ y r. rule.out id view y at (sym cuts.taken_left ∙ r)) (λ other x r differs y q'. rule.out other x y r q')) seat w t taken q;
+      out = λ seat w taken t q. each_snoc (HasOnly rule.pool) (set state.views id left) right
+          (λ y r. absurd (some_apart y (sym cuts.taken_right ∙ r)))
+          (each_set (HasOnly rule.pool) state.views id left (λ y r. rule.out id view y at (sym cuts.taken_left ∙ r))
+          (λ other x r differs y q'. rule.out other x y r q')) seat w t taken q;
       fits = each_snoc (Fits rule.pool) (set state.views id left) right right_fits
           (each_set (Fits rule.pool) state.views id left left_fits (λ other x r differs. rule.fits other x r));
-      once = λ owner. total_cut (λ (v : LockView). times owner v.knows.served) state.views id view left right (cuts.times owner) at ∙ rule.once owner;
-      opened = λ space. total_cut (λ (v : LockView). opened_by v.knows space) state.views id view left right (cuts.opened space) at ∙ rule.opened space;
+      once = λ owner. total_cut (λ (v : LockView). times owner v.knows.served) state.views id view left right
+          (cuts.times owner) at ∙ rule.once owner;
+      opened = λ space. total_cut (λ (v : LockView). opened_by v.knows space) state.views id view left right
+          (cuts.opened space) at ∙ rule.opened space;
       tallies = λ kind. rule.tallies kind
-          ∙ ap (λ n. n % 2 ^ 64) (sym (total_cut (λ (v : LockView). tally_of kind v.knows.tallies) state.views id view left right (cuts.tallies kind) at));
+          ∙ ap (λ n. n % 2 ^ 64)
+          (sym (total_cut (λ (v : LockView). tally_of kind v.knows.tallies) state.views id view left right
+          (cuts.tallies kind) at));
       limits_are = rule.limits_are;
       parts = total_cut (λ (v : LockView). v.parts) state.views id view left right cuts.parts at ∙ rule.parts;
     }
 
-pub tally_of_both : (kind : TallyKind) (tallies others : Tallies) → tally_of kind (tallies_of_both tallies others) ≡ tally_of kind tallies + tally_of kind others
+pub tally_of_both : (kind : TallyKind) (tallies others : Tallies)
+    → tally_of kind (tallies_of_both tallies others) ≡ tally_of kind tallies + tally_of kind others
 tally_of_both commit_of_take tallies others = refl
 tally_of_both reserve_of_take tallies others = refl
 tally_of_both commit_of_grow tallies others = refl
@@ -74,7 +100,8 @@ no_tally commit_of_grow = refl
 no_tally room_of_grow = refl
 no_tally ids_of_open = refl
 
-pub opened_by_both : (space : Space) (view other : SeatView) → opened_by (knows_both view other) space ≡ opened_by view space + opened_by other space
+pub opened_by_both : (space : Space) (view other : SeatView)
+    → opened_by (knows_both view other) space ≡ opened_by view space + opened_by other space
 opened_by_both NonClass view other = refl
 opened_by_both Class view other = refl
 
@@ -83,15 +110,18 @@ none_opened NonClass limits = refl
 none_opened Class limits = refl
 
 nothing_is_idle : IsIdle nothing
-nothing_is_idle = record { served = refl; opened = λ space. none_opened space no_limits; tallies = no_tally; taken = refl }
+nothing_is_idle =
+    record { served = refl; opened = λ space. none_opened space no_limits; tallies = no_tally; taken = refl }
 
-pub join : (made : ℕ) (limits : Limits) (id other : ℕ) (view w : LockView) → 0 < view.parts → view.taken ≡ None → w.taken ≡ None
+pub join : (made : ℕ) (limits : Limits) (id other : ℕ) (view w : LockView) → 0 < view.parts → view.taken ≡ None
+    → w.taken ≡ None
     → Joins (IsLocked made limits) id view other w (both view w) nothing
 join made limits id other view w live view_free w_free state rule at apart at' =
     let new = both view w in let views = set state.views id new in
     let fits = rule.fits id view at in
     let fits' : Fits rule.pool w = rule.fits other w (sym (set_else state.views id other new apart) ∙ at') in
-    let none_before : has_pool view ≡ 0 = ap count_some view_free in let none_other : has_pool w ≡ 0 = ap count_some w_free in let none_now : has_pool new ≡ 0 = ap count_some view_free in
+    let none_before : has_pool view ≡ 0 = ap count_some view_free in let none_other : has_pool w ≡ 0 =
+    ap count_some w_free in let none_now : has_pool new ≡ 0 = ap count_some view_free in
     let new_fits : Fits rule.pool new = record {
       served = records_append rule.pool view.knows.served w.knows.served fits.served fits'.served;
       limits = λ l. fits.limits live;
@@ -104,17 +134,28 @@ join made limits id other view w live view_free w_free state rule at apart at' =
       lock = total_joined has_pool state.views id other view w new nothing (omega arith) at at' ∙ rule.lock;
       free = rule.free;
       out = λ seat x taken t q. each_set (HasOnly rule.pool) views other nothing (λ y r. absurd (some_apart y r))
-          (λ place z r differs. each_set (HasOnly rule.pool) state.views id new (λ y q'. absurd (some_apart y (sym view_free ∙ q'))) (λ place' z' r' differs' y q'. rule.out place' z' y r' q') place z r) seat x t taken q;
-      fits = each_set (Fits rule.pool) views other nothing (record { served = tt; limits = λ l. absurd (omega arith); idle = λ z. nothing_is_idle })
-          (λ place z r differs. each_set (Fits rule.pool) state.views id new new_fits (λ place' z' r' differs'. rule.fits place' z' r') place z r);
-      once = λ owner. total_joined (λ (v : LockView). times owner v.knows.served) state.views id other view w new nothing
+          (λ place z r differs. each_set (HasOnly rule.pool) state.views id new
+          (λ y q'. absurd (some_apart y (sym view_free ∙ q')))
+          (λ place' z' r' differs' y q'. rule.out place' z' y r' q') place z r) seat x t taken q;
+      fits = each_set (Fits rule.pool) views other nothing
+          (record { served = tt; limits = λ l. absurd (omega arith); idle = λ z. nothing_is_idle })
+          (λ place z r differs. each_set (Fits rule.pool) state.views id new new_fits
+          (λ place' z' r' differs'. rule.fits place' z' r') place z r);
+      once = λ owner. total_joined (λ (v : LockView). times owner v.knows.served) state.views id other view w new
+          nothing
           (let sum = times-append owner view.knows.served w.knows.served in omega arith) at at' ∙ rule.once owner;
       opened = λ space. total_joined (λ (v : LockView). opened_by v.knows space) state.views id other view w new nothing
-          (let sum = opened_by_both space view.knows w.knows in let zero_rest = none_opened space no_limits in omega arith) at at' ∙ rule.opened space;
-      tallies = λ kind. rule.tallies kind ∙ ap (λ n. n % 2 ^ 64) (sym (total_joined (λ (v : LockView). tally_of kind v.knows.tallies) state.views id other view w new nothing
-          (let sum = tally_of_both kind view.knows.tallies w.knows.tallies in let zero_rest = no_tally kind in omega arith) at at'));
+          (let sum = opened_by_both space view.knows w.knows in let zero_rest = none_opened space no_limits in
+          omega arith) at at' ∙ rule.opened space;
+      tallies =
+          λ kind. rule.tallies kind
+          ∙ ap (λ n. n % 2 ^ 64)
+          (sym (total_joined (λ (v : LockView). tally_of kind v.knows.tallies) state.views id other view w new nothing
+          (let sum = tally_of_both kind view.knows.tallies w.knows.tallies in let zero_rest = no_tally kind in
+          omega arith) at at'));
       limits_are = rule.limits_are;
-      parts = total_joined (λ (v : LockView). v.parts) state.views id other view w new nothing (omega arith) at at' ∙ rule.parts;
+      parts = total_joined (λ (v : LockView). v.parts) state.views id other view w new nothing (omega arith) at at'
+          ∙ rule.parts;
     }
 
 -- Parts that know nothing are cut off, and the others keep all that the view knows.
@@ -162,8 +203,14 @@ begins made pool some_seat fit =
       home = refl;
       lock = refl;
       free = λ e. refl;
-      out = λ seat w taken t q. each_snoc (HasOnly pool) [] view (λ y r. absurd (some_apart y r)) (λ other x r. absurd (not_there other x r)) seat w t taken q;
-      fits = each_snoc (Fits pool) [] view (record { served = fresh_records pool 0 pool.given (omega arith); limits = λ l. refl; idle = λ z. absurd (omega arith) })
+      out = λ seat w taken t q. each_snoc (HasOnly pool) [] view (λ y r. absurd (some_apart y r))
+          (λ other x r. absurd (not_there other x r)) seat w t taken q;
+      fits = each_snoc (Fits pool) [] view
+          (record {
+            served = fresh_records pool 0 pool.given (omega arith);
+            limits = λ l. refl;
+            idle = λ z. absurd (omega arith);
+          })
           (λ other x r. absurd (not_there other x r));
       once = λ owner.
           (let fresh_are = times_fresh pool owner 0 pool.given in let zero_first = once_given-none owner in

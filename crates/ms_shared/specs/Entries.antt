@@ -1,6 +1,7 @@
 -- Owners that a seat serves, each with the pool's record of its chunks, in order of address (this
 -- project's choice).
-use Rattle.std.specs.Prelude.{◌≡◌, ℕ, zero, suc, ◌+◌, ◌≤◌, ◌==◌, ◌⊎◌, ◌&&◌, nat_le, not, Bool, true, false, List, [], ◌∷◌}
+use Rattle.std.specs.Prelude.{◌≡◌, ℕ, zero, suc, ◌+◌, ◌≤◌, ◌==◌, ◌⊎◌, ◌&&◌, nat_le, not, Bool, true, false, List, []}
+use Rattle.std.specs.Prelude.{◌∷◌}
 use Rattle.std.specs.List.{filter}
 use Rattle.ms_base.specs.declared.span.Chunk.{Chunk}
 use Rattle.ms_pool.specs.Ledger.{Ledger, chunks_of}

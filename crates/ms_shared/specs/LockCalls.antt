@@ -1,7 +1,8 @@
 -- What each call over the lock answers, and what it leaves its seat: the pool's own relation for it,
 -- on the pool that the seat found, and a tally of the seat raised where a limit refused it (this
 -- project's choice).
-use Rattle.std.specs.Prelude.{◌≡◌, ◌==◌, ◌+◌, ◌<◌, ◌≤◌, ℕ, Bool, true, false, slice_get, slice_index, Some, Result, Ok, Err}
+use Rattle.std.specs.Prelude.{◌≡◌, ◌==◌, ◌+◌, ◌<◌, ◌≤◌, ℕ, Bool, true, false, slice_get, slice_index, Some, Result, Ok}
+use Rattle.std.specs.Prelude.{Err}
 use Rattle.std.specs.List.{count_by}
 use Rattle.ms_base.specs.declared.kind.Space.{Space}
 use Rattle.ms_base.specs.declared.policy.Policy.{Policy}
@@ -19,7 +20,8 @@ use Rattle.ms_pool.specs.Account.{AccountState}
 use Rattle.ms_pool.specs.Tallies.{Tallies}
 use Rattle.ms_pool.specs.Calls.{Took, Grew, Closed, Totalled}
 use Rattle.ms_pool.specs.declared.totals.PoolTotals.{PoolTotals}
-use Rattle.ms_shared.specs.SeatView.{SeatState, opened_by, commit_of_take, reserve_of_take, commit_of_grow, room_of_grow, raise, OverLock}
+use Rattle.ms_shared.specs.SeatView.{SeatState, opened_by, commit_of_take, reserve_of_take, commit_of_grow}
+use Rattle.ms_shared.specs.SeatView.{room_of_grow, raise, OverLock}
 
 -- The tally that a refusal of `take` raises, and of `grow`; other answers raise none, and other
 -- refusals don't come.

@@ -1,6 +1,7 @@
 -- The rule of a pool behind a lock: one word, which is 1 while a seat has the pool, and one slot for
 -- it (this project's choice).
-use Rattle.std.specs.Prelude.{◌≡◌, ◌≢◌, ℕ, ◌+◌, ◌-◌, ◌*◌, ◌%◌, ◌^◌, ◌<◌, ◌≤◌, ◌⊎◌, [], ◌∷◌, length, slice_index, Option, Some, None}
+use Rattle.std.specs.Prelude.{◌≡◌, ◌≢◌, ℕ, ◌+◌, ◌-◌, ◌*◌, ◌%◌, ◌^◌, ◌<◌, ◌≤◌, ◌⊎◌, [], ◌∷◌, length, slice_index, Option}
+use Rattle.std.specs.Prelude.{Some, None}
 use Rattle.std.specs.List.{sum_by}
 use mathlib.Core.Option.{some}
 use lib.ListN.{get_elem?}
@@ -12,7 +13,8 @@ use Rattle.ms_base.specs.declared.policy.Policy.TheVariants.{Balanced}
 use Rattle.ms_pool.specs.Tallies.{one_more}
 use Rattle.ms_pool.specs.Ledger.{Ledger, chunks_of, empty_ledger, opened_in}
 use Rattle.ms_shared.specs.Entries.{times, once_given, AreRecords}
-use Rattle.ms_shared.specs.SeatView.{TallyKind, tally_of, opened_by, IsKnown, view_after, knows_limits, knows_all, knows_both, without_account, account_alone}
+use Rattle.ms_shared.specs.SeatView.{TallyKind, tally_of, opened_by, IsKnown, view_after, knows_limits, knows_all}
+use Rattle.ms_shared.specs.SeatView.{knows_both, without_account, account_alone}
 use Rattle.ms_shared.specs.declared.lock_rule.SeatView.{SeatView}
 use Rattle.ms_shared.specs.declared.lock_rule.LockView.{LockView}
 

@@ -8,7 +8,8 @@
 //! with one seat. Each owner number that it gave out is served by one seat, once, with the pool's
 //! record of the owner; its open accounts and tallies are the sums of the seats'. Views, plays,
 //! cuts and joins have no bytes and do nothing when they run. Nothing here takes memory or waits.
-ghost use Rattle.ms_shared.specs.LockRule.{IsLocked, Tries, LetsGo, first_view, own_seat, other_seats, both, nothing, view_without, note_of, less_part, spare_part};
+ghost use Rattle.ms_shared.specs.LockRule.{IsLocked, Tries, LetsGo, first_view, own_seat, other_seats, both, nothing};
+ghost use Rattle.ms_shared.specs.LockRule.{view_without, note_of, less_part, spare_part};
 
 use atomic_table::{Join, Play, Split, TableRule};
 use ms_base::{Chunk, Policy};

@@ -13,8 +13,10 @@
 ghost use Rattle.std.specs.Prelude.{◌≡◌, ◌<◌, ◌≤◌, ◌↔◌, ◌∷◌, [], Some, None, IsOk, IfOk, IfErr, vec_len};
 ghost use Rattle.std.specs.List.{All};
 ghost use Rattle.ms_pool.specs.Ledger.{IsSoundLedger};
-ghost use Rattle.ms_shared.specs.SeatView.{IsKnown, Gathers, ServesBy, HandsOn, opened_by, new_seats, without_account, with_account};
-ghost use Rattle.ms_shared.specs.LockRule.{Moves, IsWhole, after, with_pool, taken_of, both, view_without, note_of, less_part, spare_part};
+ghost use Rattle.ms_shared.specs.SeatView.{IsKnown, Gathers, ServesBy, HandsOn, opened_by, new_seats, without_account};
+ghost use Rattle.ms_shared.specs.SeatView.{with_account};
+ghost use Rattle.ms_shared.specs.LockRule.{Moves, IsWhole, after, with_pool, taken_of, both, view_without, note_of};
+ghost use Rattle.ms_shared.specs.LockRule.{less_part, spare_part};
 
 use crate::lock_rule::{
     CutAccount, CutPart, CutSeats, JoinViews, LetsGo, LockKey, LockView, Locked, Owner, Tries,

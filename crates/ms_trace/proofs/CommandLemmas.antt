@@ -1,5 +1,6 @@
 -- Fields have no fault exactly where they are those of a valid command, and of one command only.
-use Rattle.std.proofs.Common.{◌≡◌, ℕ, ◌-◌, ◌^◌, ◌<◌, Bool, true, false, cond, List, [], ◌∷◌, refl, ap, arith, Option, Some, None, codes}
+use Rattle.std.proofs.Common.{◌≡◌, ℕ, ◌-◌, ◌^◌, ◌<◌, Bool, true, false, cond, List, [], ◌∷◌, refl, ap, arith, Option}
+use Rattle.std.proofs.Common.{Some, None, codes}
 use Rattle.std.proofs.lemmas.Slice.Eq.{bytes_eq-Decides}
 use Rattle.std.specs.Fmt.{decimal}
 use Rattle.std.specs.Str.{bytes_eq}
@@ -24,14 +25,16 @@ word_passes n h = number_passes (2 ^ 64 - 1) n (omega arith) h
 
 -- The fields of a valid command have no fault.
 pub valid_has_no_fault : (command : Command) → IsValid command → command_fault (command_fields command) ≡ None
-valid_has_no_fault (Asks (New loader kind)) h = no_fault_from_pass (more (loader_passes loader h) (more (kind_passes kind) none))
+valid_has_no_fault (Asks (New loader kind)) h =
+    no_fault_from_pass (more (loader_passes loader h) (more (kind_passes kind) none))
 valid_has_no_fault (Asks (Alloc loader block words)) (l, b, w) =
     no_fault_from_pass (more (loader_passes loader l) (more (block_passes block b) (more (word_passes words w) none)))
 valid_has_no_fault (Asks (Calloc loader block words)) (l, b, w) =
     no_fault_from_pass (more (loader_passes loader l) (more (block_passes block b) (more (word_passes words w) none)))
 valid_has_no_fault (Asks (Write loader block index value)) (l, b, i, v) =
     no_fault_from_pass
-    (more (loader_passes loader l) (more (block_passes block b) (more (word_passes index i) (more (word_passes value v) none))))
+    (more (loader_passes loader l)
+    (more (block_passes block b) (more (word_passes index i) (more (word_passes value v) none))))
 valid_has_no_fault (Asks (Read loader block index)) (l, b, i) =
     no_fault_from_pass (more (loader_passes loader l) (more (block_passes block b) (more (word_passes index i) none)))
 valid_has_no_fault (Asks (Free loader block)) (l, b) =
@@ -62,7 +65,11 @@ new_read : {rest : List (List ℕ)} → Pass (loader_field ∷ kind_field ∷ []
 new_read (more loader (more kind none)) =
     let l : IsNumeral (2 ^ 16 - 1) _ = loader_read loader in
     let k : IsKindWord _ = kind_read kind in
-    record { command = Asks (New l.value k.kind); valid = omega (arith, l.low); fields_are = rw l.written (rw k.written refl) }
+    record {
+      command = Asks (New l.value k.kind);
+      valid = omega (arith, l.low);
+      fields_are = rw l.written (rw k.written refl);
+    }
 
 -- Fields that pass as a loader, a block and a word are numbers within their bounds.
 record AreThree (rest : List (List ℕ)) : Type 0 where

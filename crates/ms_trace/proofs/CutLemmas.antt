@@ -38,7 +38,8 @@ found_inside false place at e = cc
 pub cut_there : (p : ℕ → Bool) (text : List ℕ) (at : ℕ) → Some at ≡ position p text
     → slice_split p text ≡ take at text ∷ slice_split p (drop (at + 1) text)
 cut_there p text at e =
-    let found : (ltb (position_or_len p text) (length text) ≡ true) × (position_or_len p text ≡ at) = found_inside _ _ at e in
+    let found : (ltb (position_or_len p text) (length text) ≡ true) × (position_or_len p text ≡ at) =
+    found_inside _ _ at e in
     rw found.1 at (slice_split_first p text 0 (ltb-true _ _ found.0))
 
 not_true : (b : Bool) → (b ≡ true → ⊥) → b ≡ false
@@ -51,7 +52,8 @@ pub position_from_first : (p : ℕ → Bool) (text : List ℕ) (found : Option �
 position_from_first p text None nowhere =
     let none : position_or_len p text ≡ length text =
     position_or_len_is p text (length text) 0 (omega arith)
-    (λ k below. not_true (p (get_or text k 0)) (nowhere k (omega arith) below)) (λ below. absurd (omega (arith, below))) in
+    (λ k below. not_true (p (get_or text k 0)) (nowhere k (omega arith) below)) (λ below. absurd (omega (arith, below)))
+    in
     rw none (rw (le-ltb (length text) (length text) (omega arith)) refl)
 position_from_first p text (Some at) (first, here) =
     let place : position_or_len p text ≡ at =

@@ -2,7 +2,8 @@
 use Rattle.std.proofs.Common.{zero, suc, add-one, ◌⊎◌, ⊎_elim, ◌-◌, ◌*◌, take, ◌≡◌, ℕ, ◌+◌, ◌^◌, ◌<◌, ◌≤◌, true, false}
 use Rattle.std.proofs.Common.{◌&&◌, eqb, List, [], ◌∷◌, length, get_or, refl, sym, ap, arith}
 use Rattle.std.proofs.lemmas.Bool.Decides.{nat_tests}
-use Rattle.std.proofs.lemmas.Fmt.{digits_decimal, digits_value-decimal, decimal-digits_value, first_decimal, decimal_nonempty, decimal_digit}
+use Rattle.std.proofs.lemmas.Fmt.{digits_decimal, digits_value-decimal, decimal-digits_value, first_decimal}
+use Rattle.std.proofs.lemmas.Fmt.{decimal_nonempty, decimal_digit}
 use Rattle.std.proofs.lemmas.Str.Parse.{IsNumeralModel, numerals_by_value, tells_all_ascii_digits, digits_value-take-le}
 use Rattle.std.specs.Fmt.{decimal}
 use Rattle.std.proofs.lemmas.Bool.{and_parts, and_from, both_ways}
@@ -71,7 +72,8 @@ digits_have_no_space (first ∷ rest) e =
 
 pub decimal_has_no_space : (n : ℕ) → n < 2 ^ 64 → All (λ byte. eqb byte 32 ≡ false) (decimal n)
 decimal_has_no_space n small =
-    All-from_recursion (λ byte. eqb byte 32 ≡ false) (decimal n) (digits_have_no_space (decimal n) (digits_decimal own n small))
+    All-from_recursion (λ byte. eqb byte 32 ≡ false) (decimal n)
+    (digits_have_no_space (decimal n) (digits_decimal own n small))
 
 -- A byte that is no digit makes a field no number.
 digit_at_all : (bytes : List ℕ) (i : ℕ) → all_ascii_digits bytes ≡ true → i < length bytes
@@ -95,7 +97,8 @@ digits_more_suc [] i inside all e = absurd (omega arith)
 digits_more_suc (first ∷ rest) zero inside all e = and_from (is_ascii_digit first) true e refl
 digits_more_suc (first ∷ rest) (suc i) inside all e =
     let parts : (is_ascii_digit first ≡ true) × (all_ascii_digits (take i rest) ≡ true) = and_parts _ _ all in
-    and_from (is_ascii_digit first) (all_ascii_digits (take (suc i) rest)) parts.0 (digits_more_suc rest i (omega (arith, inside)) parts.1 e)
+    and_from (is_ascii_digit first) (all_ascii_digits (take (suc i) rest)) parts.0
+    (digits_more_suc rest i (omega (arith, inside)) parts.1 e)
 
 pub digits_more_test : (bytes : List ℕ) (i : ℕ) → i < length bytes → all_ascii_digits (take i bytes) ≡ true
     → is_ascii_digit (get_or bytes i 0) ≡ true → all_ascii_digits (take (i + 1) bytes) ≡ true
@@ -112,7 +115,8 @@ value_more bytes i inside e = rw (sym (digit_value-digit (get_or bytes i 0) e)) 
 pub value_is_long : (bytes : List ℕ) (i : ℕ) → i < length bytes → is_ascii_digit (get_or bytes i 0) ≡ true
     → (digits_value 10 (take i bytes) * 10 + (get_or bytes i 0 - 48) < 2 ^ 64 → ⊥) → 2 ^ 64 ≤ digits_value 10 bytes
 value_is_long bytes i inside e long =
-    let front : digits_value 10 (take (i + 1) bytes) ≤ digits_value 10 bytes = digits_value-take-le 10 bytes (i + 1) (omega arith) in
+    let front : digits_value 10 (take (i + 1) bytes) ≤ digits_value 10 bytes =
+    digits_value-take-le 10 bytes (i + 1) (omega arith) in
     omega (arith, value_more bytes i inside e, front, long)
 
 -- `all_ascii_digits` as a test of each byte.

@@ -16,7 +16,8 @@ use Rattle.ms_trace.specs.declared.fault.FaultKind.{FaultKind}
 use Rattle.ms_trace.specs.declared.fault.FaultKind.TheVariants.{FieldCount, BadKind, BadNumber, NumberTooLarge}
 use Rattle.ms_trace.specs.Grammar.{Field, kind_field, number_field, kind_word}
 use Rattle.ms_trace.specs.Faults.{is_number, field_fault, first_of_two, fields_fault, after_word_fault}
-use Rattle.ms_trace.proofs.DigitLemmas.{is_number-decimal, value-decimal, decimal-value, is_number_from_digits, plain_from_is_number, list_all-digits}
+use Rattle.ms_trace.proofs.DigitLemmas.{is_number-decimal, value-decimal, decimal-value, is_number_from_digits}
+use Rattle.ms_trace.proofs.DigitLemmas.{plain_from_is_number, list_all-digits}
 
 -- The text has no fault at this field.
 pub record Passes (field : Field) (bytes : List ℕ) : Type 0 where
@@ -42,7 +43,8 @@ number_form false large e = cc
 pub number_read : {greatest : ℕ} {bytes : List ℕ} → greatest < 2 ^ 64 → Passes (number_field greatest) bytes
     → IsNumeral greatest bytes
 number_read {greatest} {bytes} small passes =
-    let parts : (is_number bytes ≡ true) × (ltb greatest (digits_value 10 bytes) ≡ false) = number_form _ _ passes.without_fault in
+    let parts : (is_number bytes ≡ true) × (ltb greatest (digits_value 10 bytes) ≡ false) =
+    number_form _ _ passes.without_fault in
     let low : digits_value 10 bytes ≤ greatest = grind (arith, nat_tests, parts.1) in
     record { value = digits_value 10 bytes; low = low; written = decimal-value bytes parts.0 (omega arith) }
 
@@ -50,7 +52,8 @@ number_read {greatest} {bytes} small passes =
 long_form : (digits : Bool) (greatest : ℕ) (bytes : List ℕ) → digits ≡ all_ascii_digits bytes
     → (all_ascii_digits bytes ≡ true → is_number bytes ≡ true)
     → (is_number bytes ≡ true → all_ascii_digits bytes ≡ true) →
-    ltb greatest (digits_value 10 bytes) ≡ true → Some (cond digits NumberTooLarge BadNumber) ≡ field_fault (number_field greatest) bytes
+    ltb greatest (digits_value 10 bytes) ≡ true
+    → Some (cond digits NumberTooLarge BadNumber) ≡ field_fault (number_field greatest) bytes
 long_form true greatest bytes e from to large = rw (from (sym e)) (rw large refl)
 long_form false greatest bytes e from to large =
     let no : is_number bytes ≡ false = elim (is_number bytes) as (λ b. is_number bytes ≡ b → b ≡ false)
@@ -126,7 +129,8 @@ pass_from_parts [] [] same e = none
 pass_from_parts [] (bytes ∷ rest) same e = absurd (omega (arith, same))
 pass_from_parts (field ∷ fields) [] same e = absurd (omega (arith, same))
 pass_from_parts (field ∷ fields) (bytes ∷ rest) same e =
-    let parts : (field_fault field bytes ≡ None) × (fields_fault fields rest ≡ None) = both_none (field_fault field bytes) (fields_fault fields rest) e in
+    let parts : (field_fault field bytes ≡ None) × (fields_fault fields rest ≡ None) =
+    both_none (field_fault field bytes) (fields_fault fields rest) e in
     more (record { without_fault = parts.0 }) (pass_from_parts fields rest (omega (arith, same)) parts.1)
 
 count_form : (same : Bool) (fault : Option FaultKind) → cond same fault (Some FieldCount) ≡ None

@@ -1,7 +1,8 @@
 -- Worked examples: faults of lines, how texts are cut, and one text that reads as a trace.
 use Rattle.std.proofs.Common.{◌≡◌, [], ◌∷◌, refl, Some, None, inl, inr, arith, codes}
 use Rattle.std.specs.Prelude.{replicate, ◌++◌}
-use Rattle.ms_trace.specs.declared.fault.FaultKind.TheVariants.{TooManyLines, LineTooLong, UnknownCommand, FieldCount, BadKind, BadNumber, NumberTooLarge}
+use Rattle.ms_trace.specs.declared.fault.FaultKind.TheVariants.{TooManyLines, LineTooLong, UnknownCommand, FieldCount}
+use Rattle.ms_trace.specs.declared.fault.FaultKind.TheVariants.{BadKind, BadNumber, NumberTooLarge}
 use Rattle.ms_base.specs.declared.step.Step.TheVariants.{Purge}
 use Rattle.ms_trace.specs.declared.trace.Command.TheVariants.{Step as Asks, Sync}
 use Rattle.ms_trace.specs.Grammar.{lines_of, fields_of}
@@ -104,7 +105,13 @@ one_command = (
     omega arith,
     omega arith,
     inl (refl, refl),
-    ([], omega arith, omega arith, inr (record { command = Asks Purge; valid = tt; spelled = refl; trace_is = refl }), refl),
+    (
+      [],
+      omega arith,
+      omega arith,
+      inr (record { command = Asks Purge; valid = tt; spelled = refl; trace_is = refl }),
+      refl,
+    ),
   ),
 )
 

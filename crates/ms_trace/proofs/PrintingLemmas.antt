@@ -1,6 +1,7 @@
 -- The loop of printing, and that a printed trace reads as itself.
 use Rattle.std.proofs.Common.{◌≡◌, ℕ, inl, inr, zero, suc, not, ◌&&◌, ◌+◌, ◌-◌, ◌^◌, ◌<◌, ◌≤◌, Bool, true, false, eqb}
-use Rattle.std.proofs.Common.{ltb, leb, List, [], ◌∷◌, ◌++◌, length, get_or, drop, replicate, refl, ◌∙◌, ap, arith, add-zero, add-one, append_assoc}
+use Rattle.std.proofs.Common.{ltb, leb, List, [], ◌∷◌, ◌++◌, length, get_or, drop, replicate, refl, ◌∙◌, ap, arith}
+use Rattle.std.proofs.Common.{add-zero, add-one, append_assoc}
 use Rattle.std.proofs.lemmas.Bool.{and_parts, and_from, not-true, ltb-true, leb-true}
 use Rattle.std.proofs.lemmas.Bool.Decides.{nat_tests}
 use Rattle.std.proofs.lemmas.Fmt.{digits_decimal}
@@ -59,7 +60,8 @@ both_clean : (one other : List ℕ) → is_clean one ≡ true → is_clean other
 both_clean one other e f = list_all-append _ one other ∙ and_from _ _ e f
 
 spelling_is_clean : (command : Command) → IsValid command → is_clean (spelling_of command) ≡ true
-spelling_is_clean (Asks (New loader kind)) h = both_clean (decimal loader) (32 ∷ kind_word kind) (loader_is_clean loader h) (kind_is_clean kind)
+spelling_is_clean (Asks (New loader kind)) h =
+    both_clean (decimal loader) (32 ∷ kind_word kind) (loader_is_clean loader h) (kind_is_clean kind)
 spelling_is_clean (Asks (Alloc loader block words)) (l, b, w) =
     both_clean (decimal loader) _ (loader_is_clean loader l)
     (both_clean (decimal block) (32 ∷ decimal words) (block_is_clean block b) (number_is_clean words w))
@@ -73,7 +75,8 @@ spelling_is_clean (Asks (Write loader block index value)) (l, b, i, v) =
 spelling_is_clean (Asks (Read loader block index)) (l, b, i) =
     both_clean (decimal loader) _ (loader_is_clean loader l)
     (both_clean (decimal block) (32 ∷ decimal index) (block_is_clean block b) (number_is_clean index i))
-spelling_is_clean (Asks (Free loader block)) (l, b) = both_clean (decimal loader) (32 ∷ decimal block) (loader_is_clean loader l) (block_is_clean block b)
+spelling_is_clean (Asks (Free loader block)) (l, b) =
+    both_clean (decimal loader) (32 ∷ decimal block) (loader_is_clean loader l) (block_is_clean block b)
 spelling_is_clean (Asks (Unload loader)) h = loader_is_clean loader h
 spelling_is_clean (Asks Purge) h = refl
 spelling_is_clean Sync h = refl
@@ -95,7 +98,8 @@ gap_reads : (gap number : ℕ) (text : List ℕ) (trace : List Line) → number 
 gap_reads zero number text trace few reads = rw add-zero at reads
 gap_reads (suc gap) number text trace few reads =
     let place : number + suc gap ≡ number + 1 + gap = omega arith in
-    let later : ReadsFrom (number + 1) (lines_of (replicate gap 10 ++ text)) trace = gap_reads gap (number + 1) text trace (omega arith) (rw place at reads) in
+    let later : ReadsFrom (number + 1) (lines_of (replicate gap 10 ++ text)) trace =
+    gap_reads gap (number + 1) text trace (omega arith) (rw place at reads) in
     rw (lines_of-line [] (replicate gap 10 ++ text) refl) (trace, omega arith, omega arith, inl (refl, refl), later)
 
 -- A printed trace reads as itself.
@@ -103,16 +107,23 @@ pub printed_reads : (last : ℕ) (trace : List Line) → AllByRecursion (λ (lin
     → rises_above last trace ≡ true → ReadsFrom (last + 1) (lines_of (text_from (last + 1) trace)) trace
 printed_reads last [] valid rises = refl
 printed_reads last (line ∷ trace) (valid, others) rises =
-    let parts : ((ltb last line.number && leb line.number most_lines) ≡ true) × (rises_above line.number trace ≡ true) = and_parts _ _ rises in
+    let parts : ((ltb last line.number && leb line.number most_lines) ≡ true) × (rises_above line.number trace ≡ true) =
+    and_parts _ _ rises in
     let bounds : (ltb last line.number ≡ true) × (leb line.number most_lines ≡ true) = and_parts _ _ parts.0 in
     let low : last < line.number = ltb-true _ _ bounds.0 in
     let high : line.number ≤ most_lines = leb-true _ _ bounds.1 in
     let place : last + 1 + (line.number - (last + 1)) ≡ line.number = omega arith in
-    let later : ReadsFrom (line.number + 1) (lines_of (text_from (line.number + 1) trace)) trace = printed_reads line.number trace others parts.1 in
+    let later : ReadsFrom (line.number + 1) (lines_of (text_from (line.number + 1) trace)) trace =
+    printed_reads line.number trace others parts.1 in
     let text : List ℕ = text_from (line.number + 1) trace in
     let here : ReadsFrom line.number (lines_of (spelling_of line.command ++ 10 ∷ text)) (line ∷ trace) =
-    rw (lines_of-line (spelling_of line.command) text (spelling_is_clean line.command valid))
-    (trace, high, spelling_is_short line.command valid, inr (record { command = line.command; valid = valid; spelled = refl; trace_is = refl }), later) in
+    rw (lines_of-line (spelling_of line.command) text (spelling_is_clean line.command valid)) (
+      trace,
+      high,
+      spelling_is_short line.command valid,
+      inr (record { command = line.command; valid = valid; spelled = refl; trace_is = refl }),
+      later,
+    ) in
     let gap : ℕ = line.number - (last + 1) in
     rw (append_assoc (replicate gap 10) (spelling_of line.command) (10 ∷ text))
     (gap_reads gap (last + 1) (spelling_of line.command ++ 10 ∷ text) (line ∷ trace) (rw place high) (rw place here))
@@ -140,5 +151,6 @@ line_printed items i last d text whole inside e =
 pub rises_on : (items : List Line) (i last : ℕ) (d : Line) → i < length items → rises_above last (drop i items) ≡ true
     → rises_above (get_or items i d).number (drop (i + 1) items) ≡ true
 rises_on items i last d inside rises =
-    let front : rises_above last (get_or items i d ∷ drop (i + 1) items) ≡ true = rw (drop_here items i d inside) at rises in
+    let front : rises_above last (get_or items i d ∷ drop (i + 1) items) ≡ true =
+    rw (drop_here items i d inside) at rises in
     (and_parts _ _ front).1

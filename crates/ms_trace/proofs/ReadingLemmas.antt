@@ -40,22 +40,33 @@ lines_of-cut rest line None some cut =
     let same : line ≡ rest = sym (ap (join_with_byte 10) cut) ∙ join_with_byte-slice_split 10 rest in
     ap without_empty_end cut ∙ last_line line (rw same some)
 lines_of-cut rest line (Some text) some cut =
-    ap without_empty_end cut ∙ line_first line (parts_of 10 text.now) (omega (arith, length-slice_split (λ byte. eqb byte 10) text.now))
+    ap without_empty_end cut
+    ∙ line_first line (parts_of 10 text.now) (omega (arith, length-slice_split (λ byte. eqb byte 10) text.now))
 
 -- Lines read as a trace with one more line.
 says_more : (number : ℕ) (line : List ℕ) (trace rest said : List Line) → Says number line trace rest
     → Says number line (trace ++ said) (rest ++ said)
 says_more number line trace rest said (inl (silent, e)) = inl (silent, ap (λ lines. lines ++ said) e)
 says_more number line trace rest said (inr gives) =
-    inr (record { command = gives.command; valid = gives.valid; spelled = gives.spelled; trace_is = ap (λ lines. lines ++ said) gives.trace_is })
+    inr (record {
+      command = gives.command;
+      valid = gives.valid;
+      spelled = gives.spelled;
+      trace_is = ap (λ lines. lines ++ said) gives.trace_is;
+    })
 
 reads_push : (number : ℕ) (before : List (List ℕ)) (line : List ℕ) (trace said : List Line)
     → ReadsFrom number before trace → ReadsFrom (number + length before) (line ∷ []) said
     → ReadsFrom number (before ++ line ∷ []) (trace ++ said)
 reads_push number [] line trace said e last = rw e (rw add-zero at last)
 reads_push number (first ∷ before) line trace said (rest, few, short, says, more) last =
-    let place : number + suc (length before) ≡ number + 1 + length before = omega arith in
-    (rest ++ said, few, short, says_more number first trace rest said says, reads_push (number + 1) before line rest said more (rw place at last))
+    let place : number + suc (length before) ≡ number + 1 + length before = omega arith in (
+      rest ++ said,
+      few,
+      short,
+      says_more number first trace rest said says,
+      reads_push (number + 1) before line rest said more (rw place at last),
+    )
 
 -- What is left of a text after so many lines, which read as that trace.
 pub record IsRead (text rest : List ℕ) (number : ℕ) (trace : List Line) : Type 0 where
@@ -74,7 +85,8 @@ line_more text rest after line number trace new read cut keeps =
     let last : ReadsFrom (number + 1) (line ∷ []) keeps.said = ([], allowed.few, allowed.short, keeps.says, refl) in
     record {
       before = read.before ++ line ∷ [];
-      lines_are = read.lines_are ∙ ap (λ lines. read.before ++ lines) cut ∙ sym (append_assoc read.before (line ∷ []) (lines_of after));
+      lines_are = read.lines_are ∙ ap (λ lines. read.before ++ lines) cut
+          ∙ sym (append_assoc read.before (line ∷ []) (lines_of after));
       number_is = simp length-append (omega (arith, read.number_is));
       reads = rw keeps.new_is (reads_push 1 read.before line trace keeps.said read.reads (rw place last));
     }

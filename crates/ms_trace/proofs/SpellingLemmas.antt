@@ -1,7 +1,8 @@
 -- The spelling of a valid command is cut into its fields, is no silent line, and is that of no other
 -- command. So a line has no fault exactly where it is silent or spells a valid command.
 use Rattle.std.proofs.Common.{◌≡◌, ℕ, ◌⊎◌, inl, inr, ⊎_elim, IsTrue, get_or, length-append, ◌^◌, ◌<◌, ◌≤◌, Bool, not}
-use Rattle.std.proofs.Common.{true, false, cond, ltb, eqb, List, [], ◌∷◌, length, refl, sym, ◌∙◌, ap, arith, Option, Some, None, codes}
+use Rattle.std.proofs.Common.{true, false, cond, ltb, eqb, List, [], ◌∷◌, length, refl, sym, ◌∙◌, ap, arith, Option}
+use Rattle.std.proofs.Common.{Some, None, codes}
 use Rattle.std.proofs.lemmas.Bool.Decides.{nat_tests}
 use Rattle.std.proofs.lemmas.Fmt.{length-decimal-le}
 use Rattle.std.proofs.lemmas.List.Elements.{All-from_recursion}
@@ -127,11 +128,14 @@ block_value n h = value-decimal n (omega arith)
 
 command_of-fields : (command : Command) → IsValid command → command_of (command_fields command) ≡ command
 command_of-fields (Asks (New loader kind)) h = rw (loader_value loader h) (rw (kind_of-word kind) refl)
-command_of-fields (Asks (Alloc loader block words)) (l, b, w) = rw (loader_value loader l) (rw (block_value block b) (rw (value-decimal words w) refl))
-command_of-fields (Asks (Calloc loader block words)) (l, b, w) = rw (loader_value loader l) (rw (block_value block b) (rw (value-decimal words w) refl))
+command_of-fields (Asks (Alloc loader block words)) (l, b, w) =
+    rw (loader_value loader l) (rw (block_value block b) (rw (value-decimal words w) refl))
+command_of-fields (Asks (Calloc loader block words)) (l, b, w) =
+    rw (loader_value loader l) (rw (block_value block b) (rw (value-decimal words w) refl))
 command_of-fields (Asks (Write loader block index value)) (l, b, i, v) =
     rw (loader_value loader l) (rw (block_value block b) (rw (value-decimal index i) (rw (value-decimal value v) refl)))
-command_of-fields (Asks (Read loader block index)) (l, b, i) = rw (loader_value loader l) (rw (block_value block b) (rw (value-decimal index i) refl))
+command_of-fields (Asks (Read loader block index)) (l, b, i) =
+    rw (loader_value loader l) (rw (block_value block b) (rw (value-decimal index i) refl))
 command_of-fields (Asks (Free loader block)) (l, b) = rw (loader_value loader l) (rw (block_value block b) refl)
 command_of-fields (Asks (Unload loader)) h = rw (loader_value loader h) refl
 command_of-fields (Asks Purge) h = refl
@@ -163,16 +167,19 @@ kind_length Reflection = omega arith
 kind_length Hidden = omega arith
 
 pub spelling_is_short : (command : Command) → IsValid command → length (spelling_of command) ≤ most_bytes
-spelling_is_short (Asks (New loader kind)) h = simp length-append (omega (arith, loader_length loader h, kind_length kind))
+spelling_is_short (Asks (New loader kind)) h =
+    simp length-append (omega (arith, loader_length loader h, kind_length kind))
 spelling_is_short (Asks (Alloc loader block words)) (l, b, w) =
     simp length-append (omega (arith, loader_length loader l, block_length block b, word_length words w))
 spelling_is_short (Asks (Calloc loader block words)) (l, b, w) =
     simp length-append (omega (arith, loader_length loader l, block_length block b, word_length words w))
 spelling_is_short (Asks (Write loader block index value)) (l, b, i, v) =
-    simp length-append (omega (arith, loader_length loader l, block_length block b, word_length index i, word_length value v))
+    simp length-append
+    (omega (arith, loader_length loader l, block_length block b, word_length index i, word_length value v))
 spelling_is_short (Asks (Read loader block index)) (l, b, i) =
     simp length-append (omega (arith, loader_length loader l, block_length block b, word_length index i))
-spelling_is_short (Asks (Free loader block)) (l, b) = simp length-append (omega (arith, loader_length loader l, block_length block b))
+spelling_is_short (Asks (Free loader block)) (l, b) =
+    simp length-append (omega (arith, loader_length loader l, block_length block b))
 spelling_is_short (Asks (Unload loader)) h = omega (arith, loader_length loader h)
 spelling_is_short (Asks Purge) h = omega arith
 spelling_is_short Sync h = omega arith
@@ -213,7 +220,8 @@ allowed_from_no_fault number line e =
     record {
       few = grind (arith, nat_tests, parts.0);
       short = grind (arith, nat_tests, parts.1);
-      says = ⊎_elim (λ silent. inl silent) (λ none. inr (spelled_line line (command_from_no_fault (fields_of line) none))) parts.2;
+      says = ⊎_elim (λ silent. inl silent)
+          (λ none. inr (spelled_line line (command_from_no_fault (fields_of line) none))) parts.2;
     }
 
 no_fault_back : (many long silent : Bool) (fault : Option FaultKind) → many ≡ false → long ≡ false
@@ -228,5 +236,7 @@ pub no_fault_from_allowed : (number : ℕ) (line : List ℕ) → IsAllowed numbe
 no_fault_from_allowed number line h =
     no_fault_back _ _ _ _ (grind (arith, nat_tests, h.few)) (grind (arith, nat_tests, h.short))
     (⊎_elim (λ silent. inl silent)
-    (λ spelled. inr (rw spelled.spelled (rw (fields_of-spelling spelled.command spelled.valid) (valid_has_no_fault spelled.command spelled.valid))))
+    (λ spelled. inr
+    (rw spelled.spelled
+    (rw (fields_of-spelling spelled.command spelled.valid) (valid_has_no_fault spelled.command spelled.valid))))
     h.says)

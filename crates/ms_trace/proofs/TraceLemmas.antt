@@ -9,7 +9,8 @@ use Rattle.ms_trace.specs.Grammar.{is_silent, most_lines}
 use Rattle.ms_trace.specs.Faults.{fault_of, AreFaultless}
 use Rattle.ms_trace.specs.Spelling.{spelling_of, Gives, ReadsFrom, rises_above}
 use Rattle.ms_trace.specs.Laws.{IsSameFault}
-use Rattle.ms_trace.proofs.SpellingLemmas.{IsAllowed, allowed_from_no_fault, no_fault_from_allowed, one_command, spelling_is_not_silent}
+use Rattle.ms_trace.proofs.SpellingLemmas.{IsAllowed, allowed_from_no_fault, no_fault_from_allowed, one_command}
+use Rattle.ms_trace.proofs.SpellingLemmas.{spelling_is_not_silent}
 
 -- Lines that read as a trace have no fault.
 pub faultless_from_reads : (number : ℕ) (lines : List (List ℕ)) (trace : List Line) → ReadsFrom number lines trace
@@ -19,7 +20,8 @@ faultless_from_reads number (line ∷ lines) trace (rest, few, short, says, more
     let allowed : IsAllowed number line = record {
       few = few;
       short = short;
-      says = ⊎_elim (λ silent. inl silent.0) (λ gives. inr (record { command = gives.command; valid = gives.valid; spelled = gives.spelled })) says;
+      says = ⊎_elim (λ silent. inl silent.0)
+          (λ gives. inr (record { command = gives.command; valid = gives.valid; spelled = gives.spelled })) says;
     } in
     (no_fault_from_allowed number line allowed, faultless_from_reads (number + 1) lines rest more)
 
@@ -32,7 +34,11 @@ goes_on : (number : ℕ) (line : List ℕ) (lines : List (List ℕ)) → IsAllow
     → Reads number (line ∷ lines)
 goes_on number line lines allowed later =
     elim allowed.says [
-      | inl silent ↦ record { trace = later.trace; reads = (later.trace, allowed.few, allowed.short, inl (silent, refl), later.reads) }
+      | inl silent ↦
+          record {
+            trace = later.trace;
+            reads = (later.trace, allowed.few, allowed.short, inl (silent, refl), later.reads);
+          }
       | inr spelled ↦ record {
         trace = record { number = number; command = spelled.command } ∷ later.trace;
         reads = (
@@ -66,7 +72,16 @@ cases_option (Some kind) = inr (kind, refl)
 
 found_here : (number : ℕ) (line : List ℕ) (lines : List (List ℕ)) (kind : FaultKind) → fault_of number line ≡ Some kind
     → HasFirst number (line ∷ lines)
-found_here number line lines kind e = record { before = []; line = line; after = lines; kind = kind; lines_are = refl; faultless = tt; kind_is = rw add-zero e }
+found_here number line lines kind e =
+    record {
+      before = [];
+      line = line;
+      after = lines;
+      kind = kind;
+      lines_are = refl;
+      faultless = tt;
+      kind_is = rw add-zero e;
+    }
 
 found_later : (number : ℕ) (line : List ℕ) (lines : List (List ℕ)) → fault_of number line ≡ None
     → HasFirst (number + 1) lines → HasFirst number (line ∷ lines)
@@ -86,7 +101,8 @@ pub faultless_or_first : (number : ℕ) (lines : List (List ℕ)) → AreFaultle
 faultless_or_first number [] = inl tt
 faultless_or_first number (line ∷ lines) =
     ⊎_elim
-    (λ none. ⊎_elim (λ later. inl (none, later)) (λ first. inr (found_later number line lines none first)) (faultless_or_first (number + 1) lines))
+    (λ none. ⊎_elim (λ later. inl (none, later)) (λ first. inr (found_later number line lines none first))
+    (faultless_or_first (number + 1) lines))
     (λ (kind, e). inr (found_here number line lines kind e))
     (cases_option (fault_of number line))
 
@@ -100,7 +116,8 @@ no_fault_among number (first ∷ before) line after (here, later) =
 
 -- A silent line spells no command.
 not_both : (line : List ℕ) (command : Command) → IsTrue (is_silent line) → line ≡ spelling_of command → ⊥
-not_both line command silent spelled = both_ways (is_silent line) (ap is_silent spelled ∙ spelling_is_not_silent command) silent
+not_both line command silent spelled =
+    both_ways (is_silent line) (ap is_silent spelled ∙ spelling_is_not_silent command) silent
 
 -- Lines read as one trace only.
 abbrev pub Says : ℕ → List ℕ → List Line → List Line → Type 0
@@ -114,7 +131,8 @@ same_line number line one other rest other_rest same (inl (silent, e)) (inr give
 same_line number line one other rest other_rest same (inr gives) (inl (silent, f)) =
     absurd (not_both line gives.command silent gives.spelled)
 same_line number line one other rest other_rest same (inr gives) (inr others) =
-    let command : gives.command ≡ others.command = one_command _ _ gives.valid others.valid (sym gives.spelled ∙ others.spelled) in
+    let command : gives.command ≡ others.command =
+    one_command _ _ gives.valid others.valid (sym gives.spelled ∙ others.spelled) in
     gives.trace_is
     ∙ ap (λ c. record { number = number; command = c } ∷ rest) command
     ∙ ap (λ lines. record { number = number; command = others.command } ∷ lines) same
@@ -123,12 +141,15 @@ same_line number line one other rest other_rest same (inr gives) (inr others) =
 pub one_trace : (number : ℕ) (lines : List (List ℕ)) (one other : List Line) → ReadsFrom number lines one
     → ReadsFrom number lines other → one ≡ other
 one_trace number [] one other e f = e ∙ sym f
-one_trace number (line ∷ lines) one other (rest, few, short, says, more) (other_rest, few2, short2, other_says, other_more) =
-    same_line number line one other rest other_rest (one_trace (number + 1) lines rest other_rest more other_more) says other_says
+one_trace number (line ∷ lines) one other (rest, few, short, says, more)
+    (other_rest, few2, short2, other_says, other_more) =
+    same_line number line one other rest other_rest (one_trace (number + 1) lines rest other_rest more other_more) says
+    other_says
 
 -- The numbers of a trace that was read rise.
 rises_after : (below number : ℕ) (line : List ℕ) (trace rest : List Line) → below < number → number ≤ most_lines →
-    rises_above below rest ≡ true → rises_above number rest ≡ true → Says number line trace rest → rises_above below trace ≡ true
+    rises_above below rest ≡ true → rises_above number rest ≡ true → Says number line trace rest
+    → rises_above below trace ≡ true
 rises_after below number line trace rest under few silent_rises rises (inl (silent, e)) = rw e silent_rises
 rises_after below number line trace rest under few silent_rises rises (inr gives) =
     rw gives.trace_is (and_from _ _ (and_from _ _ (lt-ltb below number under) (le-leb number most_lines few)) rises)
@@ -150,20 +171,29 @@ same_kind fault kind other_kind e f = cc
 
 pub one_fault : (number at other_at : ℕ) (before other_before : List (List ℕ))
     (line other_line : List ℕ) (after other_after : List (List ℕ)) (kind other_kind : FaultKind) →
-    before ++ line ∷ after ≡ other_before ++ other_line ∷ other_after → AreFaultless number before → AreFaultless number other_before →
+    before ++ line ∷ after ≡ other_before ++ other_line ∷ other_after → AreFaultless number before
+    → AreFaultless number other_before →
     at ≡ number + length before → other_at ≡ number + length other_before →
-    fault_of at line ≡ Some kind → fault_of other_at other_line ≡ Some other_kind → IsSameFault at other_at kind other_kind
+    fault_of at line ≡ Some kind → fault_of other_at other_line ≡ Some other_kind
+    → IsSameFault at other_at kind other_kind
 one_fault number at other_at [] [] line other_line after other_after kind other_kind e f g place other_place k l =
     let same_at : at ≡ other_at = omega arith in
     let same_line : line ≡ other_line = cc in
-    record { number_is = same_at; kind_is = same_kind (fault_of at line) kind other_kind k (rw same_at (rw same_line l)) }
-one_fault number at other_at [] (first ∷ rest) line other_line after other_after kind other_kind e f g place other_place k l =
+    record {
+      number_is = same_at;
+      kind_is = same_kind (fault_of at line) kind other_kind k (rw same_at (rw same_line l));
+    }
+one_fault number at other_at [] (first ∷ rest) line other_line after other_after kind other_kind e f g place other_place
+    k l =
     let same_at : at ≡ number = omega arith in
     let same_line : line ≡ first = cc in
     absurd (clash (fault_of at line) kind (rw same_at (rw same_line g.0)) k)
-one_fault number at other_at (first ∷ rest) [] line other_line after other_after kind other_kind e f g place other_place k l =
+one_fault number at other_at (first ∷ rest) [] line other_line after other_after kind other_kind e f g place other_place
+    k l =
     let same_at : other_at ≡ number = omega arith in
     let same_line : other_line ≡ first = cc in
     absurd (clash (fault_of other_at other_line) other_kind (rw same_at (rw same_line f.0)) l)
-one_fault number at other_at (first ∷ rest) (other_first ∷ other_rest) line other_line after other_after kind other_kind e f g place other_place k l =
-    one_fault (number + 1) at other_at rest other_rest line other_line after other_after kind other_kind (cc) f.1 g.1 (omega arith) (omega arith) k l
+one_fault number at other_at (first ∷ rest) (other_first ∷ other_rest) line other_line after other_after kind other_kind
+    e f g place other_place k l =
+    one_fault (number + 1) at other_at rest other_rest line other_line after other_after kind other_kind (cc) f.1 g.1
+    (omega arith) (omega arith) k l

@@ -1,15 +1,18 @@
 -- Which fault a text has: that of its first faulty line, by the line's first failing check.
-use Rattle.std.specs.Prelude.{◌≡◌, ℕ, ◌+◌, Bool, false, not, ◌&&◌, ◌||◌, nat_lt, ◌==◌, List, [], ◌∷◌, ◌++◌, length, Option, Some, None, if◌then◌else◌, bytes_eq, ⊤}
+use Rattle.std.specs.Prelude.{◌≡◌, ℕ, ◌+◌, Bool, false, not, ◌&&◌, ◌||◌, nat_lt, ◌==◌, List, [], ◌∷◌, ◌++◌, length}
+use Rattle.std.specs.Prelude.{Option, Some, None, if◌then◌else◌, bytes_eq, ⊤}
 use Rattle.std.specs.List.{list_any}
 use Rattle.std.specs.Map.{lookup}
 use Rattle.std.specs.Str.{all_ascii_digits}
 use Rattle.std.specs.Str.Parse.{digits_value}
 use Rattle.ms_base.specs.declared.kind.Kind.TheVariants.{Standard, Boot, Reflection, Hidden}
 use Rattle.ms_trace.specs.declared.fault.FaultKind.{FaultKind}
-use Rattle.ms_trace.specs.declared.fault.FaultKind.TheVariants.{TooManyLines, LineTooLong, UnknownCommand, FieldCount, BadKind, BadNumber, NumberTooLarge}
+use Rattle.ms_trace.specs.declared.fault.FaultKind.TheVariants.{TooManyLines, LineTooLong, UnknownCommand, FieldCount}
+use Rattle.ms_trace.specs.declared.fault.FaultKind.TheVariants.{BadKind, BadNumber, NumberTooLarge}
 use Rattle.ms_trace.specs.declared.fault.ParseFault.{ParseFault}
 use Rattle.ms_trace.specs.declared.fault.ParseFault.TheVariants.{Trace, OutOfMemory}
-use Rattle.ms_trace.specs.Grammar.{Field, kind_field, number_field, kind_word, commands, most_lines, most_bytes, lines_of, fields_of, is_silent}
+use Rattle.ms_trace.specs.Grammar.{Field, kind_field, number_field, kind_word, commands, most_lines, most_bytes}
+use Rattle.ms_trace.specs.Grammar.{lines_of, fields_of, is_silent}
 
 -- A number is the digit 0, or a digit 1 to 9 followed by digits.
 abbrev pub is_number : List ℕ → Bool

@@ -2,7 +2,8 @@
 ghost use Rattle.std.specs.Prelude.{◌≡◌, ◌++◌, ◌∷◌, IfOk, OnOk, IsTrue, decimal, replicate};
 ghost use Rattle.std.specs.List.{join_with_byte};
 ghost use Rattle.ms_trace.specs.Grammar.{kind_word};
-ghost use Rattle.ms_trace.specs.Spelling.{IsValid, IsValidStep, ReadsAs, rises_above, spelling_of, step_fields, text_of};
+ghost use Rattle.ms_trace.specs.Spelling.{IsValid, IsValidStep, ReadsAs, rises_above, spelling_of, step_fields};
+ghost use Rattle.ms_trace.specs.Spelling.{text_of};
 
 use crate::trace::{Command, Trace};
 use itoa::Buffer;

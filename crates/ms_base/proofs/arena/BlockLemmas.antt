@@ -18,10 +18,12 @@ use Rattle.ms_base.proofs.entries.EntryLemmas.{values_split, values_joined}
 -- The runs of blocks before, at and after a name.
 pub runs_split : (before after : List (ℕ × LiveBlock)) (name : ℕ) (block : LiveBlock)
     → runs_of (before ++ (name, block) ∷ after) ≡ runs_of before ++ run_of block ∷ runs_of after
-runs_split before after name block = ap (map run_of) (values_split before after name block) ∙ map-append run_of (values_of before) (block ∷ values_of after)
+runs_split before after name block = ap (map run_of) (values_split before after name block)
+    ∙ map-append run_of (values_of before) (block ∷ values_of after)
 
 pub runs_joined : (before after : List (ℕ × LiveBlock)) → runs_of (before ++ after) ≡ runs_of before ++ runs_of after
-runs_joined before after = ap (map run_of) (values_joined before after) ∙ map-append run_of (values_of before) (values_of after)
+runs_joined before after =
+    ap (map run_of) (values_joined before after) ∙ map-append run_of (values_of before) (values_of after)
 
 -- Those of a space: a part of the runs on each side of a block, and the block where it lies there.
 abbrev pub is_run_in : Space → ℕ × ℕ → Bool
@@ -40,7 +42,8 @@ runs_in_split space before after name block =
 
 pub runs_in_joined : (space : Space) (before after : List (ℕ × LiveBlock))
     → runs_in space (before ++ after) ≡ runs_in space before ++ runs_in space after
-runs_in_joined space before after = ap (filter (is_run_in space)) (runs_joined before after) ∙ filter-append (is_run_in space) (runs_of before) (runs_of after)
+runs_in_joined space before after = ap (filter (is_run_in space)) (runs_joined before after)
+    ∙ filter-append (is_run_in space) (runs_of before) (runs_of after)
 
 pub run_in_here : (space : Space) (block : LiveBlock) → is_in space block.start ≡ true
     → run_in space block ≡ run_of block ∷ []

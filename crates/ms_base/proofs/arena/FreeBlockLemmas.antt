@@ -1,5 +1,6 @@
 -- An arena stays sound where a block is placed in a free block, whose rest is kept.
-use Rattle.std.proofs.Common.{◌≡◌, ◌≤◌, ◌+◌, ◌-◌, ℕ, true, false, cond, Some, List, [], ◌∷◌, ◌++◌, refl, ◌∙◌, arith, inl, inr}
+use Rattle.std.proofs.Common.{◌≡◌, ◌≤◌, ◌+◌, ◌-◌, ℕ, true, false, cond, Some, List, [], ◌∷◌, ◌++◌, refl, ◌∙◌, arith}
+use Rattle.std.proofs.Common.{inl, inr}
 use Rattle.std.specs.Prelude.{nat_le}
 use Rattle.std.specs.List.{list_any}
 use Rattle.std.proofs.lemmas.Bool.{or_parts, or_from, or_left, or_right, or_cases, leb-true}
@@ -23,7 +24,8 @@ pub part_clear : (run part : ℕ × ℕ) (runs : List (ℕ × ℕ)) → run.0 �
 part_clear run part [] low high h = refl
 part_clear run part (r ∷ runs) low high h =
     let both = or_parts (meet run.0 run.1 r.0 r.1) (meets_any run runs) h in
-    or_from (meet part.0 part.1 r.0 r.1) (meets_any part runs) (narrower_clear run.0 run.1 part.0 part.1 r.0 r.1 low high both.0) (part_clear run part runs low high both.1)
+    or_from (meet part.0 part.1 r.0 r.1) (meets_any part runs)
+    (narrower_clear run.0 run.1 part.0 part.1 r.0 r.1 low high both.0) (part_clear run part runs low high both.1)
 
 narrower_inside : (a m k n b t : ℕ) → a ≤ k → k + n ≤ a + m → lies_in (a, m) (b, t) ≡ true
     → lies_in (k, n) (b, t) ≡ true
@@ -36,7 +38,8 @@ part_used run part [] low high h = absurd (cc)
 part_used run part (u ∷ used) low high h =
     let rest = list_any (λ (v : Chunk × ℕ). lies_in part (v.0.start, v.1)) used in
     elim (or_cases (lies_in run (u.0.start, u.1)) (list_any (λ (v : Chunk × ℕ). lies_in run (v.0.start, v.1)) used) h) [
-      | inl here ↦ or_left (lies_in part (u.0.start, u.1)) rest (narrower_inside run.0 run.1 part.0 part.1 u.0.start u.1 low high here)
+      | inl here ↦ or_left (lies_in part (u.0.start, u.1)) rest
+          (narrower_inside run.0 run.1 part.0 part.1 u.0.start u.1 low high here)
       | inr later ↦ or_right (lies_in part (u.0.start, u.1)) rest (part_used run part used low high later)
     ]
 
@@ -54,7 +57,8 @@ pub fits_beside : (arena : ArenaState) (b : List (ℕ × ℕ)) (block : ℕ × �
 fits_beside arena b block a run none fits = record {
   clear = rw (append_assoc b (block ∷ a) arena.kept)
       (list_any-with (λ (r : ℕ × ℕ). meet run.0 run.1 r.0 r.1) b block (a ++ arena.kept)
-      ∙ or_from (meet run.0 run.1 block.0 block.1) (meets_any run (b ++ (a ++ arena.kept))) none (rw (append_assoc b a arena.kept) at fits.clear));
+      ∙ or_from (meet run.0 run.1 block.0 block.1) (meets_any run (b ++ (a ++ arena.kept))) none
+      (rw (append_assoc b a arena.kept) at fits.clear));
   long = fits.long;
   used = fits.used;
 }
@@ -64,7 +68,8 @@ pub rest_is_sound : (arena : ArenaState) (live : List (ℕ × ℕ)) (start words
     → (2 ≤ words → Fits arena live (start, words)) → IsSound arena live
     → IsSound (record arena { kept = with_rest arena.kept start words }) live
 rest_is_sound arena live start words fits sound =
-    elim (nat_le 2 words) as (λ t. nat_le 2 words ≡ t → IsSound (record arena { kept = cond t (with_new arena.kept start words) arena.kept }) live) [
+    elim (nat_le 2 words) as (λ t. nat_le 2 words ≡ t
+    → IsSound (record arena { kept = cond t (with_new arena.kept start words) arena.kept }) live) [
       | true ↦ λ e. sound_with_kept arena live (start, words) (fits (leb-true 2 words e)) sound
       | false ↦ λ e. sound
     ] refl
@@ -77,7 +82,8 @@ used_is_sound arena b a run n has long within sound =
     rest_is_sound without_run (b ++ (run.0, n) ∷ a) (run.0 + n) (run.1 - n)
     (λ some. fits_beside without_run b (run.0, n) a (run.0 + n, run.1 - n) (after run.0 n (run.1 - n))
     (part_fits without_run (b ++ a) run (run.0 + n, run.1 - n) (omega arith) (omega arith) some out.fits))
-    (sound_with_live without_run b (run.0, n) a (part_fits without_run (b ++ a) run (run.0, n) (omega arith) (omega arith) long out.fits) out.sound)
+    (sound_with_live without_run b (run.0, n) a
+    (part_fits without_run (b ++ a) run (run.0, n) (omega arith) (omega arith) long out.fits) out.sound)
   where
     without_run : ArenaState
     without_run = record arena { kept = without arena.kept run.0 }

@@ -1,6 +1,7 @@
 -- An arena stays sound where a run comes to or leaves its live blocks or its free blocks; a run that
 -- comes meets none of those there, and one that leaves met none.
-use Rattle.std.proofs.Common.{◌≡◌, ◌≤◌, ℕ, Bool, true, false, Option, Some, None, List, [], ◌∷◌, ◌++◌, refl, sym, ap, ◌∙◌, arith}
+use Rattle.std.proofs.Common.{◌≡◌, ◌≤◌, ℕ, Bool, true, false, Option, Some, None, List, [], ◌∷◌, ◌++◌, refl, sym, ap}
+use Rattle.std.proofs.Common.{◌∙◌, arith}
 use Rattle.std.specs.Prelude.{nat_le}
 use Rattle.std.specs.List.{list_all}
 use Rattle.std.proofs.lemmas.Bool.{and_parts, or_parts, le-leb, leb-true}
@@ -27,7 +28,9 @@ pub sound_with_live : (arena : ArenaState) (b : List (ℕ × ℕ)) (run : ℕ ×
     → IsSound arena (b ++ a) → IsSound arena (b ++ run ∷ a)
 sound_with_live arena b run a fits sound = record {
   apart = rw new (apart-with b run (a ++ arena.kept) (rw old at fits.clear) (rw old at sound.apart));
-  long = rw new (list_all-with (λ (r : ℕ × ℕ). nat_le 2 r.1) b run (a ++ arena.kept) (le-leb 2 run.1 fits.long) (rw old at sound.long));
+  long = rw new
+      (list_all-with (λ (r : ℕ × ℕ). nat_le 2 r.1) b run (a ++ arena.kept) (le-leb 2 run.1 fits.long)
+      (rw old at sound.long));
   inside = rw new (list_all-with (is_in_use arena) b run (a ++ arena.kept) fits.used (rw old at sound.inside));
   few = sound.few;
   tops = sound.tops;
@@ -53,10 +56,14 @@ none_starts_there kept run clear long all = none_there (named kept run.0) refl
     none_there (Some words) e =
         let split = split_at kept run.0 words e in
         let tests = list_any-with (λ (r : ℕ × ℕ). meet run.0 run.1 r.0 r.1) split.before (run.0, words) split.after in
-        let none = (or_parts (meet run.0 run.1 run.0 words) (meets_any run (split.before ++ split.after)) (sym tests ∙ (rw split.is at clear))).0 in
+        let none =
+        (or_parts (meet run.0 run.1 run.0 words) (meets_any run (split.before ++ split.after))
+        (sym tests ∙ (rw split.is at clear))).0 in
         let two = and_parts (nat_le 2 words) (list_all (λ (r : ℕ × ℕ). nat_le 2 r.1) split.after)
-        (and_parts (list_all (λ (r : ℕ × ℕ). nat_le 2 r.1) split.before) (list_all (λ (r : ℕ × ℕ). nat_le 2 r.1) ((run.0, words) ∷ split.after))
-        (sym (list_all-append (λ (r : ℕ × ℕ). nat_le 2 r.1) split.before ((run.0, words) ∷ split.after)) ∙ (rw split.is at all))).1 in
+        (and_parts (list_all (λ (r : ℕ × ℕ). nat_le 2 r.1) split.before)
+        (list_all (λ (r : ℕ × ℕ). nat_le 2 r.1) ((run.0, words) ∷ split.after))
+        (sym (list_all-append (λ (r : ℕ × ℕ). nat_le 2 r.1) split.before ((run.0, words) ∷ split.after))
+        ∙ (rw split.is at all))).1 in
         let meets = meets_itself run.0 run.1 words long (leb-true 2 words two.0) in
         absurd (cc (none, meets))
 
@@ -65,8 +72,11 @@ pub sound_with_kept : (arena : ArenaState) (live : List (ℕ × ℕ)) (run : ℕ
     → IsSound arena live → IsSound (record arena { kept = with_new arena.kept run.0 run.1 }) live
 sound_with_kept arena live run fits sound = record {
   apart = rw new (apart-with (live ++ gap.before) run gap.after (rw old at fits.clear) (rw old at sound.apart));
-  long = rw new (list_all-with (λ (r : ℕ × ℕ). nat_le 2 r.1) (live ++ gap.before) run gap.after (le-leb 2 run.1 fits.long) (rw old at sound.long));
-  inside = rw new (list_all-with (is_in_use arena) (live ++ gap.before) run gap.after fits.used (rw old at sound.inside));
+  long = rw new
+      (list_all-with (λ (r : ℕ × ℕ). nat_le 2 r.1) (live ++ gap.before) run gap.after (le-leb 2 run.1 fits.long)
+      (rw old at sound.long));
+  inside = rw new
+      (list_all-with (is_in_use arena) (live ++ gap.before) run gap.after fits.used (rw old at sound.inside));
   few = sound.few;
   tops = sound.tops;
   kept = rises_with_new arena.kept run.0 run.1 sound.kept;
@@ -74,7 +84,8 @@ sound_with_kept arena live run fits sound = record {
   where
     gap : Gap arena.kept run.0
     gap = gap_at arena.kept run.0 (none_starts_there arena.kept run
-        (or_parts (meets_any run live) (meets_any run arena.kept) (sym (list_any-append (λ (r : ℕ × ℕ). meet run.0 run.1 r.0 r.1) live arena.kept) ∙ fits.clear)).1
+        (or_parts (meets_any run live) (meets_any run arena.kept)
+        (sym (list_any-append (λ (r : ℕ × ℕ). meet run.0 run.1 r.0 r.1) live arena.kept) ∙ fits.clear)).1
         fits.long
         (and_parts (list_all (λ (r : ℕ × ℕ). nat_le 2 r.1) live) (list_all (λ (r : ℕ × ℕ). nat_le 2 r.1) arena.kept)
         (sym (list_all-append (λ (r : ℕ × ℕ). nat_le 2 r.1) live arena.kept) ∙ sound.long)).1)
@@ -95,8 +106,11 @@ pub kept_taken_out : (arena : ArenaState) (live : List (ℕ × ℕ)) (run : ℕ 
 kept_taken_out arena live run has sound = record {
   sound = record {
     apart = rw gone (apart-rest_of (live ++ split.before) (run ∷ []) split.after (rw all at sound.apart));
-    long = rw gone (list_all-rest_of (λ (r : ℕ × ℕ). nat_le 2 r.1) (live ++ split.before) (run ∷ []) split.after (rw all at sound.long));
-    inside = rw gone (list_all-rest_of (is_in_use arena) (live ++ split.before) (run ∷ []) split.after (rw all at sound.inside));
+    long = rw gone
+        (list_all-rest_of (λ (r : ℕ × ℕ). nat_le 2 r.1) (live ++ split.before) (run ∷ []) split.after
+        (rw all at sound.long));
+    inside = rw gone
+        (list_all-rest_of (is_in_use arena) (live ++ split.before) (run ∷ []) split.after (rw all at sound.inside));
     few = sound.few;
     tops = sound.tops;
     kept = rises_without arena.kept run.0 sound.kept;
@@ -120,7 +134,8 @@ kept_taken_out arena live run has sound = record {
     one_of : (p : ℕ × ℕ → Bool) → list_all p ((live ++ split.before) ++ run ∷ split.after) ≡ true → p run ≡ true
     one_of p h =
         (and_parts (p run) (list_all p split.after)
-        (and_parts (list_all p (live ++ split.before)) (list_all p (run ∷ split.after)) (sym (list_all-append p (live ++ split.before) (run ∷ split.after)) ∙ h)).1).0
+        (and_parts (list_all p (live ++ split.before)) (list_all p (run ∷ split.after))
+        (sym (list_all-append p (live ++ split.before) (run ∷ split.after)) ∙ h)).1).0
 
 -- A live block is no more: the same.
 pub live_taken_out : (arena : ArenaState) (b : List (ℕ × ℕ)) (run : ℕ × ℕ) (a : List (ℕ × ℕ))
@@ -128,7 +143,8 @@ pub live_taken_out : (arena : ArenaState) (b : List (ℕ × ℕ)) (run : ℕ × 
 live_taken_out arena b run a sound = record {
   sound = record {
     apart = rw gone (apart-rest_of b (run ∷ []) (a ++ arena.kept) (rw all at sound.apart));
-    long = rw gone (list_all-rest_of (λ (r : ℕ × ℕ). nat_le 2 r.1) b (run ∷ []) (a ++ arena.kept) (rw all at sound.long));
+    long = rw gone
+        (list_all-rest_of (λ (r : ℕ × ℕ). nat_le 2 r.1) b (run ∷ []) (a ++ arena.kept) (rw all at sound.long));
     inside = rw gone (list_all-rest_of (is_in_use arena) b (run ∷ []) (a ++ arena.kept) (rw all at sound.inside));
     few = sound.few;
     tops = sound.tops;
@@ -150,4 +166,5 @@ live_taken_out arena b run a sound = record {
     one_of : (p : ℕ × ℕ → Bool) → list_all p (b ++ run ∷ (a ++ arena.kept)) ≡ true → p run ≡ true
     one_of p h =
         (and_parts (p run) (list_all p (a ++ arena.kept))
-        (and_parts (list_all p b) (list_all p (run ∷ (a ++ arena.kept))) (sym (list_all-append p b (run ∷ (a ++ arena.kept))) ∙ h)).1).0
+        (and_parts (list_all p b) (list_all p (run ∷ (a ++ arena.kept)))
+        (sym (list_all-append p b (run ∷ (a ++ arena.kept))) ∙ h)).1).0

@@ -1,8 +1,10 @@
 -- An arena stays sound where a top rises, and the words that it rises over fit there.
-use Rattle.std.proofs.Common.{◌≡◌, ◌≤◌, ◌<◌, ◌+◌, ◌-◌, ℕ, zero, suc, Bool, true, false, not, Some, List, [], ◌∷◌, ◌++◌, length, map, refl, ◌∙◌, subst, arith, inl, inr}
+use Rattle.std.proofs.Common.{◌≡◌, ◌≤◌, ◌<◌, ◌+◌, ◌-◌, ℕ, zero, suc, Bool, true, false, not, Some, List, [], ◌∷◌, ◌++◌}
+use Rattle.std.proofs.Common.{length, map, refl, ◌∙◌, subst, arith, inl, inr}
 use Rattle.std.specs.Prelude.{nat_le, slice_get, slice_index}
 use Rattle.std.specs.List.{All, AllByRecursion, list_any, list_all, zip}
-use Rattle.std.proofs.lemmas.Bool.{and_parts, and_from, or_from, or_left, or_right, or_cases, not-true, le-leb, leb-true}
+use Rattle.std.proofs.lemmas.Bool.{and_parts, and_from, or_from, or_left, or_right, or_cases, not-true, le-leb}
+use Rattle.std.proofs.lemmas.Bool.{leb-true}
 use Rattle.std.proofs.lemmas.Bool.Decides.{nat_tests}
 use Rattle.std.proofs.lemmas.List.Elements.{recursion_from_All}
 use Rattle.ms_base.specs.declared.policy.Policy.{Policy}
@@ -54,9 +56,11 @@ any_at_place run (c ∷ chunks) [] zero top chunk found h =
 any_at_place run (c ∷ chunks) (t ∷ tops) zero top chunk found h =
     let its : c ≡ chunk = cc in or_left (holds run (c, top)) (list_any (holds run) (zip chunks tops)) (rw its h)
 any_at_place run (c ∷ chunks) [] (suc place) top chunk found h =
-    or_right (holds run (c, 0)) (list_any (holds run) (zip chunks (tops_with [] place top))) (any_at_place run chunks [] place top chunk found h)
+    or_right (holds run (c, 0)) (list_any (holds run) (zip chunks (tops_with [] place top)))
+    (any_at_place run chunks [] place top chunk found h)
 any_at_place run (c ∷ chunks) (t ∷ tops) (suc place) top chunk found h =
-    or_right (holds run (c, t)) (list_any (holds run) (zip chunks (tops_with tops place top))) (any_at_place run chunks tops place top chunk found h)
+    or_right (holds run (c, t)) (list_any (holds run) (zip chunks (tops_with tops place top)))
+    (any_at_place run chunks tops place top chunk found h)
 
 -- Tops stay within fronts.
 all_raised : (chunks : List Chunk) (tops : List ℕ) (place top : ℕ) (chunk : Chunk) → slice_get chunks place ≡ Some chunk
@@ -65,13 +69,15 @@ all_raised : (chunks : List Chunk) (tops : List ℕ) (place top : ℕ) (chunk : 
 all_raised [] tops place top chunk found within h = absurd (cc)
 all_raised (c ∷ chunks) [] zero top chunk found within h =
     let its : c ≡ chunk = cc in
-    and_from (nat_le top c.front) (list_all is_topped_within (zip {X = ℕ} chunks [])) (rw its (le-leb top chunk.front within)) (none_topped is_topped_within chunks)
+    and_from (nat_le top c.front) (list_all is_topped_within (zip {X = ℕ} chunks []))
+    (rw its (le-leb top chunk.front within)) (none_topped is_topped_within chunks)
 all_raised (c ∷ chunks) (t ∷ tops) zero top chunk found within h =
     let its : c ≡ chunk = cc in
     and_from (nat_le top c.front) (list_all is_topped_within (zip chunks tops)) (rw its (le-leb top chunk.front within))
     (and_parts (nat_le t c.front) (list_all is_topped_within (zip chunks tops)) h).1
 all_raised (c ∷ chunks) [] (suc place) top chunk found within h =
-    and_from (nat_le 0 c.front) (list_all is_topped_within (zip chunks (tops_with [] place top))) (le-leb 0 c.front (omega arith))
+    and_from (nat_le 0 c.front) (list_all is_topped_within (zip chunks (tops_with [] place top)))
+    (le-leb 0 c.front (omega arith))
     (all_raised chunks [] place top chunk found within (none_topped is_topped_within chunks))
 all_raised (c ∷ chunks) (t ∷ tops) (suc place) top chunk found within h =
     let both = and_parts (nat_le t c.front) (list_all is_topped_within (zip chunks tops)) h in
@@ -82,7 +88,8 @@ few_tops : (tops : List ℕ) (place top n : ℕ) → length tops ≤ n → place
 few_tops [] zero top n few in' = omega arith
 few_tops [] (suc place) top n few in' = omega (arith, few_tops [] place top (n - 1) (omega arith) (omega arith))
 few_tops (t ∷ tops) zero top n few in' = few
-few_tops (t ∷ tops) (suc place) top n few in' = omega (arith, few_tops tops place top (n - 1) (omega arith) (omega arith))
+few_tops (t ∷ tops) (suc place) top n few in' =
+    omega (arith, few_tops tops place top (n - 1) (omega arith) (omega arith))
 
 pub place_within : {X : Type 0} (xs : List X) (place : ℕ) (x : X) → slice_get xs place ≡ Some x → place < length xs
 place_within [] place x found = absurd (cc)
@@ -95,9 +102,11 @@ top_within [] tops place chunk found h = absurd (cc)
 top_within (c ∷ chunks) [] place chunk found h = omega arith
 top_within (c ∷ chunks) (t ∷ tops) zero chunk found h =
     let its : c ≡ chunk = cc in
-    subst (λ (d : Chunk). t ≤ d.front) its (leb-true t c.front (and_parts (nat_le t c.front) (list_all is_topped_within (zip chunks tops)) h).0)
+    subst (λ (d : Chunk). t ≤ d.front) its
+    (leb-true t c.front (and_parts (nat_le t c.front) (list_all is_topped_within (zip chunks tops)) h).0)
 top_within (c ∷ chunks) (t ∷ tops) (suc place) chunk found h =
-    top_within chunks tops place chunk found (and_parts (nat_le t c.front) (list_all is_topped_within (zip chunks tops)) h).1
+    top_within chunks tops place chunk found
+    (and_parts (nat_le t c.front) (list_all is_topped_within (zip chunks tops)) h).1
 
 all_still_used : (arena : ArenaState) (place top : ℕ) (runs : List (ℕ × ℕ)) → slice_index arena.tops place ≤ top
     → list_all (is_in_use arena) runs ≡ true
@@ -106,7 +115,8 @@ all_still_used arena place top [] higher h = refl
 all_still_used arena place top (run ∷ runs) higher h =
     let both = and_parts (is_in_use arena run) (list_all (is_in_use arena) runs) h in
     let raised : ArenaState = record arena { tops = tops_with arena.tops place top } in
-    and_from (is_in_use raised run) (list_all (is_in_use raised) runs) (any_raised run arena.chunks arena.tops place top higher both.0)
+    and_from (is_in_use raised run) (list_all (is_in_use raised) runs)
+    (any_raised run arena.chunks arena.tops place top higher both.0)
     (all_still_used arena place top runs higher both.1)
 
 -- A top rises within its chunk's front.
@@ -147,11 +157,14 @@ above_is_clear policy (c ∷ chunks) [] place n chunk run fronts apart found wit
 above_is_clear policy (c ∷ chunks) (t ∷ tops) zero n chunk run fronts apart found within tops_in h =
     let its : chunk ≡ c = cc in
     let low = and_parts (nat_le t c.front) (list_all is_topped_within (zip chunks tops)) tops_in in
-    let none = not-true (meets_any (words_of c) (map words_of chunks)) (and_parts (not (meets_any (words_of c) (map words_of chunks))) (are_apart (map words_of chunks)) apart).0 in
+    let none =
+    not-true (meets_any (words_of c) (map words_of chunks))
+    (and_parts (not (meets_any (words_of c) (map words_of chunks))) (are_apart (map words_of chunks)) apart).0 in
     let fits : t + n ≤ c.front = subst (λ (d : Chunk). t + n ≤ d.front) its within in
     rw its (elim (or_cases (holds run (c, t)) (list_any (holds run) (zip chunks tops)) h) [
       | inl here ↦ above c.start t n run.0 run.1 here
-      | inr later ↦ clear_of_others policy c chunks (c.start + t, n) run (above_in_front c.start t n c.front fits) fronts.0.within fronts.1 none
+      | inr later ↦ clear_of_others policy c chunks (c.start + t, n) run (above_in_front c.start t n c.front fits)
+          fronts.0.within fronts.1 none
           (in_use_in_front run chunks tops low.1 later)
     ])
 above_is_clear policy (c ∷ chunks) (t ∷ tops) (suc place) n chunk run fronts apart found within tops_in h =
@@ -160,9 +173,11 @@ above_is_clear policy (c ∷ chunks) (t ∷ tops) (suc place) n chunk run fronts
     let top = slice_index tops place in
     elim (or_cases (holds run (c, t)) (list_any (holds run) (zip chunks tops)) h) [
       | inl here ↦ meet_turned (chunk.start + top) n run.0 run.1
-          ∙ clear_of_others policy c chunks run (chunk.start + top, n) (further run.0 run.1 c.start t c.front here (leb-true t c.front low.0)) fronts.0.within fronts.1
+          ∙ clear_of_others policy c chunks run (chunk.start + top, n)
+          (further run.0 run.1 c.start t c.front here (leb-true t c.front low.0)) fronts.0.within fronts.1
           (not-true (meets_any (words_of c) (map words_of chunks)) both.0)
-          (front_at_place (chunk.start + top, n) chunks place chunk found (above_in_front chunk.start top n chunk.front within))
+          (front_at_place (chunk.start + top, n) chunks place chunk found
+          (above_in_front chunk.start top n chunk.front within))
       | inr later ↦ above_is_clear policy chunks tops place n chunk run fronts.1 both.1 found within low.1 later
     ]
 
@@ -174,7 +189,8 @@ all_clear_above : (policy : Policy) (arena : ArenaState) (place n : ℕ) (chunk 
 all_clear_above policy arena place n chunk [] fronts apart found within tops_in h = refl
 all_clear_above policy arena place n chunk (run ∷ runs) fronts apart found within tops_in h =
     let both = and_parts (is_in_use arena run) (list_all (is_in_use arena) runs) h in
-    or_from (meet (chunk.start + slice_index arena.tops place) n run.0 run.1) (meets_any (chunk.start + slice_index arena.tops place, n) runs)
+    or_from (meet (chunk.start + slice_index arena.tops place) n run.0 run.1)
+    (meets_any (chunk.start + slice_index arena.tops place, n) runs)
     (above_is_clear policy arena.chunks arena.tops place n chunk run fronts apart found within tops_in both.0)
     (all_clear_above policy arena place n chunk runs fronts apart found within tops_in both.1)
 
@@ -185,7 +201,9 @@ pub above_fits : (policy : Policy) (arena : ArenaState) (live : List (ℕ × ℕ
     → IsSound arena live
     → Fits (record arena { tops = tops_with arena.tops place top }) live (chunk.start + slice_index arena.tops place, n)
 above_fits policy arena live place n top chunk fronts apart found is within long sound = record {
-  clear = all_clear_above policy arena place n chunk (live ++ arena.kept) (recursion_from_All (HasFront policy) arena.chunks fronts) apart found (omega (arith, is, within)) sound.tops sound.inside;
+  clear = all_clear_above policy arena place n chunk (live ++ arena.kept)
+      (recursion_from_All (HasFront policy) arena.chunks fronts) apart found (omega (arith, is, within)) sound.tops
+      sound.inside;
   long = long;
   used = any_at_place (chunk.start + slice_index arena.tops place, n) arena.chunks arena.tops place top chunk found
       (above_in_front chunk.start (slice_index arena.tops place) n top (omega (arith, is)));

@@ -18,7 +18,8 @@ pub named_changed_same : {X : Type 0} (es : List (ℕ × X)) (name : ℕ) (was i
     → named (with_changed es name is) name ≡ Some is
 named_changed_same [] name was is found = absurd (cc)
 named_changed_same {X} (e ∷ es) name was is found =
-    elim (is_at (nat_cmp name) e.0) as (λ b. is_at (nat_cmp name) e.0 ≡ b → cond b (Some e.1) (named es name) ≡ Some was → named (cond b ((e.0, is) ∷ es) (e ∷ with_changed es name is)) name ≡ Some is) [
+    elim (is_at (nat_cmp name) e.0) as (λ b. is_at (nat_cmp name) e.0 ≡ b → cond b (Some e.1) (named es name) ≡ Some was
+    → named (cond b ((e.0, is) ∷ es) (e ∷ with_changed es name is)) name ≡ Some is) [
       | true ↦ λ here found. rw here refl
       | false ↦ λ past found. rw past (named_changed_same es name was is found)
     ] refl found
@@ -27,15 +28,18 @@ pub named_changed_other : {X : Type 0} (es : List (ℕ × X)) (name : ℕ) (is :
     → named (with_changed es name is) other ≡ named es other
 named_changed_other [] name is other differ = refl
 named_changed_other {X} (e ∷ es) name is other differ =
-    elim (is_at (nat_cmp name) e.0) as (λ b. is_at (nat_cmp name) e.0 ≡ b → named (cond b ((e.0, is) ∷ es) (e ∷ with_changed es name is)) other ≡ named (e ∷ es) other) [
-      | true ↦ λ here. let past = not_at_other e.0 other (λ e_is. differ (sym (same_name name e.0 here) ∙ e_is)) in rw past refl
+    elim (is_at (nat_cmp name) e.0) as (λ b. is_at (nat_cmp name) e.0 ≡ b
+    → named (cond b ((e.0, is) ∷ es) (e ∷ with_changed es name is)) other ≡ named (e ∷ es) other) [
+      | true ↦ λ here. let past = not_at_other e.0 other (λ e_is. differ (sym (same_name name e.0 here) ∙ e_is)) in
+          rw past refl
       | false ↦ λ past. ap (cond (is_at (nat_cmp other) e.0) (Some e.1)) (named_changed_other es name is other differ)
     ] refl
 
 pub named_new_same : {X : Type 0} (es : List (ℕ × X)) (name : ℕ) (is : X) → named (with_new es name is) name ≡ Some is
 named_new_same [] name is = rw (at_itself name) refl
 named_new_same {X} (e ∷ es) name is =
-    elim (nat_cmp name e.0) as (λ o. nat_cmp name e.0 ≡ o → named (match_ordering o ((name, is) ∷ e ∷ es) ((e.0, is) ∷ es) (e ∷ with_new es name is)) name ≡ Some is) [
+    elim (nat_cmp name e.0) as (λ o. nat_cmp name e.0 ≡ o
+    → named (match_ordering o ((name, is) ∷ e ∷ es) ((e.0, is) ∷ es) (e ∷ with_new es name is)) name ≡ Some is) [
       | Less ↦ λ p. rw (at_itself name) refl
       | Equal ↦ λ p. rw p refl
       | Greater ↦ λ p. rw p (named_new_same es name is)
@@ -45,9 +49,12 @@ pub named_new_other : {X : Type 0} (es : List (ℕ × X)) (name : ℕ) (is : X) 
     → named (with_new es name is) other ≡ named es other
 named_new_other [] name is other differ = rw (not_at_other name other differ) refl
 named_new_other {X} (e ∷ es) name is other differ =
-    elim (nat_cmp name e.0) as (λ o. nat_cmp name e.0 ≡ o → named (match_ordering o ((name, is) ∷ e ∷ es) ((e.0, is) ∷ es) (e ∷ with_new es name is)) other ≡ named (e ∷ es) other) [
+    elim (nat_cmp name e.0) as (λ o. nat_cmp name e.0 ≡ o
+    → named (match_ordering o ((name, is) ∷ e ∷ es) ((e.0, is) ∷ es) (e ∷ with_new es name is)) other
+    ≡ named (e ∷ es) other) [
       | Less ↦ λ p. rw (not_at_other name other differ) refl
-      | Equal ↦ λ p. let past = not_at_other e.0 other (λ e_is. differ (sym (same_name name e.0 (ap is_eq p)) ∙ e_is)) in rw past refl
+      | Equal ↦ λ p. let past = not_at_other e.0 other (λ e_is. differ (sym (same_name name e.0 (ap is_eq p)) ∙ e_is))
+          in rw past refl
       | Greater ↦ λ p. ap (cond (is_at (nat_cmp other) e.0) (Some e.1)) (named_new_other es name is other differ)
     ] refl
 
@@ -55,8 +62,10 @@ pub named_without_other : {X : Type 0} (es : List (ℕ × X)) (name other : ℕ)
     → named (without es name) other ≡ named es other
 named_without_other [] name other differ = refl
 named_without_other {X} (e ∷ es) name other differ =
-    elim (is_at (nat_cmp name) e.0) as (λ b. is_at (nat_cmp name) e.0 ≡ b → named (cond b es (e ∷ without es name)) other ≡ named (e ∷ es) other) [
-      | true ↦ λ here. let past = not_at_other e.0 other (λ e_is. differ (sym (same_name name e.0 here) ∙ e_is)) in rw past refl
+    elim (is_at (nat_cmp name) e.0) as (λ b. is_at (nat_cmp name) e.0 ≡ b
+    → named (cond b es (e ∷ without es name)) other ≡ named (e ∷ es) other) [
+      | true ↦ λ here. let past = not_at_other e.0 other (λ e_is. differ (sym (same_name name e.0 here) ∙ e_is)) in
+          rw past refl
       | false ↦ λ past. ap (cond (is_at (nat_cmp other) e.0) (Some e.1)) (named_without_other es name other differ)
     ] refl
 
@@ -65,7 +74,9 @@ pub changed_twice : {X : Type 0} (es : List (ℕ × X)) (name : ℕ) (first seco
     → with_changed (with_changed es name first) name second ≡ with_changed es name second
 changed_twice [] name first second = refl
 changed_twice {X} (e ∷ es) name first second =
-    elim (is_at (nat_cmp name) e.0) as (λ b. is_at (nat_cmp name) e.0 ≡ b → with_changed (cond b ((e.0, first) ∷ es) (e ∷ with_changed es name first)) name second ≡ cond b ((e.0, second) ∷ es) (e ∷ with_changed es name second)) [
+    elim (is_at (nat_cmp name) e.0) as (λ b. is_at (nat_cmp name) e.0 ≡ b
+    → with_changed (cond b ((e.0, first) ∷ es) (e ∷ with_changed es name first)) name second
+    ≡ cond b ((e.0, second) ∷ es) (e ∷ with_changed es name second)) [
       | true ↦ λ here. rw here refl
       | false ↦ λ past. rw past (ap (λ (l : List (ℕ × X)). e ∷ l) (changed_twice es name first second))
     ] refl

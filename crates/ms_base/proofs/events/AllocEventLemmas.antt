@@ -52,7 +52,8 @@ module _ (space : Space) (old : Machine) (name block words start : ℕ) (before 
   change chunks into = record { chunks = chunks; slots = into }
 
   pub had_back : (stage : Stage) → IsPlain stage
-      → MayChange old.limits.policy (block_words words) (change (arena_of space before).chunks (slots_in space old)) (change arena.chunks slots)
+      → MayChange old.limits.policy (block_words words) (change (arena_of space before).chunks (slots_in space old))
+      (change arena.chunks slots)
       → (seen : List (ℕ × LoaderState)) → IsSeen name (owes_block space block words start) (recommitted mid) seen
       → (done : List (Step × Reply)) → done ≡ (alloc_in space name block words, At start) ∷ []
       → GoesBack name stage old (recommitted mid) seen done

@@ -16,7 +16,8 @@ use Rattle.ms_base.specs.Live.{block_words}
 use Rattle.ms_base.specs.Place.{with_chunk}
 use Rattle.ms_base.specs.Asks.{wanted_level}
 use Rattle.ms_base.specs.PoolSteps.{slots_with}
-use Rattle.ms_base.specs.State.{ArenaState, LoaderState, Machine, PoolState, arena_of, with_arena, slots_in, pool_of, recommitted}
+use Rattle.ms_base.specs.State.{ArenaState, LoaderState, Machine, PoolState, arena_of, with_arena, slots_in, pool_of}
+use Rattle.ms_base.specs.State.{recommitted}
 use Rattle.ms_base.specs.Good.{IsGood}
 use Rattle.ms_base.specs.Transition.{HasLoader, with_loader, Change, MayChange, IsServable, AllocCause, Transition}
 use Rattle.ms_base.specs.WordLaws.{alloc_in}
@@ -44,7 +45,8 @@ is_passed pool p m n _ cause = absurd cause
 -- The refusal that the pool gave, as the machine tells it.
 told_by : (space : Space) (m : Machine) (name block words : ℕ) (loader : LoaderState) (refusal : Refusal)
     → HasLoader m name loader → IsServable m name block words
-    → NoneCause (pool_of space m) (wanted_level loader.kind space (arena_of space loader) (block_words words)) (level_that_holds (block_words words)) (block_words words) refusal
+    → NoneCause (pool_of space m) (wanted_level loader.kind space (arena_of space loader) (block_words words))
+    (level_that_holds (block_words words)) (block_words words) refusal
     → AllocCause m space name block words refusal
 told_by space m name block words loader (CommitLimit committed limit need) has servable cause =
     (servable, record { loader = loader; has = has; cause = cause })
@@ -54,7 +56,8 @@ told_by space m name block words loader _ has servable cause = absurd cause
 
 refused_in : (space : Space) (m : Machine) (name block words : ℕ) (refusal : Refusal)
     → AllocCause m space name block words refusal → Transition m (alloc_in space name block words) (Refused refusal) m
-refused_in NonClass m name block words refusal cause = (cause, leaves_same m (alloc_in NonClass name block words) refusal)
+refused_in NonClass m name block words refusal cause =
+    (cause, leaves_same m (alloc_in NonClass name block words) refusal)
 refused_in Class m name block words refusal cause = (cause, leaves_same m (alloc_in Class name block words) refusal)
 
 abbrev one_done : Step → Reply → List (Step × Reply)
@@ -75,7 +78,16 @@ module _ (space : Space) (name block words : ℕ) (spread : SpreadStep)
 
   owed : (reply : Reply) → spread.reply ≡ reply → is_place spread.events (acting request, replied reply) ≡ false
       → IsOwed request reply (acting request) (replied reply) false (after_it reply)
-  owed reply reply_is elsewhere = record { spread = spread; more = more; step_is = step_is; reply_is = reply_is; place_is = elsewhere; parts_are = refl; whole = whole }
+  owed reply reply_is elsewhere =
+      record {
+        spread = spread;
+        more = more;
+        step_is = step_is;
+        reply_is = reply_is;
+        place_is = elsewhere;
+        parts_are = refl;
+        whole = whole;
+      }
 
   -- A chunk is taken.
   pub goes_on_taken : (p m n start : ℕ) (chunk : Chunk) → spread.reply ≡ At start
@@ -108,9 +120,11 @@ module _ (space : Space) (name block words : ℕ) (spread : SpreadStep)
       → is_place spread.events (growing space name at total enlarges, lent chunk) ≡ true
       → is_place spread.events (acting request, replied (At start)) ≡ false
       → Grows old space name at total enlarges chunk new
-      → GoesOnBy name stage old new (Some spread, growing space name at total enlarges, lent chunk) (after_it (At start))
+      → GoesOnBy name stage old new (Some spread, growing space name at total enlarges, lent chunk)
+      (after_it (At start))
   goes_on_grown good at total start enlarges chunk reply_is here elsewhere grows =
-      subst (λ (one : Machine). GoesOnBy name stage old one (Some spread, growing space name at total enlarges, lent chunk) (after_it (At start)))
+      subst (λ (one : Machine). GoesOnBy name stage old one
+      (Some spread, growing space name at total enlarges, lent chunk) (after_it (At start)))
       (sym (grows.after ∙ ap recommitted (sym (slots_same space
       (with_loader old name (with_arena space grows.loader greater)))))) (record {
         next = owes_block space block words start;
@@ -135,7 +149,16 @@ module _ (space : Space) (name block words : ℕ) (spread : SpreadStep)
       changes = elim (grows_well space old name at total enlarges chunk new good grows).changes [
         | inl same ↦ inl (ap change (ap (slice_set arena.chunks grows.place) same
             ∙ set_same arena.chunks grows.place grows.was grows.asked.found))
-        | inr grown ↦ inr (inl (record { place = grows.place; was = grows.was; is = chunk; found = grows.asked.found; grown = grown; chunks = refl; slots = refl }))
+        | inr grown ↦
+            inr (inl (record {
+              place = grows.place;
+              was = grows.was;
+              is = chunk;
+              found = grows.asked.found;
+              grown = grown;
+              chunks = refl;
+              slots = refl;
+            }))
       ]
 
   -- A chunk is refused.
@@ -180,7 +203,9 @@ module _ (space : Space) (name block words : ℕ) (spread : SpreadStep)
 
       as_asked : (seen : List (ℕ × LoaderState))
           → (pool_of space (with_seen old seen)).held ≡ (pool_of space old).held
-          → NoneCause (pool_of space (with_seen old seen)) (wanted_level asks.loader.kind space (arena_of space asks.loader) (block_words words)) (level_that_holds (block_words words)) (block_words words) refusal
+          → NoneCause (pool_of space (with_seen old seen))
+          (wanted_level asks.loader.kind space (arena_of space asks.loader) (block_words words))
+          (level_that_holds (block_words words)) (block_words words) refusal
       as_asked seen held =
           subst (λ (pool : PoolState). NoneCause pool (wanted_level asks.loader.kind space
           (arena_of space asks.loader) (block_words words)) (level_that_holds (block_words words))

@@ -1,5 +1,6 @@
 -- The serial order's machine before an event, from the one after it: what all events share.
-use Rattle.std.proofs.Common.{◌≡◌, ℕ, Bool, true, false, Some, List, [], ◌∷◌, ◌++◌, refl, sym, ap, ◌∙◌, subst, if◌then◌else◌}
+use Rattle.std.proofs.Common.{◌≡◌, ℕ, Bool, true, false, Some, List, [], ◌∷◌, ◌++◌, refl, sym, ap, ◌∙◌, subst}
+use Rattle.std.proofs.Common.{if◌then◌else◌}
 use Rattle.ms_base.specs.declared.kind.Space.{Space}
 use Rattle.ms_base.specs.declared.kind.Space.TheVariants.{NonClass, Class}
 use Rattle.ms_base.specs.declared.span.Chunk.{Chunk}
@@ -35,7 +36,12 @@ pub recommitted_seen : (m : Machine) (seen : List (ℕ × LoaderState))
     → ((space : Space) → chunks_held space seen ≡ chunks_held space m.loaders)
     → recommitted (with_seen m seen) ≡ with_seen (recommitted m) seen
 recommitted_seen m seen held =
-    ap (λ (pool : PoolState). record (with_seen m seen) { committed = committed_now pool; class_committed = committed_now (pool_of Class (with_seen m seen)) }) (pool_seen NonClass m seen (held NonClass))
+    ap (λ (pool : PoolState).
+    record (with_seen m seen) {
+      committed = committed_now pool;
+      class_committed = committed_now (pool_of Class (with_seen m seen));
+    })
+    (pool_seen NonClass m seen (held NonClass))
     ∙ ap (λ (pool : PoolState). record (with_seen m seen) {
       committed = committed_now
           (pool_of NonClass m);

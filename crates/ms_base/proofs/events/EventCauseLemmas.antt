@@ -1,5 +1,6 @@
 -- Why a request is refused, and that it is refused so in a machine that has the same under its name.
-use Rattle.std.proofs.Common.{◌≡◌, ℕ, Bool, true, false, Some, Result, Ok, Err, refl, sym, ◌∙◌, subst, inl, inr, length, if◌then◌else◌}
+use Rattle.std.proofs.Common.{◌≡◌, ℕ, Bool, true, false, Some, Result, Ok, Err, refl, sym, ◌∙◌, subst, inl, inr, length}
+use Rattle.std.proofs.Common.{if◌then◌else◌}
 use Rattle.std.specs.Prelude.{⊤}
 use Rattle.ms_base.specs.declared.kind.Kind.{Kind}
 use Rattle.ms_base.specs.declared.span.Chunk.{Chunk}
@@ -9,13 +10,17 @@ use Rattle.ms_base.specs.declared.step.Step.{Step}
 use Rattle.ms_base.specs.declared.step.Step.TheVariants.{New, Alloc, Calloc, Write, Read, Free, Unload, Purge}
 use Rattle.ms_base.specs.declared.step.Reply.TheVariants.{Refused}
 use Rattle.ms_base.specs.declared.refusal.Refusal.{Refusal}
-use Rattle.ms_base.specs.declared.refusal.Refusal.TheVariants.{ZeroWords, TooLarge, CommitLimit, ReserveLimit, OutOfRange, OutOfMemory, NoLoader, LoaderExists, NoBlock, BlockExists, IdsUsedUp}
+use Rattle.ms_base.specs.declared.refusal.Refusal.TheVariants.{ZeroWords, TooLarge, CommitLimit, ReserveLimit}
+use Rattle.ms_base.specs.declared.refusal.Refusal.TheVariants.{OutOfRange, OutOfMemory, NoLoader, LoaderExists, NoBlock}
+use Rattle.ms_base.specs.declared.refusal.Refusal.TheVariants.{BlockExists, IdsUsedUp}
 use Rattle.ms_base.specs.Names.{named}
 use Rattle.ms_base.specs.Request.{loader_of}
 use Rattle.ms_base.specs.State.{LoaderState, Machine, PoolState}
 use Rattle.ms_base.specs.Pick.{chunk_picked}
-use Rattle.ms_base.specs.Causes.{committed_count, node_limit, granules_needed, meets_reserve_limit, meets_commit_limit, ReserveCause, CommitCause}
-use Rattle.ms_base.specs.Transition.{HasBlock, LacksBlock, IsServable, NewCause, AllocCause, BlockCause, WordCause, Cause, Leaves}
+use Rattle.ms_base.specs.Causes.{committed_count, node_limit, granules_needed, meets_reserve_limit, meets_commit_limit}
+use Rattle.ms_base.specs.Causes.{ReserveCause, CommitCause}
+use Rattle.ms_base.specs.Transition.{HasBlock, LacksBlock, IsServable, NewCause, AllocCause, BlockCause, WordCause}
+use Rattle.ms_base.specs.Transition.{Cause, Leaves}
 use Rattle.ms_base.specs.WordLaws.{alloc_in}
 use Rattle.ms_base.specs.Event.{LendsNone, ActsNotCause}
 use Rattle.ms_base.specs.Spread.{IsOwnReply}
@@ -40,7 +45,9 @@ none_cause pool p m words refusal (inl is) = go (meets_reserve_limit pool m)
     (meets_commit_limit pool p m words) refl refl is
   where
     go : (a b : Bool) → meets_reserve_limit pool m ≡ a → meets_commit_limit pool p m words ≡ b
-        → (if a then Err (ReserveLimit (length pool.slots) (node_limit pool)) else if b then Err (CommitLimit (committed_count pool) pool.limits.granules (granules_needed pool p m words)) else Ok (chunk_picked pool p m words)) ≡ Err refusal
+        → (if a then Err (ReserveLimit (length pool.slots) (node_limit pool)) else if b then Err
+        (CommitLimit (committed_count pool) pool.limits.granules (granules_needed pool p m words)) else Ok
+        (chunk_picked pool p m words)) ≡ Err refusal
         → NoneCause pool p m words refusal
     go true b e f is = subst (NoneCause pool p m words) (same_refusal
         (ReserveLimit (length pool.slots) (node_limit pool)) refusal is)
@@ -95,7 +102,8 @@ module _ (m other : Machine) (name : ℕ) (same : named other.loaders name ≡ n
   alloc_cause : (space : Space) (block words : ℕ) (refusal : Refusal) → IsOwnReply (Refused refusal)
       → AllocCause m space name block words refusal → AllocCause other space name block words refusal
   alloc_cause space block words NoLoader own cause = same ∙ cause
-  alloc_cause space block words BlockExists own cause = record { loader = cause.loader; found = cause.found; has = has_block block cause.loader cause.found cause.has }
+  alloc_cause space block words BlockExists own cause =
+      record { loader = cause.loader; found = cause.found; has = has_block block cause.loader cause.found cause.has }
   alloc_cause space block words ZeroWords own cause = (lacks_block block cause.0, cause.1)
   alloc_cause space block words TooLarge own cause = (lacks_block block cause.0, cause.1)
   alloc_cause space block words OutOfMemory own cause = servable block words cause
@@ -125,22 +133,28 @@ pub acts_not : (m other : Machine) (name : ℕ) → named other.loaders name ≡
     → IsOwnReply (Refused refusal) → ActsNotCause m step refusal → Cause other step refusal
 acts_not m other name same given (New mine kind) refusal its own cause =
     let eq : name ≡ mine = cc in
-    acts_not_new m other mine (subst (λ (n : ℕ). named other.loaders n ≡ named m.loaders n) eq same) given kind refusal cause
+    acts_not_new m other mine (subst (λ (n : ℕ). named other.loaders n ≡ named m.loaders n) eq same) given kind refusal
+    cause
 acts_not m other name same given (Alloc mine block words) refusal its own cause =
     let eq : name ≡ mine = cc in
-    acts_not_alloc m other mine (subst (λ (n : ℕ). named other.loaders n ≡ named m.loaders n) eq same) given NonClass block words refusal own cause
+    acts_not_alloc m other mine (subst (λ (n : ℕ). named other.loaders n ≡ named m.loaders n) eq same) given NonClass
+    block words refusal own cause
 acts_not m other name same given (Calloc mine block words) refusal its own cause =
     let eq : name ≡ mine = cc in
-    acts_not_alloc m other mine (subst (λ (n : ℕ). named other.loaders n ≡ named m.loaders n) eq same) given Class block words refusal own cause
+    acts_not_alloc m other mine (subst (λ (n : ℕ). named other.loaders n ≡ named m.loaders n) eq same) given Class block
+    words refusal own cause
 acts_not m other name same given (Write mine block index value) refusal its own cause =
     let eq : name ≡ mine = cc in
-    word_cause m other mine (subst (λ (n : ℕ). named other.loaders n ≡ named m.loaders n) eq same) given block index refusal cause
+    word_cause m other mine (subst (λ (n : ℕ). named other.loaders n ≡ named m.loaders n) eq same) given block index
+    refusal cause
 acts_not m other name same given (Read mine block index) refusal its own cause =
     let eq : name ≡ mine = cc in
-    word_cause m other mine (subst (λ (n : ℕ). named other.loaders n ≡ named m.loaders n) eq same) given block index refusal cause
+    word_cause m other mine (subst (λ (n : ℕ). named other.loaders n ≡ named m.loaders n) eq same) given block index
+    refusal cause
 acts_not m other name same given (Free mine block) refusal its own cause =
     let eq : name ≡ mine = cc in
-    block_cause m other mine (subst (λ (n : ℕ). named other.loaders n ≡ named m.loaders n) eq same) given block refusal cause
+    block_cause m other mine (subst (λ (n : ℕ). named other.loaders n ≡ named m.loaders n) eq same) given block refusal
+    cause
 acts_not m other name same given (Unload mine) refusal its own cause =
     let eq : name ≡ mine = cc in
     unload_cause m other mine (subst (λ (n : ℕ). named other.loaders n ≡ named m.loaders n) eq same) given refusal cause

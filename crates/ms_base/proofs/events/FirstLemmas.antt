@@ -68,10 +68,12 @@ module _ (space : Space) (mine block words : ℕ) (spread : SpreadStep)
   places_taken : (asked : List (Event × Answer)) → HasNoSpan space mine asked → (p m n start : ℕ) (chunk : Chunk)
       → Places asked (took p m n start chunk) (taking space mine p m n, lent chunk) (acting request, replied (At start))
   places_taken [] not_asked p m n start chunk = record { here = refl; elsewhere = refl }
-  places_taken (a ∷ asked) (not_had at total enlarges refusal) p m n start chunk = record { here = refl; elsewhere = refl }
+  places_taken (a ∷ asked) (not_had at total enlarges refusal) p m n start chunk =
+      record { here = refl; elsewhere = refl }
 
   places_passed : (asked : List (Event × Answer)) → HasNoSpan space mine asked → (p m n : ℕ) (refusal : Refusal)
-      → Places asked (passed p m n refusal) (taking space mine p m n, refused refusal) (acting request, replied (Refused refusal))
+      → Places asked (passed p m n refusal) (taking space mine p m n, refused refusal)
+      (acting request, replied (Refused refusal))
   places_passed [] not_asked p m n refusal = record { here = refl; elsewhere = refl }
   places_passed (a ∷ asked) (not_had at total enlarges other) p m n refusal = record { here = refl; elsewhere = refl }
 
@@ -81,7 +83,9 @@ module _ (space : Space) (mine block words : ℕ) (spread : SpreadStep)
   place_alone (a ∷ asked) (not_had at total enlarges other) reply = refl
 
   -- The first event of what is left, whatever was asked for in vain before it.
-  module _ (name : ℕ) (onto : (part : Part) (rest : List Part) → Some mine ≡ Some name → GoesOnBy mine stage old new part rest → GoesOnBy name stage old new part rest) where
+  module _ (name : ℕ)
+      (onto : (part : Part) (rest : List Part) → Some mine ≡ Some name → GoesOnBy mine stage old new part rest
+      → GoesOnBy name stage old new part rest) where
     abbrev goal : List (Event × Answer) → List Part → Type 0
     goal rest more = FirstGoesOn name stage old new (rest_of spread rest ++ more)
 
@@ -95,8 +99,10 @@ module _ (space : Space) (mine block words : ℕ) (spread : SpreadStep)
         subst (λ (l : List (Event × Answer)). goal l more) (sym takes.events_are) (λ happens asks is_mine.
         onto (Some spread, taking space mine takes.p takes.m takes.words, lent takes.chunk)
         ((Some spread, acting request, replied (At takes.at)) ∷ more) is_mine
-        (goes_on_taken space mine block words spread step_is stage plain old new more whole takes.p takes.m takes.words takes.at takes.chunk (reply_is ∙ takes.served)
-        (ap (λ (l : List (Event × Answer)). is_place l (taking space mine takes.p takes.m takes.words, lent takes.chunk)) its ∙ places.here)
+        (goes_on_taken space mine block words spread step_is stage plain old new more whole takes.p takes.m takes.words
+        takes.at takes.chunk (reply_is ∙ takes.served)
+        (ap (λ (l : List (Event × Answer)). is_place l
+        (taking space mine takes.p takes.m takes.words, lent takes.chunk)) its ∙ places.here)
         (ap (λ (l : List (Event × Answer)). is_place l (acting request, replied (At takes.at))) its
         ∙ places.elsewhere) happens asks))
     goes_on_first asked rest reply reply_is no_span (inr (inl passes)) events_are more whole =
@@ -106,8 +112,10 @@ module _ (space : Space) (mine block words : ℕ) (spread : SpreadStep)
         subst (λ (l : List (Event × Answer)). goal l more) (sym passes.events_are) (λ happens asks is_mine.
         onto (Some spread, taking space mine passes.p passes.m passes.words, refused passes.refusal)
         ((Some spread, acting request, replied (Refused passes.refusal)) ∷ more) is_mine
-        (goes_on_refused space mine block words spread step_is stage plain old new more whole passes.p passes.m passes.words passes.refusal (reply_is ∙ passes.passed)
-        (ap (λ (l : List (Event × Answer)). is_place l (taking space mine passes.p passes.m passes.words, refused passes.refusal)) its ∙ places.here)
+        (goes_on_refused space mine block words spread step_is stage plain old new more whole passes.p passes.m
+        passes.words passes.refusal (reply_is ∙ passes.passed)
+        (ap (λ (l : List (Event × Answer)). is_place l
+        (taking space mine passes.p passes.m passes.words, refused passes.refusal)) its ∙ places.here)
         (ap (λ (l : List (Event × Answer)). is_place l (acting request, replied (Refused passes.refusal))) its
         ∙ places.elsewhere) happens asks))
     goes_on_first asked rest reply reply_is no_span (inr (inr none)) events_are more whole =

@@ -1,5 +1,6 @@
 -- A chunk that grows leaves a good state.
-use Rattle.std.proofs.Common.{Bool, ◌≡◌, ◌≤◌, ◌+◌, ℕ, suc, zero, Some, List, [], ◌∷◌, ◌++◌, length, refl, sym, ap, ◌∙◌, subst, arith, inl, inr}
+use Rattle.std.proofs.Common.{Bool, ◌≡◌, ◌≤◌, ◌+◌, ℕ, suc, zero, Some, List, [], ◌∷◌, ◌++◌, length, refl, sym, ap, ◌∙◌}
+use Rattle.std.proofs.Common.{subst, arith, inl, inr}
 use Rattle.std.specs.Prelude.{slice_get, slice_set}
 use Rattle.std.specs.Ordering.{nat_cmp}
 use Rattle.std.specs.List.{Contains}
@@ -10,7 +11,8 @@ use Rattle.ms_base.specs.declared.kind.Space.TheVariants.{NonClass, Class}
 use Rattle.ms_base.specs.declared.span.Chunk.{Chunk}
 use Rattle.ms_base.specs.Spaces.{other_space}
 use Rattle.ms_base.specs.Names.{with_changed}
-use Rattle.ms_base.specs.State.{ArenaState, LoaderState, Machine, PoolState, arena_of, with_arena, chunks_held, slots_in, committed_in, committed_now, pool_of, recommitted}
+use Rattle.ms_base.specs.State.{ArenaState, LoaderState, Machine, PoolState, arena_of, with_arena, chunks_held}
+use Rattle.ms_base.specs.State.{slots_in, committed_in, committed_now, pool_of, recommitted}
 use Rattle.ms_base.specs.Live.{runs_in}
 use Rattle.ms_base.specs.Good.{IsSoundLoader, IsGood}
 use Rattle.ms_base.specs.Causes.{granules_missing}
@@ -20,7 +22,8 @@ use Rattle.ms_base.specs.Event.{Grows, with_chunk_at}
 use Rattle.ms_base.proofs.entries.EntryLemmas.{Split, split_at}
 use Rattle.ms_base.proofs.machine.GoodLemmas.{chunks_split, loader_is_sound}
 use Rattle.ms_base.proofs.machine.ChangeLemmas.{changed, slots_same, recommitted_same}
-use Rattle.ms_base.proofs.granules.GranuleGrowingLemmas.{growing_commits_the_missing, growing_keeps_the_limit, growing_is_clear}
+use Rattle.ms_base.proofs.granules.GranuleGrowingLemmas.{growing_commits_the_missing, growing_keeps_the_limit}
+use Rattle.ms_base.proofs.granules.GranuleGrowingLemmas.{growing_is_clear}
 use Rattle.ms_base.proofs.arena.BlockLemmas.{arena_there, arena_elsewhere}
 use Rattle.ms_base.proofs.arena.GrownLemmas.{grown_is_sound, good_with_grown}
 use Rattle.ms_base.proofs.events.KeptEventLemmas.{sound_with_arena}
@@ -157,14 +160,16 @@ good_with_greater space old name start total may_enlarge chunk new good grows = 
         ∙ sym (ap (λ (l : List Chunk). slice_set l there chunk)
         (held_was space old name start total may_enlarge chunk new good grows) ∙ set_later before
         (arena.chunks ++ after) grows.place chunk
-        ∙ ap (λ (l : List Chunk). before ++ l) (set_before arena.chunks after grows.place grows.was chunk grows.asked.found))
+        ∙ ap (λ (l : List Chunk). before ++ l)
+        (set_before arena.chunks after grows.place grows.was chunk grows.asked.found))
 
     well : GrowsWell pool grows.was chunk total
     well = grows_well space old name start total may_enlarge chunk new good grows
 
     unchanged : chunk ≡ grows.was → recommitted (with_loader old name other) ≡ old
     unchanged same =
-        ap (λ (l : List Chunk). recommitted (with_loader old name (with_arena space loader (record arena { chunks = l }))))
+        ap (λ (l : List Chunk). recommitted
+        (with_loader old name (with_arena space loader (record arena { chunks = l }))))
         (ap (slice_set arena.chunks grows.place) same ∙ set_same arena.chunks grows.place grows.was grows.asked.found)
         ∙ ap (λ (one : LoaderState). recommitted (with_loader old name one)) (same_arena space loader)
         ∙ ap (λ (l : List (ℕ × LoaderState)). recommitted (record old { loaders = l }))

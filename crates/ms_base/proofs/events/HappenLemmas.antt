@@ -17,10 +17,14 @@ use Rattle.ms_base.specs.State.{ArenaState, LoaderState, Machine, arena_of, with
 use Rattle.ms_base.specs.Live.{block_words}
 use Rattle.ms_base.specs.Good.{IsGood}
 use Rattle.ms_base.specs.Transition.{HasLoader, with_loader, zeroed}
-use Rattle.ms_base.specs.Event.{Event, opening, taking, growing, closing, purging, telling, acting, Answer, accepted, lent, counted, told, replied, refused, Happens, Acts, Adds, AddsBlock, emptied, IsSoundAfter}
+use Rattle.ms_base.specs.Event.{Event, opening, taking, growing, closing, purging, telling, acting, Answer, accepted}
+use Rattle.ms_base.specs.Event.{lent, counted, told, replied, refused, Happens, Acts, Adds, AddsBlock, emptied}
+use Rattle.ms_base.specs.Event.{IsSoundAfter}
 use Rattle.ms_base.specs.SpreadLaws.{LeavesOthers}
-use Rattle.ms_base.proofs.entries.LookupLemmas.{named_changed_same, named_changed_other, named_new_other, named_without_other}
-use Rattle.ms_base.proofs.machine.GoodLemmas.{good_with_new_loader, good_with_loader, good_without_loader, good_when_purged}
+use Rattle.ms_base.proofs.entries.LookupLemmas.{named_changed_same, named_changed_other, named_new_other}
+use Rattle.ms_base.proofs.entries.LookupLemmas.{named_without_other}
+use Rattle.ms_base.proofs.machine.GoodLemmas.{good_with_new_loader, good_with_loader, good_without_loader}
+use Rattle.ms_base.proofs.machine.GoodLemmas.{good_when_purged}
 use Rattle.ms_base.proofs.events.KeptEventLemmas.{TakingIsAddable, good_with_taken}
 use Rattle.ms_base.proofs.events.GrownEventLemmas.{good_with_greater}
 
@@ -113,7 +117,8 @@ good_acted : (old : Machine) (step : Step) (reply : Reply) (new : Machine) → I
     → Acts old step reply new × IsSoundAfter new step → IsGood new
 good_acted old step reply new good does = elim (acted old step reply new does.0) [
   | inl same ↦ subst IsGood (sym same) good
-  | inr changes ↦ subst IsGood (sym changes.is) (good_with_loader old changes.name changes.before changes.after changes.has changes.same
+  | inr changes ↦ subst IsGood (sym changes.is)
+      (good_with_loader old changes.name changes.before changes.after changes.has changes.same
       (does.1 changes.name changes.after changes.its (ap (λ (m : Machine). named m.loaders changes.name) changes.is
       ∙ named_changed_same old.loaders changes.name changes.before changes.after changes.has)) good)
 ]
@@ -124,20 +129,24 @@ pub good_after : TakingIsAddable → (old : Machine) (event : Event) (answer : A
 good_after addable old (opening name kind) accepted new good opens =
     subst IsGood (sym opens.made.after) (good_with_new_loader old name kind opens.made.unused opens.numbers good)
 good_after addable old (opening name kind) (refused IdsUsedUp) new good none = subst IsGood (sym none.1) good
-good_after addable old (taking space name p m words) (lent chunk) new good takes = good_with_taken addable space old name p m words chunk new good takes
-good_after addable old (taking space name p m words) (refused refusal) new good none = subst IsGood (sym none.after) good
+good_after addable old (taking space name p m words) (lent chunk) new good takes =
+    good_with_taken addable space old name p m words chunk new good takes
+good_after addable old (taking space name p m words) (refused refusal) new good none =
+    subst IsGood (sym none.after) good
 good_after addable old (growing space name start total may_enlarge)
     (lent chunk) new good grows = good_with_greater space old name start total may_enlarge chunk new good grows
 good_after addable old (growing space name start total may_enlarge) (refused refusal) new good none = subst IsGood
     (sym none.after) good
 good_after addable old (closing name) accepted new good closes = subst IsGood (sym closes.after)
     (good_without_loader old name closes.loader closes.has good)
-good_after addable old purging (counted nodes) new good purges = subst IsGood (sym purges.after) (good_when_purged old good)
+good_after addable old purging (counted nodes) new good purges =
+    subst IsGood (sym purges.after) (good_when_purged old good)
 good_after addable old (telling space) (told sums) new good tells = subst IsGood (sym tells.after) good
 good_after addable old (acting step) (replied (Refused refusal)) new good none = subst IsGood (sym none.1) good
 good_after addable old (acting step) (replied Done) new good does = good_acted old step Done new good does
 good_after addable old (acting step) (replied (At start)) new good does = good_acted old step (At start) new good does
-good_after addable old (acting step) (replied (Value value)) new good does = good_acted old step (Value value) new good does
+good_after addable old (acting step) (replied (Value value)) new good does =
+    good_acted old step (Value value) new good does
 good_after addable old _ _ new good none = absurd none
 
 -- Each event leaves the other loaders.
@@ -158,7 +167,8 @@ pub others_after : (old : Machine) (event : Event) (answer : Answer) (new : Mach
 others_after old (opening mine kind) accepted new opens name e =
     ap (λ (m : Machine). named m.loaders name) opens.made.after ∙ named_new_other old.loaders mine
     (empty_loader kind) name (is_other name mine e)
-others_after old (opening mine kind) (refused IdsUsedUp) new none name e = ap (λ (m : Machine). named m.loaders name) none.1
+others_after old (opening mine kind) (refused IdsUsedUp) new none name e =
+    ap (λ (m : Machine). named m.loaders name) none.1
 others_after old (taking space mine p m words) (lent chunk) new takes name e =
     ap (λ (m : Machine). named m.loaders name) takes.after ∙ named_changed_other old.loaders mine _ name
     (is_other name mine e)

@@ -1,5 +1,6 @@
 -- Each event leaves a good state, and all that is another loader's.
-use Rattle.std.proofs.Common.{◌≡◌, ◌≤◌, ◌+◌, ℕ, Bool, true, false, List, [], ◌∷◌, ◌++◌, length, refl, sym, ap, ◌∙◌, subst, arith, length-append}
+use Rattle.std.proofs.Common.{◌≡◌, ◌≤◌, ◌+◌, ℕ, Bool, true, false, List, [], ◌∷◌, ◌++◌, length, refl, sym, ap, ◌∙◌}
+use Rattle.std.proofs.Common.{subst, arith, length-append}
 use Rattle.std.specs.Prelude.{Ok, ◌||◌, nat_le}
 use Rattle.std.specs.List.{list_any, list_all, zip, filter, flat_map}
 use Rattle.std.specs.List.Sorted.{IsStrictlyIncreasing}
@@ -13,7 +14,8 @@ use Rattle.ms_base.specs.Spaces.{other_space, is_in}
 use Rattle.ms_base.specs.Committed.{committed_with, is_committed, granules_of}
 use Rattle.ms_base.specs.Pick.{granule_in, has_committed}
 use Rattle.ms_base.specs.Names.{with_changed}
-use Rattle.ms_base.specs.State.{ArenaState, LoaderState, Machine, arena_of, with_arena, chunks_held, committed_in, pool_of}
+use Rattle.ms_base.specs.State.{ArenaState, LoaderState, Machine, arena_of, with_arena, chunks_held, committed_in}
+use Rattle.ms_base.specs.State.{pool_of}
 use Rattle.ms_base.specs.Live.{runs_in}
 use Rattle.ms_base.specs.Good.{topped, IsSound, IsSoundLoader, IsGood}
 use Rattle.ms_base.specs.Causes.{committed_count, granules_missing}
@@ -24,7 +26,8 @@ use Rattle.ms_base.proofs.entries.EntryLemmas.{Split, split_at}
 use Rattle.ms_base.proofs.machine.GoodLemmas.{each_space, chunks_split, loader_is_sound}
 use Rattle.ms_base.proofs.machine.AddedLemmas.{MayReserve, IsAddable, slots_then, good_with_chunk}
 use Rattle.ms_base.proofs.machine.SlotLemmas.{reserved_with, slots_rise_with}
-use Rattle.ms_base.proofs.granules.GranuleCountLemmas.{meets_front, count_with_front, committed_in_slots, committed_with_slot}
+use Rattle.ms_base.proofs.granules.GranuleCountLemmas.{meets_front, count_with_front, committed_in_slots}
+use Rattle.ms_base.proofs.granules.GranuleCountLemmas.{committed_with_slot}
 use Rattle.ms_base.proofs.runs.ApartLemmas.{list_any-with}
 use Rattle.ms_base.proofs.arena.BlockLemmas.{arena_there, arena_elsewhere}
 
@@ -79,7 +82,8 @@ TakingIsAddable =
 record StaysCommitted (space : Space) (m : Machine) (start : ℕ) : Type 0 where
   rising : IsStrictlyIncreasing (slots_then space m start)
   reserved : is_reserved (slots_then space m start) (slot_of start) ≡ true
-  as_before : filter (has_committed (pool_of space m)) (flat_map (granules_of (granule_in (pool_of space m))) (slots_then space m start)) ≡ committed_in space m
+  as_before : filter (has_committed (pool_of space m))
+      (flat_map (granules_of (granule_in (pool_of space m))) (slots_then space m start)) ≡ committed_in space m
 
 stays_committed : (space : Space) (m : Machine) (start : ℕ) → MayReserve space m (slot_of start) → IsGood m
     → StaysCommitted space m start
@@ -158,8 +162,11 @@ good_with_taken addable space old name p most words chunk new good takes =
         ap (list_any test) now ∙ list_any-with test b chunk a ∙ turned (test chunk) (list_any test (b ++ a)) ∙ ap
         (λ (l : List Chunk). list_any test l || test chunk) (sym was)
 
-    count : length (committed_with old.limits.policy (committed_in space old) (chunks_held space (with_changed old.loaders name other)) (slots_then space old chunk.start))
+    count : length
+        (committed_with old.limits.policy (committed_in space old)
+        (chunks_held space (with_changed old.loaders name other)) (slots_then space old chunk.start))
         ≡ length (committed_in space old) + granules_missing (pool_of space old) chunk
     count = count_with_front (pool_of space old) (chunks_held space (with_changed old.loaders name other))
         (slots_then space old chunk.start) chunk (good.pools space)
-        its.addable.placed its.addable.front.some its.addable.front.within slots.rising slots.reserved slots.as_before adds
+        its.addable.placed its.addable.front.some its.addable.front.within slots.rising slots.reserved slots.as_before
+        adds

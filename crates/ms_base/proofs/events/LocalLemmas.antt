@@ -80,7 +80,8 @@ pub acts_on_block : (name : ℕ) (spread : SpreadStep) (old new : Machine) (step
     → AreWhole more → spread.step ≡ step → spread.reply ≡ reply
     → is_place spread.events (acting step, replied reply) ≡ true → (before after : LoaderState)
     → HasLoader old name before → new ≡ with_loader old name after
-    → ((m : Machine) → HasLoader m name before → IsGood (with_loader m name after) → Transition m step reply (with_loader m name after))
+    → ((m : Machine) → HasLoader m name before → IsGood (with_loader m name after)
+    → Transition m step reply (with_loader m name after))
     → GoesOnBy name idle old new (Some spread, acting step, replied reply) more
 acts_on_block name spread old new step reply more whole step_is reply_is here before after has is transition =
     subst (λ (one : Machine). GoesOnBy name idle old one (Some spread, acting step, replied reply) more) (sym is)
@@ -92,5 +93,6 @@ acts_on_block name spread old new step reply more whole step_is reply_is here be
           (λ l there found good. transition (with_seen old (with_changed l name before)) found
           (subst (λ (k : List (ℕ × LoaderState)). IsGood (with_seen old k))
           (sym (changed_back l name before after there)) good))
-          seen its _ (done_there spread (acting step) (replied reply) here ∙ same_step spread step reply step_is reply_is);
+          seen its _
+          (done_there spread (acting step) (replied reply) here ∙ same_step spread step reply step_is reply_is);
     })

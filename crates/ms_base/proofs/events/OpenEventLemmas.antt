@@ -18,13 +18,15 @@ use Rattle.ms_base.specs.Spread.{SpreadStep, Part, AreWhole}
 use Rattle.ms_base.specs.Serial.{is_place, done_by}
 use Rattle.ms_base.proofs.entries.NameLemmas.{rises_with_new}
 use Rattle.ms_base.proofs.entries.EntryLemmas.{Split, split_at, rises_without}
-use Rattle.ms_base.proofs.entries.LookupLemmas.{named_changed_same, named_new_same, named_new_other, named_without_other}
+use Rattle.ms_base.proofs.entries.LookupLemmas.{named_changed_same, named_new_same, named_new_other}
+use Rattle.ms_base.proofs.entries.LookupLemmas.{named_without_other}
 use Rattle.ms_base.proofs.machine.GoodLemmas.{chunks_split, chunks_joined, loader_is_sound}
 use Rattle.ms_base.proofs.machine.ChangeLemmas.{recommitted_same}
 use Rattle.ms_base.proofs.events.SeenEntryLemmas.{named_without_same, new_back, without_back}
 use Rattle.ms_base.proofs.events.EventCauseLemmas.{leaves_same}
 use Rattle.ms_base.proofs.events.StageLemmas.{idle, unloading, retracting, Was, IsSeen, GoesBack, GoesOnBy}
-use Rattle.ms_base.proofs.events.BackLemmas.{done_there, done_elsewhere, with_seen, recommitted_seen, goes_back, steps_back}
+use Rattle.ms_base.proofs.events.BackLemmas.{done_there, done_elsewhere, with_seen, recommitted_seen, goes_back}
+use Rattle.ms_base.proofs.events.BackLemmas.{steps_back}
 use Rattle.ms_base.proofs.events.AskLemmas.{same_step}
 
 module _ (name : ℕ) (spread : SpreadStep) (old new : Machine) (more : List Part) (whole : AreWhole more) where
@@ -88,13 +90,26 @@ module _ (name : ℕ) (spread : SpreadStep) (old new : Machine) (more : List Par
   pub goes_on_in_vain : (kind : Kind) → spread.step ≡ New name kind → spread.reply ≡ Refused OutOfMemory
       → is_place spread.events (opening name kind, accepted) ≡ true
       → is_place spread.events (closing name, accepted) ≡ false → Opens old name kind new
-      → GoesOnBy name idle old new (Some spread, opening name kind, accepted) ((Some spread, closing name, accepted) ∷ more)
+      → GoesOnBy name idle old new (Some spread, opening name kind, accepted)
+      ((Some spread, closing name, accepted) ∷ more)
   goes_on_in_vain kind step_is reply_is here elsewhere opens =
       subst (λ (one : Machine). GoesOnBy name idle old one (Some spread, opening name kind, accepted)
       ((Some spread, closing name, accepted) ∷ more)) (sym opens.made.after) (record {
         next = retracting;
         was = (kind, named_new_same old.loaders name (empty_loader kind));
-        left = (New name kind, Refused OutOfMemory, record { spread = spread; more = more; step_is = step_is; reply_is = reply_is; place_is = elsewhere; parts_are = refl; whole = whole });
+        left = (
+          New name kind,
+          Refused OutOfMemory,
+          record {
+            spread = spread;
+            more = more;
+            step_is = step_is;
+            reply_is = reply_is;
+            place_is = elsewhere;
+            parts_are = refl;
+            whole = whole;
+          },
+        );
         back = λ seen its. steps_back name idle old (record old {
           loaders = with_new old.loaders name
               (empty_loader kind);
@@ -109,7 +124,8 @@ module _ (name : ℕ) (spread : SpreadStep) (old new : Machine) (more : List Par
   pub goes_on_emptied : IsGood old → spread.step ≡ Unload name → spread.reply ≡ Done
       → is_place spread.events (acting (Unload name), replied Done) ≡ false
       → is_place spread.events (closing name, accepted) ≡ true → Empties old name new
-      → GoesOnBy name idle old new (Some spread, acting (Unload name), replied Done) ((Some spread, closing name, accepted) ∷ more)
+      → GoesOnBy name idle old new (Some spread, acting (Unload name), replied Done)
+      ((Some spread, closing name, accepted) ∷ more)
   goes_on_emptied good step_is reply_is elsewhere later empties =
       subst (λ (one : Machine). GoesOnBy name idle old one (Some spread, acting (Unload name), replied Done)
       ((Some spread, closing name, accepted) ∷ more)) (sym empties.after) (record {
@@ -119,7 +135,15 @@ module _ (name : ℕ) (spread : SpreadStep) (old new : Machine) (more : List Par
               (emptied empties.loader) empties.has,
           loader_is_sound old name empties.loader empties.has good,
         );
-        left = record { spread = spread; more = more; step_is = step_is; reply_is = reply_is; place_is = later; parts_are = refl; whole = whole };
+        left = record {
+          spread = spread;
+          more = more;
+          step_is = step_is;
+          reply_is = reply_is;
+          place_is = later;
+          parts_are = refl;
+          whole = whole;
+        };
         back = λ seen its. goes_back name idle old (record old {
           loaders = with_changed old.loaders name
               (emptied empties.loader);
@@ -151,7 +175,8 @@ module _ (name : ℕ) (spread : SpreadStep) (old new : Machine) (more : List Par
           let there = named_new_same seen name loader in
           steps_back name (unloading loader) old (recommitted mid) seen (with_new seen name loader) _ (Unload name) Done
           (done_there spread (closing name) accepted here ∙ same_step spread (Unload name) Done step_is reply_is)
-          (rises_with_new seen name loader its.rises) (λ other differ. named_new_other seen name loader other differ) there (
+          (rises_with_new seen name loader its.rises) (λ other differ. named_new_other seen name loader other differ)
+          there (
             record {
               loader = loader;
               has = there;
@@ -190,7 +215,8 @@ module _ (name : ℕ) (spread : SpreadStep) (old new : Machine) (more : List Par
       held space =
           ap (chunks_held space) split.gone ∙ chunks_joined space split.before split.after
           ∙ sym (ap (chunks_held space) split.is ∙ chunks_split space split.before split.after name (empty_loader was.0)
-          ∙ ap (λ (l : List Chunk). chunks_held space split.before ++ (l ++ chunks_held space split.after)) (no_chunks space))
+          ∙ ap (λ (l : List Chunk). chunks_held space split.before ++ (l ++ chunks_held space split.after))
+          (no_chunks space))
 
       same : (seen : List (ℕ × LoaderState))
           → ((space : Space) → chunks_held space seen ≡ chunks_held space (without old.loaders name))

@@ -19,7 +19,8 @@ use Rattle.ms_base.specs.Serial.{is_place}
 use Rattle.ms_base.proofs.entries.LookupLemmas.{named_changed_same}
 use Rattle.ms_base.proofs.machine.ChangeLemmas.{unchanged_pools}
 use Rattle.ms_base.proofs.events.SeenEntryLemmas.{changed_back}
-use Rattle.ms_base.proofs.events.StageLemmas.{Stage, idle, turned_down, owes_block, owes_refusal, IsPassed, IsOnItsWay, GoesOnBy}
+use Rattle.ms_base.proofs.events.StageLemmas.{Stage, idle, turned_down, owes_block, owes_refusal, IsPassed, IsOnItsWay}
+use Rattle.ms_base.proofs.events.StageLemmas.{GoesOnBy}
 use Rattle.ms_base.proofs.events.BackLemmas.{done_there, done_elsewhere, with_seen, goes_back}
 use Rattle.ms_base.proofs.events.AllocEventLemmas.{IsPlain, served_in}
 use Rattle.ms_base.proofs.events.AskLemmas.{same_step}
@@ -33,7 +34,8 @@ pub goes_on_turned : (space : Space) (name : ℕ) (spread : SpreadStep) (stage :
     → GrowsNone old space name at total enlarges refusal new
     → GoesOnBy name stage old new (Some spread, growing space name at total enlarges, refused refusal) rest
 goes_on_turned space name spread stage plain old new at total enlarges refusal rest on elsewhere none =
-    subst (λ (one : Machine). GoesOnBy name stage old one (Some spread, growing space name at total enlarges, refused refusal) rest) (sym none.after) (record {
+    subst (λ (one : Machine). GoesOnBy name stage old one
+    (Some spread, growing space name at total enlarges, refused refusal) rest) (sym none.after) (record {
       next = turned_down spread;
       was = tt;
       left = on;
@@ -69,14 +71,16 @@ pub pays_block : (space : Space) (name block words start : ℕ) (spread : Spread
     (more : List Part)
     → AreWhole more → is_place spread.events (acting (alloc_in space name block words), replied (At start)) ≡ false
     → HasAdded old space name block words start new
-    → GoesOnBy name (owes_block space block words start) old new (Some spread, acting (alloc_in space name block words), replied (At start)) more
+    → GoesOnBy name (owes_block space block words start) old new
+    (Some spread, acting (alloc_in space name block words), replied (At start)) more
 pays_block space name block words start spread old new more whole elsewhere added =
     subst (λ (one : Machine). GoesOnBy name (owes_block space block words start) old one
     (Some spread, acting (alloc_in space name block words), replied (At start)) more) (sym adds.after) (record {
       next = idle;
       was = tt;
       left = whole;
-      back = λ seen its. goes_back name (owes_block space block words start) old (with_loader old name adds.with_it) seen _
+      back = λ seen its. goes_back name (owes_block space block words start) old (with_loader old name adds.with_it)
+          seen _
           (done_elsewhere spread (acting (alloc_in space name block words)) (replied (At start)) elsewhere) its.rises
           (record {
             before = adds.before;
@@ -109,7 +113,8 @@ pub pays_refusal : (space : Space) (name block words : ℕ) (refusal : Refusal) 
     → AreWhole more → IsPassed refusal
     → is_place spread.events (acting (alloc_in space name block words), replied (Refused refusal)) ≡ false
     → ActsNotCause old (alloc_in space name block words) refusal × (new ≡ old)
-    → GoesOnBy name (owes_refusal space block words refusal) old new (Some spread, acting (alloc_in space name block words), replied (Refused refusal)) more
+    → GoesOnBy name (owes_refusal space block words refusal) old new
+    (Some spread, acting (alloc_in space name block words), replied (Refused refusal)) more
 pays_refusal space name block words refusal spread old new more whole passed elsewhere none =
     subst (λ (one : Machine). GoesOnBy name (owes_refusal space block words refusal) old one
     (Some spread, acting (alloc_in space name block words), replied (Refused refusal)) more) (sym none.1) (record {
@@ -117,8 +122,16 @@ pays_refusal space name block words refusal spread old new more whole passed els
       was = tt;
       left = whole;
       back = λ seen its. goes_back name (owes_refusal space block words refusal) old old seen _
-          (done_elsewhere spread (acting (alloc_in space name block words)) (replied (Refused refusal)) elsewhere) its.rises
-          (record { loader = can.lacks.loader; real_is = can.lacks.loader_is; same = its.mine; unused = can.lacks.unused; some = can.some; fits = can.fits }) refl;
+          (done_elsewhere spread (acting (alloc_in space name block words)) (replied (Refused refusal)) elsewhere)
+          its.rises
+          (record {
+            loader = can.lacks.loader;
+            real_is = can.lacks.loader_is;
+            same = its.mine;
+            unused = can.lacks.unused;
+            some = can.some;
+            fits = can.fits;
+          }) refl;
     })
   where
     can : IsServable old name block words
@@ -132,7 +145,8 @@ pub goes_on_placed : (space : Space) (name block words start : ℕ) (spread : Sp
     → HasAdded old space name block words start new
     → GoesOnBy name stage old new (Some spread, acting (alloc_in space name block words), replied (At start)) more
 goes_on_placed space name block words start spread step_is reply_is stage plain old new more whole here added =
-    subst (λ (one : Machine). GoesOnBy name stage old one (Some spread, acting (alloc_in space name block words), replied (At start)) more)
+    subst (λ (one : Machine). GoesOnBy name stage old one
+    (Some spread, acting (alloc_in space name block words), replied (At start)) more)
     (sym adds.after) (record {
       next = idle;
       was = tt;

@@ -1,6 +1,7 @@
 -- Entries by name that give the same at each name give the same together; so entries with the same
 -- values are the same, and a change is taken back by another.
-use Rattle.std.proofs.Common.{◌≡◌, ℕ, true, false, cond, Option, Some, None, List, [], ◌∷◌, ◌++◌, refl, sym, ap, ◌∙◌, inl, inr}
+use Rattle.std.proofs.Common.{◌≡◌, ℕ, true, false, cond, Option, Some, None, List, [], ◌∷◌, ◌++◌, refl, sym, ap, ◌∙◌}
+use Rattle.std.proofs.Common.{inl, inr}
 use Rattle.std.specs.Prelude.{⊤}
 use Rattle.std.specs.Ordering.{nat_cmp, ordering_reverse}
 use Rattle.std.specs.declared.cmp.Ordering.{Ordering}
@@ -108,7 +109,8 @@ module _ {X A : Type 0} (g : ℕ → X → List A) where
       (without_first e es [] r.0 refl same)
   alike (e ∷ es) (f ∷ fs) r s same =
       elim (nat_cmp e.0 f.0) as (λ (o : Ordering). nat_cmp e.0 f.0 ≡ o → all_of g (e ∷ es) ≡ all_of g (f ∷ fs)) [
-        | Less ↦ λ p. let none : named (f ∷ fs) e.0 ≡ None = none_above e.0 (f ∷ fs) (p, above_lower e.0 f.0 fs p s.0) in
+        | Less ↦ λ p. let none : named (f ∷ fs) e.0 ≡ None =
+            none_above e.0 (f ∷ fs) (p, above_lower e.0 f.0 fs p s.0) in
             ap (λ (l : List A). l ++ all_of g es) (gives_nothing e es (f ∷ fs) none same) ∙ alike es (f ∷ fs) r.1 s
             (without_first e es (f ∷ fs) r.0 none same)
         | Equal ↦ λ p. let eq : e.0 ≡ f.0 = exact_unsigned e.0 f.0 p in
@@ -118,7 +120,8 @@ module _ {X A : Type 0} (g : ℕ → X → List A) where
             (alike es fs r.1 s.1 (without_both e f es fs eq r.0 s.0 same))
         | Greater ↦ λ p. let less : nat_cmp f.0 e.0 ≡ Less = nat_cmp_total.antisymm f.0 e.0 ∙ ap ordering_reverse p in
             let none : named (e ∷ es) f.0 ≡ None = none_above f.0 (e ∷ es) (less, above_lower f.0 e.0 es less r.0) in
-            sym (ap (λ (l : List A). l ++ all_of g fs) (gives_nothing f fs (e ∷ es) none (turned (e ∷ es) (f ∷ fs) same))
+            sym (ap (λ (l : List A). l ++ all_of g fs)
+            (gives_nothing f fs (e ∷ es) none (turned (e ∷ es) (f ∷ fs) same))
             ∙ sym (alike (e ∷ es) fs r s.1 (turned fs (e ∷ es)
             (without_first f fs (e ∷ es) s.0 none (turned (e ∷ es) (f ∷ fs) same)))))
       ] refl
@@ -141,7 +144,8 @@ same_entries {X} es fs r s same =
 pub same_given : {X A : Type 0} (f : X → List A) (es fs : List (ℕ × X)) → AreNamed es → AreNamed fs
     → ((name : ℕ) → given (λ _ value. f value) name (named es name) ≡ given (λ _ value. f value) name (named fs name))
     → flat_map f (values_of es) ≡ flat_map f (values_of fs)
-same_given f es fs r s same = from_values es ∙ alike (λ _ value. f value) es fs (rises es r) (rises fs s) same ∙ sym (from_values fs)
+same_given f es fs r s same = from_values es ∙ alike (λ _ value. f value) es fs (rises es r) (rises fs s) same
+    ∙ sym (from_values fs)
   where
     from_values : (es : List (ℕ × _)) → flat_map f (values_of es) ≡ all_of (λ _ value. f value) es
     from_values [] = refl
@@ -178,9 +182,11 @@ pub without_back : {X : Type 0} (es : List (ℕ × X)) (name : ℕ) (is : X) →
     → without (with_new es name is) name ≡ es
 without_back es name is r none = same_entries (without (with_new es name is) name) es
     (rises_without (with_new es name is) name (rises_with_new es name is r)) r (λ other. elim (cases_eq name other) [
-      | inl eq ↦ ap (named (without (with_new es name is) name)) (sym eq) ∙ named_without_same (with_new es name is) name
+      | inl eq ↦ ap (named (without (with_new es name is) name)) (sym eq)
+          ∙ named_without_same (with_new es name is) name
           (rises_with_new es name is r) ∙ sym none ∙ ap (named es) eq
-      | inr differ ↦ named_without_other (with_new es name is) name other differ ∙ named_new_other es name is other differ
+      | inr differ ↦ named_without_other (with_new es name is) name other differ
+          ∙ named_new_other es name is other differ
     ])
 
 -- What holds of the value that each name has holds of all values.

@@ -10,7 +10,8 @@ use Rattle.ms_base.specs.Good.{IsSoundLoader, IsGood}
 use Rattle.ms_base.proofs.machine.GoodLemmas.{sound_with, loader_is_sound}
 use Rattle.ms_base.proofs.events.SeenEntryLemmas.{given, same_given, all_values}
 use Rattle.ms_base.proofs.events.HappenLemmas.{added_chunks, emptied_chunks}
-use Rattle.ms_base.proofs.events.StageLemmas.{Stage, idle, turned_down, owes_block, owes_refusal, unloading, retracting, Shows, Was}
+use Rattle.ms_base.proofs.events.StageLemmas.{Stage, idle, turned_down, owes_block, owes_refusal, unloading, retracting}
+use Rattle.ms_base.proofs.events.StageLemmas.{Shows, Was}
 use Rattle.ms_base.proofs.events.BackLemmas.{with_seen}
 
 abbrev chunks_in : Space → LoaderState → List Chunk
@@ -29,8 +30,11 @@ same_chunks : (space : Space) (name : ℕ) (stage : Stage) (serial real : Option
 same_chunks space name idle serial real shows was = ap (chunks_at space name) shows
 same_chunks space name (turned_down spread) serial real shows was = ap (chunks_at space name) shows
 same_chunks space name (owes_block one block words start) serial real shows was =
-    ap (chunks_at space name) shows.serial_is ∙ added_chunks one block words start shows.before shows.after shows.adds space ∙ sym (ap (chunks_at space name) shows.real_is)
-same_chunks space name (owes_refusal one block words refusal) serial real shows was = ap (chunks_at space name) shows.same
+    ap (chunks_at space name) shows.serial_is
+    ∙ added_chunks one block words start shows.before shows.after shows.adds space
+    ∙ sym (ap (chunks_at space name) shows.real_is)
+same_chunks space name (owes_refusal one block words refusal) serial real shows was =
+    ap (chunks_at space name) shows.same
 same_chunks space name (unloading loader) serial real shows was =
     ap (chunks_at space name) shows ∙ sym (emptied_chunks loader space) ∙ sym (ap (chunks_at space name) was.0)
 same_chunks space name retracting serial real shows was = ap (chunks_at space name) shows ∙ sym (none_in space was.0)

@@ -1,6 +1,7 @@
 -- Each spread is serial, by a walk over its moments from the last: before each there is a machine of
 -- the serial order from which its steps are a run.
-use Rattle.std.proofs.Common.{◌≡◌, ℕ, Bool, false, cond, Option, Some, None, List, [], ◌∷◌, ◌++◌, map, refl, sym, ap, ◌∙◌, subst, inl, inr}
+use Rattle.std.proofs.Common.{◌≡◌, ℕ, Bool, false, cond, Option, Some, None, List, [], ◌∷◌, ◌++◌, map, refl, sym, ap}
+use Rattle.std.proofs.Common.{◌∙◌, subst, inl, inr}
 use Rattle.std.specs.Prelude.{⊤, ◌==◌}
 use Rattle.std.specs.List.{AllByRecursion, filter}
 use Rattle.std.proofs.lemmas.Bool.{cases_eq, eq-eqb, false_from_ne_true, eqb-true}
@@ -20,14 +21,16 @@ use Rattle.ms_base.specs.Good.{IsGood}
 use Rattle.ms_base.specs.Run.{Run}
 use Rattle.ms_base.specs.Transition.{purged}
 use Rattle.ms_base.specs.Event.{Event, purging, telling, Answer, counted, told, Happens, loader_of_event}
-use Rattle.ms_base.specs.Spread.{SpreadStep, Spreads, Moment, part_of, parts_by, Follow, IsByItself, IsAskedFor, words_asked}
+use Rattle.ms_base.specs.Spread.{SpreadStep, Spreads, Moment, part_of, parts_by, Follow, IsByItself, IsAskedFor}
+use Rattle.ms_base.specs.Spread.{words_asked}
 use Rattle.ms_base.specs.Serial.{done_by, done_at, serial, steps_of, replies_of, is_place}
 use Rattle.ms_base.specs.SpreadLaws.{LeavesOthers, IsKeptAt, SpreadsAreSerial}
 use Rattle.ms_base.proofs.granules.FrontSumLemmas.{nothing_is_left}
 use Rattle.ms_base.proofs.events.SeenEntryLemmas.{same_entries}
 use Rattle.ms_base.proofs.events.KeptEventLemmas.{TakingIsAddable}
 use Rattle.ms_base.proofs.events.HappenLemmas.{good_after, others_after}
-use Rattle.ms_base.proofs.events.StageLemmas.{Stage, idle, turned_down, owes_block, owes_refusal, unloading, retracting, Shows, Was, Left, GoesBack, GoesOnBy}
+use Rattle.ms_base.proofs.events.StageLemmas.{Stage, idle, turned_down, owes_block, owes_refusal, unloading, retracting}
+use Rattle.ms_base.proofs.events.StageLemmas.{Shows, Was, Left, GoesBack, GoesOnBy}
 use Rattle.ms_base.proofs.events.BackLemmas.{done_there, with_seen, recommitted_seen}
 use Rattle.ms_base.proofs.events.AskLemmas.{same_step}
 use Rattle.ms_base.proofs.events.WholeLemmas.{first_left}
@@ -123,7 +126,8 @@ by_loader name stage moment moments old end is good good_then was left happens a
     was_then : (other : ℕ) → Was (at stage name goes.next other) (named moment.after.loaders other)
     was_then other = elim (cases_eq name other) [
       | inl same ↦ subst (λ (n : ℕ). Was (at stage name goes.next n) (named moment.after.loaders n)) same
-          (subst (λ (s : Stage). Was s (named moment.after.loaders name)) (sym (at_itself stage name goes.next)) goes.was)
+          (subst (λ (s : Stage). Was s (named moment.after.loaders name)) (sym (at_itself stage name goes.next))
+          goes.was)
       | inr apart ↦ subst (λ (s : Stage). Was s (named moment.after.loaders other))
           (sym (at_other stage name goes.next other apart))
           (subst (Was (stage other)) (sym (stays other apart)) (was other))
@@ -156,7 +160,8 @@ purged_seen : (m : Machine) (seen : List (ℕ × LoaderState))
     → ((space : Space) → chunks_held space seen ≡ chunks_held space m.loaders)
     → purged (with_seen m seen) ≡ with_seen (purged m) seen
 purged_seen m seen held =
-    ap (λ (l : List Chunk). recommitted (record m { loaders = seen; slots = filter (has_chunk_in l) m.slots })) (held NonClass)
+    ap (λ (l : List Chunk). recommitted (record m { loaders = seen; slots = filter (has_chunk_in l) m.slots }))
+    (held NonClass)
     ∙ recommitted_seen (record m { slots = filter (has_chunk_in (chunks_held NonClass m.loaders)) m.slots }) seen held
 
 -- What a Purge's only event, or totals, leaves in the serial order.
@@ -172,11 +177,12 @@ AsideFirst old new seen spread (event ∷ events) = Happens old event.0 event.1 
 by_purge : (old new : Machine) (seen : List (ℕ × LoaderState)) (spread : SpreadStep)
     → ((space : Space) → chunks_held space seen ≡ chunks_held space new.loaders) → IsGood (with_seen new seen)
     → Spreads Purge spread.reply spread.events → spread.step ≡ Purge → AsideFirst old new seen spread spread.events
-by_purge old new seen spread held good whole step_is = subst (AsideFirst old new seen spread) (sym whole.events_are) (λ purges. record {
-  run = λ later end run. subst (λ (l : List (Step × Reply)). Run (with_seen old seen) (steps_of (l ++ later))
-      (replies_of (l ++ later)) end) (sym done)
-      (with_seen new seen, (after purges.after, good), run);
-})
+by_purge old new seen spread held good whole step_is =
+    subst (AsideFirst old new seen spread) (sym whole.events_are) (λ purges. record {
+      run = λ later end run. subst (λ (l : List (Step × Reply)). Run (with_seen old seen) (steps_of (l ++ later))
+          (replies_of (l ++ later)) end) (sym done)
+          (with_seen new seen, (after purges.after, good), run);
+    })
   where
     done : done_by (Some spread) (purging, counted whole.nodes) ≡ (Purge, Done) ∷ []
     done =
@@ -195,7 +201,8 @@ aside : (old new : Machine) (seen : List (ℕ × LoaderState))
     → Happens old event answer new → StepsAside old new seen (done_by of (event, answer))
 aside old new seen held good (Some spread) event answer its happens =
     subst (AsideFirst old new seen spread) its.2
-    (by_purge old new seen spread held good (subst (λ (s : Step). Spreads s spread.reply spread.events) its.1 its.0) its.1) happens
+    (by_purge old new seen spread held good (subst (λ (s : Step). Spreads s spread.reply spread.events) its.1 its.0)
+    its.1) happens
 aside old new seen held good None event answer its happens = record {
   run = λ later end run. subst (λ (m : Machine). Run (with_seen m seen) (steps_of later) (replies_of later) end)
       (told_is old answer new its.0 (subst (λ (e : Event). Happens old e answer new) its.1 happens)) run;
@@ -217,7 +224,9 @@ by_itself stage moment moments old end none good_then was left happens its later
   loaders = sim.loaders;
   rises = sim.rises;
   shows = λ other. subst (Shows (stage other) (named sim.loaders other)) (stays other) (sim.shows other);
-  run = (aside old moment.after sim.loaders (seen_held stage moment.after sim.loaders good_then sim.rises sim.shows was_then) (seen_good stage moment.after sim.loaders good_then sim.rises sim.shows was_then)
+  run = (aside old moment.after sim.loaders
+      (seen_held stage moment.after sim.loaders good_then sim.rises sim.shows was_then)
+      (seen_good stage moment.after sim.loaders good_then sim.rises sim.shows was_then)
       moment.of moment.event moment.answer its happens).run (serial moments) end sim.run;
 }
   where

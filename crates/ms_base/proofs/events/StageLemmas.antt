@@ -16,7 +16,8 @@ use Rattle.ms_base.specs.State.{LoaderState, Machine, empty_loader, chunks_held}
 use Rattle.ms_base.specs.Good.{IsSoundLoader, IsGood}
 use Rattle.ms_base.specs.Run.{Run}
 use Rattle.ms_base.specs.WordLaws.{alloc_in}
-use Rattle.ms_base.specs.Event.{Event, closing, acting, Answer, accepted, replied, Happens, AddsBlock, emptied, loader_of_event}
+use Rattle.ms_base.specs.Event.{Event, closing, acting, Answer, accepted, replied, Happens, AddsBlock, emptied}
+use Rattle.ms_base.specs.Event.{loader_of_event}
 use Rattle.ms_base.specs.Spread.{SpreadStep, Part, AreWhole, HasNoSpan, GoesOn, IsAskedFor, words_asked}
 use Rattle.ms_base.specs.Serial.{is_place, done_by, steps_of, replies_of}
 
@@ -147,4 +148,5 @@ pub record GoesOnBy (name : ℕ) (stage : Stage) (old new : Machine) (part : Par
 abbrev pub FirstGoesOn : ℕ → Stage → Machine → Machine → List Part → Type 0
 FirstGoesOn name stage old new [] = ⊤
 FirstGoesOn name stage old new (part ∷ rest) =
-    Happens old part.1 part.2 new → IsAskedFor old part.1 (words_asked part.0) → loader_of_event part.1 ≡ Some name → GoesOnBy name stage old new part rest
+    Happens old part.1 part.2 new → IsAskedFor old part.1 (words_asked part.0) → loader_of_event part.1 ≡ Some name
+    → GoesOnBy name stage old new part rest

@@ -1,5 +1,6 @@
 -- The first event of a loader's whole step, and the next of one that is begun.
-use Rattle.std.proofs.Common.{◌≡◌, ℕ, Bool, true, false, Option, Some, List, [], ◌∷◌, ◌++◌, refl, sym, ap, ◌∙◌, subst, inl, inr}
+use Rattle.std.proofs.Common.{◌≡◌, ℕ, Bool, true, false, Option, Some, List, [], ◌∷◌, ◌++◌, refl, sym, ap, ◌∙◌, subst}
+use Rattle.std.proofs.Common.{inl, inr}
 use Rattle.std.specs.Prelude.{slice_set}
 use Rattle.std.specs.List.{AllByRecursion, flat_map}
 use Rattle.std.specs.Ordering.{nat_cmp}
@@ -21,15 +22,19 @@ use Rattle.ms_base.specs.State.{LoaderState, Machine}
 use Rattle.ms_base.specs.Good.{IsGood}
 use Rattle.ms_base.specs.Transition.{HasLoader, with_loader, with_block, with_freed}
 use Rattle.ms_base.specs.WordLaws.{alloc_in}
-use Rattle.ms_base.specs.Event.{Event, opening, growing, closing, acting, Answer, accepted, lent, replied, refused, Happens}
-use Rattle.ms_base.specs.Spread.{SpreadStep, Spreads, IsWhole, IsAlone, Part, parts_of, AreWhole, HasNoSpan, not_asked, not_had, GoesOn, SpreadsAlloc}
+use Rattle.ms_base.specs.Event.{Event, opening, growing, closing, acting, Answer, accepted, lent, replied, refused}
+use Rattle.ms_base.specs.Event.{Happens}
+use Rattle.ms_base.specs.Spread.{SpreadStep, Spreads, IsWhole, IsAlone, Part, parts_of, AreWhole, HasNoSpan, not_asked}
+use Rattle.ms_base.specs.Spread.{not_had, GoesOn, SpreadsAlloc}
 use Rattle.ms_base.specs.Serial.{is_place}
-use Rattle.ms_base.proofs.events.StageLemmas.{Stage, idle, turned_down, owes_block, owes_refusal, unloading, retracting, Was, Left, rest_of, GoesOnBy, FirstGoesOn}
+use Rattle.ms_base.proofs.events.StageLemmas.{Stage, idle, turned_down, owes_block, owes_refusal, unloading, retracting}
+use Rattle.ms_base.proofs.events.StageLemmas.{Was, Left, rest_of, GoesOnBy, FirstGoesOn}
 use Rattle.ms_base.proofs.events.AllocEventLemmas.{IsPlain}
 use Rattle.ms_base.proofs.events.AskLemmas.{goes_on_grown}
 use Rattle.ms_base.proofs.events.LocalLemmas.{acts_refused, acts_on_block}
 use Rattle.ms_base.proofs.events.OwedLemmas.{goes_on_turned, added_by, pays_block, pays_refusal}
-use Rattle.ms_base.proofs.events.OpenEventLemmas.{goes_on_opened, goes_on_unopened, goes_on_in_vain, goes_on_emptied, goes_on_closed, goes_on_retracted}
+use Rattle.ms_base.proofs.events.OpenEventLemmas.{goes_on_opened, goes_on_unopened, goes_on_in_vain, goes_on_emptied}
+use Rattle.ms_base.proofs.events.OpenEventLemmas.{goes_on_closed, goes_on_retracted}
 use Rattle.ms_base.proofs.events.FirstLemmas.{goes_on_first}
 
 idle_is_plain : IsPlain idle
@@ -67,7 +72,8 @@ module _ (name : ℕ) (old new : Machine) (good : IsGood old) (spread : SpreadSt
   -- A step that is its local event alone is done there.
   alone_here : (step : Step) (reply : Reply) → IsAlone step reply spread.events
       → is_place spread.events (acting step, replied reply) ≡ true
-  alone_here step reply alone = place_of (acting step) (replied reply) ((acting step, replied reply) ∷ []) alone.events_are true refl
+  alone_here step reply alone =
+      place_of (acting step) (replied reply) ((acting step, replied reply) ∷ []) alone.events_are true refl
 
   -- So where it is refused.
   refused_alone : (step : Step) (refusal : Refusal) → spread.step ≡ step → spread.reply ≡ Refused refusal
@@ -91,7 +97,8 @@ module _ (name : ℕ) (old new : Machine) (good : IsGood old) (spread : SpreadSt
   first_new mine kind step_is (Refused IdsUsedUp) reply_is its = subst goal (sym its) (λ happens asks is_mine.
       onto mine (Some spread, opening mine kind, refused IdsUsedUp) more is_mine
       (goes_on_unopened mine spread old new more whole kind step_is reply_is
-      (place_of (opening mine kind) (refused IdsUsedUp) ((opening mine kind, refused IdsUsedUp) ∷ []) its true refl) happens))
+      (place_of (opening mine kind) (refused IdsUsedUp) ((opening mine kind, refused IdsUsedUp) ∷ []) its true refl)
+      happens))
   first_new mine kind step_is (Refused OutOfMemory) reply_is (inl its) = subst goal (sym its) (λ happens asks is_mine.
       onto mine (Some spread, opening mine kind, accepted) ((Some spread, closing mine, accepted) ∷ more) is_mine
       (goes_on_in_vain mine spread old new more whole kind step_is reply_is
@@ -99,9 +106,11 @@ module _ (name : ℕ) (old new : Machine) (good : IsGood old) (spread : SpreadSt
       (place_of (closing mine) accepted (in_vain mine kind) its false refl) happens))
   first_new mine kind step_is (Refused OutOfMemory) reply_is (inr its) = refused_alone
       (New mine kind) OutOfMemory step_is reply_is its
-  first_new mine kind step_is (Refused refusal) reply_is its = refused_alone (New mine kind) refusal step_is reply_is its
+  first_new mine kind step_is (Refused refusal) reply_is its =
+      refused_alone (New mine kind) refusal step_is reply_is its
   first_new mine kind step_is (At start) reply_is its = never (New mine kind) (At start) its (λ happens. happens.0)
-  first_new mine kind step_is (Value value) reply_is its = never (New mine kind) (Value value) its (λ happens. happens.0)
+  first_new mine kind step_is (Value value) reply_is its =
+      never (New mine kind) (Value value) its (λ happens. happens.0)
 
   -- An Unload.
   first_unload : (mine : ℕ) → spread.step ≡ Unload mine → (reply : Reply) → spread.reply ≡ reply
@@ -118,7 +127,8 @@ module _ (name : ℕ) (old new : Machine) (good : IsGood old) (spread : SpreadSt
   -- A Write, a Read and a Free.
   first_write : (mine block index value : ℕ) → spread.step ≡ Write mine block index value → (reply : Reply)
       → spread.reply ≡ reply → Spreads (Write mine block index value) reply spread.events → goal spread.events
-  first_write mine block index value step_is Done reply_is its = subst goal (sym its.events_are) (λ happens asks is_mine.
+  first_write mine block index value step_is Done reply_is its =
+      subst goal (sym its.events_are) (λ happens asks is_mine.
       let writes = happens.0 in
       onto mine (Some spread, acting (Write mine block index value), replied Done) more is_mine
       (acts_on_block mine spread old new (Write mine block index value) Done more whole step_is reply_is
@@ -143,7 +153,8 @@ module _ (name : ℕ) (old new : Machine) (good : IsGood old) (spread : SpreadSt
 
   first_read : (mine block index : ℕ) → spread.step ≡ Read mine block index → (reply : Reply) → spread.reply ≡ reply
       → Spreads (Read mine block index) reply spread.events → goal spread.events
-  first_read mine block index step_is (Value value) reply_is its = subst goal (sym its.events_are) (λ happens asks is_mine.
+  first_read mine block index step_is (Value value) reply_is its =
+      subst goal (sym its.events_are) (λ happens asks is_mine.
       let reads = happens.0 in
       let same : (m : Machine) → HasLoader m mine reads.loader → with_loader m mine reads.loader ≡ m =
       λ m has. ap (λ (l : List (ℕ × LoaderState)). record m { loaders = l })
@@ -195,7 +206,8 @@ module _ (name : ℕ) (old new : Machine) (good : IsGood old) (spread : SpreadSt
   turned_elsewhere : (space : Space) (mine at total : ℕ) (enlarges : Bool) (refusal : Refusal) (step : Step)
       (reply : Reply) (rest : List (Event × Answer))
       → GoesOn space mine step reply rest
-      → is_place ((growing space mine at total enlarges, refused refusal) ∷ rest) (growing space mine at total enlarges, refused refusal) ≡ false
+      → is_place ((growing space mine at total enlarges, refused refusal) ∷ rest)
+      (growing space mine at total enlarges, refused refusal) ≡ false
   turned_elsewhere space mine at total enlarges refusal step reply rest goes_on = elim goes_on [
     | inl takes ↦ subst elsewhere (sym takes.events_are) refl
     | inr other ↦ elim other [
@@ -218,8 +230,10 @@ module _ (name : ℕ) (old new : Machine) (good : IsGood old) (spread : SpreadSt
         (onto mine) [] rest reply reply_is not_asked goes_on its more whole)
     first_asked (a ∷ asked) rest (not_had at total enlarges refusal) goes_on its = subst goal (sym its)
         (λ happens asks is_mine.
-        onto mine (Some spread, growing space mine at total enlarges, refused refusal) (rest_of spread rest ++ more) is_mine
-        (goes_on_turned space mine spread idle idle_is_plain old new at total enlarges refusal (rest_of spread rest ++ more)
+        onto mine (Some spread, growing space mine at total enlarges, refused refusal) (rest_of spread rest ++ more)
+        is_mine
+        (goes_on_turned space mine spread idle idle_is_plain old new at total enlarges refusal
+        (rest_of spread rest ++ more)
         (record {
           space = space;
           block = block;
@@ -245,7 +259,8 @@ module _ (name : ℕ) (old new : Machine) (good : IsGood old) (spread : SpreadSt
     first_alloc (inl grows) = subst goal (sym grows.events_are) (λ happens asks is_mine.
         onto mine (Some spread, growing space mine grows.start grows.total grows.enlarges, lent grows.chunk)
         ((Some spread, acting (alloc_in space mine block words), replied (At grows.at)) ∷ more) is_mine
-        (goes_on_grown space mine block words spread step_is idle idle_is_plain old new more whole good grows.start grows.total grows.at grows.enlarges grows.chunk (reply_is ∙ grows.served)
+        (goes_on_grown space mine block words spread step_is idle idle_is_plain old new more whole good grows.start
+        grows.total grows.at grows.enlarges grows.chunk (reply_is ∙ grows.served)
         (place_of (growing space mine grows.start grows.total grows.enlarges)
         (lent grows.chunk) _ grows.events_are true refl)
         (place_of (acting (alloc_in space mine block words))
@@ -260,7 +275,8 @@ module _ (name : ℕ) (old new : Machine) (good : IsGood old) (spread : SpreadSt
   first_whole (New mine kind) step_is its = first_new mine kind step_is spread.reply refl its
   first_whole (Alloc mine block words) step_is its = first_alloc NonClass mine block words step_is spread.reply refl its
   first_whole (Calloc mine block words) step_is its = first_alloc Class mine block words step_is spread.reply refl its
-  first_whole (Write mine block index value) step_is its = first_write mine block index value step_is spread.reply refl its
+  first_whole (Write mine block index value) step_is its =
+      first_write mine block index value step_is spread.reply refl its
   first_whole (Read mine block index) step_is its = first_read mine block index step_is spread.reply refl its
   first_whole (Free mine block) step_is its = first_free mine block step_is spread.reply refl its
   first_whole (Unload mine) step_is its = first_unload mine step_is spread.reply refl its
@@ -277,21 +293,28 @@ first_left name idle old new good was parts left = subst (FirstGoesOn name idle 
     of_steps [] whole = tt
     of_steps (spread ∷ steps) whole =
         first_whole name old new good spread (flat_map parts_of steps)
-        (record { steps = steps; whole = All-from_recursion IsWhole steps whole.1; parts_are = refl }) spread.step refl whole.0
+        (record { steps = steps; whole = All-from_recursion IsWhole steps whole.1; parts_are = refl }) spread.step refl
+        whole.0
 first_left name (turned_down spread) old new good was parts left = subst
     (FirstGoesOn name (turned_down spread) old new) (sym left.parts_are)
     (goes_on_first left.space name left.block left.words spread left.step_is (turned_down spread)
     (turned_is_plain spread) old new name (λ part rest e goes. goes)
     left.asked left.rest spread.reply refl left.no_span (subst
-    (λ (s : Step). GoesOn left.space name s spread.reply left.rest) left.step_is left.goes_on) left.events_are left.more left.whole)
+    (λ (s : Step). GoesOn left.space name s spread.reply left.rest) left.step_is left.goes_on) left.events_are left.more
+    left.whole)
 first_left name (owes_block space block words start) old new good was parts left = subst
     (FirstGoesOn name (owes_block space block words start) old new) (sym left.parts_are)
-    (λ happens asks is_mine. pays_block space name block words start left.spread old new left.more left.whole left.place_is (added_by space old name block words start new happens))
+    (λ happens asks is_mine. pays_block space name block words start left.spread old new left.more left.whole
+    left.place_is (added_by space old name block words start new happens))
 first_left name (owes_refusal space block words refusal) old new good was parts left = subst
     (FirstGoesOn name (owes_refusal space block words refusal) old new) (sym left.parts_are)
-    (λ happens asks is_mine. pays_refusal space name block words refusal left.spread old new left.more left.whole was left.place_is happens)
+    (λ happens asks is_mine. pays_refusal space name block words refusal left.spread old new left.more left.whole was
+    left.place_is happens)
 first_left name (unloading loader) old new good was parts left = subst (FirstGoesOn name (unloading loader) old new)
     (sym left.parts_are)
-    (λ happens asks is_mine. goes_on_closed name left.spread old new left.more left.whole loader left.step_is left.reply_is left.place_is good happens)
-first_left name retracting old new good was parts left = subst (FirstGoesOn name retracting old new) (sym left.2.parts_are)
-    (λ happens asks is_mine. goes_on_retracted name left.2.spread old new left.2.more left.2.whole left.0 left.1 left.2.place_is good was happens)
+    (λ happens asks is_mine. goes_on_closed name left.spread old new left.more left.whole loader left.step_is
+    left.reply_is left.place_is good happens)
+first_left name retracting old new good was parts left =
+    subst (FirstGoesOn name retracting old new) (sym left.2.parts_are)
+    (λ happens asks is_mine. goes_on_retracted name left.2.spread old new left.2.more left.2.whole left.0 left.1
+    left.2.place_is good was happens)

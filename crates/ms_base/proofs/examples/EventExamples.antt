@@ -10,7 +10,8 @@ use Rattle.ms_base.specs.declared.step.Reply.TheVariants.{Refused}
 use Rattle.ms_base.specs.declared.refusal.Refusal.TheVariants.{CommitLimit, NoLoader, NoRoom, ReserveLimit, IdsUsedUp}
 use Rattle.ms_base.specs.State.{ArenaState, LoaderState, Machine, empty_machine, empty_arena, empty_loader, arena_of}
 use Rattle.ms_base.specs.Transition.{zeroed, Cause}
-use Rattle.ms_base.specs.Event.{opening, taking, growing, closing, purging, acting, accepted, lent, counted, replied, refused, Happens, emptied}
+use Rattle.ms_base.specs.Event.{opening, taking, growing, closing, purging, acting, accepted, lent, counted, replied}
+use Rattle.ms_base.specs.Event.{refused, Happens, emptied}
 
 abbrev chunk : ℕ → ℕ → ℕ → Chunk
 chunk at level front = record { start = at; level = level; front = front }
@@ -20,7 +21,13 @@ arena chunks tops = record { chunks = chunks; tops = tops; kept = [] }
 
 -- A standard loader with a block at the start of its chunk.
 abbrev loader : Chunk → LoaderState
-loader its = record { kind = Standard; arena = arena (its ∷ []) (10 ∷ []); class_arena = empty_arena; blocks = (1, zeroed its.start 10) ∷ [] }
+loader its =
+    record {
+      kind = Standard;
+      arena = arena (its ∷ []) (10 ∷ []);
+      class_arena = empty_arena;
+      blocks = (1, zeroed its.start 10) ∷ [];
+    }
 
 abbrev machine : List (ℕ × LoaderState) → Machine
 machine loaders = record (empty_machine (record { nodes = 64; granules = 8192; policy = Balanced; class_nodes = 0 })) {
@@ -37,7 +44,8 @@ abbrev beside : Machine
 beside = machine ((1, loader (chunk 0 10 512)) ∷ (2, loader (chunk 512 10 512)) ∷ [])
 
 -- A loader is opened, with two owner numbers.
-opens : Happens alone (opening 2 Boot) accepted (record (machine ((1, loader (chunk 0 10 512)) ∷ (2, empty_loader Boot) ∷ [])) { given = 6 })
+opens : Happens alone (opening 2 Boot) accepted
+    (record (machine ((1, loader (chunk 0 10 512)) ∷ (2, empty_loader Boot) ∷ [])) { given = 6 })
 opens = record { numbers = omega arith; made = record { unused = refl; after = refl } }
 
 -- A leader grows into its parent where its buddy is free, and its top stays.
@@ -78,17 +86,26 @@ closes_not : Happens alone (closing 1) accepted (machine []) → ⊥
 closes_not closes = has_block closes.loader closes.has closes.blocks
   where
     has_block : (one : LoaderState) → Some (loader (chunk 0 10 512)) ≡ Some one → one.blocks ≡ [] → ⊥
-    has_block one is none = let same : loader (chunk 0 10 512) ≡ one = cc in let blocks = ap (λ (l : LoaderState). l.blocks) same ∙ none in absurd (cc)
+    has_block one is none = let same : loader (chunk 0 10 512) ≡ one = cc in let blocks =
+        ap (λ (l : LoaderState). l.blocks) same ∙ none in absurd (cc)
 
 kept_nothing : (space : Space) → (arena_of space (emptied (loader (chunk 0 10 512)))).kept ≡ []
 kept_nothing NonClass = refl
 kept_nothing Class = refl
 
-closes : Happens (machine ((1, emptied (loader (chunk 0 10 512))) ∷ [])) (closing 1) accepted (record (machine []) { committed = [] })
-closes = record { loader = emptied (loader (chunk 0 10 512)); has = refl; blocks = refl; kept = kept_nothing; after = refl }
+closes : Happens (machine ((1, emptied (loader (chunk 0 10 512))) ∷ [])) (closing 1) accepted
+    (record (machine []) { committed = [] })
+closes = record {
+  loader = emptied (loader (chunk 0 10 512));
+  has = refl;
+  blocks = refl;
+  kept = kept_nothing;
+  after = refl;
+}
 
 -- A purge tells how many nodes went.
-purges : Happens (record (machine []) { committed = [] }) purging (counted 1) (record (machine []) { slots = []; committed = [] })
+purges : Happens (record (machine []) { committed = [] }) purging (counted 1)
+    (record (machine []) { slots = []; committed = [] })
 purges = record { nodes_are = refl; after = refl }
 
 -- A local event is refused as its request is, but never for owner numbers, which the pool alone knows.
@@ -102,17 +119,19 @@ ids_are_the_pools none = none.0
 -- when it doesn't: neither once that one is closed nor before it had the chunk. So an unload counts
 -- as done at its closing and not before, and a refused allocation where its chunk is refused.
 abbrev tight : List (ℕ × LoaderState) → List ℕ → Machine
-tight loaders granules = record (empty_machine (record { nodes = 64; granules = 1; policy = Balanced; class_nodes = 0 })) {
-  loaders = loaders;
-  slots = 0 ∷ [];
-  committed = granules;
-  given = 4;
-}
+tight loaders granules =
+    record (empty_machine (record { nodes = 64; granules = 1; policy = Balanced; class_nodes = 0 })) {
+      loaders = loaders;
+      slots = 0 ∷ [];
+      committed = granules;
+      given = 4;
+    }
 
 abbrev holder : LoaderState
 holder = record (empty_loader Standard) { arena = arena (chunk 0 6 8192 ∷ []) [] }
 
-limit_is_met : Happens (tight ((1, holder) ∷ (2, empty_loader Standard) ∷ []) (0 ∷ [])) (taking NonClass 2 10 12 10) (refused (CommitLimit 1 1 1))
+limit_is_met : Happens (tight ((1, holder) ∷ (2, empty_loader Standard) ∷ []) (0 ∷ [])) (taking NonClass 2 10 12 10)
+    (refused (CommitLimit 1 1 1))
     (tight ((1, holder) ∷ (2, empty_loader Standard) ∷ []) (0 ∷ []))
 limit_is_met = record {
   loader = empty_loader Standard;

@@ -13,7 +13,8 @@ use Rattle.ms_base.specs.Live.{runs_in}
 use Rattle.ms_base.specs.Good.{IsSound, IsSoundLoader}
 use Rattle.ms_base.specs.Event.{acting, replied, Happens, emptied}
 use Rattle.ms_base.specs.Spread.{Follow}
-use Rattle.ms_base.proofs.examples.SpreadExamples.{arena_with, chunk, full, with_its_chunk, with_its_block, two, at_the_end, moments, chunk_is_taken, loader_is_closed}
+use Rattle.ms_base.proofs.examples.SpreadExamples.{arena_with, chunk, full, with_its_chunk, with_its_block, two}
+use Rattle.ms_base.proofs.examples.SpreadExamples.{at_the_end, moments, chunk_is_taken, loader_is_closed}
 
 -- Rising numbers, by the test that computes.
 none_rise : IsStrictlyIncreasing []
@@ -34,17 +35,22 @@ is_sound one sound loader e = let same : one ≡ loader = cc in subst IsSoundLoa
 
 -- An emptied loader is sound, and so is one whose block lies at the start of its chunk.
 emptied_arenas : (space : Space) → IsSound (arena_of space (emptied full)) (runs_in space [])
-emptied_arenas NonClass = record { apart = refl; long = refl; inside = refl; few = omega arith; tops = refl; kept = none_rise }
-emptied_arenas Class = record { apart = refl; long = refl; inside = refl; few = omega arith; tops = refl; kept = none_rise }
+emptied_arenas NonClass =
+    record { apart = refl; long = refl; inside = refl; few = omega arith; tops = refl; kept = none_rise }
+emptied_arenas Class =
+    record { apart = refl; long = refl; inside = refl; few = omega arith; tops = refl; kept = none_rise }
 
 block_arenas : (space : Space) → IsSound (arena_of space with_its_block) (runs_in space with_its_block.blocks)
-block_arenas NonClass = record { apart = refl; long = refl; inside = refl; few = omega arith; tops = refl; kept = none_rise }
-block_arenas Class = record { apart = refl; long = refl; inside = refl; few = omega arith; tops = refl; kept = none_rise }
+block_arenas NonClass =
+    record { apart = refl; long = refl; inside = refl; few = omega arith; tops = refl; kept = none_rise }
+block_arenas Class =
+    record { apart = refl; long = refl; inside = refl; few = omega arith; tops = refl; kept = none_rise }
 
 abbrev some_name : ℕ → Option ℕ
 some_name name = Some name
 
-is_emptied : Happens (two full (empty_loader Standard)) (acting (Unload 1)) (replied Done) (two (emptied full) (empty_loader Standard))
+is_emptied : Happens (two full (empty_loader Standard)) (acting (Unload 1)) (replied Done)
+    (two (emptied full) (empty_loader Standard))
 is_emptied = (
   record { loader = full; has = refl; after = refl },
   λ name loader its has.
@@ -54,7 +60,8 @@ is_emptied = (
       (ap (named (two (emptied full) (empty_loader Standard)).loaders) one ∙ has),
 )
 
-block_is_placed : Happens (two (emptied full) with_its_chunk) (acting (Alloc 2 1 10)) (replied (At 512)) (two (emptied full) with_its_block)
+block_is_placed : Happens (two (emptied full) with_its_chunk) (acting (Alloc 2 1 10)) (replied (At 512))
+    (two (emptied full) with_its_block)
 block_is_placed = (
   record {
     some = omega arith;
@@ -62,7 +69,13 @@ block_is_placed = (
     before = with_its_chunk;
     with_it = with_its_block;
     has = refl;
-    adds = record { arena = arena_with (chunk 512 10 512 ∷ []) (10 ∷ []); unused = refl; inside = refl; chunks = refl; after = refl };
+    adds = record {
+      arena = arena_with (chunk 512 10 512 ∷ []) (10 ∷ []);
+      unused = refl;
+      inside = refl;
+      chunks = refl;
+      after = refl;
+    };
     after = refl;
   },
   λ name loader its has.

@@ -9,7 +9,8 @@ use Rattle.ms_base.specs.declared.span.Chunk.{Chunk}
 use Rattle.ms_base.specs.declared.step.Step.TheVariants.{New, Alloc, Calloc, Free, Unload, Purge}
 use Rattle.ms_base.specs.declared.step.Reply.TheVariants.{Ok as Done, At}
 use Rattle.ms_base.specs.declared.refusal.Refusal.TheVariants.{CommitLimit, ReserveLimit, IdsUsedUp, OutOfMemory}
-use Rattle.ms_base.specs.State.{ArenaState, LoaderState, Machine, Limits, empty_machine, empty_arena, empty_loader, recommitted}
+use Rattle.ms_base.specs.State.{ArenaState, LoaderState, Machine, Limits, empty_machine, empty_arena, empty_loader}
+use Rattle.ms_base.specs.State.{recommitted}
 use Rattle.ms_base.specs.Transition.{Serves, Cause, Leaves, zeroed, purged}
 use Rattle.ms_base.specs.Totals.{SpaceSums, space_sums, sums_of}
 
@@ -126,7 +127,13 @@ class_freed = record both_loader {
 }
 
 freed : Serves with_both (Free 1 1) Done (record with_both { loaders = (1, class_freed) ∷ [] })
-freed = record { loader = both_loader; found = zeroed 67108864 10; kept = (67108864, 10) ∷ []; has = record { loader_is = refl; block_is = refl }; after = refl }
+freed = record {
+  loader = both_loader;
+  found = zeroed 67108864 10;
+  kept = (67108864, 10) ∷ [];
+  has = record { loader_is = refl; block_is = refl };
+  after = refl;
+}
 
 -- Unloading gives the chunks of both arenas back; a purge then leaves the class space's nodes.
 abbrev given_back : Machine
@@ -179,18 +186,31 @@ classless = record made { limits = limits Balanced 0 }
 
 no_class_nodes : Cause classless (Calloc 1 1 10) (ReserveLimit 0 0)
 no_class_nodes = (
-  record { lacks = record { loader = empty_loader Standard; loader_is = refl; unused = refl }; some = omega arith; fits = omega arith },
+  record {
+    lacks = record { loader = empty_loader Standard; loader_is = refl; unused = refl };
+    some = omega arith;
+    fits = omega arith;
+  },
   record { met = refl; nodes_are = refl; limit_is = refl },
 )
 
 -- One granule in all, which the class space has: none is left for the other.
 abbrev one_granule : Machine
-one_granule = record with_class_block { limits = record { nodes = 64; granules = 1; policy = Balanced; class_nodes = 1 } }
+one_granule =
+    record with_class_block { limits = record { nodes = 64; granules = 1; policy = Balanced; class_nodes = 1 } }
 
 granules_are_shared : Cause one_granule (Alloc 1 2 10) (CommitLimit 1 1 1)
 granules_are_shared = (
-  record { lacks = record { loader = class_loader; loader_is = refl; unused = refl }; some = omega arith; fits = omega arith },
-  record { loader = class_loader; has = refl; cause = record { met = refl; committed_are = refl; limit_is = refl; need_is = refl } },
+  record {
+    lacks = record { loader = class_loader; loader_is = refl; unused = refl };
+    some = omega arith;
+    fits = omega arith;
+  },
+  record {
+    loader = class_loader;
+    has = refl;
+    cause = record { met = refl; committed_are = refl; limit_is = refl; need_is = refl };
+  },
 )
 
 -- The boot loader's class space of one node: two root chunks, and no third.
@@ -207,7 +227,11 @@ full = record start { loaders = (1, boot_loader) ∷ []; class_committed = range
 
 class_space_is_full : Cause full (Calloc 1 3 2) (ReserveLimit 1 1)
 class_space_is_full = (
-  record { lacks = record { loader = boot_loader; loader_is = refl; unused = refl }; some = omega arith; fits = omega arith },
+  record {
+    lacks = record { loader = boot_loader; loader_is = refl; unused = refl };
+    some = omega arith;
+    fits = omega arith;
+  },
   record { met = refl; nodes_are = refl; limit_is = refl },
 )
 
@@ -237,7 +261,8 @@ with_root = record keeping {
 }
 
 -- A purge drops the granules of a node without chunks alone, and none of the class space.
-purge_keeps_used_granules : purged (record with_root { slots = 0 ∷ 1 ∷ []; committed = range_with_len 0 64 ++ range_with_len 128 16 }) ≡ with_root
+purge_keeps_used_granules : purged
+    (record with_root { slots = 0 ∷ 1 ∷ []; committed = range_with_len 0 64 ++ range_with_len 128 16 }) ≡ with_root
 purge_keeps_used_granules = refl
 
 abbrev root_stays : Machine
@@ -282,15 +307,35 @@ tight = record (empty_machine (record { nodes = 64; granules = 63; policy = Neve
 
 root_is_refused : Cause tight (Alloc 1 1 1) (CommitLimit 0 63 64)
 root_is_refused = (
-  record { lacks = record { loader = empty_loader Boot; loader_is = refl; unused = refl }; some = omega arith; fits = omega arith },
-  record { loader = empty_loader Boot; has = refl; cause = record { met = refl; committed_are = refl; limit_is = refl; need_is = refl } },
+  record {
+    lacks = record { loader = empty_loader Boot; loader_is = refl; unused = refl };
+    some = omega arith;
+    fits = omega arith;
+  },
+  record {
+    loader = empty_loader Boot;
+    has = refl;
+    cause = record { met = refl; committed_are = refl; limit_is = refl; need_is = refl };
+  },
 )
 
 -- Policy aggressive: the granules of a machine have 2048 words.
 abbrev small_granules : Machine
 small_granules = record (empty_machine (limits Aggressive 0)) {
-  loaders = (1, record (empty_loader Standard) { arena = arena (chunk 0 10 512 ∷ []) (10 ∷ []); blocks = (1, zeroed 0 10) ∷ [] })
-      ∷ (2, record (empty_loader Standard) { arena = arena (chunk 4096 7 4096 ∷ []) (2049 ∷ []); blocks = (1, zeroed 4096 2049) ∷ [] }) ∷ [];
+  loaders = (
+    1,
+    record (empty_loader Standard) {
+      arena = arena (chunk 0 10 512 ∷ []) (10 ∷ []);
+      blocks = (1, zeroed 0 10) ∷ [];
+    },
+  )
+      ∷ (
+        2,
+        record (empty_loader Standard) {
+          arena = arena (chunk 4096 7 4096 ∷ []) (2049 ∷ []);
+          blocks = (1, zeroed 4096 2049) ∷ [];
+        },
+      ) ∷ [];
   slots = 0 ∷ [];
   committed = 0 ∷ 2 ∷ 3 ∷ [];
   given = 4;
@@ -315,7 +360,12 @@ two_loaders = record (empty_machine (limits Balanced 0)) {
     },
   ) ∷ (
     2,
-    record { kind = Standard; arena = arena (chunk 512 10 512 ∷ []) (10 ∷ []); class_arena = empty_arena; blocks = (1, zeroed 512 10) ∷ [] },
+    record {
+      kind = Standard;
+      arena = arena (chunk 512 10 512 ∷ []) (10 ∷ []);
+      class_arena = empty_arena;
+      blocks = (1, zeroed 512 10) ∷ [];
+    },
   ) ∷ [];
   slots = 0 ∷ [];
   committed = 0 ∷ [];

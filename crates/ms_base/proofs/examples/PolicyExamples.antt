@@ -32,7 +32,8 @@ pool policy before held slots granules = record {
 
 -- The granules once a chunk more is held.
 abbrev once_lent : PoolState → Chunk → List ℕ
-once_lent before lent = committed_now (record before { held = before.held ++ lent ∷ []; slots = slots_with before.slots lent.start })
+once_lent before lent =
+    committed_now (record before { held = before.held ++ lent ∷ []; slots = slots_with before.slots lent.start })
 
 -- Policy aggressive: the first chunk of a standard loader takes one granule of 2048 words, one of
 -- 4096 words two others.
@@ -182,7 +183,8 @@ none_needed : granules_needed given_back 10 12 10 ≡ 0
 none_needed = refl
 
 -- How many a chunk commits is what its front was missing, also where it grows.
-grown_commits_two : length (committed_now (with_grown (pool Aggressive [] (chunk 0 5 2048 ∷ []) (0 ∷ []) 3) 0 (chunk 0 5 6144))) ≡ 3
+grown_commits_two : length
+    (committed_now (with_grown (pool Aggressive [] (chunk 0 5 2048 ∷ []) (0 ∷ []) 3) 0 (chunk 0 5 6144))) ≡ 3
 grown_commits_two = refl
 
 two_were_missing : granules_missing (pool Aggressive [] (chunk 0 5 2048 ∷ []) (0 ∷ []) 3) (chunk 0 5 6144) ≡ 2

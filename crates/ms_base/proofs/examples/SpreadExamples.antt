@@ -1,6 +1,7 @@
 -- Worked examples: steps spread over events, their serial order, and lists of events that are no
 -- whole steps.
-use Rattle.std.proofs.Common.{◌≡◌, ℕ, zero, suc, true, false, List, [], ◌∷◌, ◌++◌, Option, Some, None, length, take, refl, ap, ◌∙◌, inl, inr, arith, map}
+use Rattle.std.proofs.Common.{◌≡◌, ℕ, zero, suc, true, false, List, [], ◌∷◌, ◌++◌, Option, Some, None, length, take}
+use Rattle.std.proofs.Common.{refl, ap, ◌∙◌, inl, inr, arith, map}
 use Rattle.std.specs.Prelude.{◌==◌}
 use Rattle.std.specs.List.{flat_map}
 use Rattle.std.proofs.lemmas.List.Elements.{All-from_recursion}
@@ -14,8 +15,10 @@ use Rattle.ms_base.specs.declared.step.Reply.TheVariants.{Ok as Done, At, Value,
 use Rattle.ms_base.specs.declared.refusal.Refusal.TheVariants.{CommitLimit, OutOfMemory, NoRoom}
 use Rattle.ms_base.specs.State.{ArenaState, LoaderState, Machine, empty_machine, empty_arena, empty_loader, arena_of}
 use Rattle.ms_base.specs.Transition.{zeroed}
-use Rattle.ms_base.specs.Event.{Event, opening, taking, growing, closing, purging, acting, Answer, accepted, lent, counted, replied, refused, Happens, emptied, loader_of_event}
-use Rattle.ms_base.specs.Spread.{SpreadStep, Moment, GoesOn, HasNoSpan, Spreads, IsWhole, IsByItself, IsAskedFor, words_asked, Part, parts_of, AreWhole, IsSpread, not_asked, not_had, parts_by}
+use Rattle.ms_base.specs.Event.{Event, opening, taking, growing, closing, purging, acting, Answer, accepted, lent}
+use Rattle.ms_base.specs.Event.{counted, replied, refused, Happens, emptied, loader_of_event}
+use Rattle.ms_base.specs.Spread.{SpreadStep, Moment, GoesOn, HasNoSpan, Spreads, IsWhole, IsByItself, IsAskedFor}
+use Rattle.ms_base.specs.Spread.{words_asked, Part, parts_of, AreWhole, IsSpread, not_asked, not_had, parts_by}
 use Rattle.ms_base.specs.Serial.{is_accepted, is_taking, is_closing, is_acting, is_place, serial}
 
 abbrev pub chunk : ℕ → ℕ → ℕ → Chunk
@@ -23,7 +26,11 @@ chunk at level front = record { start = at; level = level; front = front }
 
 -- An unload counts as done at its closing, and not at its local event.
 abbrev unload : SpreadStep
-unload = record { step = Unload 1; reply = Done; events = (acting (Unload 1), replied Done) ∷ (closing 1, accepted) ∷ [] }
+unload = record {
+  step = Unload 1;
+  reply = Done;
+  events = (acting (Unload 1), replied Done) ∷ (closing 1, accepted) ∷ [];
+}
 
 unload_is_whole : IsWhole unload
 unload_is_whole = refl
@@ -45,7 +52,8 @@ alloc_is_whole = inr (record {
   asked = [];
   rest = alloc.events;
   no_span = not_asked;
-  goes_on = inl (record { p = 10; m = 12; words = 10; chunk = chunk 512 10 512; at = 512; served = refl; events_are = refl });
+  goes_on =
+      inl (record { p = 10; m = 12; words = 10; chunk = chunk 512 10 512; at = 512; served = refl; events_are = refl });
   events_are = refl;
 })
 
@@ -56,16 +64,19 @@ abbrev refused_alloc : SpreadStep
 refused_alloc = record {
   step = Calloc 3 1 500;
   reply = Refused (CommitLimit 1 1 1);
-  events = (growing Class 3 67108864 510 true, refused (NoRoom 11)) ∷ (taking Class 3 10 10 500, refused (CommitLimit 1 1 1))
+  events = (growing Class 3 67108864 510 true, refused (NoRoom 11))
+      ∷ (taking Class 3 10 10 500, refused (CommitLimit 1 1 1))
       ∷ (acting (Calloc 3 1 500), replied (Refused (CommitLimit 1 1 1))) ∷ [];
 }
 
 refused_alloc_is_whole : IsWhole refused_alloc
 refused_alloc_is_whole = inr (record {
   asked = (growing Class 3 67108864 510 true, refused (NoRoom 11)) ∷ [];
-  rest = (taking Class 3 10 10 500, refused (CommitLimit 1 1 1)) ∷ (acting (Calloc 3 1 500), replied (Refused (CommitLimit 1 1 1))) ∷ [];
+  rest = (taking Class 3 10 10 500, refused (CommitLimit 1 1 1))
+      ∷ (acting (Calloc 3 1 500), replied (Refused (CommitLimit 1 1 1))) ∷ [];
   no_span = not_had 67108864 510 true (NoRoom 11);
-  goes_on = inr (inl (record { p = 10; m = 10; words = 500; refusal = CommitLimit 1 1 1; passed = refl; events_are = refl }));
+  goes_on =
+      inr (inl (record { p = 10; m = 10; words = 500; refusal = CommitLimit 1 1 1; passed = refl; events_are = refl }));
   events_are = refl;
 })
 
@@ -74,7 +85,12 @@ refused_alloc_at_its_chunk = refl
 
 -- A New that finds no memory after the opening counts as done at the opening.
 abbrev wants_memory : SpreadStep
-wants_memory = record { step = New 4 Boot; reply = Refused OutOfMemory; events = (opening 4 Boot, accepted) ∷ (closing 4, accepted) ∷ [] }
+wants_memory =
+    record {
+      step = New 4 Boot;
+      reply = Refused OutOfMemory;
+      events = (opening 4 Boot, accepted) ∷ (closing 4, accepted) ∷ [];
+    }
 
 wants_memory_is_whole : IsWhole wants_memory
 wants_memory_is_whole = inl refl
@@ -86,7 +102,8 @@ new_at_its_opening = refl
 purge_at_its_only_event : is_place ((purging, counted 1) ∷ []) (purging, counted 1) ≡ true
 purge_at_its_only_event = refl
 
-read_at_its_only_event : is_place ((acting (Read 1 1 0), replied (Value 0)) ∷ []) (acting (Read 1 1 0), replied (Value 0)) ≡ true
+read_at_its_only_event : is_place ((acting (Read 1 1 0), replied (Value 0)) ∷ [])
+    (acting (Read 1 1 0), replied (Value 0)) ≡ true
 read_at_its_only_event = refl
 
 -- Three loaders' events in a row, and the serial order of their steps: the first loader's unload
@@ -113,16 +130,19 @@ serial_order m = refl
 unload_needs_its_closing : IsWhole (record unload { events = (acting (Unload 1), replied Done) ∷ [] }) → ⊥
 unload_needs_its_closing e = cc
 
-closing_comes_last : IsWhole (record unload { events = (closing 1, accepted) ∷ (acting (Unload 1), replied Done) ∷ [] }) → ⊥
+closing_comes_last : IsWhole (record unload { events = (closing 1, accepted) ∷ (acting (Unload 1), replied Done) ∷ [] })
+    → ⊥
 closing_comes_last e = let kinds = ap (map is_closing) e in absurd (cc)
 
 -- A limit comes in no local event but where the pool told it.
-limit_is_told : Spreads (Alloc 1 1 1) (Refused (CommitLimit 1 1 1)) ((acting (Alloc 1 1 1), replied (Refused (CommitLimit 1 1 1))) ∷ []) → ⊥
+limit_is_told : Spreads (Alloc 1 1 1) (Refused (CommitLimit 1 1 1))
+    ((acting (Alloc 1 1 1), replied (Refused (CommitLimit 1 1 1))) ∷ []) → ⊥
 limit_is_told (inl grows) = let served = grows.served in absurd (cc)
 limit_is_told (inr on) = elim on.goes_on [
   | inl takes ↦ let served = takes.served in absurd (cc)
   | inr other ↦ elim other [
-    | inl passes ↦ two_events on.asked _ _ (on.events_are ∙ ap (λ (l : List (Event × Answer)). on.asked ++ l) passes.events_are)
+    | inl passes ↦
+        two_events on.asked _ _ (on.events_are ∙ ap (λ (l : List (Event × Answer)). on.asked ++ l) passes.events_are)
     | inr none ↦ none.own
   ]
 ]
@@ -135,7 +155,8 @@ limit_is_told (inr on) = elim on.goes_on [
 
 -- After a growth that is had no chunk is asked for.
 abbrev both : List (Event × Answer)
-both = (growing NonClass 1 0 20 true, lent (chunk 0 10 512)) ∷ (taking NonClass 1 10 12 10, lent (chunk 512 10 512)) ∷ (acting (Alloc 1 1 10), replied (At 512)) ∷ []
+both = (growing NonClass 1 0 20 true, lent (chunk 0 10 512)) ∷ (taking NonClass 1 10 12 10, lent (chunk 512 10 512))
+    ∷ (acting (Alloc 1 1 10), replied (At 512)) ∷ []
 
 growth_is_enough : Spreads (Alloc 1 1 10) (At 512) both → ⊥
 growth_is_enough (inl grows) = let counts = ap length grows.events_are in absurd (cc)
@@ -156,13 +177,19 @@ abbrev pub arena_with : List Chunk → List ℕ → ArenaState
 arena_with chunks tops = record { chunks = chunks; tops = tops; kept = [] }
 
 abbrev pub full : LoaderState
-full = record { kind = Standard; arena = arena_with (chunk 0 10 512 ∷ []) (10 ∷ []); class_arena = empty_arena; blocks = (1, zeroed 0 10) ∷ [] }
+full = record {
+  kind = Standard;
+  arena = arena_with (chunk 0 10 512 ∷ []) (10 ∷ []);
+  class_arena = empty_arena;
+  blocks = (1, zeroed 0 10) ∷ [];
+}
 
 abbrev pub with_its_chunk : LoaderState
 with_its_chunk = record (empty_loader Standard) { arena = arena_with (chunk 512 10 512 ∷ []) [] }
 
 abbrev pub with_its_block : LoaderState
-with_its_block = record with_its_chunk { arena = arena_with (chunk 512 10 512 ∷ []) (10 ∷ []); blocks = (1, zeroed 512 10) ∷ [] }
+with_its_block =
+    record with_its_chunk { arena = arena_with (chunk 512 10 512 ∷ []) (10 ∷ []); blocks = (1, zeroed 512 10) ∷ [] }
 
 abbrev pub two : LoaderState → LoaderState → Machine
 two first second = record (empty_machine (record { nodes = 64; granules = 8192; policy = Balanced; class_nodes = 0 })) {
@@ -177,10 +204,34 @@ at_the_end = record (two full full) { loaders = (2, with_its_block) ∷ [] }
 
 abbrev pub moments : List Moment
 moments =
-    record { before = two full (empty_loader Standard); event = acting (Unload 1); answer = replied Done; after = two (emptied full) (empty_loader Standard); of = Some unload }
-    ∷ record { before = two (emptied full) (empty_loader Standard); event = taking NonClass 2 10 12 10; answer = lent (chunk 512 10 512); after = two (emptied full) with_its_chunk; of = Some alloc }
-    ∷ record { before = two (emptied full) with_its_chunk; event = acting (Alloc 2 1 10); answer = replied (At 512); after = two (emptied full) with_its_block; of = Some alloc }
-    ∷ record { before = two (emptied full) with_its_block; event = closing 1; answer = accepted; after = at_the_end; of = Some unload }
+    record {
+      before = two full (empty_loader Standard);
+      event = acting (Unload 1);
+      answer = replied Done;
+      after = two (emptied full) (empty_loader Standard);
+      of = Some unload;
+    }
+    ∷ record {
+      before = two (emptied full) (empty_loader Standard);
+      event = taking NonClass 2 10 12 10;
+      answer = lent (chunk 512 10 512);
+      after = two (emptied full) with_its_chunk;
+      of = Some alloc;
+    }
+    ∷ record {
+      before = two (emptied full) with_its_chunk;
+      event = acting (Alloc 2 1 10);
+      answer = replied (At 512);
+      after = two (emptied full) with_its_block;
+      of = Some alloc;
+    }
+    ∷ record {
+      before = two (emptied full) with_its_block;
+      event = closing 1;
+      answer = accepted;
+      after = at_the_end;
+      of = Some unload;
+    }
     ∷ []
 
 -- The allocation is first, since its chunk was lent while the unload's own was still held.
@@ -191,7 +242,8 @@ none_of_the_class_space : (space : Space) → (arena_of space (emptied full)).ke
 none_of_the_class_space NonClass = refl
 none_of_the_class_space Class = refl
 
-pub chunk_is_taken : Happens (two (emptied full) (empty_loader Standard)) (taking NonClass 2 10 12 10) (lent (chunk 512 10 512)) (two (emptied full) with_its_chunk)
+pub chunk_is_taken : Happens (two (emptied full) (empty_loader Standard)) (taking NonClass 2 10 12 10)
+    (lent (chunk 512 10 512)) (two (emptied full) with_its_chunk)
 chunk_is_taken = record {
   loader = empty_loader Standard;
   has = refl;
@@ -202,13 +254,25 @@ chunk_is_taken = record {
 }
 
 pub loader_is_closed : Happens (two (emptied full) with_its_block) (closing 1) accepted at_the_end
-loader_is_closed = record { loader = emptied full; has = refl; blocks = refl; kept = none_of_the_class_space; after = refl }
+loader_is_closed =
+    record { loader = emptied full; has = refl; blocks = refl; kept = none_of_the_class_space; after = refl }
 
 only_known : (name : ℕ) → AreWhole (parts_by name moments)
 only_known zero = record { steps = []; whole = All-from_recursion IsWhole [] tt; parts_are = refl }
-only_known (suc zero) = record { steps = unload ∷ []; whole = All-from_recursion IsWhole (unload ∷ []) (unload_is_whole, tt); parts_are = refl }
-only_known (suc (suc zero)) = record { steps = alloc ∷ []; whole = All-from_recursion IsWhole (alloc ∷ []) (alloc_is_whole, tt); parts_are = refl }
-only_known (suc (suc (suc name))) = record { steps = []; whole = All-from_recursion IsWhole [] tt; parts_are = rw (first name, second name) refl }
+only_known (suc zero) =
+    record {
+      steps = unload ∷ [];
+      whole = All-from_recursion IsWhole (unload ∷ []) (unload_is_whole, tt);
+      parts_are = refl;
+    }
+only_known (suc (suc zero)) =
+    record {
+      steps = alloc ∷ [];
+      whole = All-from_recursion IsWhole (alloc ∷ []) (alloc_is_whole, tt);
+      parts_are = refl;
+    }
+only_known (suc (suc (suc name))) =
+    record { steps = []; whole = All-from_recursion IsWhole [] tt; parts_are = rw (first name, second name) refl }
   where
     first : (n : ℕ) → (1 == suc (suc (suc n))) ≡ false
     first n = grind arith
@@ -216,14 +280,18 @@ only_known (suc (suc (suc name))) = record { steps = []; whole = All-from_recurs
     second : (n : ℕ) → (2 == suc (suc (suc n))) ≡ false
     second n = grind arith
 
-arena_asks : IsAskedFor (two (emptied full) (empty_loader Standard)) (taking NonClass 2 10 12 10) (words_asked (Some alloc))
+arena_asks : IsAskedFor (two (emptied full) (empty_loader Standard)) (taking NonClass 2 10 12 10)
+    (words_asked (Some alloc))
 arena_asks = record { loader = empty_loader Standard; has = refl; wanted = refl; most_is = refl; words_are = refl }
 
 pub is_spread : IsSpread moments
 is_spread = record {
   each = only_known;
-  others = All-from_recursion (λ (moment : Moment). IsByItself (moment.event, moment.answer) (loader_of_event moment.event) moment.of) moments (tt, (tt, (tt, (tt, tt))));
-  asked = All-from_recursion (λ (moment : Moment). IsAskedFor moment.before moment.event (words_asked moment.of)) moments (tt, (arena_asks, (tt, (tt, tt))));
+  others = All-from_recursion
+      (λ (moment : Moment). IsByItself (moment.event, moment.answer) (loader_of_event moment.event) moment.of) moments
+      (tt, (tt, (tt, (tt, tt))));
+  asked = All-from_recursion (λ (moment : Moment). IsAskedFor moment.before moment.event (words_asked moment.of))
+      moments (tt, (arena_asks, (tt, (tt, tt))));
 }
 
 abbrev some_spread : SpreadStep → Option SpreadStep

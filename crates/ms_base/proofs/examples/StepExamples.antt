@@ -8,7 +8,8 @@ use Rattle.ms_base.specs.declared.span.Chunk.{Chunk}
 use Rattle.ms_base.specs.declared.kind.Kind.TheVariants.{Standard}
 use Rattle.ms_base.specs.declared.step.Step.TheVariants.{New, Alloc, Calloc, Read, Unload, Purge}
 use Rattle.ms_base.specs.declared.step.Reply.TheVariants.{Ok as Done, At, Value, Refused}
-use Rattle.ms_base.specs.declared.refusal.Refusal.TheVariants.{ZeroWords, TooLarge, OutOfRange, LoaderExists, BlockExists}
+use Rattle.ms_base.specs.declared.refusal.Refusal.TheVariants.{ZeroWords, TooLarge, OutOfRange, LoaderExists}
+use Rattle.ms_base.specs.declared.refusal.Refusal.TheVariants.{BlockExists}
 use Rattle.ms_base.specs.declared.kind.Space.{Space}
 use Rattle.ms_base.specs.declared.kind.Space.TheVariants.{NonClass, Class}
 use Rattle.ms_base.specs.declared.policy.Policy.TheVariants.{Balanced}
@@ -16,7 +17,8 @@ use Rattle.ms_base.specs.Spaces.{IsSlotOf}
 use Rattle.ms_base.specs.Live.{runs_in}
 use Rattle.ms_base.specs.Part.{IsPart}
 use Rattle.ms_base.specs.Front.{HasFront}
-use Rattle.ms_base.specs.State.{ArenaState, LoaderState, Machine, Limits, empty_machine, empty_arena, empty_loader, arena_of, pool_of}
+use Rattle.ms_base.specs.State.{ArenaState, LoaderState, Machine, Limits, empty_machine, empty_arena, empty_loader}
+use Rattle.ms_base.specs.State.{arena_of, pool_of}
 use Rattle.ms_base.specs.Good.{IsGood, IsSound, IsSoundLoader, IsSoundPool}
 use Rattle.ms_base.specs.Transition.{Serves, Cause, Transition, zeroed}
 
@@ -64,16 +66,26 @@ chunk_is_part : IsPart 0 10
 chunk_is_part = (omega arith, refl)
 
 chunk_has_front : HasFront Balanced (record { start = 0; level = 10; front = 512 })
-chunk_has_front = record { some = omega arith; within = omega arith; small = λ h. refl; whole = λ h. absurd (omega arith); full = λ h. absurd (cc) }
+chunk_has_front =
+    record {
+      some = omega arith;
+      within = omega arith;
+      small = λ h. refl;
+      whole = λ h. absurd (omega arith);
+      full = λ h. absurd (cc);
+    }
 
 arenas_are_sound : (space : Space) → IsSound (arena_of space with_one_block) (runs_in space with_one_block.blocks)
-arenas_are_sound NonClass = record { apart = refl; long = refl; inside = refl; few = omega arith; tops = refl; kept = none_rise }
-arenas_are_sound Class = record { apart = refl; long = refl; inside = refl; few = omega arith; tops = refl; kept = none_rise }
+arenas_are_sound NonClass =
+    record { apart = refl; long = refl; inside = refl; few = omega arith; tops = refl; kept = none_rise }
+arenas_are_sound Class =
+    record { apart = refl; long = refl; inside = refl; few = omega arith; tops = refl; kept = none_rise }
 
 pools_are_sound : (space : Space) → IsSoundPool (pool_of space allocated)
 pools_are_sound NonClass = record {
   held = record {
-    parts = All-from_recursion (λ (chunk : Chunk). IsPart chunk.start chunk.level) (first_chunk ∷ []) (chunk_is_part, tt);
+    parts = All-from_recursion (λ (chunk : Chunk). IsPart chunk.start chunk.level) (first_chunk ∷ [])
+        (chunk_is_part, tt);
     fronts = All-from_recursion (HasFront Balanced) (first_chunk ∷ []) (chunk_has_front, tt);
     reserved = refl;
     apart = refl;
@@ -100,7 +112,9 @@ pools_are_sound Class = record {
 
 allocated_is_good : IsGood allocated
 allocated_is_good = record {
-  loaders = All-from_recursion IsSoundLoader (with_one_block ∷ []) (record { arenas = arenas_are_sound; names = one_rises 1 }, tt);
+  loaders =
+      All-from_recursion IsSoundLoader (with_one_block ∷ [])
+      (record { arenas = arenas_are_sound; names = one_rises 1 }, tt);
   names = one_rises 1;
   pools = pools_are_sound;
   given = omega arith;
@@ -119,7 +133,13 @@ placed = record {
   found = refl;
   unused = refl;
   inside = refl;
-  changes = inr (inr (record { added = record { start = 0; level = 10; front = 512 }; front = refl; chunks = refl; slots = refl }));
+  changes =
+      inr (inr (record {
+        added = record { start = 0; level = 10; front = 512 };
+        front = refl;
+        chunks = refl;
+        slots = refl;
+      }));
   after = refl;
 }
 
@@ -127,10 +147,28 @@ placed_and_good : Transition one_loader (Alloc 1 1 10) (At 0) allocated
 placed_and_good = (placed, allocated_is_good)
 
 read_zero : Transition allocated (Read 1 1 9) (Value 0) allocated
-read_zero = (record { loader = with_one_block; found = zeroed 0 10; has = record { loader_is = refl; block_is = refl }; word = refl; after = refl }, allocated_is_good)
+read_zero = (
+  record {
+    loader = with_one_block;
+    found = zeroed 0 10;
+    has = record { loader_is = refl; block_is = refl };
+    word = refl;
+    after = refl;
+  },
+  allocated_is_good,
+)
 
 read_past : Transition allocated (Read 1 1 10) (Refused (OutOfRange 10)) allocated
-read_past = (record { loader = with_one_block; found = zeroed 0 10; has = record { loader_is = refl; block_is = refl }; words_are = refl; past = omega arith }, refl)
+read_past = (
+  record {
+    loader = with_one_block;
+    found = zeroed 0 10;
+    has = record { loader_is = refl; block_is = refl };
+    words_are = refl;
+    past = omega arith;
+  },
+  refl,
+)
 
 name_is_taken : Transition allocated (New 1 Standard) (Refused LoaderExists) allocated
 name_is_taken = (record { loader = with_one_block; has = refl }, refl)
@@ -143,7 +181,8 @@ purged = refl
 
 -- A used name is told before words of 0 are.
 used_name_comes_first : Cause allocated (Alloc 1 1 0) BlockExists
-used_name_comes_first = record { loader = with_one_block; found = zeroed 0 10; has = record { loader_is = refl; block_is = refl } }
+used_name_comes_first =
+    record { loader = with_one_block; found = zeroed 0 10; has = record { loader_is = refl; block_is = refl } }
 
 no_words : Cause allocated (Alloc 1 2 0) ZeroWords
 no_words = (record { loader = with_one_block; loader_is = refl; unused = refl }, refl)

@@ -19,15 +19,20 @@ use Rattle.ms_base.proofs.free.FreeLemmas.{part_over, meets_over}
 
 meets_alike : (held other : List Chunk) → AreAlike held other → (below start : ℕ)
     → meets_over held below start ≡ meets_over other below start
-meets_alike held other alike below start = alike (λ chunk. meet chunk.start (size_of chunk.level) start (words_over below))
+meets_alike held other alike below start =
+    alike (λ chunk. meet chunk.start (size_of chunk.level) start (words_over below))
 
 free_alike : (held other : List Chunk) → AreAlike held other → (below start : ℕ)
     → free_within held below start ≡ free_within other below start
-free_alike held other alike zero start = ap (λ b. cond b [] (part_over 0 start ∷ [])) (meets_alike held other alike 0 start)
+free_alike held other alike zero start =
+    ap (λ b. cond b [] (part_over 0 start ∷ [])) (meets_alike held other alike 0 start)
 free_alike held other alike (suc below) start =
-    ap (λ b. cond b (free_within held below start ++ free_within held below middle) (part_over (suc below) start ∷ [])) (meets_alike held other alike (suc below) start)
-    ∙ ap (λ lower. cond meets (lower ++ free_within held below middle) (part_over (suc below) start ∷ [])) (free_alike held other alike below start)
-    ∙ ap (λ upper. cond meets (free_within other below start ++ upper) (part_over (suc below) start ∷ [])) (free_alike held other alike below middle)
+    ap (λ b. cond b (free_within held below start ++ free_within held below middle) (part_over (suc below) start ∷ []))
+    (meets_alike held other alike (suc below) start)
+    ∙ ap (λ lower. cond meets (lower ++ free_within held below middle) (part_over (suc below) start ∷ []))
+    (free_alike held other alike below start)
+    ∙ ap (λ upper. cond meets (free_within other below start ++ upper) (part_over (suc below) start ∷ []))
+    (free_alike held other alike below middle)
   where
     middle : ℕ
     middle = start + words_over below
@@ -38,8 +43,10 @@ free_alike held other alike (suc below) start =
 slot_alike : (held other : List Chunk) → AreAlike held other → (slot : ℕ)
     → free_in_slot held slot ≡ free_in_slot other slot
 slot_alike held other alike slot =
-    ap (λ lower. lower ++ free_within held 12 (slot * node_words + size_of 0)) (free_alike held other alike 12 (slot * node_words))
-    ∙ ap (λ upper. free_within other 12 (slot * node_words) ++ upper) (free_alike held other alike 12 (slot * node_words + size_of 0))
+    ap (λ lower. lower ++ free_within held 12 (slot * node_words + size_of 0))
+    (free_alike held other alike 12 (slot * node_words))
+    ∙ ap (λ upper. free_within other 12 (slot * node_words) ++ upper)
+    (free_alike held other alike 12 (slot * node_words + size_of 0))
 
 slots_alike : (held other : List Chunk) → AreAlike held other → (slots : List ℕ)
     → free_parts held slots ≡ free_parts other slots
@@ -54,7 +61,8 @@ pub alike_leave_the_same : (policy : Policy) (before slots : List ℕ) (held oth
 alike_leave_the_same policy before slots held other alike = record {
   free = slots_alike held other alike slots;
   committed = filter_agree (is_committed_now policy before held) (is_committed_now policy before other)
-      (λ number. ap (λ b. (keeps policy && is_among before number) || b) (alike (λ chunk. meet chunk.start chunk.front (number * granule_of policy) (granule_of policy))))
+      (λ number. ap (λ b. (keeps policy && is_among before number) || b)
+      (alike (λ chunk. meet chunk.start chunk.front (number * granule_of policy) (granule_of policy))))
       (flat_map (granules_of (granule_of policy)) slots);
 }
 

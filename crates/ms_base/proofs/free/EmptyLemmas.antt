@@ -21,7 +21,8 @@ filter-none (x ∷ xs) = filter-none xs
 pub nothing_is_committed : (policy : Policy) (before slots : List ℕ) → keeps policy ≡ false
     → committed_with policy before [] slots ≡ []
 nothing_is_committed policy before slots reclaims =
-    filter_agree (is_committed_now policy before []) (λ number. false) (λ number. ap (λ b. (b && is_among before number) || false) reclaims) numbers
+    filter_agree (is_committed_now policy before []) (λ number. false)
+    (λ number. ap (λ b. (b && is_among before number) || false) reclaims) numbers
     ∙ filter-none numbers
   where
     numbers : List ℕ

@@ -1,6 +1,7 @@
 -- What stands among the free parts of a part: only free ones, and each that has a clear part within
 -- it. The laws on free parts and on room use these.
-use Rattle.std.proofs.Common.{◌≡◌, ◌≤◌, ◌<◌, ℕ, zero, suc, ◌+◌, ◌-◌, ◌%◌, Bool, true, false, cond, ◌&&◌, ◌||◌, List, [], ◌∷◌, ◌++◌, refl, sym, ap, ◌∙◌, inl, inr, arith}
+use Rattle.std.proofs.Common.{◌≡◌, ◌≤◌, ◌<◌, ℕ, zero, suc, ◌+◌, ◌-◌, ◌%◌, Bool, true, false, cond, ◌&&◌, ◌||◌, List, []}
+use Rattle.std.proofs.Common.{◌∷◌, ◌++◌, refl, sym, ap, ◌∙◌, inl, inr, arith}
 use Rattle.std.specs.Prelude.{◌==◌, nat_le, IsTrue, IsFalse}
 use Rattle.std.specs.List.{All, list_any}
 use Rattle.std.proofs.lemmas.List.Elements.{All-nil, All-cons, All-append, All-weaker}
@@ -14,7 +15,8 @@ use Rattle.ms_base.specs.Level.{size_of}
 use Rattle.ms_base.specs.Part.{IsPart, parent_start}
 use Rattle.ms_base.specs.Held.{meets_chunk}
 use Rattle.ms_base.specs.FreeParts.{free_within}
-use Rattle.ms_base.proofs.free.HalvesLemmas.{words_over, IsStart, size_of_halves, multiple_of_smaller, steps_apart, start_is_whole, middle_is_whole, parent_of_lower, parent_of_upper}
+use Rattle.ms_base.proofs.free.HalvesLemmas.{words_over, IsStart, size_of_halves, multiple_of_smaller, steps_apart}
+use Rattle.ms_base.proofs.free.HalvesLemmas.{start_is_whole, middle_is_whole, parent_of_lower, parent_of_upper}
 
 -- The part with so many levels below it.
 abbrev pub part_over : ℕ → ℕ → Span
@@ -32,18 +34,21 @@ pub record HoldsByHalves (held : List Chunk) (P : ℕ → ℕ → List Span → 
       (below start : ℕ) → below ≤ 12 → IsStart below start → meets_over held below start ≡ false
       → P below start (part_over below start ∷ [])
   pub halves :
-      (below start : ℕ) (lower upper : List Span) → below < 12 → IsStart (suc below) start → meets_over held (suc below) start ≡ true
+      (below start : ℕ) (lower upper : List Span) → below < 12 → IsStart (suc below) start
+      → meets_over held (suc below) start ≡ true
       → P below start lower → P below (start + words_over below) upper → P (suc below) start (lower ++ upper)
 
 pub by_halves : (held : List Chunk) (P : ℕ → ℕ → List Span → Type 0) → HoldsByHalves held P
     → (below start : ℕ) → below ≤ 12 → IsStart below start → P below start (free_within held below start)
 by_halves held P steps zero start h whole =
-    elim (meets_over held 0 start) as (λ b. meets_over held 0 start ≡ b → P 0 start (cond b [] (part_over 0 start ∷ []))) [
+    elim (meets_over held 0 start) as (λ b. meets_over held 0 start ≡ b
+    → P 0 start (cond b [] (part_over 0 start ∷ []))) [
       | true ↦ λ meets. steps.none start whole meets
       | false ↦ λ clear. steps.itself 0 start h whole clear
     ] refl
 by_halves held P steps (suc below) start h whole =
-    elim (meets_over held (suc below) start) as (λ b. meets_over held (suc below) start ≡ b → P (suc below) start (cond b (lower ++ upper) itself)) [
+    elim (meets_over held (suc below) start) as (λ b. meets_over held (suc below) start ≡ b
+    → P (suc below) start (cond b (lower ++ upper) itself)) [
       | true ↦ λ meets. steps.halves below start lower upper (omega arith) whole meets
           (by_halves held P steps below start (omega arith) (start_is_whole below start h whole))
           (by_halves held P steps below (start + words_over below) (omega arith) (middle_is_whole below start h whole))
@@ -82,7 +87,8 @@ inside_passes part below start h =
 not_itself : (held : List Chunk) (part : Span) (below start : ℕ) → IsFalse (meets_chunk held part.start part.level)
     → IsInside part below start → meets_over held below start ≡ true → part.level ≡ 12 - below → ⊥
 not_itself held part below start empty inside meets level = false≢true
-    (sym empty ∙ ap (λ (l : ℕ). meets_chunk held part.start l) level ∙ ap (λ (s : ℕ). meets_over held below s) same ∙ meets)
+    (sym empty ∙ ap (λ (l : ℕ). meets_chunk held part.start l) level ∙ ap (λ (s : ℕ). meets_over held below s) same
+    ∙ meets)
   where
     same : part.start ≡ start
     same = omega (arith, ap size_of level, inside.from, inside.upto)
@@ -98,14 +104,19 @@ in_lower part below start h placed whole inside other low = record {
 }
   where
     middle : (start + words_over below) % size_of part.level ≡ 0
-    middle = multiple_of_smaller (start + words_over below) (12 - below) part.level (omega (arith, inside.wide, other)) placed.0
+    middle = multiple_of_smaller (start + words_over below) (12 - below) part.level (omega (arith, inside.wide, other))
+        placed.0
         (middle_is_whole below start h whole)
 
 in_upper : (part : Span) (below start : ℕ) → below < 12 → IsInside part (suc below) start
     → (part.level ≡ 12 - suc below → ⊥) → start + words_over below ≤ part.start
     → IsInside part below (start + words_over below)
 in_upper part below start h inside other high =
-    record { wide = omega (arith, inside.wide, other); from = high; upto = omega (arith, inside.upto, size_of_halves below h) }
+    record {
+      wide = omega (arith, inside.wide, other);
+      from = high;
+      upto = omega (arith, inside.upto, size_of_halves below h);
+    }
 
 -- Among the free parts of a part is one that has each clear part within it.
 pub clear_is_in_free : (held : List Chunk) (part : Span) → IsPart part.start part.level
@@ -113,8 +124,10 @@ pub clear_is_in_free : (held : List Chunk) (part : Span) → IsPart part.start p
     → IsInside part below start → list_any (has_part part) (free_within held below start) ≡ true
 clear_is_in_free held part placed empty =
     by_halves held (λ below start parts. IsInside part below start → list_any (has_part part) parts ≡ true) (record {
-      none = λ start whole meets inside. absurd (not_itself held part 0 start empty inside meets (omega (arith, inside.wide, placed.0)));
-      itself = λ below start h whole clear inside. or_left (has_part part (part_over below start)) false (inside_passes part below start inside);
+      none = λ start whole meets inside. absurd
+          (not_itself held part 0 start empty inside meets (omega (arith, inside.wide, placed.0)));
+      itself = λ below start h whole clear inside. or_left (has_part part (part_over below start)) false
+          (inside_passes part below start inside);
       halves = λ below start lower upper h whole meets in_first in_second inside.
           let other = not_itself held part (suc below) start empty inside meets in
           list_any-append (has_part part) lower upper ∙ elim (cases_lt part.start (start + words_over below)) [
@@ -135,7 +148,8 @@ pub record IsFreeWithin (held : List Chunk) (low high : ℕ) (part : Span) : Typ
 
 pub widened : (held : List Chunk) (low high a b : ℕ) (parts : List Span) → a ≤ low → high ≤ b
     → All (IsFreeWithin held low high) parts → All (IsFreeWithin held a b) parts
-widened held low high a b parts h k all = All-weaker (IsFreeWithin held low high) (IsFreeWithin held a b) wider parts all
+widened held low high a b parts h k all =
+    All-weaker (IsFreeWithin held low high) (IsFreeWithin held a b) wider parts all
   where
     wider : (part : Span) → IsFreeWithin held low high part → IsFreeWithin held a b part
     wider part free = record {
@@ -148,26 +162,36 @@ widened held low high a b parts h k all = All-weaker (IsFreeWithin held low high
 
 -- The part is a root, or its parent meets a chunk.
 abbrev IsLargest : List Chunk → ℕ → ℕ → Type 0
-IsLargest held below start = IsTrue ((12 - below) == 0 || meets_chunk held (parent_start start (12 - below)) (12 - below - 1))
+IsLargest held below start =
+    IsTrue ((12 - below) == 0 || meets_chunk held (parent_start start (12 - below)) (12 - below - 1))
 
 -- A half of a part that meets a chunk is as large as it can be.
 half_is_largest : (held : List Chunk) (below start half : ℕ) → below < 12 → parent_start half (12 - below) ≡ start
     → meets_over held (suc below) start ≡ true → IsLargest held below half
 half_is_largest held below start half h parent meets =
     or_right ((12 - below) == 0) (meets_chunk held (parent_start half (12 - below)) (12 - below - 1))
-    (ap (λ (s : ℕ). meets_chunk held s (12 - below - 1)) parent ∙ ap (λ (l : ℕ). meets_chunk held start l) (omega arith) ∙ meets)
+    (ap (λ (s : ℕ). meets_chunk held s (12 - below - 1)) parent ∙ ap (λ (l : ℕ). meets_chunk held start l) (omega arith)
+    ∙ meets)
 
 -- The parts are free ones of the part, if it is as large as it can be.
 abbrev AreFreeOver : List Chunk → ℕ → ℕ → List Span → Type 0
-AreFreeOver held below start parts = IsLargest held below start → All (IsFreeWithin held start (start + words_over below)) parts
+AreFreeOver held below start parts = IsLargest held below start
+    → All (IsFreeWithin held start (start + words_over below)) parts
 
 -- All that stands among the free parts of a part is free and within it.
 pub listed_are_free : (held : List Chunk) (below start : ℕ) → below ≤ 12 → IsStart below start
     → AreFreeOver held below start (free_within held below start)
 listed_are_free held = by_halves held (AreFreeOver held) (record {
   none = λ start whole meets largest. All-nil (IsFreeWithin held start (start + words_over 0));
-  itself = λ below start h whole clear largest. All-cons (IsFreeWithin held start (start + words_over below)) (part_over below start) []
-      (record { placed = (omega arith, whole); empty = clear; largest = largest; from = omega arith; upto = omega arith })
+  itself = λ below start h whole clear largest. All-cons (IsFreeWithin held start (start + words_over below))
+      (part_over below start) []
+      (record {
+        placed = (omega arith, whole);
+        empty = clear;
+        largest = largest;
+        from = omega arith;
+        upto = omega arith;
+      })
       (All-nil (IsFreeWithin held start (start + words_over below)));
   halves = λ below start lower upper h whole meets first second largest.
       let middle = start + words_over below in
@@ -175,6 +199,7 @@ listed_are_free held = by_halves held (AreFreeOver held) (record {
       All-append (IsFreeWithin held start end) lower upper
       (widened held start middle start end lower (omega arith) (omega (arith, size_of_halves below h))
       (first (half_is_largest held below start start h (parent_of_lower below start h whole) meets)))
-      (widened held middle (middle + words_over below) start end upper (omega arith) (omega (arith, size_of_halves below h))
+      (widened held middle (middle + words_over below) start end upper (omega arith)
+      (omega (arith, size_of_halves below h))
       (second (half_is_largest held below start middle h (parent_of_upper below start h whole) meets)));
 })

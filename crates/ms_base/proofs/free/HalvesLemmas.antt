@@ -27,7 +27,8 @@ size_falls_strictly l k h m = omega (
 
 -- A multiple of a size is one of each smaller size.
 pub multiple_of_smaller : (a l k : ℕ) → l ≤ k → k ≤ 12 → a % size_of l ≡ 0 → a % size_of k ≡ 0
-multiple_of_smaller a l k h m e = ap (λ (x : ℕ). x % size_of k) number ∙ mul-mod_left (a / size_of l * 2 ^ (k - l)) (size_of k)
+multiple_of_smaller a l k h m e =
+    ap (λ (x : ℕ). x % size_of k) number ∙ mul-mod_left (a / size_of l * 2 ^ (k - l)) (size_of k)
   where
     number : a ≡ a / size_of l * 2 ^ (k - l) * size_of k
     number = by_number a (size_of l) e ∙ ap (λ (x : ℕ). a / size_of l * x) (size_by_level l k h m)
@@ -65,7 +66,8 @@ size_of_halves below h = ap (λ (n : ℕ). 2 ^ n) (exponent below h) ∙ twice (
 
 -- A part's two halves start at its start and in its middle.
 pub start_is_whole : (below start : ℕ) → below < 12 → IsStart (suc below) start → IsStart below start
-start_is_whole below start h whole = multiple_of_smaller start (12 - suc below) (12 - below) (omega arith) (omega arith) whole
+start_is_whole below start h whole =
+    multiple_of_smaller start (12 - suc below) (12 - below) (omega arith) (omega arith) whole
 
 pub middle_is_whole : (below start : ℕ) → below < 12 → IsStart (suc below) start
     → IsStart below (start + words_over below)
@@ -92,4 +94,5 @@ parent_of_upper below start h whole =
 
     rest : (start + words_over below) % size ≡ words_over below
     rest = ap (λ (a : ℕ). (a + words_over below) % size) (by_number start size whole)
-        ∙ mod-mul-add (start / size) size (words_over below) (omega (arith, size_of_halves below h, size_some (12 - below)))
+        ∙ mod-mul-add (start / size) size (words_over below)
+        (omega (arith, size_of_halves below h, size_some (12 - below)))

@@ -38,7 +38,14 @@ passes_below : (p : ℕ → Bool) → GoesDown p → (a n k : ℕ) → a ≤ k �
 passes_below p down a zero k h m passes = absurd (omega arith)
 passes_below p down a (suc n) k h m passes = elim (cases_eq k a) [
   | inl e ↦ omega (arith, counted p a n, ap one_if here, e)
-  | inr e ↦ omega (arith, counted p a n, ap one_if here, passes_below p down (a + 1) n k (omega (arith, e)) (omega arith) passes)
+  | inr e ↦
+      omega (
+        arith,
+        counted p a n,
+        ap one_if here,
+        passes_below p down (a + 1) n k (omega (arith, e))
+            (omega arith) passes,
+      )
 ]
   where
     here : p a ≡ true
@@ -74,11 +81,17 @@ level_is_greatest words small = record {
     up_to : (level : ℕ) → level ≤ 12 → words ≤ size_of level → level ≤ level_that_holds words
     up_to level h fits = elim (cases_eq level 0) [
       | inl root ↦ omega (arith, root)
-      | inr other ↦ omega (arith, passes_below holds (holds_down words) 1 12 level (omega (arith, other)) (omega arith) (le-leb words (size_of level) fits))
+      | inr other ↦
+          omega (
+            arith,
+            passes_below holds (holds_down words) 1 12 level (omega (arith, other)) (omega arith)
+                (le-leb words (size_of level) fits),
+          )
     ]
 
     held : (level : ℕ) → level ≤ 12 → level ≤ level_that_holds words → words ≤ size_of level
     held level h k = elim (cases_eq level 0) [
       | inl root ↦ omega (arith, small, ap size_of root)
-      | inr other ↦ leb-true words (size_of level) (below_passes holds (holds_down words) 1 12 level (omega arith) (omega (arith, other)))
+      | inr other ↦ leb-true words (size_of level)
+          (below_passes holds (holds_down words) 1 12 level (omega arith) (omega (arith, other)))
     ]

@@ -1,7 +1,8 @@
 -- The free parts of a root are those of its own chunks, taken as if the root began at word 0, moved up
 -- to where it begins; chunks outside of it don't matter. A pool that keeps a tree for each root uses
 -- these.
-use Rattle.std.proofs.Common.{◌≡◌, ◌≤◌, ℕ, zero, suc, ◌+◌, ◌-◌, Bool, true, false, cond, ◌||◌, List, [], ◌∷◌, ◌++◌, map, refl, sym, ap, ◌∙◌, arith}
+use Rattle.std.proofs.Common.{◌≡◌, ◌≤◌, ℕ, zero, suc, ◌+◌, ◌-◌, Bool, true, false, cond, ◌||◌, List, [], ◌∷◌, ◌++◌, map}
+use Rattle.std.proofs.Common.{refl, sym, ap, ◌∙◌, arith}
 use Rattle.std.proofs.Math.Bool.{or-false}
 use Rattle.std.proofs.lemmas.Bool.Decides.{nat_tests}
 use Rattle.std.proofs.lemmas.List.{map-append}
@@ -26,7 +27,8 @@ raised_chunk words chunk = record chunk { start = chunk.start + words }
 -- The chunks meet the parts of a root as other chunks meet those of the root at word 0.
 abbrev pub AgreeInRoot : List Chunk → List Chunk → ℕ → Type 0
 AgreeInRoot held own root =
-    (start level : ℕ) → start + size_of level ≤ size_of 0 → meets_chunk held (start + root) level ≡ meets_chunk own start level
+    (start level : ℕ) → start + size_of level ≤ size_of 0
+    → meets_chunk held (start + root) level ≡ meets_chunk own start level
 
 map_either : (root : ℕ) (b : Bool) (xs ys : List Span)
     → cond b (map (raised_part root) xs) (map (raised_part root) ys) ≡ map (raised_part root) (cond b xs ys)
@@ -40,15 +42,21 @@ moved_within held own root agree zero start h fits =
     ap (λ b. cond b [] (raised_part root (part_over 0 start) ∷ [])) (agree start 12 fits)
     ∙ map_either root (meets_over own 0 start) [] (part_over 0 start ∷ [])
 moved_within held own root agree (suc below) start h fits =
-    ap (λ b. cond b (free_within held below (start + root) ++ free_within held below (start + root + words_over below)) (raised_part root (part_over (suc below) start) ∷ []))
+    ap (λ b. cond b (free_within held below (start + root) ++ free_within held below (start + root + words_over below))
+    (raised_part root (part_over (suc below) start) ∷ []))
     (agree start (12 - suc below) fits)
-    ∙ ap (λ (middle : ℕ). cond meets (free_within held below (start + root) ++ free_within held below middle) itself) turned
+    ∙ ap (λ (middle : ℕ). cond meets (free_within held below (start + root) ++ free_within held below middle) itself)
+    turned
     ∙ ap (λ lower. cond meets (lower ++ free_within held below (start + words_over below + root)) itself)
     (moved_within held own root agree below start (omega arith) (omega (arith, fits, size_of_halves below h)))
     ∙ ap (λ upper. cond meets (map (raised_part root) (free_within own below start) ++ upper) itself)
-    (moved_within held own root agree below (start + words_over below) (omega arith) (omega (arith, fits, size_of_halves below h)))
-    ∙ ap (λ both. cond meets both itself) (sym (map-append (raised_part root) (free_within own below start) (free_within own below (start + words_over below))))
-    ∙ map_either root meets (free_within own below start ++ free_within own below (start + words_over below)) (part_over (suc below) start ∷ [])
+    (moved_within held own root agree below (start + words_over below) (omega arith)
+    (omega (arith, fits, size_of_halves below h)))
+    ∙ ap (λ both. cond meets both itself)
+    (sym (map-append (raised_part root) (free_within own below start)
+    (free_within own below (start + words_over below))))
+    ∙ map_either root meets (free_within own below start ++ free_within own below (start + words_over below))
+    (part_over (suc below) start ∷ [])
   where
     meets : Bool
     meets = meets_over own (suc below) start
@@ -63,7 +71,8 @@ moved_within held own root agree (suc below) start h fits =
 pub free_where_agree : (held own : List Chunk) (root : ℕ) → AgreeInRoot held own root
     → free_within held 12 root ≡ map (raised_part root) (free_within own 12 0)
 free_where_agree held own root agree =
-    ap (λ (start : ℕ). free_within held 12 start) from_none ∙ moved_within held own root agree 12 0 (omega arith) (omega arith)
+    ap (λ (start : ℕ). free_within held 12 start) from_none
+    ∙ moved_within held own root agree 12 0 (omega arith) (omega arith)
   where
     from_none : root ≡ 0 + root
     from_none = omega arith
@@ -76,20 +85,25 @@ raised_agree : (own : List Chunk) (root start level : ℕ)
     → meets_chunk (map (raised_chunk root) own) (start + root) level ≡ meets_chunk own start level
 raised_agree [] root start level = refl
 raised_agree (c ∷ own) root start level =
-    ap (λ b. b || meets_chunk (map (raised_chunk root) own) (start + root) level) (meets_raised c.start (size_of c.level) start (size_of level) root)
+    ap (λ b. b || meets_chunk (map (raised_chunk root) own) (start + root) level)
+    (meets_raised c.start (size_of c.level) start (size_of level) root)
     ∙ ap (λ b. meet c.start (size_of c.level) start (size_of level) || b) (raised_agree own root start level)
 
 pub free_among_others : (before own after : List Chunk) (root : ℕ) → meets_chunk before root 0 ≡ false
     → meets_chunk after root 0 ≡ false
     → free_within (before ++ (map (raised_chunk root) own ++ after)) 12 root
     ≡ map (raised_part root) (free_within own 12 0)
-free_among_others before own after root first last = free_where_agree (before ++ (map (raised_chunk root) own ++ after)) own root agree
+free_among_others before own after root first last =
+    free_where_agree (before ++ (map (raised_chunk root) own ++ after)) own root agree
   where
     agree : AgreeInRoot (before ++ (map (raised_chunk root) own ++ after)) own root
     agree start level fits =
         list_any-append test before (map (raised_chunk root) own ++ after)
-        ∙ ap (λ b. meets_chunk before (start + root) level || b) (list_any-append test (map (raised_chunk root) own) after)
-        ∙ ap (λ b. b || (meets_chunk (map (raised_chunk root) own) (start + root) level || meets_chunk after (start + root) level)) (none before first)
+        ∙ ap (λ b. meets_chunk before (start + root) level || b)
+        (list_any-append test (map (raised_chunk root) own) after)
+        ∙ ap (λ b. b
+        || (meets_chunk (map (raised_chunk root) own) (start + root) level || meets_chunk after (start + root) level))
+        (none before first)
         ∙ ap (λ b. meets_chunk (map (raised_chunk root) own) (start + root) level || b) (none after last)
         ∙ or-false (meets_chunk (map (raised_chunk root) own) (start + root) level) ∙ raised_agree own root start level
       where

@@ -29,7 +29,8 @@ rises_lower a low high (part ∷ parts) h rises = (omega (arith, rises.0), rises
 rises_joined : (low middle high : ℕ) (xs ys : List Span) → Rises low middle xs → Rises middle high ys
     → Rises low high (xs ++ ys)
 rises_joined low middle high [] ys first second = rises_lower low middle high ys first second
-rises_joined low middle high (part ∷ xs) ys first second = (first.0, rises_joined (part.start + size_of part.level) middle high xs ys first.1 second)
+rises_joined low middle high (part ∷ xs) ys first second =
+    (first.0, rises_joined (part.start + size_of part.level) middle high xs ys first.1 second)
 
 -- The free parts of a part rise from its start to its end.
 within_rises : (held : List Chunk) (below start : ℕ) → below ≤ 12 → IsStart below start
@@ -38,9 +39,11 @@ within_rises held = by_halves held (λ below start parts. Rises start (start + w
   none = λ start whole meets. omega arith;
   itself = λ below start h whole clear. (omega arith, omega arith);
   halves = λ below start lower upper h whole meets first second.
-      let end : start + words_over (suc below) ≡ start + words_over below + words_over below = omega (arith, size_of_halves below h) in
+      let end : start + words_over (suc below) ≡ start + words_over below + words_over below =
+      omega (arith, size_of_halves below h) in
       subst (λ (high : ℕ). Rises start high (lower ++ upper)) (sym end)
-      (rises_joined start (start + words_over below) (start + words_over below + words_over below) lower upper first second);
+      (rises_joined start (start + words_over below) (start + words_over below + words_over below) lower upper first
+      second);
 })
 
 -- The free parts of a slot rise within its node.
@@ -48,7 +51,8 @@ slot_rises : (held : List Chunk) (slot : ℕ)
     → Rises (slot * node_words) ((slot + 1) * node_words) (free_in_slot held slot)
 slot_rises held slot = subst (λ (high : ℕ). Rises root high (free_in_slot held slot)) (omega arith)
     (rises_joined root middle (middle + size_of 0) (free_within held 12 root) (free_within held 12 middle)
-    (within_rises held 12 root (omega arith) (roots_are_whole slot).0) (within_rises held 12 middle (omega arith) (roots_are_whole slot).1))
+    (within_rises held 12 root (omega arith) (roots_are_whole slot).0)
+    (within_rises held 12 middle (omega arith) (roots_are_whole slot).1))
   where
     root : ℕ
     root = root_of slot
@@ -79,10 +83,13 @@ unfolding IsStrictlySortedBy
 slots_rise held low [] above sorted = (low * node_words, omega arith)
 slots_rise held low (slot ∷ slots) above sorted =
     let rest = slots_rise held (slot + 1) slots (next_from_above slot slots sorted.0) sorted.1 in
-    let joined = rises_joined (slot * node_words) ((slot + 1) * node_words) rest.0 (free_in_slot held slot) (flat_map (free_in_slot held) slots)
+    let joined =
+    rises_joined (slot * node_words) ((slot + 1) * node_words) rest.0 (free_in_slot held slot)
+    (flat_map (free_in_slot held) slots)
     (slot_rises held slot) rest.1 in (
       rest.0,
-      rises_lower (low * node_words) (slot * node_words) rest.0 (free_in_slot held slot ++ flat_map (free_in_slot held) slots)
+      rises_lower (low * node_words) (slot * node_words) rest.0
+          (free_in_slot held slot ++ flat_map (free_in_slot held) slots)
           (omega (arith, above.0)) joined,
     )
 
@@ -90,8 +97,11 @@ slots_rise held low (slot ∷ slots) above sorted =
 starts_above : (at : ℕ) (low high : ℕ) (parts : List Span) → at < low → Rises low high parts
     → AreAbove at (map start_of parts)
 starts_above at low high [] h rises = tt
-starts_above at low high (next ∷ parts) h rises =
-    (is_less at next.start (omega (arith, rises.0)), starts_above at (next.start + size_of next.level) high parts (omega (arith, rises.0)) rises.1)
+starts_above at low high (next ∷ parts) h rises = (
+  is_less at next.start (omega (arith, rises.0)),
+  starts_above at (next.start + size_of next.level) high parts
+      (omega (arith, rises.0)) rises.1,
+)
   where
     is_less : (a b : ℕ) → a < b → nat_cmp a b ≡ Less
     is_less a b h = grind (arith, nat_tests)
@@ -108,7 +118,8 @@ starts_sorted low high (part ∷ parts) rises = (
 -- Free parts are listed in rising order of their starts where the slots rise.
 pub free_parts_rise : (held : List Chunk) (slots : List ℕ) → IsStrictlyIncreasing slots
     → IsStrictlyIncreasing (map start_of (free_parts held slots))
-free_parts_rise held slots h = IsStrictlyIncreasing-from_sorted _ (starts_sorted (0 * node_words) rises.0 (free_parts held slots) rises.1)
+free_parts_rise held slots h =
+    IsStrictlyIncreasing-from_sorted _ (starts_sorted (0 * node_words) rises.0 (free_parts held slots) rises.1)
   where
     all_from_zero : (xs : List ℕ) → AreFrom 0 xs
     all_from_zero [] = tt

@@ -1,6 +1,7 @@
 -- How many granules are committed where chunks are given back or slots go, and how many there are
 -- at most.
-use Rattle.std.proofs.Common.{◌≡◌, ◌≤◌, ℕ, ◌+◌, ◌*◌, ◌/◌, Bool, true, false, cond, ◌&&◌, ◌||◌, List, [], ◌∷◌, ◌++◌, length, refl, ap, ◌∙◌, arith, length-append}
+use Rattle.std.proofs.Common.{◌≡◌, ◌≤◌, ℕ, ◌+◌, ◌*◌, ◌/◌, Bool, true, false, cond, ◌&&◌, ◌||◌, List, [], ◌∷◌, ◌++◌}
+use Rattle.std.proofs.Common.{length, refl, ap, ◌∙◌, arith, length-append}
 use Rattle.std.specs.Prelude.{◌==◌}
 use Rattle.std.specs.List.{list_any, filter, flat_map}
 use Rattle.std.proofs.Math.Nat.{add-mul}
@@ -23,7 +24,8 @@ fewer_pass : (p q : ℕ → Bool) (xs : List ℕ) → ((k : ℕ) → p k ≡ tru
     → length (filter p xs) ≤ length (filter q xs)
 fewer_pass p q [] narrow = omega arith
 fewer_pass p q (x ∷ xs) narrow =
-    elim (p x) as (λ b. p x ≡ b → length (cond b (x ∷ filter p xs) (filter p xs)) ≤ length (cond (q x) (x ∷ filter q xs) (filter q xs))) [
+    elim (p x) as (λ b. p x ≡ b
+    → length (cond b (x ∷ filter p xs) (filter p xs)) ≤ length (cond (q x) (x ∷ filter q xs) (filter q xs))) [
       | true ↦ λ e. rw (narrow x e) (omega (arith, fewer_pass p q xs narrow))
       | false ↦ λ e. more (q x) (fewer_pass p q xs narrow)
     ] refl
@@ -38,10 +40,13 @@ pub committed_rest : (policy : Policy) (before : List ℕ) (b mid a : List Chunk
     → length (committed_with policy before (b ++ a) slots)
     ≤ length (committed_with policy before (b ++ (mid ++ a)) slots)
 committed_rest policy before b mid a slots =
-    fewer_pass (is_committed_now policy before (b ++ a)) (is_committed_now policy before (b ++ (mid ++ a))) (flat_map (granules_of granule) slots)
-    (λ k passes. or_still (keeps policy && is_among before k) (is_committed granule (b ++ a) k) (is_committed granule (b ++ (mid ++ a)) k)
+    fewer_pass (is_committed_now policy before (b ++ a)) (is_committed_now policy before (b ++ (mid ++ a)))
+    (flat_map (granules_of granule) slots)
+    (λ k passes. or_still (keeps policy && is_among before k) (is_committed granule (b ++ a) k)
+    (is_committed granule (b ++ (mid ++ a)) k)
     (λ here. true_from_ne_false (is_committed granule (b ++ (mid ++ a)) k) (λ none.
-    let gone = list_any-rest_of (λ (chunk : Chunk). meet chunk.start chunk.front (k * granule) granule) b mid a none in absurd (cc (gone, here)))) passes)
+    let gone = list_any-rest_of (λ (chunk : Chunk). meet chunk.start chunk.front (k * granule) granule) b mid a none in
+    absurd (cc (gone, here)))) passes)
   where
     granule : ℕ
     granule = granule_of policy
@@ -56,7 +61,9 @@ pub fewer_slots : (p : ℕ → Bool) (granule : ℕ) (q : ℕ → Bool) (slots :
     ≤ length (filter p (flat_map (granules_of granule) slots))
 fewer_slots p granule q [] = omega arith
 fewer_slots p granule q (slot ∷ slots) =
-    elim (q slot) as (λ b. length (filter p (flat_map (granules_of granule) (cond b (slot ∷ filter q slots) (filter q slots)))) ≤ length (filter p (flat_map (granules_of granule) (slot ∷ slots)))) [
+    elim (q slot) as (λ b. length
+    (filter p (flat_map (granules_of granule) (cond b (slot ∷ filter q slots) (filter q slots))))
+    ≤ length (filter p (flat_map (granules_of granule) (slot ∷ slots)))) [
       | true ↦ omega (arith, one (filter q slots), one slots, fewer_slots p granule q slots)
       | false ↦ omega (arith, one slots, fewer_slots p granule q slots)
     ]
@@ -72,8 +79,10 @@ agree_in : (p q : ℕ → Bool) (xs : List ℕ) → ((k : ℕ) → list_any (is_
     → filter p xs ≡ filter q xs
 agree_in p q [] same = refl
 agree_in p q (x ∷ xs) same =
-    ap (λ b. cond b (x ∷ filter p xs) (filter p xs)) (same x (or_left (x == x) (list_any (is_number x) xs) (same_number x)))
-    ∙ ap (λ (l : List ℕ). cond (q x) (x ∷ l) l) (agree_in p q xs (λ k there. same k (or_right (x == k) (list_any (is_number k) xs) there)))
+    ap (λ b. cond b (x ∷ filter p xs) (filter p xs))
+    (same x (or_left (x == x) (list_any (is_number x) xs) (same_number x)))
+    ∙ ap (λ (l : List ℕ). cond (q x) (x ∷ l) l)
+    (agree_in p q xs (λ k there. same k (or_right (x == k) (list_any (is_number k) xs) there)))
   where
     same_number : (n : ℕ) → (n == n) ≡ true
     same_number n = grind arith
@@ -112,7 +121,12 @@ length_granules : (granule : ℕ) (slots : List ℕ)
 length_granules granule [] = omega arith
 length_granules granule (slot ∷ slots) =
     length-append (granules_of granule slot) (flat_map (granules_of granule) slots)
-    ∙ omega (arith, length-range_with_len (slot * (node_words / granule)) (node_words / granule), length_granules granule slots, add-mul (length slots) 1 (node_words / granule))
+    ∙ omega (
+      arith,
+      length-range_with_len (slot * (node_words / granule)) (node_words / granule),
+      length_granules granule slots,
+      add-mul (length slots) 1 (node_words / granule),
+    )
 
 pub length_filter : (p : ℕ → Bool) (xs : List ℕ) → length (filter p xs) ≤ length xs
 length_filter p [] = omega arith
@@ -124,4 +138,5 @@ length_filter p (x ∷ xs) = elim (p x) as (λ b. length (cond b (x ∷ filter p
 -- No more granules are committed than the reserved slots have.
 pub committed_at_most : (p : ℕ → Bool) (granule : ℕ) (slots : List ℕ)
     → length (filter p (flat_map (granules_of granule) slots)) ≤ length slots * (node_words / granule)
-committed_at_most p granule slots = omega (arith, length_filter p (flat_map (granules_of granule) slots), length_granules granule slots)
+committed_at_most p granule slots =
+    omega (arith, length_filter p (flat_map (granules_of granule) slots), length_granules granule slots)

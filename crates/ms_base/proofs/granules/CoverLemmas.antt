@@ -1,12 +1,14 @@
 -- Held chunks and free parts cover each word of the reserved nodes once. The law on covering uses
 -- this.
-use Rattle.std.proofs.Common.{◌≡◌, ◌≤◌, ℕ, suc, ◌+◌, ◌-◌, ◌*◌, ◌/◌, Bool, true, false, not, ◌&&◌, ◌||◌, List, [], ◌∷◌, ◌++◌, map, refl, sym, ap, ◌∙◌, inl, inr, arith}
+use Rattle.std.proofs.Common.{◌≡◌, ◌≤◌, ℕ, suc, ◌+◌, ◌-◌, ◌*◌, ◌/◌, Bool, true, false, not, ◌&&◌, ◌||◌, List, [], ◌∷◌}
+use Rattle.std.proofs.Common.{◌++◌, map, refl, sym, ap, ◌∙◌, inl, inr, arith}
 use Rattle.std.specs.Prelude.{◌==◌}
 use Rattle.std.specs.List.{All, AllByRecursion, count_by, list_any, list_all, flat_map}
 use Rattle.std.specs.List.Sorted.{IsStrictlyIncreasing, IsStrictlySortedBy}
 use Rattle.std.specs.Ordering.{nat_cmp}
 use Rattle.std.specs.declared.cmp.Ordering.TheVariants.{Less}
-use Rattle.std.proofs.lemmas.Bool.{and_parts, or_parts, or_from, or_cases, or_left, or_right, false_from_ne_true, not-true, not_from_true, eqb-true, eq-eqb, ne_eqb, cases_eq}
+use Rattle.std.proofs.lemmas.Bool.{and_parts, or_parts, or_from, or_cases, or_left, or_right, false_from_ne_true}
+use Rattle.std.proofs.lemmas.Bool.{not-true, not_from_true, eqb-true, eq-eqb, ne_eqb, cases_eq}
 use Rattle.std.proofs.lemmas.Bool.Decides.{nat_tests}
 use Rattle.std.proofs.lemmas.List.{map-append}
 use Rattle.std.proofs.lemmas.List.Elements.{All-head, All-tail}
@@ -45,8 +47,10 @@ times_with word run runs = sum_by-cons (λ r. one_if (has_word word r)) run runs
 apart_from_all : (word : ℕ) (run : ℕ × ℕ) (runs : List (ℕ × ℕ)) → has_word word run ≡ true
     → meets_any run runs ≡ false → list_any (has_word word) runs ≡ false
 apart_from_all word run [] here apart = refl
-apart_from_all word run (other ∷ runs) here apart = let both = or_parts (meet run.0 run.1 other.0 other.1) (meets_any run runs) apart in
-    or_from (has_word word other) (list_any (has_word word) runs) (not_both word run.0 run.1 other.0 other.1 here both.0) (apart_from_all word run runs here both.1)
+apart_from_all word run (other ∷ runs) here apart = let both =
+    or_parts (meet run.0 run.1 other.0 other.1) (meets_any run runs) apart in
+    or_from (has_word word other) (list_any (has_word word) runs)
+    (not_both word run.0 run.1 other.0 other.1 here both.0) (apart_from_all word run runs here both.1)
   where
     not_both : (w a m b n : ℕ) → lies_in (w, 1) (a, m) ≡ true → meet a m b n ≡ false → lies_in (w, 1) (b, n) ≡ false
     not_both w a m b n h e = grind (arith, nat_tests)
@@ -55,8 +59,14 @@ once_where_apart : (word : ℕ) (runs : List (ℕ × ℕ)) → are_apart runs �
     → times word runs ≡ one_if (list_any (has_word word) runs)
 once_where_apart word [] apart = refl
 once_where_apart word (run ∷ runs) apart = let both = and_parts (not (meets_any run runs)) (are_apart runs) apart in
-    times_with word run runs ∙ elim (has_word word run) as (λ b. has_word word run ≡ b → one_if b + times word runs ≡ one_if (b || list_any (has_word word) runs)) [
-      | true ↦ λ here. omega (arith, once_where_apart word runs both.1, ap one_if (apart_from_all word run runs here (not-true (meets_any run runs) both.0)))
+    times_with word run runs
+    ∙ elim (has_word word run) as (λ b. has_word word run ≡ b
+    → one_if b + times word runs ≡ one_if (b || list_any (has_word word) runs)) [
+      | true ↦ λ here. omega (
+        arith,
+        once_where_apart word runs both.1,
+        ap one_if (apart_from_all word run runs here (not-true (meets_any run runs) both.0)),
+      )
       | false ↦ λ past. omega (arith, once_where_apart word runs both.1)
     ] refl
 
@@ -69,8 +79,11 @@ clear_has_no_word : (held : List Chunk) (word start level : ℕ) → meets_chunk
     → has_word word (start, size_of level) ≡ true → is_held word held ≡ false
 clear_has_no_word [] word start level clear here = refl
 clear_has_no_word (chunk ∷ held) word start level clear here =
-    let both = or_parts (meet chunk.start (size_of chunk.level) start (size_of level)) (meets_chunk held start level) clear in
-    or_from (has_word word (words_of chunk)) (is_held word held) (not_in chunk.start (size_of chunk.level) start (size_of level) word both.0 here) (clear_has_no_word held word start level both.1 here)
+    let both =
+    or_parts (meet chunk.start (size_of chunk.level) start (size_of level)) (meets_chunk held start level) clear in
+    or_from (has_word word (words_of chunk)) (is_held word held)
+    (not_in chunk.start (size_of chunk.level) start (size_of level) word both.0 here)
+    (clear_has_no_word held word start level both.1 here)
   where
     not_in : (c t a s w : ℕ) → meet c t a s ≡ false → lies_in (w, 1) (a, s) ≡ true → lies_in (w, 1) (c, t) ≡ false
     not_in c t a s w e h = grind (arith, nat_tests)
@@ -84,10 +97,12 @@ meeting_has_word : (held : List Chunk) (word start : ℕ) → AreParts held → 
 meeting_has_word [] word start parts whole meets here = absurd (cc)
 meeting_has_word (chunk ∷ held) word start parts whole meets here =
     elim (or_cases (meet chunk.start (size_of chunk.level) start (size_of 12)) (meets_chunk held start 12) meets) [
-      | inl one ↦ or_left (has_word word (words_of chunk)) (is_held word held) (let around = meeting_lies_in chunk.start chunk.level start 12 placed (omega arith, whole) placed.0 one in
+      | inl one ↦ or_left (has_word word (words_of chunk)) (is_held word held)
+          (let around = meeting_lies_in chunk.start chunk.level start 12 placed (omega arith, whole) placed.0 one in
           still_in word chunk.start (size_of chunk.level) start (size_of 12) around.0 around.1 here)
       | inr later ↦ or_right (has_word word (words_of chunk)) (is_held word held)
-          (meeting_has_word held word start (All-tail (λ chunk. IsPart chunk.start chunk.level) chunk held parts) whole later here)
+          (meeting_has_word held word start (All-tail (λ chunk. IsPart chunk.start chunk.level) chunk held parts) whole
+          later here)
     ]
   where
     placed : IsPart chunk.start chunk.level
@@ -99,7 +114,9 @@ meeting_has_word (chunk ∷ held) word start parts whole meets here =
 -- The words of parts that stand in two lists.
 times_joined : (word : ℕ) (xs ys : List Span)
     → times word (map words_of_part (xs ++ ys)) ≡ times word (map words_of_part xs) + times word (map words_of_part ys)
-times_joined word xs ys = ap (times word) (map-append words_of_part xs ys) ∙ sum_by-append (λ r. one_if (has_word word r)) (map words_of_part xs) (map words_of_part ys)
+times_joined word xs ys =
+    ap (times word) (map-append words_of_part xs ys)
+    ∙ sum_by-append (λ r. one_if (has_word word r)) (map words_of_part xs) (map words_of_part ys)
 
 -- The word lies in the run, and in no held chunk.
 abbrev is_free : ℕ → List Chunk → ℕ × ℕ → Bool
@@ -113,7 +130,8 @@ free_in_halves word start half size b e = grind (arith, nat_tests)
 -- The parts have the word once where it lies in the part with so many levels below it and in no
 -- held chunk, and else not at all.
 abbrev CoverOver : List Chunk → ℕ → ℕ → ℕ → List Span → Type 0
-CoverOver held word below start parts = times word (map words_of_part parts) ≡ one_if (is_free word held (start, words_over below))
+CoverOver held word below start parts =
+    times word (map words_of_part parts) ≡ one_if (is_free word held (start, words_over below))
 
 -- A part that meets no chunk covers its words.
 itself_covers : (held : List Chunk) (word below start : ℕ) → meets_over held below start ≡ false
@@ -149,15 +167,18 @@ covered_within held word parts = by_halves held (CoverOver held word) (record {
     arith,
     first,
     second,
-    free_in_halves word start (words_over below) (words_over (suc below)) (not (is_held word held)) (size_of_halves below h),
+    free_in_halves word start (words_over below) (words_over (suc below)) (not (is_held word held))
+        (size_of_halves below h),
   );
 })
 
 -- A word lies in a slot's node exactly where the slot is its own.
 in_node : (word slot : ℕ) → lies_in (word, 1) (slot * node_words, node_words) ≡ (slot == slot_of word)
 in_node word slot = elim (cases_eq slot (slot_of word)) [
-  | inl same ↦ is_in word (slot * node_words) node_words (omega (arith, same)) (omega (arith, same)) ∙ sym (eq-eqb slot (slot_of word) same)
-  | inr other ↦ false_from_ne_true (lies_in (word, 1) (slot * node_words, node_words)) (λ here. other (slot_is (inside_bounds word 1 (slot * node_words) node_words here)))
+  | inl same ↦ is_in word (slot * node_words) node_words (omega (arith, same)) (omega (arith, same))
+      ∙ sym (eq-eqb slot (slot_of word) same)
+  | inr other ↦ false_from_ne_true (lies_in (word, 1) (slot * node_words, node_words))
+      (λ here. other (slot_is (inside_bounds word 1 (slot * node_words) node_words here)))
       ∙ sym (ne_eqb slot (slot_of word) other)
 ]
   where
@@ -171,7 +192,8 @@ in_node word slot = elim (cases_eq slot (slot_of word)) [
 covered_in_slot : (held : List Chunk) (word slot : ℕ) → AreParts held
     → times word (map words_of_part (free_in_slot held slot))
     ≡ one_if ((slot == slot_of word) && not (is_held word held))
-covered_in_slot held word slot parts = times_joined word (free_within held 12 (root_of slot)) (free_within held 12 (root_of slot + size_of 0))
+covered_in_slot held word slot parts =
+    times_joined word (free_within held 12 (root_of slot)) (free_within held 12 (root_of slot + size_of 0))
     ∙ omega (
       arith,
       covered_within held word parts 12 (root_of slot) (omega arith) (roots_are_whole slot).0,
@@ -184,7 +206,9 @@ covered_in_slot held word slot parts = times_joined word (free_within held 12 (r
 not_among : (slot other : ℕ) (slots : List ℕ) → slot ≡ other → AllByRecursion (λ y. nat_cmp slot y ≡ Less) slots
     → is_reserved slots other ≡ false
 not_among slot other [] e above = refl
-not_among slot other (y ∷ slots) e above = or_from (y == other) (is_reserved slots other) (differs slot other y e above.0) (not_among slot other slots e above.1)
+not_among slot other (y ∷ slots) e above =
+    or_from (y == other) (is_reserved slots other) (differs slot other y e above.0)
+    (not_among slot other slots e above.1)
   where
     differs : (a b y : ℕ) → a ≡ b → nat_cmp a y ≡ Less → (y == b) ≡ false
     differs a b y e h = grind (arith, nat_tests)
@@ -194,16 +218,27 @@ covered_in_slots : (held : List Chunk) (word : ℕ) (slots : List ℕ) → ArePa
     ≡ one_if (is_reserved slots (slot_of word) && not (is_held word held))
 unfolding IsStrictlySortedBy
 covered_in_slots held word [] parts sorted = refl
-covered_in_slots held word (slot ∷ slots) parts sorted = times_joined word (free_in_slot held slot) (flat_map (free_in_slot held) slots)
-    ∙ elim (slot == slot_of word) as (λ b. (slot == slot_of word) ≡ b → times word (map words_of_part (free_in_slot held slot)) + times word (map words_of_part (flat_map (free_in_slot held) slots)) ≡ one_if ((b || is_reserved slots (slot_of word)) && not (is_held word held))) [
+covered_in_slots held word (slot ∷ slots) parts sorted =
+    times_joined word (free_in_slot held slot) (flat_map (free_in_slot held) slots)
+    ∙ elim (slot == slot_of word) as (λ b. (slot == slot_of word) ≡ b
+    → times word (map words_of_part (free_in_slot held slot)) + times word
+    (map words_of_part (flat_map (free_in_slot held) slots))
+    ≡ one_if ((b || is_reserved slots (slot_of word)) && not (is_held word held))) [
       | true ↦ λ here. omega (
         arith,
         covered_in_slot held word slot parts,
         ap (λ b. one_if (b && not (is_held word held))) here,
         covered_in_slots held word slots parts sorted.1,
-        ap (λ b. one_if (b && not (is_held word held))) (not_among slot (slot_of word) slots (eqb-true slot (slot_of word) here) sorted.0),
+        ap (λ b. one_if (b && not (is_held word held)))
+            (not_among slot (slot_of word) slots (eqb-true slot (slot_of word) here) sorted.0),
       )
-      | false ↦ λ past. omega (arith, covered_in_slot held word slot parts, ap (λ b. one_if (b && not (is_held word held))) past, covered_in_slots held word slots parts sorted.1)
+      | false ↦
+          λ past. omega (
+            arith,
+            covered_in_slot held word slot parts,
+            ap (λ b. one_if (b && not (is_held word held))) past,
+            covered_in_slots held word slots parts sorted.1,
+          )
     ] refl
 
 -- A word of a held chunk lies in a reserved node.
@@ -212,11 +247,14 @@ held_is_reserved : (word : ℕ) (slots : List ℕ) (held : List Chunk) → ArePa
     → is_reserved slots (slot_of word) ≡ true
 held_is_reserved word slots [] parts reserved here = absurd (cc)
 held_is_reserved word slots (chunk ∷ held) parts reserved here =
-    let both = and_parts (is_reserved slots (slot_of chunk.start)) (list_all (λ (c : Chunk). is_reserved slots (slot_of c.start)) held) reserved in
+    let both =
+    and_parts (is_reserved slots (slot_of chunk.start))
+    (list_all (λ (c : Chunk). is_reserved slots (slot_of c.start)) held) reserved in
     elim (or_cases (has_word word (words_of chunk)) (is_held word held) here) [
       | inl one ↦ ap (is_reserved slots) (sym (same_slot (inside_bounds word 1 chunk.start (size_of chunk.level) one)
           (ends_in_node chunk.start chunk.level (All-head (λ c. IsPart c.start c.level) chunk held parts)))) ∙ both.0
-      | inr later ↦ held_is_reserved word slots held (All-tail (λ c. IsPart c.start c.level) chunk held parts) both.1 later
+      | inr later ↦ held_is_reserved word slots held (All-tail (λ c. IsPart c.start c.level) chunk held parts) both.1
+          later
     ]
   where
     same_slot : (chunk.start ≤ word) × (word + 1 ≤ chunk.start + size_of chunk.level)
@@ -227,8 +265,11 @@ held_is_reserved word slots (chunk ∷ held) parts reserved here =
 -- Held chunks and free parts together have each word of a reserved node once, and no other word.
 pub covered_once : (policy : Policy) (word : ℕ) (held : List Chunk) (slots : List ℕ) → AreHeld policy slots held
     → IsStrictlyIncreasing slots → times word (runs_in_roots held slots) ≡ one_if (is_reserved slots (slot_of word))
-covered_once policy word held slots good rising = sum_by-append (λ r. one_if (has_word word r)) (map words_of held) (map words_of_part (free_parts held slots))
-    ∙ elim (is_held word held) as (λ b. is_held word held ≡ b → times word (map words_of held) + times word (map words_of_part (free_parts held slots)) ≡ one_if (is_reserved slots (slot_of word))) [
+covered_once policy word held slots good rising =
+    sum_by-append (λ r. one_if (has_word word r)) (map words_of held) (map words_of_part (free_parts held slots))
+    ∙ elim (is_held word held) as (λ b. is_held word held ≡ b
+    → times word (map words_of held) + times word (map words_of_part (free_parts held slots))
+    ≡ one_if (is_reserved slots (slot_of word))) [
       | true ↦ λ here. omega (
         arith,
         once_where_apart word (map words_of held) good.apart,

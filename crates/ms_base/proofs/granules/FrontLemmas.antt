@@ -1,5 +1,6 @@
 -- The front of a new chunk: it is one, and reaches as far as was asked.
-use Rattle.std.proofs.Common.{◌≡◌, ◌≤◌, ◌<◌, ◌+◌, ◌-◌, ◌*◌, ◌%◌, ◌^◌, ℕ, Bool, true, false, ◌||◌, if◌then◌else◌, refl, sym, ap, ◌∙◌, arith, inl, inr}
+use Rattle.std.proofs.Common.{◌≡◌, ◌≤◌, ◌<◌, ◌+◌, ◌-◌, ◌*◌, ◌%◌, ◌^◌, ℕ, Bool, true, false, ◌||◌, if◌then◌else◌, refl}
+use Rattle.std.proofs.Common.{sym, ap, ◌∙◌, arith, inl, inr}
 use Rattle.std.specs.Prelude.{◌⊎◌}
 use Rattle.std.proofs.lemmas.Nat.{mul-le, pow-add, pow_below, div-add-mod', mod-mul-add}
 use Rattle.std.proofs.Math.Nat.{add-mul}
@@ -17,7 +18,13 @@ rounds_up granule words some = omega (arith, div-add-mod' (words + granule - 1) 
 rounds_within : (granule words c : ℕ) → 1 ≤ granule → words ≤ c * granule
     → granules_for granule words * granule ≤ c * granule
 rounds_within granule words c some h = elim (cases_lt c (granules_for granule words)) [
-  | inl k ↦ absurd (omega (arith, div-add-mod' (words + granule - 1) granule, add-mul c 1 granule, mul-le (c + 1) granule (granules_for granule words) granule (omega arith) (omega arith)))
+  | inl k ↦
+      absurd (omega (
+        arith,
+        div-add-mod' (words + granule - 1) granule,
+        add-mul c 1 granule,
+        mul-le (c + 1) granule (granules_for granule words) granule (omega arith) (omega arith),
+      ))
   | inr k ↦ mul-le (granules_for granule words) granule c granule k (omega arith)
 ]
 
@@ -39,8 +46,11 @@ pub made_up : (policy : Policy) (level : ℕ) → granule_of policy ≤ size_of 
     → (count : ℕ) × (size_of level ≡ count * granule_of policy)
 made_up policy level h =
     let granule = granule_is_level policy in
-    let count : ℕ = 2 ^ (19 - level - (19 - granule.level)) in
-    (count, makes_up (19 - granule.level) level (omega (arith, h, granule.is)) ∙ ap (λ (n : ℕ). count * n) (sym granule.is))
+    let count : ℕ = 2 ^ (19 - level - (19 - granule.level)) in (
+      count,
+      makes_up (19 - granule.level) level (omega (arith, h, granule.is))
+          ∙ ap (λ (n : ℕ). count * n) (sym granule.is),
+    )
 
 pub front_small : (policy : Policy) (size words : ℕ) → size < granule_of policy → front_for policy size words ≡ size
 front_small policy size words h = rw (lt-ltb size (granule_of policy) h) (always (keeps policy))
@@ -60,19 +70,26 @@ front_whole policy size words e h = rw (e, le-ltb size (granule_of policy) h) re
 -- A front is the size, or whole granules within it.
 front_cases : (policy : Policy) (level words : ℕ) → words ≤ size_of level
     → (front_for policy (size_of level) words ≡ size_of level)
-    ⊎ ((granule_of policy ≤ size_of level) × (front_for policy (size_of level) words ≡ granules_for (granule_of policy) words * granule_of policy)
+    ⊎ ((granule_of policy ≤ size_of level)
+    × (front_for policy (size_of level) words ≡ granules_for (granule_of policy) words * granule_of policy)
     × (granules_for (granule_of policy) words * granule_of policy ≤ size_of level))
 front_cases policy level words h = elim (cases_lt (size_of level) (granule_of policy)) [
   | inl small ↦ inl (front_small policy (size_of level) words small)
   | inr large ↦ elim (keeps policy) as (λ b. keeps policy ≡ b → (front_for policy (size_of level) words ≡ size_of level)
-      ⊎ ((granule_of policy ≤ size_of level) × (front_for policy (size_of level) words ≡ granules_for (granule_of policy) words * granule_of policy)
+      ⊎ ((granule_of policy ≤ size_of level)
+      × (front_for policy (size_of level) words ≡ granules_for (granule_of policy) words * granule_of policy)
       × (granules_for (granule_of policy) words * granule_of policy ≤ size_of level))) [
         | true ↦ λ e. inl (front_full policy (size_of level) words e)
         | false ↦ λ e. let made = made_up policy level large in
             inr (
               large,
               front_whole policy (size_of level) words e large,
-              omega (arith, made.1, rounds_within (granule_of policy) words made.0 (granule_some policy) (omega (arith, h, made.1))),
+              omega (
+                arith,
+                made.1,
+                rounds_within (granule_of policy) words made.0 (granule_some policy)
+                    (omega (arith, h, made.1)),
+              ),
             )
       ] refl
 ]
@@ -96,8 +113,10 @@ has_front_for policy start level words some h = record {
   ];
   small = λ k. front_small policy (size_of level) words k;
   whole = λ k. elim (front_cases policy level words h) [
-    | inl full ↦ let made = made_up policy level k in ap (λ (n : ℕ). n % granule_of policy) (full ∙ made.1) ∙ rest_none made.0 (granule_of policy) (granule_some policy)
-    | inr whole ↦ ap (λ (n : ℕ). n % granule_of policy) whole.1 ∙ rest_none (granules_for (granule_of policy) words) (granule_of policy) (granule_some policy)
+    | inl full ↦ let made = made_up policy level k in ap (λ (n : ℕ). n % granule_of policy) (full ∙ made.1)
+        ∙ rest_none made.0 (granule_of policy) (granule_some policy)
+    | inr whole ↦ ap (λ (n : ℕ). n % granule_of policy) whole.1
+        ∙ rest_none (granules_for (granule_of policy) words) (granule_of policy) (granule_some policy)
   ];
   full = λ e. front_full policy (size_of level) words e;
 }

@@ -1,6 +1,7 @@
 -- How many granules are committed once a chunk is lent or grown: those before, and those that its
 -- front meets which were missing.
-use Rattle.std.proofs.Common.{◌≡◌, ◌≤◌, ◌<◌, ℕ, zero, suc, ◌+◌, ◌-◌, ◌*◌, ◌/◌, Bool, true, false, cond, not, ◌&&◌, ◌||◌, List, [], ◌∷◌, ◌++◌, length, refl, sym, ap, ◌∙◌, arith, inl, inr}
+use Rattle.std.proofs.Common.{◌≡◌, ◌≤◌, ◌<◌, ℕ, zero, suc, ◌+◌, ◌-◌, ◌*◌, ◌/◌, Bool, true, false, cond, not, ◌&&◌, ◌||◌}
+use Rattle.std.proofs.Common.{List, [], ◌∷◌, ◌++◌, length, refl, sym, ap, ◌∙◌, arith, inl, inr}
 use Rattle.std.specs.Prelude.{◌==◌, nat_lt, nat_le}
 use Rattle.std.specs.List.{AllByRecursion, list_any, flat_map, filter, range_with_len}
 use Rattle.std.specs.List.Sorted.{IsStrictlySortedBy, IsStrictlyIncreasing}
@@ -13,7 +14,8 @@ use Rattle.std.specs.Ordering.{nat_cmp, match_ordering}
 use Rattle.std.specs.declared.cmp.Ordering.TheVariants.{Less, Equal, Greater}
 use Rattle.std.proofs.lemmas.Nat.{mul-le, div-add-mod', mod_below, le-div}
 use Rattle.std.proofs.Math.Nat.{add-mul}
-use Rattle.std.proofs.lemmas.Bool.{cases_lt, cases_eq, or_cases, or_from, or_left, or_right, both_ways, false_from_ne_true, eqb-true}
+use Rattle.std.proofs.lemmas.Bool.{cases_lt, cases_eq, or_cases, or_from, or_left, or_right, both_ways}
+use Rattle.std.proofs.lemmas.Bool.{false_from_ne_true, eqb-true}
 use Rattle.std.proofs.lemmas.Bool.Decides.{nat_tests}
 use Rattle.std.proofs.lemmas.List.Elements.{filter-append, filter_agree}
 use Rattle.std.proofs.lemmas.Map.Keys.{sorted_from_strictly_increasing}
@@ -32,7 +34,8 @@ use Rattle.ms_base.specs.Causes.{granules_missing}
 use Rattle.ms_base.specs.Good.{IsSoundPool}
 use Rattle.ms_base.specs.Laws.{is_number}
 use Rattle.ms_base.proofs.granules.PolicyLemmas.{granules_make_nodes, granule_some}
-use Rattle.ms_base.proofs.granules.GranuleLemmas.{below_from_product, in_node, committed_are_counted, committed_where_now, committed_where_front}
+use Rattle.ms_base.proofs.granules.GranuleLemmas.{below_from_product, in_node, committed_are_counted}
+use Rattle.ms_base.proofs.granules.GranuleLemmas.{committed_where_now, committed_where_front}
 use Rattle.ms_base.proofs.granules.FreeGranuleLemmas.{meets_bounds, bounds_meet}
 
 -- What passes one of two tests passes the first, or the second alone.
@@ -40,15 +43,21 @@ count_or : (p m : ℕ → Bool) (xs : List ℕ)
     → length (filter (λ n. p n || m n) xs) ≡ length (filter p xs) + length (filter (λ n. not (p n)) (filter m xs))
 count_or p m [] = refl
 count_or p m (x ∷ xs) =
-    elim (p x) as (λ b. p x ≡ b → length (cond (b || m x) (x ∷ both) both) ≡ length (cond b (x ∷ first) first) + length (filter alone (cond (m x) (x ∷ second) second))) [
-      | true ↦ λ e. elim (m x) as (λ c. length (x ∷ both) ≡ length (x ∷ first) + length (filter alone (cond c (x ∷ second) second))) [
-        | true ↦ rw e (omega (arith, count_or p m xs))
-        | false ↦ omega (arith, count_or p m xs)
-      ]
-      | false ↦ λ e. elim (m x) as (λ c. length (cond c (x ∷ both) both) ≡ length first + length (filter alone (cond c (x ∷ second) second))) [
-        | true ↦ rw e (omega (arith, count_or p m xs))
-        | false ↦ count_or p m xs
-      ]
+    elim (p x) as (λ b. p x ≡ b
+    → length (cond (b || m x) (x ∷ both) both)
+    ≡ length (cond b (x ∷ first) first) + length (filter alone (cond (m x) (x ∷ second) second))) [
+      | true ↦ λ e.
+          elim (m x) as (λ c. length (x ∷ both)
+          ≡ length (x ∷ first) + length (filter alone (cond c (x ∷ second) second))) [
+            | true ↦ rw e (omega (arith, count_or p m xs))
+            | false ↦ omega (arith, count_or p m xs)
+          ]
+      | false ↦
+          λ e. elim (m x) as (λ c. length (cond c (x ∷ both) both)
+          ≡ length first + length (filter alone (cond c (x ∷ second) second))) [
+            | true ↦ rw e (omega (arith, count_or p m xs))
+            | false ↦ count_or p m xs
+          ]
     ] refl
   where
     both : List ℕ
@@ -70,7 +79,8 @@ between low high n = nat_le low n && nat_lt n high
 none_in : (p : ℕ → Bool) (a n : ℕ) → ((k : ℕ) → a ≤ k → k < a + n → p k ≡ false) → filter p (range_with_len a n) ≡ []
 none_in p a zero fails = refl
 none_in p a (suc n) fails =
-    ap (λ b. cond b (a ∷ filter p (range_with_len (a + 1) n)) (filter p (range_with_len (a + 1) n))) (fails a (omega arith) (omega arith))
+    ap (λ b. cond b (a ∷ filter p (range_with_len (a + 1) n)) (filter p (range_with_len (a + 1) n)))
+    (fails a (omega arith) (omega arith))
     ∙ none_in p (a + 1) n (λ k h m. fails k (omega arith) (omega arith))
 
 pub is_between : (low high n : ℕ) → low ≤ n → n < high → between low high n ≡ true
@@ -87,9 +97,12 @@ from_low : (low a n count : ℕ) → low ≤ a → count ≤ n
 from_low low a n zero h k = none_in (between low (a + 0)) a n (λ j i m. is_above low (a + 0) j (omega arith))
 from_low low a zero (suc count) h k = absurd (omega arith)
 from_low low a (suc n) (suc count) h k =
-    ap (λ b. cond b (a ∷ filter (between low (a + suc count)) (range_with_len (a + 1) n)) (filter (between low (a + suc count)) (range_with_len (a + 1) n)))
+    ap (λ b. cond b (a ∷ filter (between low (a + suc count)) (range_with_len (a + 1) n))
+    (filter (between low (a + suc count)) (range_with_len (a + 1) n)))
     (is_between low (a + suc count) a h (omega arith))
-    ∙ ap (λ (l : List ℕ). a ∷ l) (ap (λ (high : ℕ). filter (between low high) (range_with_len (a + 1) n)) moved ∙ from_low low (a + 1) n count (omega arith) (omega arith))
+    ∙ ap (λ (l : List ℕ). a ∷ l)
+    (ap (λ (high : ℕ). filter (between low high) (range_with_len (a + 1) n)) moved
+    ∙ from_low low (a + 1) n count (omega arith) (omega arith))
   where
     moved : a + suc count ≡ a + 1 + count
     moved = omega arith
@@ -100,22 +113,28 @@ kept_between a zero low count h k =
     let none : count ≡ 0 = omega arith in ap (range_with_len low) (sym none)
 kept_between a (suc n) low count h k = elim (cases_lt a low) [
   | inl less ↦
-      ap (λ b. cond b (a ∷ filter (between low (low + count)) (range_with_len (a + 1) n)) (filter (between low (low + count)) (range_with_len (a + 1) n))) (is_below low (low + count) a less)
+      ap (λ b. cond b (a ∷ filter (between low (low + count)) (range_with_len (a + 1) n))
+      (filter (between low (low + count)) (range_with_len (a + 1) n))) (is_below low (low + count) a less)
       ∙ kept_between (a + 1) n low count (omega arith) (omega arith)
   | inr same ↦
       let e : a ≡ low = omega arith in
-      ap (λ (b : ℕ). filter (between low (low + count)) (range_with_len b (suc n))) e ∙ from_low low low (suc n) count (omega arith) (omega arith)
+      ap (λ (b : ℕ). filter (between low (low + count)) (range_with_len b (suc n))) e
+      ∙ from_low low low (suc n) count (omega arith) (omega arith)
 ]
 
 -- The granules that meet a front are those from its first to its last.
 pub meets_between : (granule start words k : ℕ) → 1 ≤ granule → 1 ≤ words
     → meet start words (k * granule) granule ≡ between (start / granule) ((start + words - 1) / granule + 1) k
-meets_between granule start words k some few = same_truth (meet start words (k * granule) granule) (between (start / granule) ((start + words - 1) / granule + 1) k) gives taken
+meets_between granule start words k some few =
+    same_truth (meet start words (k * granule) granule)
+    (between (start / granule) ((start + words - 1) / granule + 1) k) gives taken
   where
     gives : meet start words (k * granule) granule ≡ true
         → between (start / granule) ((start + words - 1) / granule + 1) k ≡ true
     gives meets = let bounds = meets_bounds start words (k * granule) granule meets in
-        let low : start / granule < k + 1 = below_from_product (start / granule) (k + 1) granule (omega (arith, bounds.0, div-add-mod' start granule, add-mul k 1 granule)) in
+        let low : start / granule < k + 1 =
+        below_from_product (start / granule) (k + 1) granule
+        (omega (arith, bounds.0, div-add-mod' start granule, add-mul k 1 granule)) in
         let high = le-div k (start + words - 1) granule (omega (arith, some)) (omega (arith, bounds.1, few)) in
         is_between (start / granule) ((start + words - 1) / granule + 1) k (omega (arith, low)) (omega (arith, high))
 
@@ -132,8 +151,18 @@ meets_between granule start words k some few = same_truth (meet start words (k *
         → meet start words (k * granule) granule ≡ true
     taken e = let bounds = bounds_of (start / granule) ((start + words - 1) / granule + 1) e in
         bounds_meet start words (k * granule) granule
-        (omega (arith, div-add-mod' start granule, mod_below start granule (omega (arith, some)), mul-le (start / granule) granule k granule bounds.0 (omega arith)))
-        (omega (arith, few, div-add-mod' (start + words - 1) granule, mul-le k granule ((start + words - 1) / granule) granule (omega (arith, bounds.1)) (omega arith)))
+        (omega (
+          arith,
+          div-add-mod' start granule,
+          mod_below start granule (omega (arith, some)),
+          mul-le (start / granule) granule k granule bounds.0 (omega arith),
+        ))
+        (omega (
+          arith,
+          few,
+          div-add-mod' (start + words - 1) granule,
+          mul-le k granule ((start + words - 1) / granule) granule (omega (arith, bounds.1)) (omega arith),
+        ))
 
 -- A chunk's front meets a granule.
 abbrev pub meets_front : ℕ → Chunk → ℕ → Bool
@@ -174,7 +203,9 @@ in_own_slot : (granule : ℕ) (chunk : Chunk) → IsFronted granule chunk
     → filter (meets_front granule chunk) (granules_of granule (slot_of chunk.start))
     ≡ granules_meeting granule chunk.start chunk.front
 in_own_slot granule chunk fronted =
-    filter_agree (meets_front granule chunk) (between low high) (λ k. meets_between granule chunk.start chunk.front k fronted.some_granule fronted.some) (granules_of granule slot)
+    filter_agree (meets_front granule chunk) (between low high)
+    (λ k. meets_between granule chunk.start chunk.front k fronted.some_granule fronted.some)
+    (granules_of granule slot)
     ∙ ap (λ (n : ℕ). filter (between low n) (granules_of granule slot)) ends
     ∙ kept_between (slot * per) per low (high - low) (omega (arith, first_in.0)) (omega (arith, ends, last_in.1))
   where
@@ -194,19 +225,23 @@ in_own_slot granule chunk fronted =
     high = last + 1
 
     rises : low ≤ last
-    rises = le-div low (chunk.start + chunk.front - 1) granule (omega (arith, fronted.some_granule)) (omega (arith, div-add-mod' chunk.start granule, fronted.some))
+    rises = le-div low (chunk.start + chunk.front - 1) granule (omega (arith, fronted.some_granule))
+        (omega (arith, div-add-mod' chunk.start granule, fronted.some))
 
     ends : high ≡ low + (high - low)
     ends = omega (arith, rises)
 
     meets_at : (k : ℕ) → low ≤ k → k ≤ last → meets_front granule chunk k ≡ true
-    meets_at k h m = meets_between granule chunk.start chunk.front k fronted.some_granule fronted.some ∙ is_between low high k h (omega arith)
+    meets_at k h m = meets_between granule chunk.start chunk.front k fronted.some_granule fronted.some
+        ∙ is_between low high k h (omega arith)
 
     first_in : (slot * per ≤ low) × (low < slot * per + per)
-    first_in = in_node granule per chunk low fronted.whole fronted.placed fronted.within (meets_at low (omega arith) rises)
+    first_in =
+        in_node granule per chunk low fronted.whole fronted.placed fronted.within (meets_at low (omega arith) rises)
 
     last_in : (slot * per ≤ last) × (last < slot * per + per)
-    last_in = in_node granule per chunk last fronted.whole fronted.placed fronted.within (meets_at last rises (omega arith))
+    last_in =
+        in_node granule per chunk last fronted.whole fronted.placed fronted.within (meets_at last rises (omega arith))
 
 none_in_later : (granule : ℕ) (chunk : Chunk) (slots : List ℕ) → IsFronted granule chunk
     → AllByRecursion (λ (slot : ℕ). nat_cmp (slot_of chunk.start) slot ≡ Less) slots
@@ -215,7 +250,8 @@ none_in_later granule chunk [] fronted later = refl
 none_in_later granule chunk (t ∷ slots) fronted later =
     filter-append (meets_front granule chunk) (granules_of granule t) (flat_map (granules_of granule) slots)
     ∙ ap (λ (l : List ℕ). l ++ filter (meets_front granule chunk) (flat_map (granules_of granule) slots))
-    (in_other_slot granule chunk t fronted (λ e. let less = below_of (slot_of chunk.start) t later.0 in absurd (omega (arith, less, e))))
+    (in_other_slot granule chunk t fronted
+    (λ e. let less = below_of (slot_of chunk.start) t later.0 in absurd (omega (arith, less, e))))
     ∙ none_in_later granule chunk slots fronted later.1
 
 -- The granules of the slots that meet a chunk's front are those that the front meets.
@@ -235,7 +271,8 @@ front_in_slots granule chunk (t ∷ slots) fronted sorted reserved =
           ∙ append-nil (filter test (granules_of granule (slot_of chunk.start))) ∙ in_own_slot granule chunk fronted
       | inr other ↦
           ap (λ (l : List ℕ). l ++ filter test rest) (in_other_slot granule chunk t fronted other)
-          ∙ front_in_slots granule chunk slots fronted sorted.1 (elim (or_cases (t == slot_of chunk.start) (is_reserved slots (slot_of chunk.start)) reserved) [
+          ∙ front_in_slots granule chunk slots fronted sorted.1
+          (elim (or_cases (t == slot_of chunk.start) (is_reserved slots (slot_of chunk.start)) reserved) [
             | inl here ↦ absurd (other (eqb-true t (slot_of chunk.start) here))
             | inr later ↦ later
           ])
@@ -261,11 +298,15 @@ pub count_with_front : (pool : PoolState) (held : List Chunk) (slots : List ℕ)
     → IsPart chunk.start chunk.level → 1 ≤ chunk.front → chunk.front ≤ size_of chunk.level
     → IsStrictlyIncreasing slots → is_reserved slots (slot_of chunk.start) ≡ true
     → filter (has_committed pool) (flat_map (granules_of (granule_in pool)) slots) ≡ pool.committed
-    → ((k : ℕ) → is_committed (granule_in pool) held k ≡ (is_committed (granule_in pool) pool.held k || meets_front (granule_in pool) chunk k))
+    → ((k : ℕ)
+    → is_committed (granule_in pool) held k
+    ≡ (is_committed (granule_in pool) pool.held k || meets_front (granule_in pool) chunk k))
     → length (committed_with pool.limits.policy pool.committed held slots)
     ≡ length pool.committed + granules_missing pool chunk
 count_with_front pool held slots chunk sound placed some within rising reserved as_before adds =
-    ap length (filter_agree (is_committed_now pool.limits.policy pool.committed held) (λ k. has_committed pool k || meets_front granule chunk k) agree numbers)
+    ap length
+    (filter_agree (is_committed_now pool.limits.policy pool.committed held)
+    (λ k. has_committed pool k || meets_front granule chunk k) agree numbers)
     ∙ count_or (has_committed pool) (meets_front granule chunk) numbers
     ∙ ap (λ (l : List ℕ). length l + length (filter missing (filter (meets_front granule chunk) numbers))) as_before
     ∙ ap (λ (l : List ℕ). length pool.committed + length (filter missing l))
@@ -281,13 +322,21 @@ count_with_front pool held slots chunk sound placed some within rising reserved 
     missing k = not (has_committed pool k)
 
     fronted : IsFronted granule chunk
-    fronted = record { whole = granules_make_nodes pool.limits.policy; some_granule = granule_some pool.limits.policy; placed = placed; some = some; within = within }
+    fronted =
+        record {
+          whole = granules_make_nodes pool.limits.policy;
+          some_granule = granule_some pool.limits.policy;
+          placed = placed;
+          some = some;
+          within = within;
+        }
 
     agree : (k : ℕ) → is_committed_now pool.limits.policy pool.committed held k
         ≡ (has_committed pool k || meets_front granule chunk k)
     agree k =
         ap (λ b. (keeps pool.limits.policy && has_committed pool k) || b) (adds k)
-        ∙ joined (keeps pool.limits.policy) (has_committed pool k) (is_committed granule pool.held k) (meets_front granule chunk k)
+        ∙ joined (keeps pool.limits.policy) (has_committed pool k) (is_committed granule pool.held k)
+        (meets_front granule chunk k)
         (λ h. committed_where_front pool k sound h) (λ h. committed_where_now pool k sound h)
 
 -- The granules of the slots that are committed are those of the pool.
@@ -295,7 +344,8 @@ pub committed_in_slots : (pool : PoolState) → IsSoundPool pool
     → filter (has_committed pool) (flat_map (granules_of (granule_in pool)) pool.slots) ≡ pool.committed
 committed_in_slots pool sound =
     filter_agree (has_committed pool) (is_committed_now pool.limits.policy pool.committed pool.held) (λ k.
-    same_truth (has_committed pool k) (is_committed_now pool.limits.policy pool.committed pool.held k) (λ h. committed_where_now pool k sound h) (λ h. now_there k h))
+    same_truth (has_committed pool k) (is_committed_now pool.limits.policy pool.committed pool.held k)
+    (λ h. committed_where_now pool k sound h) (λ h. now_there k h))
     (flat_map (granules_of (granule_in pool)) pool.slots)
     ∙ sym sound.committed
   where
@@ -307,10 +357,12 @@ committed_in_slots pool sound =
 
     now_there : (k : ℕ) → is_committed_now pool.limits.policy pool.committed pool.held k ≡ true
         → has_committed pool k ≡ true
-    now_there k h = elim (or_cases (keeps pool.limits.policy && has_committed pool k) (is_committed (granule_in pool) pool.held k) h) [
-      | inl kept ↦ among (keeps pool.limits.policy) (has_committed pool k) kept
-      | inr front ↦ committed_where_front pool k sound front
-    ]
+    now_there k h =
+        elim (or_cases (keeps pool.limits.policy && has_committed pool k) (is_committed (granule_in pool) pool.held k)
+        h) [
+          | inl kept ↦ among (keeps pool.limits.policy) (has_committed pool k) kept
+          | inr front ↦ committed_where_front pool k sound front
+        ]
 
 -- A slot that is new has none of them.
 range_members : (a n k : ℕ) → list_any (is_number k) (range_with_len a n) ≡ true → (a ≤ k) × (k < a + n)
@@ -326,10 +378,12 @@ pub slot_is_there : (granule : ℕ) (slots : List ℕ) (slot k : ℕ)
     → is_reserved slots slot ≡ true
 slot_is_there granule [] slot k there low high = absurd (cc)
 slot_is_there granule (t ∷ slots) slot k there low high =
-    elim (or_cases (list_any (is_number k) (granules_of granule t)) (list_any (is_number k) (flat_map (granules_of granule) slots))
+    elim (or_cases (list_any (is_number k) (granules_of granule t))
+    (list_any (is_number k) (flat_map (granules_of granule) slots))
     (sym (list_any-append (is_number k) (granules_of granule t) (flat_map (granules_of granule) slots)) ∙ there)) [
       | inl here ↦ let own = range_members (t * (node_words / granule)) (node_words / granule) k here in
-          or_left (t == slot) (is_reserved slots slot) (same_number t slot (one_slot (node_words / granule) slot t k low high own.0 own.1))
+          or_left (t == slot) (is_reserved slots slot)
+          (same_number t slot (one_slot (node_words / granule) slot t k low high own.0 own.1))
       | inr later ↦ or_right (t == slot) (is_reserved slots slot) (slot_is_there granule slots slot k later low high)
     ]
   where
@@ -341,7 +395,8 @@ pub not_there : (t : ℕ) (slots : List ℕ) (slot : ℕ) → slot < t → AllBy
 not_there t [] slot less later = refl
 not_there t (y ∷ slots) slot less later =
     let over = below_of t y later.0 in
-    or_from (y == slot) (is_reserved slots slot) (unlike y slot (omega (arith, over, less))) (not_there t slots slot less later.1)
+    or_from (y == slot) (is_reserved slots slot) (unlike y slot (omega (arith, over, less)))
+    (not_there t slots slot less later.1)
   where
     unlike : (a b : ℕ) → b < a → (a == b) ≡ false
     unlike a b h = grind (arith, h)
@@ -354,16 +409,22 @@ unfolding IsStrictlySortedBy
 filter_with_slot test granule [] slot sorted fresh =
     filter-append test (granules_of granule slot) [] ∙ append-nil (filter test (granules_of granule slot)) ∙ fresh refl
 filter_with_slot test granule (t ∷ slots) slot sorted fresh =
-    elim (nat_cmp slot t) as (λ o. nat_cmp slot t ≡ o → filter test (flat_map (granules_of granule) (match_ordering o (slot ∷ t ∷ slots) (t ∷ slots) (t ∷ insert_key nat_cmp slots slot))) ≡ filter test (flat_map (granules_of granule) (t ∷ slots))) [
+    elim (nat_cmp slot t) as (λ o. nat_cmp slot t ≡ o
+    → filter test
+    (flat_map (granules_of granule)
+    (match_ordering o (slot ∷ t ∷ slots) (t ∷ slots) (t ∷ insert_key nat_cmp slots slot)))
+    ≡ filter test (flat_map (granules_of granule) (t ∷ slots))) [
       | Less ↦ λ p. let less = below_of slot t p in
           filter-append test (granules_of granule slot) (flat_map (granules_of granule) (t ∷ slots))
           ∙ ap (λ (l : List ℕ). l ++ filter test (flat_map (granules_of granule) (t ∷ slots)))
-          (fresh (or_from (t == slot) (is_reserved slots slot) (unlike t slot less) (not_there t slots slot less sorted.0)))
+          (fresh (or_from (t == slot) (is_reserved slots slot) (unlike t slot less)
+          (not_there t slots slot less sorted.0)))
       | Equal ↦ λ p. refl
       | Greater ↦ λ p.
           filter-append test (granules_of granule t) (flat_map (granules_of granule) (insert_key nat_cmp slots slot))
           ∙ ap (λ (l : List ℕ). filter test (granules_of granule t) ++ l)
-          (filter_with_slot test granule slots slot sorted.1 (λ none. fresh (or_from (t == slot) (is_reserved slots slot) (unlike_other t slot (over slot t p)) none)))
+          (filter_with_slot test granule slots slot sorted.1
+          (λ none. fresh (or_from (t == slot) (is_reserved slots slot) (unlike_other t slot (over slot t p)) none)))
           ∙ sym (filter-append test (granules_of granule t) (flat_map (granules_of granule) slots))
     ] refl
   where
@@ -380,10 +441,12 @@ pub committed_with_slot : (pool : PoolState) (slot : ℕ) → IsSoundPool pool
     → filter (has_committed pool) (flat_map (granules_of (granule_in pool)) (insert_key nat_cmp pool.slots slot))
     ≡ pool.committed
 committed_with_slot pool slot sound =
-    filter_with_slot (has_committed pool) granule pool.slots slot (sorted_from_strictly_increasing pool.slots sound.slots)
+    filter_with_slot (has_committed pool) granule pool.slots slot
+    (sorted_from_strictly_increasing pool.slots sound.slots)
     (λ fresh. none_in (has_committed pool) (slot * (node_words / granule)) (node_words / granule) (λ k low high.
     false_from_ne_true (has_committed pool k) (λ there.
-    both_ways (is_reserved pool.slots slot) fresh (slot_is_there granule pool.slots slot k ((committed_are_counted pool k sound).reserved there) low high))))
+    both_ways (is_reserved pool.slots slot) fresh
+    (slot_is_there granule pool.slots slot k ((committed_are_counted pool k sound).reserved there) low high))))
     ∙ committed_in_slots pool sound
   where
     granule : ℕ

@@ -1,6 +1,7 @@
 -- A held chunk that grows: what it commits, and that what grown answers is a part with a front by the
 -- rule, within the limit. The laws on growing use these.
-use Rattle.std.proofs.Common.{◌≡◌, ◌≤◌, ◌<◌, ℕ, zero, suc, ◌+◌, ◌-◌, ◌*◌, ◌/◌, ◌%◌, Bool, true, false, cond, not, ◌&&◌, ◌||◌, Some, List, [], ◌∷◌, length, refl, sym, ap, ◌∙◌, subst, arith, inl, inr}
+use Rattle.std.proofs.Common.{◌≡◌, ◌≤◌, ◌<◌, ℕ, zero, suc, ◌+◌, ◌-◌, ◌*◌, ◌/◌, ◌%◌, Bool, true, false, cond, not, ◌&&◌}
+use Rattle.std.proofs.Common.{◌||◌, Some, List, [], ◌∷◌, length, refl, sym, ap, ◌∙◌, subst, arith, inl, inr}
 use Rattle.std.specs.Prelude.{◌==◌, nat_le, nat_lt, slice_get, slice_set, ◌⊎◌, Ok, Err, if◌then◌else◌}
 use Rattle.std.specs.List.{Any, Contains, list_any, list_all, filter, range_with_len}
 use Rattle.std.proofs.Math.Bool.{or_assoc}
@@ -31,7 +32,8 @@ use Rattle.ms_base.proofs.granules.GranuleLemmas.{committed_where_front}
 use Rattle.ms_base.proofs.granules.FreeGranuleLemmas.{meets_bounds, bounds_meet}
 use Rattle.ms_base.proofs.granules.FrontLemmas.{front_reaches, has_front_for}
 use Rattle.ms_base.proofs.granules.NeedLemmas.{same_chunk}
-use Rattle.ms_base.proofs.granules.GranuleCountLemmas.{meets_front, meets_between, is_between, committed_in_slots, count_with_front}
+use Rattle.ms_base.proofs.granules.GranuleCountLemmas.{meets_front, meets_between, is_between, committed_in_slots}
+use Rattle.ms_base.proofs.granules.GranuleCountLemmas.{count_with_front}
 
 -- A test that the new chunk passes where the old one did.
 some_grown : (test : Chunk → Bool) (held : List Chunk) (place : ℕ) (was is : Chunk) → slice_get held place ≡ Some was
@@ -47,20 +49,24 @@ some_grown test (c ∷ held) zero was is found passes = let its : c ≡ was = cc
     either false false true f = refl
     either false false false f = refl
 some_grown test (c ∷ held) (suc place) was is found passes =
-    ap (λ b. test c || b) (some_grown test held place was is found passes) ∙ sym (or_assoc (test c) (list_any test held) (test is))
+    ap (λ b. test c || b) (some_grown test held place was is found passes)
+    ∙ sym (or_assoc (test c) (list_any test held) (test is))
 
 each_passes : (test : Chunk → Bool) (held : List Chunk) (place : ℕ) (was : Chunk) → slice_get held place ≡ Some was
     → list_all test held ≡ true → test was ≡ true
 each_passes test [] place was found all = absurd (cc)
-each_passes test (c ∷ held) zero was found all = let its : c ≡ was = cc in ap test (sym its) ∙ (and_parts (test c) (list_all test held) all).0
-each_passes test (c ∷ held) (suc place) was found all = each_passes test held place was found (and_parts (test c) (list_all test held) all).1
+each_passes test (c ∷ held) zero was found all = let its : c ≡ was =
+    cc in ap test (sym its) ∙ (and_parts (test c) (list_all test held) all).0
+each_passes test (c ∷ held) (suc place) was found all =
+    each_passes test held place was found (and_parts (test c) (list_all test held) all).1
 
 -- A greater front from the same start meets what the smaller one met.
 pub meets_further : (granule : ℕ) (was is : Chunk) (k : ℕ) → is.start ≡ was.start → was.front ≤ is.front
     → meets_front granule was k ≡ true → meets_front granule is k ≡ true
 meets_further granule was is k same higher meets =
     let bounds = meets_bounds was.start was.front (k * granule) granule meets in
-    bounds_meet is.start is.front (k * granule) granule (omega (arith, bounds.0, same)) (omega (arith, bounds.1, same, higher))
+    bounds_meet is.start is.front (k * granule) granule (omega (arith, bounds.0, same))
+    (omega (arith, bounds.1, same, higher))
 
 -- A chunk that grows commits what its new front was missing.
 pub growing_commits_the_missing : (pool : PoolState) (place : ℕ) (was is : Chunk) → IsSoundPool pool
@@ -68,7 +74,8 @@ pub growing_commits_the_missing : (pool : PoolState) (place : ℕ) (was is : Chu
     → IsGrown was is → IsPart is.start is.level → is.front ≤ size_of is.level
     → length (committed_now (with_grown pool place is)) ≡ length pool.committed + granules_missing pool is
 growing_commits_the_missing pool place was is sound found grows placed within =
-    count_with_front pool (slice_set pool.held place is) pool.slots is sound placed (omega (arith, grows.front)) within sound.slots
+    count_with_front pool (slice_set pool.held place is) pool.slots is sound placed (omega (arith, grows.front)) within
+    sound.slots
     (ap (λ (s : ℕ). is_reserved pool.slots (slot_of s)) grows.start
     ∙ each_passes (λ chunk. is_reserved pool.slots (slot_of chunk.start)) pool.held place was found sound.held.reserved)
     (committed_in_slots pool sound)
@@ -80,15 +87,19 @@ none_of : (p : ℕ → Bool) (a n : ℕ) → ((k : ℕ) → a ≤ k → k < a + 
     → length (filter (λ k. not (p k)) (range_with_len a n)) ≡ 0
 none_of p a zero each = refl
 none_of p a (suc n) each =
-    ap (λ b. length (cond (not b) (a ∷ filter (λ k. not (p k)) (range_with_len (a + 1) n)) (filter (λ k. not (p k)) (range_with_len (a + 1) n)))) (each a (omega arith) (omega arith))
+    ap (λ b. length
+    (cond (not b) (a ∷ filter (λ k. not (p k)) (range_with_len (a + 1) n))
+    (filter (λ k. not (p k)) (range_with_len (a + 1) n)))) (each a (omega arith) (omega arith))
     ∙ none_of p (a + 1) n (λ k h m. each k (omega arith) (omega arith))
 
 held_lacks_none : (pool : PoolState) (was : Chunk) → IsSoundPool pool → Contains pool.held was
     → granules_missing pool was ≡ 0
 held_lacks_none pool was sound there = none_of (has_committed pool) first (last + 1 - first) (λ k low high.
-    committed_where_front pool k sound (list_any_at (λ (c : Chunk). meets_front granule c k) pool.held there.0 was there.1
+    committed_where_front pool k sound
+    (list_any_at (λ (c : Chunk). meets_front granule c k) pool.held there.0 was there.1
     (ap (λ (c : Chunk). meets_front granule c k) there.2
-    ∙ meets_between granule was.start was.front k (granule_some pool.limits.policy) front.some ∙ is_between first (last + 1) k low (omega (arith, high)))))
+    ∙ meets_between granule was.start was.front k (granule_some pool.limits.policy) front.some
+    ∙ is_between first (last + 1) k low (omega (arith, high)))))
   where
     granule : ℕ
     granule = granule_in pool
@@ -115,14 +126,16 @@ from_limit pool chunk answered is = go (nat_le total pool.limits.granules) refl 
     total = committed_count pool + granules_missing pool chunk
 
     go : (b : Bool) → nat_le total pool.limits.granules ≡ b
-        → (if b then Ok chunk else Err (CommitLimit (committed_count pool) pool.limits.granules (granules_missing pool chunk))) ≡ Ok answered
+        → (if b then Ok chunk else Err
+        (CommitLimit (committed_count pool) pool.limits.granules (granules_missing pool chunk))) ≡ Ok answered
         → IsWithinLimit pool chunk answered
     go true e is = record { is = sym (same_chunk chunk answered is); within = leb-true total pool.limits.granules e }
     go false e is = absurd (cc)
 
 -- A parent has twice the words.
 parent_words : (level : ℕ) → 1 ≤ level → level ≤ 12 → size_of (level - 1) ≡ 2 * size_of level
-parent_words level some low = ap size_of above ∙ size_of_halves (12 - level) (omega arith) ∙ twice (size_of (12 - (12 - level))) (size_of level) (ap size_of same)
+parent_words level some low = ap size_of above ∙ size_of_halves (12 - level) (omega arith)
+    ∙ twice (size_of (12 - (12 - level))) (size_of level) (ap size_of same)
   where
     above : level - 1 ≡ 12 - suc (12 - level)
     above = omega arith
@@ -134,16 +147,18 @@ parent_words level some low = ap size_of above ∙ size_of_halves (12 - level) (
     twice a b e = omega arith
 
 -- A front for more words than the chunk had.
-grown_front : (pool : PoolState) (was chunk : Chunk) (level total : ℕ) → chunk ≡ (record { start = was.start; level = level; front = front_for pool.limits.policy (size_of level) total })
+grown_front : (pool : PoolState) (was chunk : Chunk) (level total : ℕ)
+    → chunk ≡ (record { start = was.start; level = level; front = front_for pool.limits.policy (size_of level) total })
     → (level ≡ was.level) ⊎ (was.level ≡ level + 1) → IsPart was.start level → was.front < total → total ≤ size_of level
     → committed_count pool + granules_missing pool chunk ≤ pool.limits.granules → GrowsWell pool was chunk total
-grown_front pool was chunk level total is levels placed more fits within = subst (λ (one : Chunk). GrowsWell pool was one total) (sym is) (record {
-  changes = inr (record { start = refl; level = levels; front = omega (arith, more, reaches) });
-  placed = placed;
-  front_rule = has_front_for pool.limits.policy was.start level total (omega (arith, more)) fits;
-  reaches = reaches;
-  within = subst (λ (one : Chunk). committed_count pool + granules_missing pool one ≤ pool.limits.granules) is within;
-})
+grown_front pool was chunk level total is levels placed more fits within =
+    subst (λ (one : Chunk). GrowsWell pool was one total) (sym is) (record {
+      changes = inr (record { start = refl; level = levels; front = omega (arith, more, reaches) });
+      placed = placed;
+      front_rule = has_front_for pool.limits.policy was.start level total (omega (arith, more)) fits;
+      reaches = reaches;
+      within = subst (λ (one : Chunk). committed_count pool + granules_missing pool one ≤ pool.limits.granules) is within;
+    })
   where
     reaches : total ≤ front_for pool.limits.policy (size_of level) total
     reaches = front_reaches pool.limits.policy level total fits
@@ -153,7 +168,8 @@ pub growing_keeps_the_limit : (pool : PoolState) (was chunk : Chunk) (total : �
     → Contains pool.held was
     → grown pool was total may_enlarge ≡ Ok chunk → GrowsWell pool was chunk total
 growing_keeps_the_limit pool was chunk total may_enlarge sound there is =
-    go (nat_le total was.front) (nat_le total (size_of was.level)) (nat_le total (2 * size_of was.level) && may_enlarge && may_become_parent pool was) refl refl refl is
+    go (nat_le total was.front) (nat_le total (size_of was.level))
+    (nat_le total (2 * size_of was.level) && may_enlarge && may_become_parent pool was) refl refl refl is
   where
     placed : IsPart was.start was.level
     placed = All-contains (λ (c : Chunk). IsPart c.start c.level) pool.held was sound.held.parts there
@@ -165,31 +181,51 @@ growing_keeps_the_limit pool was chunk total may_enlarge sound there is =
     over a b e = grind (arith, nat_tests, e)
 
     stays : total ≤ was.front → GrowsWell pool was was total
-    stays h = record { changes = inl refl; placed = placed; front_rule = front; reaches = h; within = omega (arith, sound.granules, held_lacks_none pool was sound there) }
+    stays h =
+        record {
+          changes = inl refl;
+          placed = placed;
+          front_rule = front;
+          reaches = h;
+          within = omega (arith, sound.granules, held_lacks_none pool was sound there);
+        }
 
     enlarged : was.front < total → nat_le total (2 * size_of was.level) ≡ true → may_become_parent pool was ≡ true
         → within_limit pool (parent_with_front pool was total) ≡ Ok chunk → GrowsWell pool was chunk total
     enlarged more fits may is =
         let limit = from_limit pool (parent_with_front pool was total) chunk is in
-        let tests = and_parts (nat_lt 0 was.level && is_leader was.start was.level) (is_free pool (buddy_start was.start was.level) was.level) may in
+        let tests =
+        and_parts (nat_lt 0 was.level && is_leader was.start was.level)
+        (is_free pool (buddy_start was.start was.level) was.level) may in
         let leads = and_parts (nat_lt 0 was.level) (is_leader was.start was.level) tests.0 in
         let some = ltb-true 0 was.level leads.0 in
         grown_front pool was chunk (was.level - 1) total limit.is (inr (omega (arith, some)))
         (omega (arith, placed.0), eqb-true (was.start % size_of (was.level - 1)) 0 leads.1) more
-        (omega (arith, leb-true total (2 * size_of was.level) fits, parent_words was.level (omega (arith, some)) placed.0))
-        (subst (λ (one : Chunk). committed_count pool + granules_missing pool one ≤ pool.limits.granules) (sym limit.is) limit.within)
+        (omega (
+          arith,
+          leb-true total (2 * size_of was.level) fits,
+          parent_words was.level (omega (arith, some)) placed.0,
+        ))
+        (subst (λ (one : Chunk). committed_count pool + granules_missing pool one ≤ pool.limits.granules)
+        (sym limit.is) limit.within)
 
     go : (a b c : Bool) → nat_le total was.front ≡ a → nat_le total (size_of was.level) ≡ b
         → (nat_le total (2 * size_of was.level) && may_enlarge && may_become_parent pool was) ≡ c
-        → (if a then Ok was else if b then within_limit pool (with_front pool was total) else if c then within_limit pool (parent_with_front pool was total) else Err (NoRoom was.level)) ≡ Ok chunk
+        → (if a then Ok was else if b then within_limit pool (with_front pool was total) else if c then within_limit
+        pool (parent_with_front pool was total) else Err (NoRoom was.level)) ≡ Ok chunk
         → GrowsWell pool was chunk total
-    go true b c e f g is = subst (λ (one : Chunk). GrowsWell pool was one total) (same_chunk was chunk is) (stays (leb-true total was.front e))
+    go true b c e f g is =
+        subst (λ (one : Chunk). GrowsWell pool was one total) (same_chunk was chunk is)
+        (stays (leb-true total was.front e))
     go false true c e f g is = let limit = from_limit pool (with_front pool was total) chunk is in
-        grown_front pool was chunk was.level total limit.is (inl refl) placed (over total was.front e) (leb-true total (size_of was.level) f)
-        (subst (λ (one : Chunk). committed_count pool + granules_missing pool one ≤ pool.limits.granules) (sym limit.is) limit.within)
+        grown_front pool was chunk was.level total limit.is (inl refl) placed (over total was.front e)
+        (leb-true total (size_of was.level) f)
+        (subst (λ (one : Chunk). committed_count pool + granules_missing pool one ≤ pool.limits.granules)
+        (sym limit.is) limit.within)
     go false false true e f g is =
         let tests = and_parts (nat_le total (2 * size_of was.level) && may_enlarge) (may_become_parent pool was) g in
-        enlarged (over total was.front e) (and_parts (nat_le total (2 * size_of was.level)) may_enlarge tests.0).0 tests.1 is
+        enlarged (over total was.front e) (and_parts (nat_le total (2 * size_of was.level)) may_enlarge tests.0).0
+        tests.1 is
     go false false false e f g is = absurd (cc)
 
 -- A chunk that became its parent had a buddy that met no chunk.
@@ -206,10 +242,13 @@ buddy_is_clear pool was may =
     tests = and_parts (nat_lt 0 was.level && is_leader was.start was.level) (is_free pool buddy was.level) may
 
     leads : was.start % size_of (was.level - 1) ≡ 0
-    leads = eqb-true (was.start % size_of (was.level - 1)) 0 (and_parts (nat_lt 0 was.level) (is_leader was.start was.level) tests.0).1
+    leads = eqb-true (was.start % size_of (was.level - 1)) 0
+        (and_parts (nat_lt 0 was.level) (is_leader was.start was.level) tests.0).1
 
-    found : Any (λ (other : Span). ((other.start == buddy) && (other.level == was.level)) ≡ true) (free_parts pool.held pool.slots)
-    found = Any-from_list_any (λ (other : Span). (other.start == buddy) && (other.level == was.level)) (free_parts pool.held pool.slots) tests.1
+    found : Any (λ (other : Span). ((other.start == buddy) && (other.level == was.level)) ≡ true)
+        (free_parts pool.held pool.slots)
+    found = Any-from_list_any (λ (other : Span). (other.start == buddy) && (other.level == was.level))
+        (free_parts pool.held pool.slots) tests.1
 
     part : Span
     part = found.1
@@ -218,10 +257,12 @@ buddy_is_clear pool was may =
     at = and_parts (part.start == buddy) (part.level == was.level) found.4
 
     free : IsFreePart pool.held pool.slots part
-    free = All-contains (IsFreePart pool.held pool.slots) (free_parts pool.held pool.slots) part (listed_is_free pool.held pool.slots) (found.0, found.2, found.3)
+    free = All-contains (IsFreePart pool.held pool.slots) (free_parts pool.held pool.slots) part
+        (listed_is_free pool.held pool.slots) (found.0, found.2, found.3)
 
     other_half : buddy ≡ was.start + size_of was.level
-    other_half = ap (λ (r : ℕ). 2 * (was.start - r) + size_of was.level - was.start) leads ∙ upper was.start (size_of was.level)
+    other_half = ap (λ (r : ℕ). 2 * (was.start - r) + size_of was.level - was.start) leads
+        ∙ upper was.start (size_of was.level)
       where
         upper : (a s : ℕ) → 2 * (a - 0) + s - a ≡ a + s
         upper a s = omega arith
@@ -231,17 +272,21 @@ pub growing_is_clear : (pool : PoolState) (was chunk : Chunk) (total : ℕ) (may
     → Contains pool.held was
     → grown pool was total may_enlarge ≡ Ok chunk → GrowsClear pool.held was chunk
 growing_is_clear pool was chunk total may_enlarge sound there is =
-    go (nat_le total was.front) (nat_le total (size_of was.level)) (nat_le total (2 * size_of was.level) && may_enlarge && may_become_parent pool was) refl is
+    go (nat_le total was.front) (nat_le total (size_of was.level))
+    (nat_le total (2 * size_of was.level) && may_enlarge && may_become_parent pool was) refl is
   where
     go : (a b c : Bool) → (nat_le total (2 * size_of was.level) && may_enlarge && may_become_parent pool was) ≡ c
-        → (if a then Ok was else if b then within_limit pool (with_front pool was total) else if c then within_limit pool (parent_with_front pool was total) else Err (NoRoom was.level)) ≡ Ok chunk
+        → (if a then Ok was else if b then within_limit pool (with_front pool was total) else if c then within_limit
+        pool (parent_with_front pool was total) else Err (NoRoom was.level)) ≡ Ok chunk
         → GrowsClear pool.held was chunk
     go true b c g is = inl (ap (λ (one : Chunk). one.level) (sym (same_chunk was chunk is)))
-    go false true c g is = inl (ap (λ (one : Chunk). one.level) (from_limit pool (with_front pool was total) chunk is).is)
+    go false true c g is =
+        inl (ap (λ (one : Chunk). one.level) (from_limit pool (with_front pool was total) chunk is).is)
     go false false true g is =
         let may = (and_parts (nat_le total (2 * size_of was.level) && may_enlarge) (may_become_parent pool was) g).1 in
         let some = ltb-true 0 was.level (and_parts (nat_lt 0 was.level) (is_leader was.start was.level)
-        (and_parts (nat_lt 0 was.level && is_leader was.start was.level) (is_free pool (buddy_start was.start was.level) was.level) may).0).0 in
+        (and_parts (nat_lt 0 was.level && is_leader was.start was.level)
+        (is_free pool (buddy_start was.start was.level) was.level) may).0).0 in
         let level = ap (λ (one : Chunk). one.level) (from_limit pool (parent_with_front pool was total) chunk is).is in
         inr (omega (arith, level, some), buddy_is_clear pool was may)
     go false false false g is = absurd (cc)

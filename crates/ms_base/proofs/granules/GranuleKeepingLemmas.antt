@@ -24,13 +24,16 @@ same_kept false among fewer all e f g = absurd (cc)
 pub uncommits_nothing : (pool : PoolState) → IsSoundPool pool → keeps pool.limits.policy ≡ true → UncommitsNothing pool
 uncommits_nothing pool sound keeping = record {
   given_back = λ fewer among.
-      filter_agree (is_committed_now pool.limits.policy pool.committed fewer) (is_committed_now pool.limits.policy pool.committed pool.held)
-      (λ k. same_kept (keeps pool.limits.policy) (has_committed pool k) (is_committed (granule_in pool) fewer k) (is_committed (granule_in pool) pool.held k) keeping
+      filter_agree (is_committed_now pool.limits.policy pool.committed fewer)
+      (is_committed_now pool.limits.policy pool.committed pool.held)
+      (λ k. same_kept (keeps pool.limits.policy) (has_committed pool k) (is_committed (granule_in pool) fewer k)
+      (is_committed (granule_in pool) pool.held k) keeping
       (among (λ chunk. meets_front (granule_in pool) chunk k)) (committed_where_front pool k sound))
       (flat_map (granules_of (granule_in pool)) pool.slots)
       ∙ sym sound.committed;
   purged = λ slots k listed there.
-      kept_by (is_committed_now pool.limits.policy pool.committed pool.held) (flat_map (granules_of (granule_in pool)) slots) k
+      kept_by (is_committed_now pool.limits.policy pool.committed pool.held)
+      (flat_map (granules_of (granule_in pool)) slots) k
       (or_left (keeps pool.limits.policy && has_committed pool k) (is_committed (granule_in pool) pool.held k)
       (and_from (keeps pool.limits.policy) (has_committed pool k) keeping there)) listed;
 }

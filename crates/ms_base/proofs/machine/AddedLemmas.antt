@@ -16,7 +16,8 @@ use Rattle.ms_base.specs.Front.{HasFront}
 use Rattle.ms_base.specs.Held.{meets_chunk}
 use Rattle.ms_base.specs.Names.{with_changed}
 use Rattle.ms_base.specs.PoolSteps.{slots_with}
-use Rattle.ms_base.specs.State.{LoaderState, Machine, arena_of, chunks_held, slots_in, with_slots, committed_in, committed_now, pool_of, recommitted}
+use Rattle.ms_base.specs.State.{LoaderState, Machine, arena_of, chunks_held, slots_in, with_slots, committed_in}
+use Rattle.ms_base.specs.State.{committed_now, pool_of, recommitted}
 use Rattle.ms_base.specs.Good.{IsSoundLoader, IsGood}
 use Rattle.ms_base.specs.Transition.{HasLoader}
 use Rattle.ms_base.proofs.entries.EntryLemmas.{Split, split_at}
@@ -45,7 +46,9 @@ pub still_reserved : (slots : List ℕ) (slot : ℕ) (held : List Chunk)
     → list_all (λ (chunk : Chunk). is_reserved (insert_key nat_cmp slots slot) (slot_of chunk.start)) held ≡ true
 still_reserved slots slot [] h = refl
 still_reserved slots slot (c ∷ held) h =
-    let both = and_parts (is_reserved slots (slot_of c.start)) (list_all (λ (d : Chunk). is_reserved slots (slot_of d.start)) held) h in
+    let both =
+    and_parts (is_reserved slots (slot_of c.start))
+    (list_all (λ (d : Chunk). is_reserved slots (slot_of d.start)) held) h in
     let more = insert_key nat_cmp slots slot in
     and_from (is_reserved more (slot_of c.start)) (list_all (λ (d : Chunk). is_reserved more (slot_of d.start)) held)
     (reserved_still slots slot (slot_of c.start) both.0) (still_reserved slots slot held both.1)
@@ -91,9 +94,12 @@ pub good_with_chunk : (space : Space) (m : Machine) (name : ℕ) (before other :
     → IsGood m → IsGood (recommitted (changed space m name other (slots_with (slots_in space m) chunk.start)))
 good_with_chunk space m name before other chunk found chunks same sound addable few good =
     good_with_change space m name before other (slots_with (slots_in space m) chunk.start) found same sound (record {
-      held = rw new (held_with m.limits.policy slots (b ++ own) chunk a addable.placed addable.front with_its.has (rw old at addable.clear)
+      held = rw new
+          (held_with m.limits.policy slots (b ++ own) chunk a addable.placed addable.front with_its.has
+          (rw old at addable.clear)
           (held_in m.limits.policy (slots_in space m) slots ((b ++ own) ++ a)
-          (with_its.still ((b ++ own) ++ a) (rw old at (good.pools space).held.reserved)) (rw old at (good.pools space).held)));
+          (with_its.still ((b ++ own) ++ a) (rw old at (good.pools space).held.reserved))
+          (rw old at (good.pools space).held)));
       slots = with_its.rising;
       below = with_its.below;
       reserved = with_its.reserved;
@@ -118,9 +124,11 @@ good_with_chunk space m name before other chunk found chunks same sound addable 
     a = chunks_held space split.after
 
     old : chunks_held space m.loaders ≡ (b ++ own) ++ a
-    old = ap (chunks_held space) split.is ∙ chunks_split space split.before split.after name before ∙ sym (append_assoc b own a)
+    old = ap (chunks_held space) split.is ∙ chunks_split space split.before split.after name before
+        ∙ sym (append_assoc b own a)
 
     new : chunks_held space (with_changed m.loaders name other) ≡ (b ++ own) ++ chunk ∷ a
     new = ap (chunks_held space) (split.changed other) ∙ chunks_split space split.before split.after name other
-        ∙ ap (λ (l : List Chunk). b ++ (l ++ a)) chunks ∙ ap (λ (l : List Chunk). b ++ l) (append_assoc own (chunk ∷ []) a)
+        ∙ ap (λ (l : List Chunk). b ++ (l ++ a)) chunks
+        ∙ ap (λ (l : List Chunk). b ++ l) (append_assoc own (chunk ∷ []) a)
         ∙ sym (append_assoc b own (chunk ∷ a))

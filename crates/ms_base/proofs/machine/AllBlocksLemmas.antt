@@ -46,7 +46,8 @@ in_more_before chunks more [] h = refl
 in_more_before chunks more (run ∷ runs) h =
     let both = and_parts (some_front chunks run) (list_all (some_front chunks) runs) h in
     and_from (some_front (chunks ++ more) run) (list_all (some_front (chunks ++ more)) runs)
-    (list_any-append (λ (c : Chunk). lies_in run (c.start, c.front)) chunks more ∙ or_left (some_front chunks run) (some_front more run) both.0)
+    (list_any-append (λ (c : Chunk). lies_in run (c.start, c.front)) chunks more
+    ∙ or_left (some_front chunks run) (some_front more run) both.0)
     (in_more_before chunks more runs both.1)
 
 in_more_after : (more chunks : List Chunk) (runs : List (ℕ × ℕ)) → list_all (some_front chunks) runs ≡ true
@@ -55,7 +56,8 @@ in_more_after more chunks [] h = refl
 in_more_after more chunks (run ∷ runs) h =
     let both = and_parts (some_front chunks run) (list_all (some_front chunks) runs) h in
     and_from (some_front (more ++ chunks) run) (list_all (some_front (more ++ chunks)) runs)
-    (list_any-append (λ (c : Chunk). lies_in run (c.start, c.front)) more chunks ∙ or_right (some_front more run) (some_front chunks run) both.0)
+    (list_any-append (λ (c : Chunk). lies_in run (c.start, c.front)) more chunks
+    ∙ or_right (some_front more run) (some_front chunks run) both.0)
     (in_more_after more chunks runs both.1)
 
 all_in_fronts : (space : Space) (loaders : List LoaderState) → AllByRecursion IsSoundLoader loaders
@@ -78,7 +80,8 @@ meets_none_of : (policy : Policy) (own others : List Chunk) (run : ℕ × ℕ) (
 meets_none_of policy own others run [] fronts more apart h k = refl
 meets_none_of policy own others run (other ∷ runs) fronts more apart h k =
     let both = and_parts (some_front others other) (list_all (some_front others) runs) k in
-    or_from (meet run.0 run.1 other.0 other.1) (meets_any run runs) (apart_in_parts policy [] own others run other fronts more apart h both.0)
+    or_from (meet run.0 run.1 other.0 other.1) (meets_any run runs)
+    (apart_in_parts policy [] own others run other fronts more apart h both.0)
     (meets_none_of policy own others run runs fronts more apart h both.1)
 
 -- So they are apart together where each of both are.
@@ -93,8 +96,10 @@ apart_together policy own others (run ∷ mine) runs fronts more apart h k mine_
     let first = and_parts (not (meets_any run mine)) (are_apart mine) mine_apart in
     let clear : meets_any run (mine ++ runs) ≡ false =
     list_any-append (λ (other : ℕ × ℕ). meet run.0 run.1 other.0 other.1) mine runs
-    ∙ or_from (meets_any run mine) (meets_any run runs) (not-true (meets_any run mine) first.0) (meets_none_of policy own others run runs fronts more apart its.0 k) in
-    and_from (not (meets_any run (mine ++ runs))) (are_apart (mine ++ runs)) (not_from_false (meets_any run (mine ++ runs)) clear)
+    ∙ or_from (meets_any run mine) (meets_any run runs) (not-true (meets_any run mine) first.0)
+    (meets_none_of policy own others run runs fronts more apart its.0 k) in
+    and_from (not (meets_any run (mine ++ runs))) (are_apart (mine ++ runs))
+    (not_from_false (meets_any run (mine ++ runs)) clear)
     (apart_together policy own others mine runs fronts more apart its.1 k first.1 runs_apart)
 
 -- What holds of each of two parts together holds of each of either.
@@ -114,7 +119,8 @@ apart_by_loader space policy (l ∷ loaders) sound fronts apart =
     let both = parts_of (HasFront policy) own others fronts in
     let chunks = rw (map-append words_of own others) at apart in
     apart_together policy own others (blocks_of space l) (flat_map (blocks_of space) loaders) both.0 both.1 chunks
-    (in_fronts (arena_of space l) (blocks_of space l) (sound.0.arenas space).tops (sound.0.arenas space).inside) (all_in_fronts space loaders sound.1) (sound.0.arenas space).apart
+    (in_fronts (arena_of space l) (blocks_of space l) (sound.0.arenas space).tops (sound.0.arenas space).inside)
+    (all_in_fronts space loaders sound.1) (sound.0.arenas space).apart
     (apart_by_loader space policy loaders sound.1 both.1 (later-apart (map words_of own) (map words_of others) chunks))
 
 all_in_space : (space : Space) (m : Machine) (runs : List (ℕ × ℕ)) → IsGood m
@@ -122,14 +128,19 @@ all_in_space : (space : Space) (m : Machine) (runs : List (ℕ × ℕ)) → IsGo
     → list_all (λ (run : ℕ × ℕ). lies_in run (words_of_space space)) runs ≡ true
 all_in_space space m [] good h = refl
 all_in_space space m (run ∷ runs) good h =
-    let both = and_parts (some_front (chunks_held space m.loaders) run) (list_all (some_front (chunks_held space m.loaders)) runs) h in
-    and_from (lies_in run (words_of_space space)) (list_all (λ (other : ℕ × ℕ). lies_in other (words_of_space space)) runs)
+    let both =
+    and_parts (some_front (chunks_held space m.loaders) run)
+    (list_all (some_front (chunks_held space m.loaders)) runs) h in
+    and_from (lies_in run (words_of_space space))
+    (list_all (λ (other : ℕ × ℕ). lies_in other (words_of_space space)) runs)
     (run_in_space space m run good both.0) (all_in_space space m runs good both.1)
 
 pub blocks_are_packed : (space : Space) (m : Machine) → IsGood m → IsPacked space m
 blocks_are_packed space m good = record {
   inside = all_in_space space m (all_blocks space m) good
       (all_in_fronts space (values_of m.loaders) (recursion_from_All IsSoundLoader (values_of m.loaders) good.loaders));
-  apart = apart_by_loader space m.limits.policy (values_of m.loaders) (recursion_from_All IsSoundLoader (values_of m.loaders) good.loaders)
-      (recursion_from_All (HasFront m.limits.policy) (pool_of space m).held (good.pools space).held.fronts) (good.pools space).held.apart;
+  apart = apart_by_loader space m.limits.policy (values_of m.loaders)
+      (recursion_from_All IsSoundLoader (values_of m.loaders) good.loaders)
+      (recursion_from_All (HasFront m.limits.policy) (pool_of space m).held (good.pools space).held.fronts)
+      (good.pools space).held.apart;
 }

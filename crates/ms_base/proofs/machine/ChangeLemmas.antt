@@ -9,7 +9,8 @@ use Rattle.ms_base.specs.declared.kind.Space.TheVariants.{NonClass, Class}
 use Rattle.ms_base.specs.declared.span.Chunk.{Chunk}
 use Rattle.ms_base.specs.Spaces.{other_space}
 use Rattle.ms_base.specs.Committed.{committed_with}
-use Rattle.ms_base.specs.State.{LoaderState, Machine, arena_of, chunks_held, slots_in, with_slots, committed_in, pool_of, committed_now, recommitted}
+use Rattle.ms_base.specs.State.{LoaderState, Machine, arena_of, chunks_held, slots_in, with_slots, committed_in}
+use Rattle.ms_base.specs.State.{pool_of, committed_now, recommitted}
 use Rattle.ms_base.specs.Good.{IsSoundLoader, IsGood}
 use Rattle.ms_base.specs.Transition.{HasLoader, with_loader}
 use Rattle.ms_base.proofs.entries.EntryLemmas.{rises_with_changed}
@@ -47,8 +48,10 @@ pub good_with_change : (space : Space) (m : Machine) (name : ℕ) (before other 
 good_with_change space m name before other slots found same sound sound_here few good = record {
   loaders = All-values-set_value (is_at (nat_cmp name)) IsSoundLoader m.loaders other good.loaders sound;
   names = rises_with_changed m.loaders name other good.names;
-  pools = recommitted_is_sound mid (each_space (λ (one : Space). IsSoundBut (pool_of one mid)) space sound_here sound_there)
-      (both_counts (λ (one : Space). length (committed_now (pool_of one mid))) space m.limits.granules (omega (arith, few, ap length as_it_was)));
+  pools = recommitted_is_sound mid
+      (each_space (λ (one : Space). IsSoundBut (pool_of one mid)) space sound_here sound_there)
+      (both_counts (λ (one : Space). length (committed_now (pool_of one mid))) space m.limits.granules
+      (omega (arith, few, ap length as_it_was)));
   given = good.given;
 }
   where
@@ -74,15 +77,19 @@ good_with_change space m name before other slots found same sound sound_here few
 
     as_it_was : committed_now (pool_of there mid) ≡ committed_in there m
     as_it_was =
-        ap (λ (l : List ℕ). committed_with m.limits.policy l (chunks_held there mid.loaders) (slots_in there mid)) (committed_elsewhere space (with_loader m name other) slots)
-        ∙ ap (λ (l : List Chunk). committed_with m.limits.policy (committed_in there m) l (slots_in there mid)) held_same
-        ∙ ap (λ (l : List ℕ). committed_with m.limits.policy (committed_in there m) (chunks_held there m.loaders) l) slots_same
+        ap (λ (l : List ℕ). committed_with m.limits.policy l (chunks_held there mid.loaders) (slots_in there mid))
+        (committed_elsewhere space (with_loader m name other) slots)
+        ∙ ap (λ (l : List Chunk). committed_with m.limits.policy (committed_in there m) l (slots_in there mid))
+        held_same
+        ∙ ap (λ (l : List ℕ). committed_with m.limits.policy (committed_in there m) (chunks_held there m.loaders) l)
+        slots_same
         ∙ sym (good.pools there).committed
 
 -- A good machine's granules are those that they are to be, so nothing changes where no chunk does.
 pub recommitted_same : (m : Machine) → IsGood m → recommitted m ≡ m
 recommitted_same m good =
-    ap (λ (l : List ℕ). record m { committed = l; class_committed = committed_now (pool_of Class m) }) (sym (good.pools NonClass).committed)
+    ap (λ (l : List ℕ). record m { committed = l; class_committed = committed_now (pool_of Class m) })
+    (sym (good.pools NonClass).committed)
     ∙ ap (λ (l : List ℕ). record m { class_committed = l }) (sym (good.pools Class).committed)
 
 pub slots_same : (space : Space) (m : Machine) → with_slots space m (slots_in space m) ≡ m
@@ -92,4 +99,5 @@ slots_same Class m = refl
 -- So a change of a loader that keeps the chunks and the slots.
 pub unchanged_pools : (space : Space) (m : Machine) (name : ℕ) (other : LoaderState) → IsGood (with_loader m name other)
     → recommitted (changed space m name other (slots_in space m)) ≡ with_loader m name other
-unchanged_pools space m name other good = ap recommitted (slots_same space (with_loader m name other)) ∙ recommitted_same (with_loader m name other) good
+unchanged_pools space m name other good = ap recommitted (slots_same space (with_loader m name other))
+    ∙ recommitted_same (with_loader m name other) good

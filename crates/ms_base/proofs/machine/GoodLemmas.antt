@@ -1,6 +1,7 @@
 -- The machine stays good where a loader is made, changed without another chunk, or unloaded, and
 -- where nodes are purged.
-use Rattle.std.proofs.Common.{◌≡◌, ◌≤◌, ◌+◌, ℕ, Option, Some, None, List, [], ◌∷◌, ◌++◌, length, refl, sym, ap, ◌∙◌, subst, arith}
+use Rattle.std.proofs.Common.{◌≡◌, ◌≤◌, ◌+◌, ℕ, Option, Some, None, List, [], ◌∷◌, ◌++◌, length, refl, sym, ap, ◌∙◌}
+use Rattle.std.proofs.Common.{subst, arith}
 use Rattle.std.specs.Ordering.{nat_cmp}
 use Rattle.std.specs.List.{All, flat_map, filter}
 use Rattle.std.specs.List.Sorted.{IsStrictlyIncreasing}
@@ -11,7 +12,8 @@ use Rattle.std.proofs.lemmas.List.Concat.{flat_map-append}
 use Rattle.std.proofs.lemmas.List.Sums.{length-filter, count_by-le-length}
 use Rattle.std.proofs.lemmas.List.Elements.{All-filter}
 use Rattle.std.proofs.lemmas.List.Kept.{IsStrictlyIncreasing-filter}
-use Rattle.std.proofs.lemmas.Map.Views.{All-values-insert_entry, All-map-remove_entry, All-values-set_value, IfSome-lookup_from_All}
+use Rattle.std.proofs.lemmas.Map.Views.{All-values-insert_entry, All-map-remove_entry, All-values-set_value}
+use Rattle.std.proofs.lemmas.Map.Views.{IfSome-lookup_from_All}
 use Rattle.ms_base.specs.Policy.{granule_of}
 use Rattle.ms_base.specs.declared.kind.Kind.{Kind}
 use Rattle.ms_base.specs.declared.kind.Space.{Space}
@@ -22,11 +24,13 @@ use Rattle.ms_base.specs.Causes.{node_limit}
 use Rattle.ms_base.specs.declared.span.Chunk.{Chunk}
 use Rattle.ms_base.specs.Names.{named, with_new, with_changed, without}
 use Rattle.ms_base.specs.Held.{AreHeld, has_chunk_in}
-use Rattle.ms_base.specs.State.{ArenaState, LoaderState, Machine, PoolState, arena_of, slots_in, committed_in, chunks_held, committed_now, recommitted, empty_arena, empty_loader, pool_of}
+use Rattle.ms_base.specs.State.{ArenaState, LoaderState, Machine, PoolState, arena_of, slots_in, committed_in}
+use Rattle.ms_base.specs.State.{chunks_held, committed_now, recommitted, empty_arena, empty_loader, pool_of}
 use Rattle.ms_base.specs.Good.{IsSound, IsSoundLoader, IsSoundPool, IsGood}
 use Rattle.ms_base.specs.Transition.{HasLoader, LacksLoader, HasOwnerNumbers, with_loader, purged}
 use Rattle.ms_base.proofs.entries.NameLemmas.{rises_with_new}
-use Rattle.ms_base.proofs.entries.EntryLemmas.{Split, split_at, gap_at, values_split, values_joined, rises_with_changed, rises_without}
+use Rattle.ms_base.proofs.entries.EntryLemmas.{Split, split_at, gap_at, values_split, values_joined, rises_with_changed}
+use Rattle.ms_base.proofs.entries.EntryLemmas.{rises_without}
 use Rattle.ms_base.proofs.machine.HeldLemmas.{held_rest, held_in}
 use Rattle.ms_base.proofs.machine.SlotLemmas.{slots_of_chunks, all_have}
 use Rattle.ms_base.proofs.granules.CommittedLemmas.{committed_rest, committed_settles, fewer_slots}
@@ -88,12 +92,20 @@ pub sound_but : (pool : PoolState) → IsSoundPool pool → IsSoundBut pool
 sound_but pool sound = record { held = sound.held; slots = sound.slots; below = sound.below; reserved = sound.reserved }
 
 -- A sound pool that keeps only its slots with a chunk is sound but for its granules.
-pub kept_is_sound : (pool : PoolState) → IsSoundPool pool → IsSoundBut (record pool { slots = filter (has_chunk_in pool.held) pool.slots })
+pub kept_is_sound : (pool : PoolState) → IsSoundPool pool
+    → IsSoundBut (record pool { slots = filter (has_chunk_in pool.held) pool.slots })
 kept_is_sound pool sound = record {
-  held = held_in pool.limits.policy pool.slots kept pool.held (slots_of_chunks pool.held pool.slots pool.held (all_have pool.held) sound.held.reserved) sound.held;
+  held = held_in pool.limits.policy pool.slots kept pool.held
+      (slots_of_chunks pool.held pool.slots pool.held (all_have pool.held) sound.held.reserved) sound.held;
   slots = IsStrictlyIncreasing-filter (has_chunk_in pool.held) pool.slots sound.slots;
   below = All-filter (has_chunk_in pool.held) (IsSlotOf pool.space) pool.slots sound.below;
-  reserved = omega (arith, sound.reserved, length-filter (has_chunk_in pool.held) pool.slots, count_by-le-length (has_chunk_in pool.held) pool.slots);
+  reserved =
+      omega (
+        arith,
+        sound.reserved,
+        length-filter (has_chunk_in pool.held) pool.slots,
+        count_by-le-length (has_chunk_in pool.held) pool.slots,
+      );
 }
   where
     kept : List ℕ
@@ -114,7 +126,9 @@ recommitted_is_sound m sound few Class = record {
   held = (sound Class).held;
   slots = (sound Class).slots;
   below = (sound Class).below;
-  committed = sym (committed_settles m.limits.policy m.class_committed (chunks_held Class m.loaders) (class_slots m.limits.class_nodes));
+  committed =
+      sym (committed_settles m.limits.policy m.class_committed (chunks_held Class m.loaders)
+      (class_slots m.limits.class_nodes));
   granules = omega (arith, few);
   reserved = (sound Class).reserved;
 }
@@ -125,7 +139,15 @@ empty_arenas kind NonClass = refl
 empty_arenas kind Class = refl
 
 empty_is_sound : IsSound empty_arena []
-empty_is_sound = record { apart = refl; long = refl; inside = refl; few = omega arith; tops = refl; kept = λ k h. absurd (omega arith) }
+empty_is_sound =
+    record {
+      apart = refl;
+      long = refl;
+      inside = refl;
+      few = omega arith;
+      tops = refl;
+      kept = λ k h. absurd (omega arith);
+    }
 
 pub sound_when_empty : (kind : Kind) → IsSoundLoader (empty_loader kind)
 sound_when_empty kind = record {
@@ -137,21 +159,27 @@ sound_when_empty kind = record {
 pub loader_is_sound : (m : Machine) (name : ℕ) (loader : LoaderState) → named m.loaders name ≡ Some loader → IsGood m
     → IsSoundLoader loader
 loader_is_sound m name loader found good =
-    subst (λ (o : Option LoaderState). IfSome o IsSoundLoader) found (IfSome-lookup_from_All IsSoundLoader (is_at (nat_cmp name)) m.loaders good.loaders)
+    subst (λ (o : Option LoaderState). IfSome o IsSoundLoader) found
+    (IfSome-lookup_from_All IsSoundLoader (is_at (nat_cmp name)) m.loaders good.loaders)
 
 -- A new loader.
 pub good_with_new_loader : (m : Machine) (name : ℕ) (kind : Kind) → LacksLoader m name → HasOwnerNumbers m → IsGood m
     → IsGood (record m { loaders = with_new m.loaders name (empty_loader kind); given = m.given + 2 })
 good_with_new_loader m name kind none few good = record {
-  loaders = All-values-insert_entry nat_cmp name (empty_loader kind) IsSoundLoader m.loaders good.loaders (sound_when_empty kind);
+  loaders =
+      All-values-insert_entry nat_cmp name (empty_loader kind) IsSoundLoader m.loaders good.loaders
+      (sound_when_empty kind);
   names = rises_with_new m.loaders name (empty_loader kind) good.names;
-  pools = λ space. sound_with (pool_of space m) _ (chunks_with_new space m.loaders name (empty_loader kind) none (ap (λ (arena : ArenaState). arena.chunks) (empty_arenas kind space))) (good.pools space);
+  pools = λ space. sound_with (pool_of space m) _
+      (chunks_with_new space m.loaders name (empty_loader kind) none
+      (ap (λ (arena : ArenaState). arena.chunks) (empty_arenas kind space))) (good.pools space);
   given = few;
 }
 
 -- Owner numbers that are used up, as a New refused for want of memory may leave them.
 pub good_with_numbers_used : (m : Machine) → HasOwnerNumbers m → IsGood m → IsGood (record m { given = m.given + 2 })
-good_with_numbers_used m few good = record { loaders = good.loaders; names = good.names; pools = good.pools; given = few }
+good_with_numbers_used m few good =
+    record { loaders = good.loaders; names = good.names; pools = good.pools; given = few }
 
 -- A sound loader in the place of one with the same chunks.
 pub good_with_loader : (m : Machine) (name : ℕ) (loader other : LoaderState) → HasLoader m name loader
@@ -161,7 +189,8 @@ pub good_with_loader : (m : Machine) (name : ℕ) (loader other : LoaderState) �
 good_with_loader m name loader other found same sound good = record {
   loaders = All-values-set_value (is_at (nat_cmp name)) IsSoundLoader m.loaders other good.loaders sound;
   names = rises_with_changed m.loaders name other good.names;
-  pools = λ space. sound_with (pool_of space m) _ (chunks_with_same space m.loaders name loader other found (same space)) (good.pools space);
+  pools = λ space. sound_with (pool_of space m) _
+      (chunks_with_same space m.loaders name loader other found (same space)) (good.pools space);
   given = good.given;
 }
 
@@ -169,9 +198,11 @@ good_with_loader m name loader other found same sound good = record {
 pub good_without_loader : (m : Machine) (name : ℕ) (loader : LoaderState) → HasLoader m name loader → IsGood m
     → IsGood (recommitted (record m { loaders = without m.loaders name }))
 good_without_loader m name loader found good = record {
-  loaders = All-map-remove_entry (is_at (nat_cmp name)) (λ (e : ℕ × LoaderState). e.1) IsSoundLoader m.loaders good.loaders;
+  loaders =
+      All-map-remove_entry (is_at (nat_cmp name)) (λ (e : ℕ × LoaderState). e.1) IsSoundLoader m.loaders good.loaders;
   names = rises_without m.loaders name good.names;
-  pools = recommitted_is_sound rest rest_is_sound (omega (arith, fewer NonClass, fewer Class, (good.pools NonClass).granules));
+  pools = recommitted_is_sound rest rest_is_sound
+      (omega (arith, fewer NonClass, fewer Class, (good.pools NonClass).granules));
   given = good.given;
 }
   where
@@ -195,7 +226,9 @@ good_without_loader m name loader found good = record {
 
     rest_is_sound : (space : Space) → IsSoundBut (pool_of space rest)
     rest_is_sound space = record {
-      held = rw (gone space) (held_rest m.limits.policy (slots_in space m) (b space) (arena_of space loader).chunks (a space) (rw (all space) at (good.pools space).held));
+      held = rw (gone space)
+          (held_rest m.limits.policy (slots_in space m) (b space) (arena_of space loader).chunks (a space)
+          (rw (all space) at (good.pools space).held));
       slots = (good.pools space).slots;
       below = (good.pools space).below;
       reserved = (good.pools space).reserved;
@@ -208,7 +241,8 @@ good_without_loader m name loader found good = record {
     fewer space = omega (
       arith,
       ap (now space) (gone space),
-      committed_rest m.limits.policy (committed_in space m) (b space) (arena_of space loader).chunks (a space) (slots_in space m),
+      committed_rest m.limits.policy (committed_in space m) (b space) (arena_of space loader).chunks (a space)
+          (slots_in space m),
       ap (now space) (all space),
       ap length (good.pools space).committed,
     )
@@ -221,7 +255,8 @@ good_when_purged m good = record {
   pools = recommitted_is_sound rest rest_is_sound (omega (
     arith,
     (good.pools NonClass).granules,
-    fewer_slots (is_committed_now m.limits.policy m.committed held) (granule_of m.limits.policy) (has_chunk_in held) m.slots,
+    fewer_slots (is_committed_now m.limits.policy m.committed held) (granule_of m.limits.policy)
+        (has_chunk_in held) m.slots,
     ap length (good.pools NonClass).committed,
     ap length (good.pools Class).committed,
   ));

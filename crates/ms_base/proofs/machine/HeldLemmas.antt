@@ -10,7 +10,8 @@ use Rattle.ms_base.specs.Level.{size_of}
 use Rattle.ms_base.specs.Part.{IsPart, slot_of, is_reserved}
 use Rattle.ms_base.specs.Front.{HasFront}
 use Rattle.ms_base.specs.Held.{AreHeld, words_of, meets_chunk}
-use Rattle.ms_base.proofs.runs.ApartLemmas.{All-rest_of, list_all-rest_of, apart-rest_of, All-with, list_all-with, apart-with, meet_turned}
+use Rattle.ms_base.proofs.runs.ApartLemmas.{All-rest_of, list_all-rest_of, apart-rest_of, All-with, list_all-with}
+use Rattle.ms_base.proofs.runs.ApartLemmas.{apart-with, meet_turned}
 
 abbrev pub IsPlaced : Chunk → Type 0
 IsPlaced chunk = IsPart chunk.start chunk.level
@@ -31,7 +32,9 @@ meets_none : (chunk : Chunk) (held : List Chunk) → meets_chunk held chunk.star
     → meets_any (words_of chunk) (map words_of held) ≡ false
 meets_none chunk [] h = refl
 meets_none chunk (c ∷ held) h =
-    let both = or_parts (meet c.start (size_of c.level) chunk.start (size_of chunk.level)) (meets_chunk held chunk.start chunk.level) h in
+    let both =
+    or_parts (meet c.start (size_of c.level) chunk.start (size_of chunk.level))
+    (meets_chunk held chunk.start chunk.level) h in
     rw (meet_turned chunk.start (size_of chunk.level) c.start (size_of c.level) ∙ both.0) (meets_none chunk held both.1)
 
 -- A chunk that meets none is held with the others.
@@ -51,4 +54,5 @@ held_with policy slots b chunk a part front reserved clear h = record {
 pub held_in : (policy : Policy) (slots others : List ℕ) (held : List Chunk)
     → list_all (λ (chunk : Chunk). is_reserved others (slot_of chunk.start)) held ≡ true → AreHeld policy slots held
     → AreHeld policy others held
-held_in policy slots others held reserved h = record { parts = h.parts; fronts = h.fronts; reserved = reserved; apart = h.apart }
+held_in policy slots others held reserved h =
+    record { parts = h.parts; fronts = h.fronts; reserved = reserved; apart = h.apart }

@@ -1,12 +1,14 @@
 -- Sums are bounded: held chunks have no more words than the reserved slots, live and kept words no
 -- more than are in use, and used and committed words no more than all nodes of the space.
-use Rattle.std.proofs.Common.{◌≡◌, ◌≤◌, ◌<◌, zero, suc, get_or, ◌+◌, ◌*◌, ◌/◌, ℕ, true, ◌||◌, List, [], ◌∷◌, ◌++◌, length, map, refl, sym, ap, ◌∙◌, arith, inl, inr}
+use Rattle.std.proofs.Common.{◌≡◌, ◌≤◌, ◌<◌, zero, suc, get_or, ◌+◌, ◌*◌, ◌/◌, ℕ, true, ◌||◌, List, [], ◌∷◌, ◌++◌}
+use Rattle.std.proofs.Common.{length, map, refl, sym, ap, ◌∙◌, arith, inl, inr}
 use Rattle.std.specs.Prelude.{nat_le, sum, ◌==◌}
 use Rattle.std.specs.List.{All, AllByRecursion, list_any, list_all, sum_by, flat_map, zip, range_with_len}
 use Rattle.std.specs.Map.{values_of}
 use Rattle.std.proofs.lemmas.Nat.{mul-le, div-add-mod'}
 use Rattle.std.proofs.Math.Nat.{mul_assoc}
-use Rattle.std.proofs.lemmas.Bool.{and_parts, and_from, or_left, or_right, or_cases, le-leb, leb-true, eqb-true, cases_lt}
+use Rattle.std.proofs.lemmas.Bool.{and_parts, and_from, or_left, or_right, or_cases, le-leb, leb-true, eqb-true}
+use Rattle.std.proofs.lemmas.Bool.{cases_lt}
 use Rattle.std.proofs.lemmas.List.Sums.{sum_by-cons, sum_by-append}
 use Rattle.std.proofs.lemmas.List.Elements.{recursion_from_All}
 use Rattle.std.proofs.lemmas.Map.Views.{length-le_from_below}
@@ -41,7 +43,8 @@ area_of slot = (slot * node_words, node_words)
 -- A part lies in its slot.
 in_its_slot : (start level : ℕ) → IsPart start level → lies_in (start, size_of level) (area_of (slot_of start)) ≡ true
 in_its_slot start level part =
-    and_from (nat_le (slot_of start * node_words) start) (nat_le (start + size_of level) (slot_of start * node_words + node_words))
+    and_from (nat_le (slot_of start * node_words) start)
+    (nat_le (start + size_of level) (slot_of start * node_words + node_words))
     (le-leb (slot_of start * node_words) start (omega (arith, div-add-mod' start node_words)))
     (le-leb (start + size_of level) (slot_of start * node_words + node_words) (ends_in_node start level part))
 
@@ -51,8 +54,11 @@ in_some_slot start level [] part h = absurd (cc)
 in_some_slot start level (s ∷ slots) part h =
     let later = list_any (λ (area : ℕ × ℕ). lies_in (start, size_of level) area) (map area_of slots) in
     elim (or_cases (s == slot_of start) (is_reserved slots (slot_of start)) h) [
-      | inl here ↦ or_left (lies_in (start, size_of level) (area_of s)) later (ap (λ (k : ℕ). lies_in (start, size_of level) (area_of k)) (eqb-true s (slot_of start) here) ∙ in_its_slot start level part)
-      | inr there ↦ or_right (lies_in (start, size_of level) (area_of s)) later (in_some_slot start level slots part there)
+      | inl here ↦ or_left (lies_in (start, size_of level) (area_of s)) later
+          (ap (λ (k : ℕ). lies_in (start, size_of level) (area_of k)) (eqb-true s (slot_of start) here)
+          ∙ in_its_slot start level part)
+      | inr there ↦ or_right (lies_in (start, size_of level) (area_of s)) later
+          (in_some_slot start level slots part there)
     ]
 
 all_in_slots : (slots : List ℕ) (held : List Chunk) → AllByRecursion IsPlaced held
@@ -61,7 +67,9 @@ all_in_slots : (slots : List ℕ) (held : List Chunk) → AllByRecursion IsPlace
     ≡ true
 all_in_slots slots [] parts h = refl
 all_in_slots slots (c ∷ held) parts h =
-    let both = and_parts (is_reserved slots (slot_of c.start)) (list_all (λ (d : Chunk). is_reserved slots (slot_of d.start)) held) h in
+    let both =
+    and_parts (is_reserved slots (slot_of c.start))
+    (list_all (λ (d : Chunk). is_reserved slots (slot_of d.start)) held) h in
     and_from (list_any (λ (area : ℕ × ℕ). lies_in (words_of c) area) (map area_of slots))
     (list_all (λ (run : ℕ × ℕ). list_any (λ (area : ℕ × ℕ). lies_in run area) (map area_of slots)) (map words_of held))
     (in_some_slot c.start c.level slots parts.0 both.0) (all_in_slots slots held parts.1 both.1)
@@ -70,12 +78,14 @@ all_in_slots slots (c ∷ held) parts h =
 words_of_chunks : (held : List Chunk) → sum_by (λ (run : ℕ × ℕ). run.1) (map words_of held) ≡ capacity_of held
 words_of_chunks [] = refl
 words_of_chunks (c ∷ held) =
-    sum_by-cons (λ (run : ℕ × ℕ). run.1) (words_of c) (map words_of held) ∙ ap (λ (n : ℕ). size_of c.level + n) (words_of_chunks held)
+    sum_by-cons (λ (run : ℕ × ℕ). run.1) (words_of c) (map words_of held)
+    ∙ ap (λ (n : ℕ). size_of c.level + n) (words_of_chunks held)
     ∙ sym (sum_by-cons (λ (chunk : Chunk). size_of chunk.level) c held)
 
 words_of_slots : (slots : List ℕ) → sum_by (λ (area : ℕ × ℕ). area.1) (map area_of slots) ≡ length slots * node_words
 words_of_slots [] = refl
-words_of_slots (s ∷ slots) = omega (arith, sum_by-cons (λ (area : ℕ × ℕ). area.1) (area_of s) (map area_of slots), words_of_slots slots)
+words_of_slots (s ∷ slots) =
+    omega (arith, sum_by-cons (λ (area : ℕ × ℕ). area.1) (area_of s) (map area_of slots), words_of_slots slots)
 
 -- Held chunks have no more words than the reserved slots.
 pub capacity_within : (policy : Policy) (slots : List ℕ) (held : List Chunk) → AreHeld policy slots held
@@ -86,7 +96,8 @@ capacity_within policy slots held good =
       words_of_chunks held,
       words_of_slots slots,
       packed (map words_of held) (map area_of slots) good.apart
-          (covered_one_by_one (map words_of held) (map area_of slots) (all_in_slots slots held (recursion_from_All IsPlaced held good.parts) good.reserved)),
+          (covered_one_by_one (map words_of held) (map area_of slots)
+          (all_in_slots slots held (recursion_from_All IsPlaced held good.parts) good.reserved)),
     )
 
 -- A space of a machine has at most its slots.
@@ -97,7 +108,8 @@ at_place low (suc n) (suc i) d h = at_place (low + 1) n i d (omega arith) ∙ om
 
 pub few_slots : (space : Space) (m : Machine) → IsSoundPool (pool_of space m)
     → length (slots_in space m) ≤ most_slots space
-few_slots NonClass m sound = length-le_from_below 64 m.slots (sorted_from_strictly_increasing m.slots sound.slots) sound.below
+few_slots NonClass m sound =
+    length-le_from_below 64 m.slots (sorted_from_strictly_increasing m.slots sound.slots) sound.below
 few_slots Class m sound = omega (arith, length-range_with_len 64 nodes, few nodes sound.below)
   where
     nodes : ℕ
@@ -105,7 +117,9 @@ few_slots Class m sound = omega (arith, length-range_with_len 64 nodes, few node
 
     few : (n : ℕ) → All (IsSlotOf Class) (range_with_len 64 n) → n ≤ 16
     few n below = elim (cases_lt 16 n) [
-      | inl more ↦ absurd (omega (arith, at_place 64 n 16 0 more, (below 16 0 (omega (arith, length-range_with_len 64 n, more))).1))
+      | inl more ↦
+          absurd (omega
+          (arith, at_place 64 n 16 0 more, (below 16 0 (omega (arith, length-range_with_len 64 n, more))).1))
       | inr less ↦ less
     ]
 
@@ -127,7 +141,9 @@ tops_within : (chunks : List Chunk) (tops : List ℕ) → length tops ≤ length
 tops_within chunks [] few h = omega arith
 tops_within [] (t ∷ tops) few h = absurd (omega arith)
 tops_within (c ∷ chunks) (t ∷ tops) few h =
-    let both = and_parts (nat_le t c.front) (list_all (λ (used : Chunk × ℕ). nat_le used.1 used.0.front) (zip chunks tops)) h in
+    let both =
+    and_parts (nat_le t c.front) (list_all (λ (used : Chunk × ℕ). nat_le used.1 used.0.front) (zip chunks tops)) h
+    in
     omega (
       arith,
       sum_by-cons (λ (top : ℕ). top) t tops,
@@ -196,7 +212,8 @@ blocks_within arena live sound =
       sum_by-append (λ (run : ℕ × ℕ). run.1) live arena.kept,
       words_of_tops arena.chunks arena.tops sound.few,
       packed (live ++ arena.kept) (map used_area (topped arena)) sound.apart
-          (covered_one_by_one (live ++ arena.kept) (map used_area (topped arena)) (all_in_used arena (live ++ arena.kept) sound.inside)),
+          (covered_one_by_one (live ++ arena.kept) (map used_area (topped arena))
+          (all_in_used arena (live ++ arena.kept) sound.inside)),
     )
 
 pub all_blocks_within : (space : Space) (loaders : List LoaderState) → AllByRecursion IsSoundLoader loaders
@@ -219,10 +236,17 @@ pub committed_within_slots : (pool : PoolState) → IsSoundPool pool
 committed_within_slots pool sound =
     omega (
       arith,
-      mul-le (length pool.committed) (granule_in pool) (length pool.slots * (node_words / granule_in pool)) (granule_in pool)
-          (omega (arith, ap length sound.committed, committed_at_most (is_committed_now pool.limits.policy pool.committed pool.held) (granule_in pool) pool.slots)) (omega arith),
+      mul-le (length pool.committed) (granule_in pool) (length pool.slots * (node_words / granule_in pool))
+          (granule_in pool)
+          (omega (
+            arith,
+            ap length sound.committed,
+            committed_at_most (is_committed_now pool.limits.policy pool.committed pool.held)
+                (granule_in pool) pool.slots,
+          )) (omega arith),
       mul_assoc (length pool.slots) (node_words / granule_in pool) (granule_in pool),
-      mul-le (length pool.slots) (node_words / granule_in pool * granule_in pool) (length pool.slots) node_words (omega arith)
+      mul-le (length pool.slots) (node_words / granule_in pool * granule_in pool) (length pool.slots) node_words
+          (omega arith)
           (omega (arith, granules_make_nodes pool.limits.policy)),
     )
 
@@ -230,16 +254,22 @@ committed_within_slots pool sound =
 pub capacity_below : (space : Space) (m : Machine) → IsGood m
     → capacity_of (pool_of space m).held ≤ most_slots space * node_words
 capacity_below space m good =
-    omega (arith, capacity_within m.limits.policy (slots_in space m) (pool_of space m).held (good.pools space).held, few_slots space m (good.pools space))
+    omega (
+      arith,
+      capacity_within m.limits.policy (slots_in space m) (pool_of space m).held (good.pools space).held,
+      few_slots space m (good.pools space),
+    )
 
 pub used_below : (space : Space) (m : Machine) → IsGood m → used_words space m ≤ most_slots space * node_words
 used_below space m good =
     omega (
       arith,
       used_within space (values_of m.loaders) (recursion_from_All IsSoundLoader (values_of m.loaders) good.loaders),
-      fronts_within m.limits.policy (pool_of space m).held (recursion_from_All (HasFront m.limits.policy) (pool_of space m).held (good.pools space).held.fronts),
+      fronts_within m.limits.policy (pool_of space m).held
+          (recursion_from_All (HasFront m.limits.policy) (pool_of space m).held (good.pools space).held.fronts),
       capacity_below space m good,
     )
 
 pub committed_below : (space : Space) (m : Machine) → IsGood m → committed_words space m ≤ most_slots space * node_words
-committed_below space m good = omega (arith, committed_within_slots (pool_of space m) (good.pools space), few_slots space m (good.pools space))
+committed_below space m good =
+    omega (arith, committed_within_slots (pool_of space m) (good.pools space), few_slots space m (good.pools space))

@@ -38,7 +38,8 @@ sum_agree f g same [] = refl
 sum_agree f g same (x ∷ xs) = omega (arith, sum_by-cons f x xs, sum_by-cons g x xs, same x, sum_agree f g same xs)
 
 turned : (run : ℕ × ℕ) (runs : List (ℕ × ℕ)) → sum_by (λ other. pair other run) runs ≡ meeting runs run
-turned run runs = sum_agree (λ other. pair other run) (pair run) (λ other. ap one_if (meet_turned other.0 other.1 run.0 run.1)) runs
+turned run runs =
+    sum_agree (λ other. pair other run) (pair run) (λ other. ap one_if (meet_turned other.0 other.1 run.0 run.1)) runs
 
 pairs_with : (run : ℕ × ℕ) (runs : List (ℕ × ℕ))
     → pairs (run ∷ runs) (run ∷ runs) ≡ pair run run + (meeting runs run + meeting runs run) + pairs runs runs
@@ -47,7 +48,8 @@ pairs_with run runs = omega (
   arith,
   sum_by-cons (meeting (run ∷ runs)) run runs,
   sum_by-cons (pair run) run runs,
-  sum_agree (meeting (run ∷ runs)) (λ other. pair other run + meeting runs other) (λ other. sum_by-cons (pair other) run runs) runs,
+  sum_agree (meeting (run ∷ runs)) (λ other. pair other run + meeting runs other)
+      (λ other. sum_by-cons (pair other) run runs) runs,
   sum_of_two (λ other. pair other run) (meeting runs) runs,
   turned run runs,
 )
@@ -81,14 +83,23 @@ unfolding pairs
 counted [] apart = refl
 counted (run ∷ runs) apart =
     let both = and_parts (not (meets_any run runs)) (are_apart runs) apart in
-    omega (arith, sum_by-cons (λ one. pair one one) run runs, pairs_with run runs, none_met run runs (not-true (meets_any run runs) both.0), counted runs both.1)
+    omega (
+      arith,
+      sum_by-cons (λ one. pair one one) run runs,
+      pairs_with run runs,
+      none_met run runs (not-true (meets_any run runs) both.0),
+      counted runs both.1,
+    )
 
 from_count : (runs : List (ℕ × ℕ)) → pairs runs runs ≡ themselves runs → are_apart runs ≡ true
 from_count [] same = refl
 from_count (run ∷ runs) same =
     and_from (not (meets_any run runs)) (are_apart runs)
-    (not_from_false (meets_any run runs) (none_counted run runs (omega (arith, sum_by-cons (λ one. pair one one) run runs, pairs_with run runs, no_fewer runs, same))))
-    (from_count runs (omega (arith, sum_by-cons (λ one. pair one one) run runs, pairs_with run runs, no_fewer runs, same)))
+    (not_from_false (meets_any run runs)
+    (none_counted run runs
+    (omega (arith, sum_by-cons (λ one. pair one one) run runs, pairs_with run runs, no_fewer runs, same))))
+    (from_count runs
+    (omega (arith, sum_by-cons (λ one. pair one one) run runs, pairs_with run runs, no_fewer runs, same)))
 
 -- Runs that are apart are so in another order.
 pub apart-permuted : (runs others : List (ℕ × ℕ)) → IsPermutation runs others → are_apart runs ≡ true
@@ -96,4 +107,5 @@ pub apart-permuted : (runs others : List (ℕ × ℕ)) → IsPermutation runs ot
 unfolding pairs
 apart-permuted runs others moved apart = from_count others
     (sum_agree (meeting others) (meeting runs) (λ run. sum_by-IsPermutation (pair run) runs others moved) others
-    ∙ sum_by-IsPermutation (meeting runs) runs others moved ∙ counted runs apart ∙ sym (sum_by-IsPermutation (λ run. pair run run) runs others moved))
+    ∙ sum_by-IsPermutation (meeting runs) runs others moved ∙ counted runs apart
+    ∙ sym (sum_by-IsPermutation (λ run. pair run run) runs others moved))

@@ -1,13 +1,15 @@
 -- Some loans go: the others are held still, in order, and commit nothing more; and what an owner has
 -- of the others.
-use Rattle.std.proofs.Common.{◌≡◌, ◌≢◌, ◌≤◌, ℕ, Bool, true, false, cond, not, List, [], ◌∷◌, ◌++◌, length, map, refl, sym, ap, ◌∙◌, subst, arith}
+use Rattle.std.proofs.Common.{◌≡◌, ◌≢◌, ◌≤◌, ℕ, Bool, true, false, cond, not, List, [], ◌∷◌, ◌++◌, length, map, refl}
+use Rattle.std.proofs.Common.{sym, ap, ◌∙◌, subst, arith}
 use Rattle.std.specs.Prelude.{◌==◌}
 use Rattle.std.specs.List.{All, AllByRecursion, filter}
 use Rattle.std.specs.List.Sorted.{IsPermutation, IsStrictlyIncreasing}
 use Rattle.std.proofs.lemmas.Bool.{eqb-true}
 use Rattle.std.proofs.lemmas.List.{append_assoc}
 use Rattle.std.proofs.lemmas.List.Elements.{All-filter}
-use Rattle.std.proofs.lemmas.List.Sorted.{IsPermutation-refl, IsPermutation-cons, IsPermutation-middle, IsPermutation-sym, IsPermutation-trans}
+use Rattle.std.proofs.lemmas.List.Sorted.{IsPermutation-refl, IsPermutation-cons, IsPermutation-middle}
+use Rattle.std.proofs.lemmas.List.Sorted.{IsPermutation-sym, IsPermutation-trans}
 use Rattle.ms_base.specs.declared.kind.Space.{Space}
 use Rattle.ms_base.specs.declared.span.Chunk.{Chunk}
 use Rattle.ms_base.specs.Spaces.{is_in}
@@ -21,11 +23,14 @@ use Rattle.ms_pool.proofs.ledger.LoanLemmas.{chunks_in, owned_by}
 use Rattle.ms_pool.proofs.ledger.LoanOrderLemmas.{order_filtered}
 
 -- What chunks keep where one goes, they keep where some go.
-kept_by_rest : (Q : List Chunk → Type 0) (step : (b : List Chunk) (chunk : Chunk) (a : List Chunk) → Q (b ++ chunk ∷ a) → Q (b ++ a))
-    (space : Space) (p : Loan → Bool) (b : List Chunk) (loans : List Loan) → Q (b ++ chunks_in space loans) → Q (b ++ chunks_in space (filter p loans))
+kept_by_rest : (Q : List Chunk → Type 0)
+    (step : (b : List Chunk) (chunk : Chunk) (a : List Chunk) → Q (b ++ chunk ∷ a) → Q (b ++ a))
+    (space : Space) (p : Loan → Bool) (b : List Chunk) (loans : List Loan) → Q (b ++ chunks_in space loans)
+    → Q (b ++ chunks_in space (filter p loans))
 kept_by_rest Q step space p b [] holds = holds
 kept_by_rest Q step space p b (loan ∷ loans) holds =
-    go (p loan) (is_in space loan.chunk.start) refl holds (kept_by_rest Q step space p b loans) (kept_by_rest Q step space p (b ++ loan.chunk ∷ []) loans)
+    go (p loan) (is_in space loan.chunk.start) refl holds (kept_by_rest Q step space p b loans)
+    (kept_by_rest Q step space p (b ++ loan.chunk ∷ []) loans)
   where
     rest : List Chunk
     rest = chunks_in space loans
@@ -34,17 +39,24 @@ kept_by_rest Q step space p b (loan ∷ loans) holds =
         → (Q (b ++ rest) → Q (b ++ chunks_in space (filter p loans)))
         → (Q ((b ++ loan.chunk ∷ []) ++ rest) → Q ((b ++ loan.chunk ∷ []) ++ chunks_in space (filter p loans)))
         → Q (b ++ chunks_in space (cond t (loan ∷ filter p loans) (filter p loans)))
-    go true true e holds others more = subst (λ (h : Bool). Q (b ++ cond h (loan.chunk ∷ chunks_in space (filter p loans)) (chunks_in space (filter p loans)))) (sym e)
-        (subst Q (append_assoc b (loan.chunk ∷ []) (chunks_in space (filter p loans))) (more (subst Q (sym (append_assoc b (loan.chunk ∷ []) rest)) holds)))
+    go true true e holds others more =
+        subst (λ (h : Bool). Q
+        (b ++ cond h (loan.chunk ∷ chunks_in space (filter p loans)) (chunks_in space (filter p loans)))) (sym e)
+        (subst Q (append_assoc b (loan.chunk ∷ []) (chunks_in space (filter p loans)))
+        (more (subst Q (sym (append_assoc b (loan.chunk ∷ []) rest)) holds)))
     go true false e holds others more =
-        subst (λ (h : Bool). Q (b ++ cond h (loan.chunk ∷ chunks_in space (filter p loans)) (chunks_in space (filter p loans)))) (sym e) (others holds)
+        subst (λ (h : Bool). Q
+        (b ++ cond h (loan.chunk ∷ chunks_in space (filter p loans)) (chunks_in space (filter p loans)))) (sym e)
+        (others holds)
     go false true e holds others more = others (step b loan.chunk rest holds)
     go false false e holds others more = others holds
 
 -- Loans that are some of a sound ledger's.
 pub record AreFewer (old : Ledger) (loans : List Loan) : Type 0 where
   pub held : (space : Space) → AreHeld old.limits.policy (state_in space old).slots (chunks_in space loans)
-  pub few : (space : Space) → length (committed_with old.limits.policy (committed_of space old) (chunks_in space loans) (state_in space old).slots) ≤ length (committed_of space old)
+  pub few : (space : Space)
+      → length (committed_with old.limits.policy (committed_of space old) (chunks_in space loans)
+      (state_in space old).slots) ≤ length (committed_of space old)
   pub order : IsStrictlyIncreasing (map (λ (loan : Loan). loan.chunk.start) loans)
   pub owners : All (λ (loan : Loan). (1 ≤ loan.owner) × (loan.owner ≤ old.given)) loans
 
@@ -56,12 +68,19 @@ all_are_fewer old sound = record {
   owners = sound.owners;
 }
 
-pub filtered_are_fewer : (old : Ledger) (p : Loan → Bool) (loans : List Loan) → AreFewer old loans → AreFewer old (filter p loans)
+pub filtered_are_fewer : (old : Ledger) (p : Loan → Bool) (loans : List Loan) → AreFewer old loans
+    → AreFewer old (filter p loans)
 filtered_are_fewer old p loans fewer = record {
-  held = λ space. kept_by_rest (AreHeld old.limits.policy (state_in space old).slots) (λ b chunk a held. held_rest old.limits.policy (state_in space old).slots b (chunk ∷ []) a held)
+  held = λ space. kept_by_rest (AreHeld old.limits.policy (state_in space old).slots)
+      (λ b chunk a held. held_rest old.limits.policy (state_in space old).slots b (chunk ∷ []) a held)
       space p [] loans (fewer.held space);
   few = λ space. kept_by_rest (λ (chunks : List Chunk). length (now space chunks) ≤ length (committed_of space old))
-      (λ b chunk a few. omega (arith, few, committed_rest old.limits.policy (committed_of space old) b (chunk ∷ []) a (state_in space old).slots))
+      (λ b chunk a few. omega (
+        arith,
+        few,
+        committed_rest old.limits.policy (committed_of space old) b (chunk ∷ []) a
+            (state_in space old).slots,
+      ))
       space p [] loans (fewer.few space);
   order = order_filtered p loans fewer.order;
   owners = All-filter p (λ (loan : Loan). (1 ≤ loan.owner) × (loan.owner ≤ old.given)) loans fewer.owners;
@@ -78,11 +97,15 @@ none_left owner (loan ∷ loans) = go (loan.owner == owner) refl (none_left owne
     others : List Loan
     others = others_than owner loans
 
-    go : (b : Bool) → (loan.owner == owner) ≡ b → owned_by owner others ≡ [] → owned_by owner (cond (not b) (loan ∷ others) others) ≡ []
+    go : (b : Bool) → (loan.owner == owner) ≡ b → owned_by owner others ≡ []
+        → owned_by owner (cond (not b) (loan ∷ others) others) ≡ []
     go true e rest = rest
-    go false e rest = ap (λ (b : Bool). map (λ (one : Loan). one.chunk) (cond b (loan ∷ filter (is_owned_by owner) others) (filter (is_owned_by owner) others))) e ∙ rest
+    go false e rest =
+        ap (λ (b : Bool). map (λ (one : Loan). one.chunk)
+        (cond b (loan ∷ filter (is_owned_by owner) others) (filter (is_owned_by owner) others))) e ∙ rest
 
-pub none_still : (owner : ℕ) (p : Loan → Bool) (loans : List Loan) → owned_by owner loans ≡ [] → owned_by owner (filter p loans) ≡ []
+pub none_still : (owner : ℕ) (p : Loan → Bool) (loans : List Loan) → owned_by owner loans ≡ []
+    → owned_by owner (filter p loans) ≡ []
 none_still owner p [] none = refl
 none_still owner p (loan ∷ loans) none = go (loan.owner == owner) (p loan) refl none (none_still owner p loans)
   where
@@ -90,15 +113,20 @@ none_still owner p (loan ∷ loans) none = go (loan.owner == owner) (p loan) ref
     kept = filter p loans
 
     go : (b t : Bool) → (loan.owner == owner) ≡ b
-        → map (λ (one : Loan). one.chunk) (cond b (loan ∷ filter (is_owned_by owner) loans) (filter (is_owned_by owner) loans)) ≡ []
+        → map (λ (one : Loan). one.chunk)
+        (cond b (loan ∷ filter (is_owned_by owner) loans) (filter (is_owned_by owner) loans)) ≡ []
         → (owned_by owner loans ≡ [] → owned_by owner kept ≡ []) → owned_by owner (cond t (loan ∷ kept) kept) ≡ []
     go true t e none rest = absurd (cc)
-    go false true e none rest = ap (λ (b : Bool). map (λ (one : Loan). one.chunk) (cond b (loan ∷ filter (is_owned_by owner) kept) (filter (is_owned_by owner) kept))) e ∙ rest none
+    go false true e none rest =
+        ap (λ (b : Bool). map (λ (one : Loan). one.chunk)
+        (cond b (loan ∷ filter (is_owned_by owner) kept) (filter (is_owned_by owner) kept))) e ∙ rest none
     go false false e none rest = rest none
 
-pub others_stay : (other owner : ℕ) (loans : List Loan) → other ≢ owner → owned_by other (others_than owner loans) ≡ owned_by other loans
+pub others_stay : (other owner : ℕ) (loans : List Loan) → other ≢ owner
+    → owned_by other (others_than owner loans) ≡ owned_by other loans
 others_stay other owner [] differs = refl
-others_stay other owner (loan ∷ loans) differs = go (loan.owner == owner) (loan.owner == other) refl refl (others_stay other owner loans differs)
+others_stay other owner (loan ∷ loans) differs =
+    go (loan.owner == owner) (loan.owner == other) refl refl (others_stay other owner loans differs)
   where
     rest : List Loan
     rest = others_than owner loans
@@ -106,18 +134,24 @@ others_stay other owner (loan ∷ loans) differs = go (loan.owner == owner) (loa
     own : List Loan → List Loan
     own some = filter (is_owned_by other) some
 
-    go : (b t : Bool) → (loan.owner == owner) ≡ b → (loan.owner == other) ≡ t → owned_by other rest ≡ owned_by other loans
-        → owned_by other (cond (not b) (loan ∷ rest) rest) ≡ map (λ (one : Loan). one.chunk) (cond t (loan ∷ own loans) (own loans))
+    go : (b t : Bool) → (loan.owner == owner) ≡ b → (loan.owner == other) ≡ t
+        → owned_by other rest ≡ owned_by other loans
+        → owned_by other (cond (not b) (loan ∷ rest) rest)
+        ≡ map (λ (one : Loan). one.chunk) (cond t (loan ∷ own loans) (own loans))
     go true true e f same = absurd (differs (sym (eqb-true loan.owner other f) ∙ eqb-true loan.owner owner e))
     go true false e f same = same
-    go false true e f same = ap (λ (t : Bool). map (λ (one : Loan). one.chunk) (cond t (loan ∷ own rest) (own rest))) f ∙ ap (λ (l : List Chunk). loan.chunk ∷ l) same
-    go false false e f same = ap (λ (t : Bool). map (λ (one : Loan). one.chunk) (cond t (loan ∷ own rest) (own rest))) f ∙ same
+    go false true e f same = ap (λ (t : Bool). map (λ (one : Loan). one.chunk) (cond t (loan ∷ own rest) (own rest))) f
+        ∙ ap (λ (l : List Chunk). loan.chunk ∷ l) same
+    go false false e f same = ap (λ (t : Bool). map (λ (one : Loan). one.chunk) (cond t (loan ∷ own rest) (own rest))) f
+        ∙ same
 
 -- The chunks of a space are those of an owner who has some there, and the others.
-pub owned_and_others : (space : Space) (owner : ℕ) (loans : List Loan) → AllByRecursion (LiesIn space) (owned_by owner loans)
+pub owned_and_others : (space : Space) (owner : ℕ) (loans : List Loan)
+    → AllByRecursion (LiesIn space) (owned_by owner loans)
     → IsPermutation (chunks_in space loans) (owned_by owner loans ++ chunks_in space (others_than owner loans))
 owned_and_others space owner [] lie = IsPermutation-refl []
-owned_and_others space owner (loan ∷ loans) lie = go (loan.owner == owner) (is_in space loan.chunk.start) refl lie (owned_and_others space owner loans)
+owned_and_others space owner (loan ∷ loans) lie =
+    go (loan.owner == owner) (is_in space loan.chunk.start) refl lie (owned_and_others space owner loans)
   where
     own : List Loan
     own = filter (is_owned_by owner) loans
@@ -135,11 +169,18 @@ owned_and_others space owner (loan ∷ loans) lie = go (loan.owner == owner) (is
         → AllByRecursion (LiesIn space) (map (λ (one : Loan). one.chunk) (cond b (loan ∷ own) own))
         → (AllByRecursion (LiesIn space) (owned_by owner loans) → IsPermutation rest (owned_by owner loans ++ others))
         → IsPermutation (cond here (chunk ∷ rest) rest)
-        (map (λ (one : Loan). one.chunk) (cond b (loan ∷ own) own) ++ chunks_in space (cond (not b) (loan ∷ others_than owner loans) (others_than owner loans)))
+        (map (λ (one : Loan). one.chunk) (cond b (loan ∷ own) own) ++ chunks_in space
+        (cond (not b) (loan ∷ others_than owner loans) (others_than owner loans)))
     go true true e lie same = IsPermutation-cons chunk rest (owned_by owner loans ++ others) (same lie.1)
     go true false e lie same = let here = lie.0 in absurd (cc)
-    go false true e lie same = subst (λ (t : Bool). IsPermutation (chunk ∷ rest) (owned_by owner loans ++ cond t (chunk ∷ others) others)) (sym e)
-        (IsPermutation-trans (chunk ∷ rest) (chunk ∷ (owned_by owner loans ++ others)) (owned_by owner loans ++ chunk ∷ others)
+    go false true e lie same =
+        subst (λ (t : Bool). IsPermutation (chunk ∷ rest) (owned_by owner loans ++ cond t (chunk ∷ others) others))
+        (sym e)
+        (IsPermutation-trans (chunk ∷ rest) (chunk ∷ (owned_by owner loans ++ others))
+        (owned_by owner loans ++ chunk ∷ others)
         (IsPermutation-cons chunk rest (owned_by owner loans ++ others) (same lie))
-        (IsPermutation-sym (owned_by owner loans ++ chunk ∷ others) (chunk ∷ (owned_by owner loans ++ others)) (IsPermutation-middle (owned_by owner loans) chunk others)))
-    go false false e lie same = subst (λ (t : Bool). IsPermutation rest (owned_by owner loans ++ cond t (chunk ∷ others) others)) (sym e) (same lie)
+        (IsPermutation-sym (owned_by owner loans ++ chunk ∷ others) (chunk ∷ (owned_by owner loans ++ others))
+        (IsPermutation-middle (owned_by owner loans) chunk others)))
+    go false false e lie same =
+        subst (λ (t : Bool). IsPermutation rest (owned_by owner loans ++ cond t (chunk ∷ others) others)) (sym e)
+        (same lie)

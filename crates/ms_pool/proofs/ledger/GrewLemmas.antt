@@ -1,6 +1,6 @@
 -- A call of grow, whatever it answers: all accounts are served still, and nothing changes but the chunks
 -- of the call's account.
-use Rattle.std.proofs.Common.{◌≡◌, ◌≢◌, ℕ, Bool, Some, List, refl, sym, ap, ◌∙◌, subst}
+use Rattle.std.proofs.Common.{◌≡◌, ℕ, Bool, Some, List, refl, sym, ap, ◌∙◌, subst}
 use Rattle.std.specs.Prelude.{Result, Ok, Err, IfOk, OnErr, slice_get, slice_set}
 use Rattle.ms_base.specs.declared.span.Chunk.{Chunk}
 use Rattle.ms_base.specs.declared.span.Span.{Span}
@@ -12,50 +12,59 @@ use Rattle.ms_pool.specs.Ledger.{Ledger, IsSoundLedger, Serves}
 use Rattle.ms_pool.specs.Calls.{GrewFrom, Grew}
 use Rattle.ms_pool.proofs.ledger.LoanAtLemmas.{contains_at, same_from_start, swapped_at}
 use Rattle.ms_pool.proofs.ledger.GrowLemmas.{GrownWell, grown_well, with_greater, grown_keeps_others}
-use Rattle.ms_pool.proofs.ledger.KeepsLemmas.{RaisesTally, Keeps, keeps_where_tallied, serves_where_tallied, keeps_serves}
+use Rattle.ms_pool.proofs.ledger.KeepsLemmas.{RaisesTally, Keeps, keeps_where_tallied, serves_where_tallied}
 
 -- A chunk that doesn't grow.
-pub grow_refused_raises : (old : Ledger) (account : AccountState) (chunk : Chunk) (total : ℕ) (may_enlarge : Bool) (refusal : Refusal) (new : Ledger)
+pub grow_refused_raises : (old : Ledger) (account : AccountState) (chunk : Chunk) (total : ℕ) (may_enlarge : Bool)
+    (refusal : Refusal) (new : Ledger)
     → GrewFrom old account chunk total may_enlarge (Err refusal) new → RaisesTally old new
-grow_refused_raises old account chunk total may_enlarge (CommitLimit committed limit need) new refused = record { tallies = _; is = refused.1 }
-grow_refused_raises old account chunk total may_enlarge (NoRoom level) new refused = record { tallies = _; is = refused.1 }
+grow_refused_raises old account chunk total may_enlarge (CommitLimit committed limit need) new refused =
+    record { tallies = _; is = refused.1 }
+grow_refused_raises old account chunk total may_enlarge (NoRoom level) new refused =
+    record { tallies = _; is = refused.1 }
 grow_refused_raises old account chunk total may_enlarge _ new refused = absurd refused
 
 -- What a call leaves, by its answer for the chunk that it was asked for.
-keeps_after : (old : Ledger) (account : AccountState) (place : ℕ) (chunk : Chunk) (total : ℕ) (may_enlarge : Bool) (answer : Result Span Refusal) (new : Ledger)
-    → IsSoundLedger old → Serves old account → AreChunks account.space account.chunks → slice_get account.chunks place ≡ Some chunk
+keeps_after : (old : Ledger) (account : AccountState) (place : ℕ) (chunk : Chunk) (total : ℕ) (may_enlarge : Bool)
+    (answer : Result Span Refusal) (new : Ledger)
+    → IsSoundLedger old → Serves old account → AreChunks account.space account.chunks
+    → slice_get account.chunks place ≡ Some chunk
     → GrewFrom old account chunk total may_enlarge answer new → Keeps account.owner old new
-keeps_after old account place chunk total may_enlarge (Ok span) new sound served chunks found (greater, answered, at, is) =
+keeps_after old account place chunk total may_enlarge (Ok span) new sound served chunks found
+    (greater, answered, at, is) =
     let well = grown_well old account place chunk greater total may_enlarge sound served chunks found answered in
     subst (Keeps account.owner old) (sym is) (record {
-      others = λ other differs. grown_keeps_others old account chunk greater other sound served chunks (contains_at account.chunks place chunk found) well.start differs;
+      others = λ other differs. grown_keeps_others old account chunk greater other sound served chunks
+          (contains_at account.chunks place chunk found) well.start differs;
       given = refl;
       opened = refl;
       limits = refl;
     })
 keeps_after old account place chunk total may_enlarge (Err refusal) new sound served chunks found refused =
-    keeps_where_tallied account.owner old new (grow_refused_raises old account chunk total may_enlarge refusal new refused)
+    keeps_where_tallied account.owner old new
+    (grow_refused_raises old account chunk total may_enlarge refusal new refused)
 
-pub grew_keeps : (old : Ledger) (account : AccountState) (start total : ℕ) (may_enlarge : Bool) (answer : Result Span Refusal) (new : Ledger)
-    → IsSoundLedger old → Serves old account → AreChunks account.space account.chunks → Grew old account start total may_enlarge answer new
+pub grew_keeps : (old : Ledger) (account : AccountState) (start total : ℕ) (may_enlarge : Bool)
+    (answer : Result Span Refusal) (new : Ledger)
+    → IsSoundLedger old → Serves old account → AreChunks account.space account.chunks
+    → Grew old account start total may_enlarge answer new
     → Keeps account.owner old new
 grew_keeps old account start total may_enlarge answer new sound served chunks grew =
     keeps_after old account grew.place grew.chunk total may_enlarge answer new sound served chunks grew.found grew.after
 
-pub grew_serves_others : (old : Ledger) (account : AccountState) (start total : ℕ) (may_enlarge : Bool) (answer : Result Span Refusal) (new : Ledger) (other : AccountState)
-    → IsSoundLedger old → Serves old account → AreChunks account.space account.chunks → Grew old account start total may_enlarge answer new
-    → other.owner ≢ account.owner → Serves old other → Serves new other
-grew_serves_others old account start total may_enlarge answer new other sound served chunks grew differs its =
-    keeps_serves account.owner old new other (grew_keeps old account start total may_enlarge answer new sound served chunks grew) differs its
-
 -- The account that the call leaves is served: the start tells which of its chunks has grown.
-serves_after : (old : Ledger) (account : AccountState) (place : ℕ) (chunk : Chunk) (total : ℕ) (may_enlarge : Bool) (answer : Result Span Refusal) (new : Ledger) (after : AccountState)
-    → IsSoundLedger old → Serves old account → AreChunks account.space account.chunks → slice_get account.chunks place ≡ Some chunk
+serves_after : (old : Ledger) (account : AccountState) (place : ℕ) (chunk : Chunk) (total : ℕ) (may_enlarge : Bool)
+    (answer : Result Span Refusal) (new : Ledger) (after : AccountState)
+    → IsSoundLedger old → Serves old account → AreChunks account.space account.chunks
+    → slice_get account.chunks place ≡ Some chunk
     → GrewFrom old account chunk total may_enlarge answer new
-    → IfOk answer (λ span. Grows old.limits.policy chunk.start total may_enlarge account span after) → OnErr answer (after ≡ account)
+    → IfOk answer (λ span. Grows old.limits.policy chunk.start total may_enlarge account span after)
+    → OnErr answer (after ≡ account)
     → Serves new after
-serves_after old account place chunk total may_enlarge (Ok span) new after sound served chunks found (greater, answered, at, is) grows unchanged =
-    subst (Serves new) (sym (grows.after ∙ ap (λ (l : List Chunk). record account { chunks = l }) same)) (subst (λ (l : Ledger). Serves l (with_greater account place greater)) (sym is) well.served)
+serves_after old account place chunk total may_enlarge (Ok span) new after sound served chunks found
+    (greater, answered, at, is) grows unchanged =
+    subst (Serves new) (sym (grows.after ∙ ap (λ (l : List Chunk). record account { chunks = l }) same))
+    (subst (λ (l : Ledger). Serves l (with_greater account place greater)) (sym is) well.served)
   where
     well : GrownWell old account place chunk greater total may_enlarge
     well = grown_well old account place chunk greater total may_enlarge sound served chunks found answered
@@ -63,18 +72,29 @@ serves_after old account place chunk total may_enlarge (Ok span) new after sound
     one : grows.chunk ≡ chunk
     one = same_from_start account.chunks grows.place place grows.chunk chunk chunks.apart grows.found found grows.starts
 
-    same : slice_set account.chunks grows.place (reaching old.limits.policy grows.chunk total) ≡ slice_set account.chunks place greater
+    same : slice_set account.chunks grows.place (reaching old.limits.policy grows.chunk total)
+        ≡ slice_set account.chunks place greater
     same =
-        ap (slice_set account.chunks grows.place) (ap (λ (c : Chunk). reaching old.limits.policy c total) one ∙ sym well.reaches)
-        ∙ sym (swapped_at account.chunks grows.place grows.chunk greater (well.start ∙ sym grows.starts) chunks.apart grows.found)
+        ap (slice_set account.chunks grows.place)
+        (ap (λ (c : Chunk). reaching old.limits.policy c total) one ∙ sym well.reaches)
+        ∙ sym (swapped_at account.chunks grows.place grows.chunk greater (well.start ∙ sym grows.starts) chunks.apart
+        grows.found)
         ∙ swapped_at account.chunks place chunk greater well.start chunks.apart found
-serves_after old account place chunk total may_enlarge (Err refusal) new after sound served chunks found refused grows unchanged =
-    subst (Serves new) (sym unchanged) (serves_where_tallied old new account (grow_refused_raises old account chunk total may_enlarge refusal new refused) served)
+serves_after old account place chunk total may_enlarge (Err refusal) new after sound served chunks found refused grows
+    unchanged =
+    subst (Serves new) (sym unchanged)
+    (serves_where_tallied old new account
+    (grow_refused_raises old account chunk total may_enlarge refusal new refused) served)
 
-pub grew_serves : (old : Ledger) (account : AccountState) (start total : ℕ) (may_enlarge : Bool) (answer : Result Span Refusal) (new : Ledger) (after : AccountState)
-    → IsSoundLedger old → Serves old account → AreChunks account.space account.chunks → Grew old account start total may_enlarge answer new
-    → IfOk answer (λ span. Grows old.limits.policy start total may_enlarge account span after) → OnErr answer (after ≡ account)
+pub grew_serves : (old : Ledger) (account : AccountState) (start total : ℕ) (may_enlarge : Bool)
+    (answer : Result Span Refusal) (new : Ledger) (after : AccountState)
+    → IsSoundLedger old → Serves old account → AreChunks account.space account.chunks
+    → Grew old account start total may_enlarge answer new
+    → IfOk answer (λ span. Grows old.limits.policy start total may_enlarge account span after)
+    → OnErr answer (after ≡ account)
     → Serves new after
 grew_serves old account start total may_enlarge answer new after sound served chunks grew grows unchanged =
-    serves_after old account grew.place grew.chunk total may_enlarge answer new after sound served chunks grew.found grew.after
-    (subst (λ (s : ℕ). IfOk answer (λ span. Grows old.limits.policy s total may_enlarge account span after)) (sym grew.starts) grows) unchanged
+    serves_after old account grew.place grew.chunk total may_enlarge answer new after sound served chunks grew.found
+    grew.after
+    (subst (λ (s : ℕ). IfOk answer (λ span. Grows old.limits.policy s total may_enlarge account span after))
+    (sym grew.starts) grows) unchanged

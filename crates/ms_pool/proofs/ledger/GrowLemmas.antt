@@ -1,6 +1,7 @@
 -- Growing a chunk: the ledger stays sound, the account is served with the greater chunk, and all
 -- others still.
-use Rattle.std.proofs.Common.{◌≡◌, ◌≢◌, ◌≤◌, ◌+◌, ℕ, Bool, true, false, ◌||◌, Some, List, [], ◌∷◌, ◌++◌, length, map, refl, sym, ap, ◌∙◌, subst, arith, inl, inr, length-set}
+use Rattle.std.proofs.Common.{◌≡◌, ◌≢◌, ◌≤◌, ◌+◌, ℕ, Bool, true, false, ◌||◌, Some, List, [], ◌∷◌, ◌++◌, length, map}
+use Rattle.std.proofs.Common.{refl, sym, ap, ◌∙◌, subst, arith, inl, inr, length-set}
 use Rattle.std.specs.Prelude.{Ok, slice_get, slice_set}
 use Rattle.std.specs.List.{Contains, list_any, list_all}
 use Rattle.std.specs.List.Sorted.{IsPermutation, IsStrictlyIncreasing}
@@ -32,8 +33,10 @@ use Rattle.ms_pool.proofs.ledger.SoundLemmas.{sound_with_loans}
 use Rattle.ms_pool.proofs.ledger.LedgerSlotLemmas.{starts_in}
 use Rattle.ms_pool.proofs.ledger.LoanOrderLemmas.{start_of}
 use Rattle.ms_pool.proofs.ledger.AccountLemmas.{own_clear}
-use Rattle.ms_pool.proofs.ledger.GreaterLemmas.{IsGreater, IsReached, grown_is_greater, grown_reaches, grown_is_apart, grown_meets_none}
-use Rattle.ms_pool.proofs.ledger.LoanAtLemmas.{IsLoan, Parted, parted_at, loan_of, contains_at, replaced, replaced_at, order_replaced, owners_replaced, swapped, swapped_at, owned_by-replaced}
+use Rattle.ms_pool.proofs.ledger.GreaterLemmas.{IsGreater, IsReached, grown_is_greater, grown_reaches, grown_is_apart}
+use Rattle.ms_pool.proofs.ledger.GreaterLemmas.{grown_meets_none}
+use Rattle.ms_pool.proofs.ledger.LoanAtLemmas.{IsLoan, Parted, parted_at, loan_of, contains_at, replaced, replaced_at}
+use Rattle.ms_pool.proofs.ledger.LoanAtLemmas.{order_replaced, owners_replaced, swapped, swapped_at, owned_by-replaced}
 use Rattle.ms_base.proofs.granules.GranuleGrowingLemmas.{meets_further}
 
 -- The chunk of a loan in a space, and what holds of it.
@@ -53,7 +56,8 @@ record GrowsAt (old : Ledger) (space : Space) (owner : ℕ) (was : Chunk) : Type
   here : is_in space was.start ≡ true
   there : is_in (other_space space) was.start ≡ false
 
-grown_at : (old : Ledger) (account : AccountState) (was : Chunk) → Serves old account → AreChunks account.space account.chunks
+grown_at : (old : Ledger) (account : AccountState) (was : Chunk) → Serves old account
+    → AreChunks account.space account.chunks
     → Contains account.chunks was
     → GrowsAt old account.space account.owner was
 grown_at old account was served chunks has = record {
@@ -64,22 +68,29 @@ grown_at old account was served chunks has = record {
 }
   where
     here : is_in account.space was.start ≡ true
-    here = starts_in account.space was.start (All-contains (λ (one : Chunk). IsSlotOf account.space (slot_of one.start)) account.chunks was chunks.inside has)
+    here = starts_in account.space was.start
+        (All-contains (λ (one : Chunk). IsSlotOf account.space (slot_of one.start)) account.chunks was chunks.inside
+        has)
 
 -- So the chunk is held in its space.
-pub own_is_held : (old : Ledger) (account : AccountState) (was : Chunk) → Serves old account → AreChunks account.space account.chunks
+pub own_is_held : (old : Ledger) (account : AccountState) (was : Chunk) → Serves old account
+    → AreChunks account.space account.chunks
     → Contains account.chunks was
     → Contains (chunks_in account.space old.loans) was
 own_is_held old account was served chunks has = let at = grown_at old account was served chunks has in
     subst (λ (l : List Chunk). Contains l was)
-    (sym (ap (chunks_in account.space) at.loan.is ∙ chunks_in-here account.space at.loan.before (record { owner = account.owner; chunk = was }) at.loan.after at.here))
+    (sym (ap (chunks_in account.space) at.loan.is
+    ∙ chunks_in-here account.space at.loan.before (record { owner = account.owner; chunk = was }) at.loan.after
+    at.here))
     (middle (chunks_in account.space at.loan.before) was (chunks_in account.space at.loan.after))
 
 -- The loans then, and those of the other space as before.
-new_at : (old : Ledger) (space : Space) (owner : ℕ) (was is : Chunk) (at : GrowsAt old space owner was) → IsSoundLedger old
+new_at : (old : Ledger) (space : Space) (owner : ℕ) (was is : Chunk) (at : GrowsAt old space owner was)
+    → IsSoundLedger old
     → is.start ≡ was.start
     → replaced is old.loans ≡ at.loan.before ++ record { owner = owner; chunk = is } ∷ at.loan.after
-new_at old space owner was is at sound same = ap (replaced is) at.loan.is ∙ replaced_at owner was is at.loan.before at.loan.after same
+new_at old space owner was is at sound same =
+    ap (replaced is) at.loan.is ∙ replaced_at owner was is at.loan.before at.loan.after same
     (subst (λ (l : List Loan). IsStrictlyIncreasing (map start_of l)) at.loan.is sound.order)
 
 pub grown_elsewhere : (old : Ledger) (account : AccountState) (was is : Chunk) → IsSoundLedger old → Serves old account
@@ -90,11 +101,14 @@ grown_elsewhere old account was is sound served chunks has same =
     let there = other_space account.space in
     let at = grown_at old account was served chunks has in
     ap (chunks_in there) (new_at old account.space account.owner was is at sound same)
-    ∙ chunks_in-there there at.loan.before (record { owner = account.owner; chunk = is }) at.loan.after (ap (is_in there) same ∙ at.there)
-    ∙ sym (ap (chunks_in there) at.loan.is ∙ chunks_in-there there at.loan.before (record { owner = account.owner; chunk = was }) at.loan.after at.there)
+    ∙ chunks_in-there there at.loan.before (record { owner = account.owner; chunk = is }) at.loan.after
+    (ap (is_in there) same ∙ at.there)
+    ∙ sym (ap (chunks_in there) at.loan.is
+    ∙ chunks_in-there there at.loan.before (record { owner = account.owner; chunk = was }) at.loan.after at.there)
 
 pub grown_is_sound : (old : Ledger) (account : AccountState) (was is : Chunk) → IsSoundLedger old → Serves old account
-    → AreChunks account.space account.chunks → Contains account.chunks was → IsGreater (state_in account.space old) was is
+    → AreChunks account.space account.chunks → Contains account.chunks was
+    → IsGreater (state_in account.space old) was is
     → IsSoundLedger (with_grown old is)
 grown_is_sound old account was is sound served chunks has greater =
     sound_with_loans space old loans sound (grown_elsewhere old account was is sound served chunks has greater.start)
@@ -104,7 +118,8 @@ grown_is_sound old account was is sound served chunks has greater =
       given = sound.given;
       opened = sound.opened;
     })
-    (rw new (held_with old.limits.policy pool.slots b is a greater.placed greater.front reserved (grown_meets_none b was is a low greater.start held.apart (rw old_is at greater.clear))
+    (rw new (held_with old.limits.policy pool.slots b is a greater.placed greater.front reserved
+    (grown_meets_none b was is a low greater.start held.apart (rw old_is at greater.clear))
     (held_rest old.limits.policy pool.slots b (was ∷ []) a held)))
     (omega (arith, count, greater.within))
   where
@@ -133,10 +148,13 @@ grown_is_sound old account was is sound served chunks has greater =
     a = chunks_in space after
 
     old_is : chunks_in space old.loans ≡ b ++ was ∷ a
-    old_is = ap (chunks_in space) at.loan.is ∙ chunks_in-here space before (record { owner = account.owner; chunk = was }) after at.here
+    old_is = ap (chunks_in space) at.loan.is
+        ∙ chunks_in-here space before (record { owner = account.owner; chunk = was }) after at.here
 
     new : chunks_in space loans ≡ b ++ is ∷ a
-    new = ap (chunks_in space) (new_at old space account.owner was is at sound greater.start) ∙ chunks_in-here space before (record { owner = account.owner; chunk = is }) after (ap (is_in space) greater.start ∙ at.here)
+    new = ap (chunks_in space) (new_at old space account.owner was is at sound greater.start)
+        ∙ chunks_in-here space before (record { owner = account.owner; chunk = is }) after
+        (ap (is_in space) greater.start ∙ at.here)
 
     held : AreHeld old.limits.policy pool.slots (b ++ was ∷ a)
     held = rw old_is at (sound.spaces space).held
@@ -147,17 +165,23 @@ grown_is_sound old account was is sound served chunks has greater =
     reserved : is_reserved pool.slots (slot_of is.start) ≡ true
     reserved = let test : Chunk → Bool = λ chunk. is_reserved pool.slots (slot_of chunk.start) in
         ap (λ (s : ℕ). is_reserved pool.slots (slot_of s)) greater.start
-        ∙ (and_parts (test was) (list_all test a) (and_parts (list_all test b) (list_all test (was ∷ a)) (sym (list_all-append test b (was ∷ a)) ∙ held.reserved)).1).0
+        ∙ (and_parts (test was) (list_all test a)
+        (and_parts (list_all test b) (list_all test (was ∷ a))
+        (sym (list_all-append test b (was ∷ a)) ∙ held.reserved)).1).0
 
     adds : (k : ℕ)
-        → is_committed (granule_in pool) (chunks_in space loans) k ≡ (is_committed (granule_in pool) (chunks_in space old.loans) k || meets_front (granule_in pool) is k)
+        → is_committed (granule_in pool) (chunks_in space loans) k
+        ≡ (is_committed (granule_in pool) (chunks_in space old.loans) k || meets_front (granule_in pool) is k)
     adds k = let test : Chunk → Bool = λ c. meets_front (granule_in pool) c k in
         ap (list_any test) new ∙ list_any-with test b is a
-        ∙ turned (test was) (test is) (list_any test (b ++ a)) (meets_further (granule_in pool) was is k greater.start greater.higher)
+        ∙ turned (test was) (test is) (list_any test (b ++ a))
+        (meets_further (granule_in pool) was is k greater.start greater.higher)
         ∙ ap (λ (t : Bool). t || test is) (sym (ap (list_any test) old_is ∙ list_any-with test b was a))
 
-    count : length (committed_with old.limits.policy pool.committed (chunks_in space loans) pool.slots) ≡ length pool.committed + granules_missing pool is
-    count = count_with_front pool (chunks_in space loans) pool.slots is (sound.spaces space) greater.placed greater.front.some greater.front.within
+    count : length (committed_with old.limits.policy pool.committed (chunks_in space loans) pool.slots)
+        ≡ length pool.committed + granules_missing pool is
+    count = count_with_front pool (chunks_in space loans) pool.slots is (sound.spaces space) greater.placed
+        greater.front.some greater.front.within
         (sound.spaces space).slots reserved (committed_in_slots pool (sound.spaces space)) adds
 
 -- The account with a greater chunk at a place.
@@ -166,36 +190,51 @@ with_greater account place chunk = record account { chunks = slice_set account.c
 
 pub grown_serves : (old : Ledger) (account : AccountState) (place : ℕ) (was is : Chunk) → Serves old account
     → AreChunks account.space account.chunks
-    → slice_get account.chunks place ≡ Some was → is.start ≡ was.start → Serves (with_grown old is) (with_greater account place is)
+    → slice_get account.chunks place ≡ Some was → is.start ≡ was.start
+    → Serves (with_grown old is) (with_greater account place is)
 grown_serves old account place was is served chunks found same = record {
   some = served.some;
   given = served.given;
-  chunks = subst (λ (l : List Chunk). IsPermutation (chunks_of (with_grown old is) account.owner) l) (swapped_at account.chunks place was is same chunks.apart found)
-      (subst (λ (l : List Chunk). IsPermutation l (map (swapped is) account.chunks)) (sym (owned_by-replaced account.owner is old.loans))
+  chunks = subst (λ (l : List Chunk). IsPermutation (chunks_of (with_grown old is) account.owner) l)
+      (swapped_at account.chunks place was is same chunks.apart found)
+      (subst (λ (l : List Chunk). IsPermutation l (map (swapped is) account.chunks))
+      (sym (owned_by-replaced account.owner is old.loans))
       (IsPermutation-map (swapped is) (chunks_of old account.owner) account.chunks served.chunks));
 }
 
 -- What others have stays.
-pub grown_keeps_others : (old : Ledger) (account : AccountState) (was is : Chunk) (other : ℕ) → IsSoundLedger old → Serves old account
-    → AreChunks account.space account.chunks → Contains account.chunks was → is.start ≡ was.start → other ≢ account.owner
+pub grown_keeps_others : (old : Ledger) (account : AccountState) (was is : Chunk) (other : ℕ) → IsSoundLedger old
+    → Serves old account
+    → AreChunks account.space account.chunks → Contains account.chunks was → is.start ≡ was.start
+    → other ≢ account.owner
     → chunks_of (with_grown old is) other ≡ chunks_of old other
 grown_keeps_others old account was is other sound served chunks has same differs =
-    ap (owned_by other) (new_at old account.space account.owner was is at sound same) ∙ owned_by-other other at.loan.before (record { owner = account.owner; chunk = is }) at.loan.after (λ e. differs (sym e))
-    ∙ sym (ap (owned_by other) at.loan.is ∙ owned_by-other other at.loan.before (record { owner = account.owner; chunk = was }) at.loan.after (λ e. differs (sym e)))
+    ap (owned_by other) (new_at old account.space account.owner was is at sound same)
+    ∙ owned_by-other other at.loan.before (record { owner = account.owner; chunk = is }) at.loan.after
+    (λ e. differs (sym e))
+    ∙ sym (ap (owned_by other) at.loan.is
+    ∙ owned_by-other other at.loan.before (record { owner = account.owner; chunk = was }) at.loan.after
+    (λ e. differs (sym e)))
   where
     at : GrowsAt old account.space account.owner was
     at = grown_at old account was served chunks has
 
 -- The account's chunks with the greater one.
 pub grown_are_chunks : (old : Ledger) (account : AccountState) (place : ℕ) (was is : Chunk) → Serves old account
-    → AreChunks account.space account.chunks → slice_get account.chunks place ≡ Some was → IsGreater (state_in account.space old) was is
+    → AreChunks account.space account.chunks → slice_get account.chunks place ≡ Some was
+    → IsGreater (state_in account.space old) was is
     → AreChunks account.space (slice_set account.chunks place is)
 grown_are_chunks old account place was is served chunks found greater = record {
   parts = All-set (λ (one : Chunk). IsPart one.start one.level) account.chunks place is greater.placed chunks.parts;
   inside = All-set (λ (one : Chunk). IsSlotOf account.space (slot_of one.start)) account.chunks place is
-      (subst (λ (s : ℕ). IsSlotOf account.space (slot_of s)) (sym greater.start) (All-contains (λ (one : Chunk). IsSlotOf account.space (slot_of one.start)) account.chunks was chunks.inside has)) chunks.inside;
-  fronts = All-set (λ (one : Chunk). (1 ≤ one.front) × (one.front ≤ size_of one.level)) account.chunks place is (greater.front.some, greater.front.within) chunks.fronts;
-  apart = rw parted.new (grown_is_apart parted.before was is parted.after low greater.start (rw parted.old at chunks.apart) (rw parted.old at own));
+      (subst (λ (s : ℕ). IsSlotOf account.space (slot_of s)) (sym greater.start)
+      (All-contains (λ (one : Chunk). IsSlotOf account.space (slot_of one.start)) account.chunks was chunks.inside
+      has)) chunks.inside;
+  fronts = All-set (λ (one : Chunk). (1 ≤ one.front) × (one.front ≤ size_of one.level)) account.chunks place is
+      (greater.front.some, greater.front.within) chunks.fronts;
+  apart = rw parted.new
+      (grown_is_apart parted.before was is parted.after low greater.start (rw parted.old at chunks.apart)
+      (rw parted.old at own));
   few = omega (arith, length-set account.chunks place is, chunks.few);
 }
   where
@@ -211,20 +250,24 @@ grown_are_chunks old account place was is served chunks found greater = record {
     own : GrowsClear account.chunks was is
     own = elim greater.clear [
       | inl level ↦ inl level
-      | inr parent ↦ inr (parent.0, own_clear old account (was.start + size_of was.level) was.level served chunks parent.1)
+      | inr parent ↦
+          inr (parent.0, own_clear old account (was.start + size_of was.level) was.level served chunks parent.1)
     ]
 
 -- All that a grown chunk leaves.
-pub record GrownWell (old : Ledger) (account : AccountState) (place : ℕ) (was is : Chunk) (total : ℕ) (may_enlarge : Bool) : Type 0 where
+pub record GrownWell (old : Ledger) (account : AccountState) (place : ℕ) (was is : Chunk) (total : ℕ)
+    (may_enlarge : Bool) : Type 0 where
   pub sound : IsSoundLedger (with_grown old is)
   pub served : Serves (with_grown old is) (with_greater account place is)
-  pub others : (other : AccountState) → other.owner ≢ account.owner → Serves old other → Serves (with_grown old is) other
+  pub others : (other : AccountState) → other.owner ≢ account.owner → Serves old other
+      → Serves (with_grown old is) other
   pub chunks : AreChunks account.space (slice_set account.chunks place is)
   pub start : is.start ≡ was.start
   pub reaches : is ≡ reaching old.limits.policy was total
   pub grows : Grows old.limits.policy was.start total may_enlarge account (span_of is) (with_greater account place is)
 
-pub grown_well : (old : Ledger) (account : AccountState) (place : ℕ) (was is : Chunk) (total : ℕ) (may_enlarge : Bool) → IsSoundLedger old
+pub grown_well : (old : Ledger) (account : AccountState) (place : ℕ) (was is : Chunk) (total : ℕ) (may_enlarge : Bool)
+    → IsSoundLedger old
     → Serves old account
     → AreChunks account.space account.chunks → slice_get account.chunks place ≡ Some was
     → grown (state_in account.space old) was total may_enlarge ≡ Ok is
@@ -235,7 +278,9 @@ grown_well old account place was is total may_enlarge sound served chunks found 
   others = λ other differs its. record {
     some = its.some;
     given = its.given;
-    chunks = subst (λ (l : List Chunk). IsPermutation l other.chunks) (sym (grown_keeps_others old account was is other.owner sound served chunks has greater.start differs)) its.chunks;
+    chunks = subst (λ (l : List Chunk). IsPermutation l other.chunks)
+        (sym (grown_keeps_others old account was is other.owner sound served chunks has greater.start differs))
+        its.chunks;
   };
   chunks = grown_are_chunks old account place was is served chunks found greater;
   start = greater.start;
@@ -264,4 +309,7 @@ grown_well old account place was is total may_enlarge sound served chunks found 
     greater = grown_is_greater pool was is total may_enlarge (sound.spaces account.space) held answered
 
     reached : IsReached pool was is total may_enlarge
-    reached = grown_reaches pool was is total may_enlarge (All-contains (λ (one : Chunk). (1 ≤ one.front) × (one.front ≤ size_of one.level)) account.chunks was chunks.fronts has).1 answered
+    reached =
+        grown_reaches pool was is total may_enlarge
+        (All-contains (λ (one : Chunk). (1 ≤ one.front) × (one.front ≤ size_of one.level)) account.chunks was
+        chunks.fronts has).1 answered

@@ -18,7 +18,8 @@ pub own_sum_within : (ledger : Ledger) (account : AccountState) (amount : Chunk 
 own_sum_within ledger account amount served chunks = omega (
   arith,
   sum_by-IsPermutation amount own account.chunks served.chunks,
-  sum_by-IsPermutation amount (held_in account.space ledger) (own ++ others) (owned_and_others account.space account.owner ledger.loans (own_lie_in ledger account served chunks)),
+  sum_by-IsPermutation amount (held_in account.space ledger) (own ++ others)
+      (owned_and_others account.space account.owner ledger.loans (own_lie_in ledger account served chunks)),
   sum_by-append amount own others,
 )
   where

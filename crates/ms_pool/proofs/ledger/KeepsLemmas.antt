@@ -22,17 +22,23 @@ pub record Keeps (owner : ℕ) (old new : Ledger) : Type 0 where
   pub limits : new.limits ≡ old.limits
 
 pub keeps_where_tallied : (owner : ℕ) (old new : Ledger) → RaisesTally old new → Keeps owner old new
-keeps_where_tallied owner old new raises = subst (Keeps owner old) (sym raises.is) (record { others = λ other differs. refl; given = refl; opened = refl; limits = refl })
+keeps_where_tallied owner old new raises =
+    subst (Keeps owner old) (sym raises.is)
+    (record { others = λ other differs. refl; given = refl; opened = refl; limits = refl })
 
-pub serves_where_tallied : (old new : Ledger) (account : AccountState) → RaisesTally old new → Serves old account → Serves new account
-serves_where_tallied old new account raises served = subst (λ (l : Ledger). Serves l account) (sym raises.is) (tallied_serves old raises.tallies account served)
+pub serves_where_tallied : (old new : Ledger) (account : AccountState) → RaisesTally old new → Serves old account
+    → Serves new account
+serves_where_tallied old new account raises served =
+    subst (λ (l : Ledger). Serves l account) (sym raises.is) (tallied_serves old raises.tallies account served)
 
-pub keeps_serves : (owner : ℕ) (old new : Ledger) (other : AccountState) → Keeps owner old new → other.owner ≢ owner → Serves old other
+pub keeps_serves : (owner : ℕ) (old new : Ledger) (other : AccountState) → Keeps owner old new → other.owner ≢ owner
+    → Serves old other
     → Serves new other
 keeps_serves owner old new other keeps differs served = record {
   some = served.some;
   given = subst (λ (n : ℕ). other.owner ≤ n) (sym keeps.given) served.given;
-  chunks = subst (λ (l : List Chunk). IsPermutation l other.chunks) (sym (keeps.others other.owner differs)) served.chunks;
+  chunks = subst (λ (l : List Chunk). IsPermutation l other.chunks) (sym (keeps.others other.owner differs))
+      served.chunks;
 }
 
 -- So a call that keeps all but an owner's loans leaves the rest of the pool.

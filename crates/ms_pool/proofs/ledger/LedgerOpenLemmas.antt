@@ -1,6 +1,7 @@
 -- Opening accounts: the new account has nothing, and all others are served still; so it is where a tally
 -- is raised.
-use Rattle.std.proofs.Common.{◌≡◌, ◌≤◌, ◌<◌, ◌+◌, ℕ, Bool, true, false, cond, List, [], ◌∷◌, map, refl, sym, subst, arith}
+use Rattle.std.proofs.Common.{◌≡◌, ◌≤◌, ◌<◌, ◌+◌, ℕ, Bool, true, false, cond, List, [], ◌∷◌, map, refl, sym, subst}
+use Rattle.std.proofs.Common.{arith}
 use Rattle.std.specs.Prelude.{◌==◌}
 use Rattle.std.specs.List.{AllByRecursion, filter}
 use Rattle.std.specs.List.Sorted.{IsPermutation}
@@ -20,16 +21,20 @@ use Rattle.ms_pool.proofs.ledger.LoanLemmas.{owned_by}
 none_owned : (given owner : ℕ) (loans : List Loan) → given < owner
     → AllByRecursion (λ (loan : Loan). (1 ≤ loan.owner) × (loan.owner ≤ given)) loans → owned_by owner loans ≡ []
 none_owned given owner [] above owners = refl
-none_owned given owner (loan ∷ loans) above owners = go (loan.owner == owner) refl (none_owned given owner loans above owners.1)
+none_owned given owner (loan ∷ loans) above owners =
+    go (loan.owner == owner) refl (none_owned given owner loans above owners.1)
   where
     go : (b : Bool) → (loan.owner == owner) ≡ b → owned_by owner loans ≡ []
-        → map (λ (one : Loan). one.chunk) (cond b (loan ∷ filter (is_owned_by owner) loans) (filter (is_owned_by owner) loans)) ≡ []
+        → map (λ (one : Loan). one.chunk)
+        (cond b (loan ∷ filter (is_owned_by owner) loans) (filter (is_owned_by owner) loans)) ≡ []
     go true e none = let same = eqb-true loan.owner owner e in absurd (omega (arith, same, owners.0.1, above))
     go false e none = none
 
-pub not_given_owns_nothing : (ledger : Ledger) (owner : ℕ) → IsSoundLedger ledger → ledger.given < owner → chunks_of ledger owner ≡ []
+pub not_given_owns_nothing : (ledger : Ledger) (owner : ℕ) → IsSoundLedger ledger → ledger.given < owner
+    → chunks_of ledger owner ≡ []
 not_given_owns_nothing ledger owner sound above =
-    none_owned ledger.given owner ledger.loans above (recursion_from_All (λ (loan : Loan). (1 ≤ loan.owner) × (loan.owner ≤ ledger.given)) ledger.loans sound.owners)
+    none_owned ledger.given owner ledger.loans above
+    (recursion_from_All (λ (loan : Loan). (1 ≤ loan.owner) × (loan.owner ≤ ledger.given)) ledger.loans sound.owners)
 
 -- One account more.
 pub opened_has_nothing : (old : Ledger) (space : Space) → IsSoundLedger old
@@ -37,30 +42,39 @@ pub opened_has_nothing : (old : Ledger) (space : Space) → IsSoundLedger old
 opened_has_nothing old space sound = record {
   some = omega arith;
   given = omega arith;
-  chunks = subst (λ (l : List Chunk). IsPermutation l []) (sym (not_given_owns_nothing old (old.given + 1) sound (omega arith))) (IsPermutation-refl []);
+  chunks = subst (λ (l : List Chunk). IsPermutation l [])
+      (sym (not_given_owns_nothing old (old.given + 1) sound (omega arith))) (IsPermutation-refl []);
 }
 
-pub opened_serves : (old : Ledger) (space : Space) (account : AccountState) → Serves old account → Serves (with_opened old space) account
-opened_serves old space account served = record { some = served.some; given = omega (arith, served.given); chunks = served.chunks }
+pub opened_serves : (old : Ledger) (space : Space) (account : AccountState) → Serves old account
+    → Serves (with_opened old space) account
+opened_serves old space account served =
+    record { some = served.some; given = omega (arith, served.given); chunks = served.chunks }
 
 -- One in each space.
 abbrev pub with_both_opened : Ledger → Ledger
 with_both_opened old = with_opened (with_opened old NonClass) Class
 
 pub both_opened_have_nothing : (old : Ledger) → IsSoundLedger old
-    → Serves (with_both_opened old) (new_account (old.given + 1) NonClass) × Serves (with_both_opened old) (new_account (old.given + 2) Class)
+    → Serves (with_both_opened old) (new_account (old.given + 1) NonClass)
+    × Serves (with_both_opened old) (new_account (old.given + 2) Class)
 both_opened_have_nothing old sound = (
-  opened_serves (with_opened old NonClass) Class (new_account (old.given + 1) NonClass) (opened_has_nothing old NonClass sound),
+  opened_serves (with_opened old NonClass) Class (new_account (old.given + 1) NonClass)
+      (opened_has_nothing old NonClass sound),
   record {
     some = omega arith;
     given = omega arith;
-    chunks = subst (λ (l : List Chunk). IsPermutation l []) (sym (not_given_owns_nothing old (old.given + 2) sound (omega arith))) (IsPermutation-refl []);
+    chunks = subst (λ (l : List Chunk). IsPermutation l [])
+        (sym (not_given_owns_nothing old (old.given + 2) sound (omega arith))) (IsPermutation-refl []);
   },
 )
 
-pub both_opened_serves : (old : Ledger) (account : AccountState) → Serves old account → Serves (with_both_opened old) account
-both_opened_serves old account served = opened_serves (with_opened old NonClass) Class account (opened_serves old NonClass account served)
+pub both_opened_serves : (old : Ledger) (account : AccountState) → Serves old account
+    → Serves (with_both_opened old) account
+both_opened_serves old account served =
+    opened_serves (with_opened old NonClass) Class account (opened_serves old NonClass account served)
 
 -- A tally that is raised.
-pub tallied_serves : (old : Ledger) (tallies : Tallies) (account : AccountState) → Serves old account → Serves (tallied old tallies) account
+pub tallied_serves : (old : Ledger) (tallies : Tallies) (account : AccountState) → Serves old account
+    → Serves (tallied old tallies) account
 tallied_serves old tallies account served = record { some = served.some; given = served.given; chunks = served.chunks }

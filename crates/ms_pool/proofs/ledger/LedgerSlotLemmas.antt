@@ -29,7 +29,8 @@ use Rattle.ms_pool.proofs.ledger.TakenLemmas.{HasSlot}
 use Rattle.ms_base.proofs.machine.AddedLemmas.{still_reserved}
 
 -- What holds of all slots holds of a reserved one.
-at_reserved : (P : ℕ → Type 0) (slots : List ℕ) (slot : ℕ) → is_reserved slots slot ≡ true → AllByRecursion P slots → P slot
+at_reserved : (P : ℕ → Type 0) (slots : List ℕ) (slot : ℕ) → is_reserved slots slot ≡ true → AllByRecursion P slots
+    → P slot
 at_reserved P [] slot there all = absurd (cc)
 at_reserved P (s ∷ slots) slot there all = elim (or_cases (s == slot) (is_reserved slots slot) there) [
   | inl here ↦ subst P (eqb-true s slot here) all.0
@@ -42,7 +43,8 @@ pub same_with : (slots : List ℕ) (slot : ℕ) → IsStrictlySortedBy nat_cmp s
 unfolding IsStrictlySortedBy
 same_with [] slot sorted there = absurd (cc)
 same_with (s ∷ slots) slot sorted there =
-    elim (nat_cmp slot s) as (λ o. nat_cmp slot s ≡ o → match_ordering o (slot ∷ s ∷ slots) (s ∷ slots) (s ∷ insert_key nat_cmp slots slot) ≡ s ∷ slots) [
+    elim (nat_cmp slot s) as (λ o. nat_cmp slot s ≡ o
+    → match_ordering o (slot ∷ s ∷ slots) (s ∷ slots) (s ∷ insert_key nat_cmp slots slot) ≡ s ∷ slots) [
       | Less ↦ λ less. absurd (elim (or_cases (s == slot) (is_reserved slots slot) there) [
         | inl here ↦ below_itself slot s less (eqb-true s slot here)
         | inr later ↦ both_ways (is_reserved slots slot) (not_there s slots slot (below slot s less) sorted.0) later
@@ -64,13 +66,17 @@ same_with (s ∷ slots) slot sorted there =
     above_itself a b e same = grind (arith, nat_tests, e)
 
 -- The slot of a chunk that is lent is one of its space.
-pub slot_of_space : (space : Space) (old : Ledger) (slot : ℕ) → IsSoundLedger old → HasSlot (state_in space old) slot → IsSlotOf space slot
+pub slot_of_space : (space : Space) (old : Ledger) (slot : ℕ) → IsSoundLedger old → HasSlot (state_in space old) slot
+    → IsSlotOf space slot
 slot_of_space NonClass old slot sound (inl reserved) =
-    at_reserved (IsSlotOf NonClass) old.slots slot reserved (recursion_from_All (IsSlotOf NonClass) old.slots (sound.spaces NonClass).below)
+    at_reserved (IsSlotOf NonClass) old.slots slot reserved
+    (recursion_from_All (IsSlotOf NonClass) old.slots (sound.spaces NonClass).below)
 slot_of_space NonClass old slot sound (inr more) = omega (arith, more.0, more.1, sound.nodes.1)
 slot_of_space Class old slot sound (inl reserved) =
-    at_reserved (IsSlotOf Class) (state_in Class old).slots slot reserved (recursion_from_All (IsSlotOf Class) (state_in Class old).slots (sound.spaces Class).below)
-slot_of_space Class old slot sound (inr more) = absurd (omega (arith, more.1, length-range_with_len 64 old.limits.class_nodes))
+    at_reserved (IsSlotOf Class) (state_in Class old).slots slot reserved
+    (recursion_from_All (IsSlotOf Class) (state_in Class old).slots (sound.spaces Class).below)
+slot_of_space Class old slot sound (inr more) =
+    absurd (omega (arith, more.1, length-range_with_len 64 old.limits.class_nodes))
 
 pub starts_in : (space : Space) (start : ℕ) → IsSlotOf space (slot_of start) → is_in space start ≡ true
 starts_in NonClass start slot = below start slot
@@ -85,16 +91,20 @@ pub record AreWithSlot (space : Space) (old : Ledger) (slots : List ℕ) (slot :
   pub below : All (IsSlotOf space) slots
   pub reserved : length slots ≤ node_limit (state_in space old)
   pub has : is_reserved slots slot ≡ true
-  pub committed : filter (has_committed (state_in space old)) (flat_map (granules_of (granule_in (state_in space old))) slots) ≡ (state_in space old).committed
-  pub still : (held : List Chunk) → list_all (λ (chunk : Chunk). is_reserved (state_in space old).slots (slot_of chunk.start)) held ≡ true
+  pub committed : filter (has_committed (state_in space old))
+      (flat_map (granules_of (granule_in (state_in space old))) slots) ≡ (state_in space old).committed
+  pub still : (held : List Chunk)
+      → list_all (λ (chunk : Chunk). is_reserved (state_in space old).slots (slot_of chunk.start)) held ≡ true
       → list_all (λ (chunk : Chunk). is_reserved slots (slot_of chunk.start)) held ≡ true
 
 pub with_slot : (space : Space) (old : Ledger) (loans : List Loan) (start : ℕ) → IsSoundLedger old
     → HasSlot (state_in space old) (slot_of start)
-    → AreWithSlot space old (state_in space (changed space old loans (slots_with old.slots start))).slots (slot_of start)
+    → AreWithSlot space old (state_in space (changed space old loans (slots_with old.slots start))).slots
+    (slot_of start)
 with_slot NonClass old loans start sound has = record {
   rising = slots_rise_with old.slots (slot_of start) (sound.spaces NonClass).slots;
-  below = All-insert_key nat_cmp (slot_of start) (IsSlotOf NonClass) old.slots (sound.spaces NonClass).below (slot_of_space NonClass old (slot_of start) sound has);
+  below = All-insert_key nat_cmp (slot_of start) (IsSlotOf NonClass) old.slots (sound.spaces NonClass).below
+      (slot_of_space NonClass old (slot_of start) sound has);
   reserved = few has;
   has = reserved_with old.slots (slot_of start);
   committed = committed_with_slot (state_in NonClass old) (slot_of start) (sound.spaces NonClass);
@@ -104,7 +114,9 @@ with_slot NonClass old loans start sound has = record {
     few : HasSlot (state_in NonClass old) (slot_of start) → length (slots_with old.slots start) ≤ old.limits.nodes
     few (inl reserved) = omega (
       arith,
-      ap length (same_with old.slots (slot_of start) (sorted_from_strictly_increasing old.slots (sound.spaces NonClass).slots) reserved),
+      ap length
+          (same_with old.slots (slot_of start) (sorted_from_strictly_increasing old.slots (sound.spaces NonClass).slots)
+          reserved),
       (sound.spaces NonClass).reserved,
     )
     few (inr more) = omega (arith, length_with old.slots (slot_of start), more.1)
@@ -117,6 +129,7 @@ with_slot Class old loans start sound has = record {
   still = λ held h. h;
 }
   where
-    reserved : HasSlot (state_in Class old) (slot_of start) → is_reserved (state_in Class old).slots (slot_of start) ≡ true
+    reserved : HasSlot (state_in Class old) (slot_of start)
+        → is_reserved (state_in Class old).slots (slot_of start) ≡ true
     reserved (inl there) = there
     reserved (inr more) = absurd (omega (arith, more.1, length-range_with_len 64 old.limits.class_nodes))

@@ -1,5 +1,6 @@
 -- A ledger stays sound where a chunk is lent that its space may lend.
-use Rattle.std.proofs.Common.{◌≡◌, ◌≤◌, ◌+◌, ℕ, Bool, true, false, ◌||◌, List, ◌∷◌, ◌++◌, length, refl, sym, ap, ◌∙◌, arith}
+use Rattle.std.proofs.Common.{◌≡◌, ◌≤◌, ◌+◌, ℕ, Bool, true, false, ◌||◌, List, ◌∷◌, ◌++◌, length, refl, sym, ap, ◌∙◌}
+use Rattle.std.proofs.Common.{arith}
 use Rattle.std.specs.List.{list_any}
 use Rattle.ms_base.specs.declared.kind.Space.{Space}
 use Rattle.ms_base.specs.declared.span.Chunk.{Chunk}
@@ -16,7 +17,8 @@ use Rattle.ms_base.proofs.machine.HeldLemmas.{held_in, held_with}
 use Rattle.ms_base.proofs.arena.BlockLemmas.{not_in_other}
 use Rattle.ms_pool.specs.Account.{AccountState}
 use Rattle.ms_pool.specs.Ledger.{Loan, Ledger, IsSoundLedger, Serves, state_in, with_lent, with_loan}
-use Rattle.ms_pool.proofs.ledger.LoanLemmas.{Comes, comes, chunks_in, chunks_in-append, chunks_in-here, chunks_in-with_elsewhere}
+use Rattle.ms_pool.proofs.ledger.LoanLemmas.{Comes, comes, chunks_in, chunks_in-append, chunks_in-here}
+use Rattle.ms_pool.proofs.ledger.LoanLemmas.{chunks_in-with_elsewhere}
 use Rattle.ms_pool.proofs.ledger.SoundLemmas.{changed, sound_with_change}
 use Rattle.ms_pool.proofs.ledger.TakenLemmas.{IsLendable}
 use Rattle.ms_pool.proofs.ledger.LedgerSlotLemmas.{AreWithSlot, slot_of_space, starts_in, with_slot}
@@ -25,16 +27,23 @@ use Rattle.ms_pool.proofs.ledger.LoanOrderLemmas.{starts_elsewhere, order_with, 
 pub lent_is_sound : (old : Ledger) (account : AccountState) (chunk : Chunk) → IsSoundLedger old → Serves old account
     → IsLendable (state_in account.space old) chunk → IsSoundLedger (with_lent old account.space account.owner chunk)
 lent_is_sound old account chunk sound served lendable =
-    sound_with_change space old loans (slots_with old.slots chunk.start) sound (chunks_in-with_elsewhere (other_space space) loan old.loans (not_in_other space chunk.start here))
+    sound_with_change space old loans (slots_with old.slots chunk.start) sound
+    (chunks_in-with_elsewhere (other_space space) loan old.loans (not_in_other space chunk.start here))
     (record {
-      order = order_with loan old.loans (starts_elsewhere space chunk.start chunk.level old.loans here lendable.clear) sound.order;
-      owners = all_with (λ (one : Loan). (1 ≤ one.owner) × (one.owner ≤ old.given)) loan old.loans (served.some, served.given) sound.owners;
+      order = order_with loan old.loans (starts_elsewhere space chunk.start chunk.level old.loans here lendable.clear)
+          sound.order;
+      owners = all_with (λ (one : Loan). (1 ≤ one.owner) × (one.owner ≤ old.given)) loan old.loans
+          (served.some, served.given) sound.owners;
       given = sound.given;
       opened = sound.opened;
     })
     (record {
-      held = rw new (held_with old.limits.policy slots b chunk a lendable.placed lendable.front with_its.has (rw was at lendable.clear)
-          (held_in old.limits.policy pool.slots slots (b ++ a) (with_its.still (b ++ a) (rw was at (sound.spaces space).held.reserved)) (rw was at (sound.spaces space).held)));
+      held = rw new
+          (held_with old.limits.policy slots b chunk a lendable.placed lendable.front with_its.has
+          (rw was at lendable.clear)
+          (held_in old.limits.policy pool.slots slots (b ++ a)
+          (with_its.still (b ++ a) (rw was at (sound.spaces space).held.reserved))
+          (rw was at (sound.spaces space).held)));
       slots = with_its.rising;
       below = with_its.below;
       reserved = with_its.reserved;
@@ -84,10 +93,14 @@ lent_is_sound old account chunk sound served lendable =
     turned false false = refl
 
     adds : (k : ℕ)
-        → is_committed (granule_in pool) (chunks_in space loans) k ≡ (is_committed (granule_in pool) (chunks_in space old.loans) k || meets_front (granule_in pool) chunk k)
+        → is_committed (granule_in pool) (chunks_in space loans) k
+        ≡ (is_committed (granule_in pool) (chunks_in space old.loans) k || meets_front (granule_in pool) chunk k)
     adds k = let test : Chunk → Bool = λ c. meets_front (granule_in pool) c k in
-        ap (list_any test) new ∙ list_any-with test b chunk a ∙ turned (test chunk) (list_any test (b ++ a)) ∙ ap (λ (l : List Chunk). list_any test l || test chunk) (sym was)
+        ap (list_any test) new ∙ list_any-with test b chunk a ∙ turned (test chunk) (list_any test (b ++ a))
+        ∙ ap (λ (l : List Chunk). list_any test l || test chunk) (sym was)
 
-    count : length (committed_with old.limits.policy pool.committed (chunks_in space loans) slots) ≡ length pool.committed + granules_missing pool chunk
-    count = count_with_front pool (chunks_in space loans) slots chunk (sound.spaces space) lendable.placed lendable.front.some lendable.front.within
+    count : length (committed_with old.limits.policy pool.committed (chunks_in space loans) slots)
+        ≡ length pool.committed + granules_missing pool chunk
+    count = count_with_front pool (chunks_in space loans) slots chunk (sound.spaces space) lendable.placed
+        lendable.front.some lendable.front.within
         with_its.rising with_its.has with_its.committed adds

@@ -1,5 +1,6 @@
 -- A loan among loans in order, and the loans where its chunk is replaced by one with the same start.
-use Rattle.std.proofs.Common.{◌≡◌, ◌≢◌, ◌≤◌, ℕ, zero, suc, Bool, true, false, cond, not, Some, List, [], ◌∷◌, ◌++◌, map, refl, sym, ap, ◌∙◌, subst, arith}
+use Rattle.std.proofs.Common.{◌≡◌, ◌≢◌, ◌≤◌, ℕ, zero, suc, Bool, true, false, cond, not, Some, List, [], ◌∷◌, ◌++◌, map}
+use Rattle.std.proofs.Common.{refl, sym, ap, ◌∙◌, subst, arith}
 use Rattle.std.specs.Prelude.{◌==◌, slice_get, slice_set}
 use Rattle.std.specs.Ordering.{nat_cmp}
 use Rattle.std.specs.declared.cmp.Ordering.TheVariants.{Less}
@@ -20,10 +21,12 @@ use Rattle.ms_pool.proofs.ledger.LoanLemmas.{owned_by}
 use Rattle.ms_pool.proofs.ledger.LoanOrderLemmas.{start_of, StartsElsewhere}
 
 -- An element at a place is contained.
-pub contains_at : (chunks : List Chunk) (place : ℕ) (chunk : Chunk) → slice_get chunks place ≡ Some chunk → Contains chunks chunk
+pub contains_at : (chunks : List Chunk) (place : ℕ) (chunk : Chunk) → slice_get chunks place ≡ Some chunk
+    → Contains chunks chunk
 contains_at [] place chunk found = absurd (cc)
 contains_at (c ∷ chunks) zero chunk found = let its : c ≡ chunk = cc in (0, omega arith, its)
-contains_at (c ∷ chunks) (suc place) chunk found = let rest = contains_at chunks place chunk found in (suc rest.0, omega (arith, rest.1), rest.2)
+contains_at (c ∷ chunks) (suc place) chunk found = let rest = contains_at chunks place chunk found in
+    (suc rest.0, omega (arith, rest.1), rest.2)
 
 -- The chunks before and after a place.
 pub record Parted (chunks : List Chunk) (place : ℕ) (was is : Chunk) : Type 0 where
@@ -32,13 +35,20 @@ pub record Parted (chunks : List Chunk) (place : ℕ) (was is : Chunk) : Type 0 
   pub old : chunks ≡ before ++ was ∷ after
   pub new : slice_set chunks place is ≡ before ++ is ∷ after
 
-pub parted_at : (chunks : List Chunk) (place : ℕ) (was is : Chunk) → slice_get chunks place ≡ Some was → Parted chunks place was is
+pub parted_at : (chunks : List Chunk) (place : ℕ) (was is : Chunk) → slice_get chunks place ≡ Some was
+    → Parted chunks place was is
 parted_at [] place was is found = absurd (cc)
 parted_at (c ∷ chunks) zero was is found =
-    let its : c ≡ was = cc in record { before = []; after = chunks; old = ap (λ (d : Chunk). d ∷ chunks) its; new = refl }
+    let its : c ≡ was =
+    cc in record { before = []; after = chunks; old = ap (λ (d : Chunk). d ∷ chunks) its; new = refl }
 parted_at (c ∷ chunks) (suc place) was is found =
     let rest = parted_at chunks place was is found in
-    record { before = c ∷ rest.before; after = rest.after; old = ap (λ (l : List Chunk). c ∷ l) rest.old; new = ap (λ (l : List Chunk). c ∷ l) rest.new }
+    record {
+      before = c ∷ rest.before;
+      after = rest.after;
+      old = ap (λ (l : List Chunk). c ∷ l) rest.old;
+      new = ap (λ (l : List Chunk). c ∷ l) rest.new;
+    }
 
 -- The loan of an owner's chunk.
 pub record IsLoan (owner : ℕ) (chunk : Chunk) (loans : List Loan) : Type 0 where
@@ -46,22 +56,28 @@ pub record IsLoan (owner : ℕ) (chunk : Chunk) (loans : List Loan) : Type 0 whe
   pub after : List Loan
   pub is : loans ≡ before ++ record { owner = owner; chunk = chunk } ∷ after
 
-later_loan : (owner : ℕ) (chunk : Chunk) (loan : Loan) (loans : List Loan) → IsLoan owner chunk loans → IsLoan owner chunk (loan ∷ loans)
-later_loan owner chunk loan loans its = record { before = loan ∷ its.before; after = its.after; is = ap (λ (l : List Loan). loan ∷ l) its.is }
+later_loan : (owner : ℕ) (chunk : Chunk) (loan : Loan) (loans : List Loan) → IsLoan owner chunk loans
+    → IsLoan owner chunk (loan ∷ loans)
+later_loan owner chunk loan loans its =
+    record { before = loan ∷ its.before; after = its.after; is = ap (λ (l : List Loan). loan ∷ l) its.is }
 
-pub loan_of : (owner : ℕ) (chunk : Chunk) (loans : List Loan) → Contains (owned_by owner loans) chunk → IsLoan owner chunk loans
+pub loan_of : (owner : ℕ) (chunk : Chunk) (loans : List Loan) → Contains (owned_by owner loans) chunk
+    → IsLoan owner chunk loans
 loan_of owner chunk [] there = absurd (omega (arith, there.1))
 loan_of owner chunk (loan ∷ loans) there = go (loan.owner == owner) refl there (loan_of owner chunk loans)
   where
     own : List Loan
     own = filter (is_owned_by owner) loans
 
-    go : (b : Bool) → (loan.owner == owner) ≡ b → Contains (map (λ (one : Loan). one.chunk) (cond b (loan ∷ own) own)) chunk
+    go : (b : Bool) → (loan.owner == owner) ≡ b
+        → Contains (map (λ (one : Loan). one.chunk) (cond b (loan ∷ own) own)) chunk
         → (Contains (owned_by owner loans) chunk → IsLoan owner chunk loans) → IsLoan owner chunk (loan ∷ loans)
     go true e (zero, below, is) rest = record {
       before = [];
       after = loans;
-      is = ap (λ (l : Loan). l ∷ loans) (ap (λ (n : ℕ). record { owner = n; chunk = loan.chunk }) (eqb-true loan.owner owner e) ∙ ap (λ (c : Chunk). record { owner = owner; chunk = c }) is);
+      is = ap (λ (l : Loan). l ∷ loans)
+          (ap (λ (n : ℕ). record { owner = n; chunk = loan.chunk }) (eqb-true loan.owner owner e)
+          ∙ ap (λ (c : Chunk). record { owner = owner; chunk = c }) is);
     }
     go true e (suc k, below, is) rest = later_loan owner chunk loan loans (rest (k, omega arith, is))
     go false e there rest = later_loan owner chunk loan loans (rest there)
@@ -70,40 +86,51 @@ loan_of owner chunk (loan ∷ loans) there = go (loan.owner == owner) refl there
 less_is_other : (a b : ℕ) → nat_cmp a b ≡ Less → a ≢ b
 less_is_other a b e same = grind (arith, nat_tests, e)
 
-pub all_above : (start : ℕ) (loans : List Loan) → AllByRecursion (λ (y : ℕ). nat_cmp start y ≡ Less) (map start_of loans)
+pub all_above : (start : ℕ) (loans : List Loan)
+    → AllByRecursion (λ (y : ℕ). nat_cmp start y ≡ Less) (map start_of loans)
     → AllByRecursion (StartsElsewhere start) loans
 all_above start [] all = tt
-all_above start (loan ∷ loans) all = (λ same. less_is_other start loan.chunk.start all.0 (sym same), all_above start loans all.1)
+all_above start (loan ∷ loans) all =
+    (λ same. less_is_other start loan.chunk.start all.0 (sym same), all_above start loans all.1)
 
-at_middle : (P : ℕ → Type 0) (b : List Loan) (loan : Loan) (a : List Loan) → AllByRecursion P (map start_of (b ++ loan ∷ a))
+at_middle : (P : ℕ → Type 0) (b : List Loan) (loan : Loan) (a : List Loan)
+    → AllByRecursion P (map start_of (b ++ loan ∷ a))
     → P loan.chunk.start
 at_middle P [] loan a all = all.0
 at_middle P (x ∷ b) loan a all = at_middle P b loan a all.1
 
-pub after_elsewhere : (b : List Loan) (loan : Loan) (a : List Loan) → IsStrictlySortedBy nat_cmp (map start_of (b ++ loan ∷ a))
+pub after_elsewhere : (b : List Loan) (loan : Loan) (a : List Loan)
+    → IsStrictlySortedBy nat_cmp (map start_of (b ++ loan ∷ a))
     → AllByRecursion (StartsElsewhere loan.chunk.start) a
 unfolding IsStrictlySortedBy
 after_elsewhere [] loan a sorted = all_above loan.chunk.start a sorted.0
 after_elsewhere (x ∷ b) loan a sorted = after_elsewhere b loan a sorted.1
 
-pub before_elsewhere : (b : List Loan) (loan : Loan) (a : List Loan) → IsStrictlySortedBy nat_cmp (map start_of (b ++ loan ∷ a))
+pub before_elsewhere : (b : List Loan) (loan : Loan) (a : List Loan)
+    → IsStrictlySortedBy nat_cmp (map start_of (b ++ loan ∷ a))
     → AllByRecursion (StartsElsewhere loan.chunk.start) b
 unfolding IsStrictlySortedBy
 before_elsewhere [] loan a sorted = tt
-before_elsewhere (x ∷ b) loan a sorted =
-    (less_is_other x.chunk.start loan.chunk.start (at_middle (λ (y : ℕ). nat_cmp x.chunk.start y ≡ Less) b loan a sorted.0), before_elsewhere b loan a sorted.1)
+before_elsewhere (x ∷ b) loan a sorted = (
+  less_is_other x.chunk.start loan.chunk.start
+      (at_middle (λ (y : ℕ). nat_cmp x.chunk.start y ≡ Less) b loan a sorted.0),
+  before_elsewhere b loan a sorted.1,
+)
 
 -- The loans with another chunk in the place of the one that starts there.
 abbrev pub in_place : Chunk → Loan → Loan
 in_place chunk loan = cond (loan.chunk.start == chunk.start) (record loan { chunk = chunk }) loan
 
 abbrev pub replaced : Chunk → List Loan → List Loan
-replaced chunk loans = map (λ (loan : Loan). cond (loan.chunk.start == chunk.start) (record loan { chunk = chunk }) loan) loans
+replaced chunk loans =
+    map (λ (loan : Loan). cond (loan.chunk.start == chunk.start) (record loan { chunk = chunk }) loan) loans
 
-none_replaced : (chunk : Chunk) (loans : List Loan) → AllByRecursion (StartsElsewhere chunk.start) loans → replaced chunk loans ≡ loans
+none_replaced : (chunk : Chunk) (loans : List Loan) → AllByRecursion (StartsElsewhere chunk.start) loans
+    → replaced chunk loans ≡ loans
 none_replaced chunk [] others = refl
 none_replaced chunk (loan ∷ loans) others =
-    ap (λ (b : Bool). cond b (record loan { chunk = chunk }) loan ∷ replaced chunk loans) (ne_eqb loan.chunk.start chunk.start others.0)
+    ap (λ (b : Bool). cond b (record loan { chunk = chunk }) loan ∷ replaced chunk loans)
+    (ne_eqb loan.chunk.start chunk.start others.0)
     ∙ ap (λ (l : List Loan). loan ∷ l) (none_replaced chunk loans others.1)
 
 pub replaced_at : (owner : ℕ) (was is : Chunk) (b a : List Loan) → is.start ≡ was.start
@@ -111,9 +138,14 @@ pub replaced_at : (owner : ℕ) (was is : Chunk) (b a : List Loan) → is.start 
     → replaced is (b ++ record { owner = owner; chunk = was } ∷ a) ≡ b ++ record { owner = owner; chunk = is } ∷ a
 replaced_at owner was is b a same order =
     map-append (in_place is) b (loan ∷ a)
-    ∙ ap (λ (l : List Loan). l ++ replaced is (loan ∷ a)) (none_replaced is b (subst (λ (s : ℕ). AllByRecursion (StartsElsewhere s) b) (sym same) (before_elsewhere b loan a sorted)))
-    ∙ ap (λ (t : Bool). b ++ cond t (record { owner = owner; chunk = is }) loan ∷ replaced is a) (eq-eqb was.start is.start (sym same))
-    ∙ ap (λ (l : List Loan). b ++ record { owner = owner; chunk = is } ∷ l) (none_replaced is a (subst (λ (s : ℕ). AllByRecursion (StartsElsewhere s) a) (sym same) (after_elsewhere b loan a sorted)))
+    ∙ ap (λ (l : List Loan). l ++ replaced is (loan ∷ a))
+    (none_replaced is b
+    (subst (λ (s : ℕ). AllByRecursion (StartsElsewhere s) b) (sym same) (before_elsewhere b loan a sorted)))
+    ∙ ap (λ (t : Bool). b ++ cond t (record { owner = owner; chunk = is }) loan ∷ replaced is a)
+    (eq-eqb was.start is.start (sym same))
+    ∙ ap (λ (l : List Loan). b ++ record { owner = owner; chunk = is } ∷ l)
+    (none_replaced is a
+    (subst (λ (s : ℕ). AllByRecursion (StartsElsewhere s) a) (sym same) (after_elsewhere b loan a sorted)))
   where
     loan : Loan
     loan = record { owner = owner; chunk = was }
@@ -124,10 +156,12 @@ replaced_at owner was is b a same order =
 -- No start changes, and no owner.
 starts_as_before : (chunk : Chunk) (loans : List Loan) → map start_of (replaced chunk loans) ≡ map start_of loans
 starts_as_before chunk [] = refl
-starts_as_before chunk (loan ∷ loans) = go (loan.chunk.start == chunk.start) refl ∙ ap (λ (l : List ℕ). loan.chunk.start ∷ l) (starts_as_before chunk loans)
+starts_as_before chunk (loan ∷ loans) =
+    go (loan.chunk.start == chunk.start) refl ∙ ap (λ (l : List ℕ). loan.chunk.start ∷ l) (starts_as_before chunk loans)
   where
     go : (b : Bool) → (loan.chunk.start == chunk.start) ≡ b
-        → (cond b (record loan { chunk = chunk }) loan).chunk.start ∷ map start_of (replaced chunk loans) ≡ loan.chunk.start ∷ map start_of (replaced chunk loans)
+        → (cond b (record loan { chunk = chunk }) loan).chunk.start ∷ map start_of (replaced chunk loans)
+        ≡ loan.chunk.start ∷ map start_of (replaced chunk loans)
     go true e = ap (λ (s : ℕ). s ∷ map start_of (replaced chunk loans)) (sym (eqb-true loan.chunk.start chunk.start e))
     go false e = refl
 
@@ -135,10 +169,12 @@ pub order_replaced : (chunk : Chunk) (loans : List Loan) → IsStrictlyIncreasin
     → IsStrictlyIncreasing (map start_of (replaced chunk loans))
 order_replaced chunk loans order = subst IsStrictlyIncreasing (sym (starts_as_before chunk loans)) order
 
-owners_as_before : (P : ℕ → Type 0) (chunk : Chunk) (loans : List Loan) → AllByRecursion (λ (loan : Loan). P loan.owner) loans
+owners_as_before : (P : ℕ → Type 0) (chunk : Chunk) (loans : List Loan)
+    → AllByRecursion (λ (loan : Loan). P loan.owner) loans
     → AllByRecursion (λ (loan : Loan). P loan.owner) (replaced chunk loans)
 owners_as_before P chunk [] all = tt
-owners_as_before P chunk (loan ∷ loans) all = (go (loan.chunk.start == chunk.start), owners_as_before P chunk loans all.1)
+owners_as_before P chunk (loan ∷ loans) all =
+    (go (loan.chunk.start == chunk.start), owners_as_before P chunk loans all.1)
   where
     go : (b : Bool) → P (cond b (record loan { chunk = chunk }) loan).owner
     go true = all.0
@@ -157,7 +193,8 @@ pub owned_by-replaced : (owner : ℕ) (chunk : Chunk) (loans : List Loan)
     → owned_by owner (replaced chunk loans) ≡ map (swapped chunk) (owned_by owner loans)
 owned_by-replaced owner chunk [] = refl
 owned_by-replaced owner chunk (loan ∷ loans) =
-    ap (λ (n : ℕ). map (λ (one : Loan). one.chunk) (cond (n == owner) (in_place chunk loan ∷ own) own)) (same_owner (loan.chunk.start == chunk.start))
+    ap (λ (n : ℕ). map (λ (one : Loan). one.chunk) (cond (n == owner) (in_place chunk loan ∷ own) own))
+    (same_owner (loan.chunk.start == chunk.start))
     ∙ go (loan.chunk.start == chunk.start) (loan.owner == owner) refl (owned_by-replaced owner chunk loans)
   where
     with_chunk : Loan
@@ -173,9 +210,13 @@ owned_by-replaced owner chunk (loan ∷ loans) =
     go : (s t : Bool) → (loan.chunk.start == chunk.start) ≡ s
         → owned_by owner (replaced chunk loans) ≡ map (swapped chunk) (owned_by owner loans)
         → map (λ (one : Loan). one.chunk) (cond t (cond s with_chunk loan ∷ own) own)
-        ≡ map (swapped chunk) (map (λ (one : Loan). one.chunk) (cond t (loan ∷ filter (is_owned_by owner) loans) (filter (is_owned_by owner) loans)))
-    go true true e rest = ap (λ (b : Bool). cond b chunk loan.chunk ∷ owned_by owner (replaced chunk loans)) (sym e) ∙ ap (λ (l : List Chunk). swapped chunk loan.chunk ∷ l) rest
-    go false true e rest = ap (λ (b : Bool). cond b chunk loan.chunk ∷ owned_by owner (replaced chunk loans)) (sym e) ∙ ap (λ (l : List Chunk). swapped chunk loan.chunk ∷ l) rest
+        ≡ map (swapped chunk)
+        (map (λ (one : Loan). one.chunk)
+        (cond t (loan ∷ filter (is_owned_by owner) loans) (filter (is_owned_by owner) loans)))
+    go true true e rest = ap (λ (b : Bool). cond b chunk loan.chunk ∷ owned_by owner (replaced chunk loans)) (sym e)
+        ∙ ap (λ (l : List Chunk). swapped chunk loan.chunk ∷ l) rest
+    go false true e rest = ap (λ (b : Bool). cond b chunk loan.chunk ∷ owned_by owner (replaced chunk loans)) (sym e)
+        ∙ ap (λ (l : List Chunk). swapped chunk loan.chunk ∷ l) rest
     go true false e rest = rest
     go false false e rest = rest
 
@@ -184,7 +225,9 @@ starts_apart : (chunk : Chunk) (others : List Chunk) → meets_any (words_of chu
     → AllByRecursion (λ (one : Chunk). one.start ≢ chunk.start) others
 starts_apart chunk [] clear = tt
 starts_apart chunk (c ∷ others) clear =
-    let both = or_parts (meet chunk.start (size_of chunk.level) c.start (size_of c.level)) (meets_any (words_of chunk) (map words_of others)) clear in (
+    let both =
+    or_parts (meet chunk.start (size_of chunk.level) c.start (size_of c.level))
+    (meets_any (words_of chunk) (map words_of others)) clear in (
       λ same. itself chunk.start (size_of chunk.level) (size_of c.level) (size_some chunk.level) (size_some c.level)
           (ap (λ (s : ℕ). meet chunk.start (size_of chunk.level) s (size_of c.level)) (sym same) ∙ both.0),
       starts_apart chunk others both.1,
@@ -197,7 +240,8 @@ none_swapped : (chunk : Chunk) (others : List Chunk) → AllByRecursion (λ (one
     → map (swapped chunk) others ≡ others
 none_swapped chunk [] apart = refl
 none_swapped chunk (c ∷ others) apart =
-    ap (λ (b : Bool). cond b chunk c ∷ map (swapped chunk) others) (ne_eqb c.start chunk.start apart.0) ∙ ap (λ (l : List Chunk). c ∷ l) (none_swapped chunk others apart.1)
+    ap (λ (b : Bool). cond b chunk c ∷ map (swapped chunk) others) (ne_eqb c.start chunk.start apart.0)
+    ∙ ap (λ (l : List Chunk). c ∷ l) (none_swapped chunk others apart.1)
 
 at_place : (P : Chunk → Type 0) (chunks : List Chunk) (place : ℕ) (chunk : Chunk) → slice_get chunks place ≡ Some chunk
     → AllByRecursion P chunks → P chunk
@@ -205,7 +249,8 @@ at_place P [] place chunk found all = absurd (cc)
 at_place P (c ∷ chunks) zero chunk found all = let its : c ≡ chunk = cc in subst P its all.0
 at_place P (c ∷ chunks) (suc place) chunk found all = at_place P chunks place chunk found all.1
 
-pub swapped_at : (chunks : List Chunk) (place : ℕ) (was is : Chunk) → is.start ≡ was.start → are_apart (map words_of chunks) ≡ true
+pub swapped_at : (chunks : List Chunk) (place : ℕ) (was is : Chunk) → is.start ≡ was.start
+    → are_apart (map words_of chunks) ≡ true
     → slice_get chunks place ≡ Some was → map (swapped is) chunks ≡ slice_set chunks place is
 swapped_at [] place was is same apart found = absurd (cc)
 swapped_at (c ∷ chunks) zero was is same apart found =
@@ -213,11 +258,14 @@ swapped_at (c ∷ chunks) zero was is same apart found =
     let both = and_parts (not (meets_any (words_of c) (map words_of chunks))) (are_apart (map words_of chunks)) apart in
     let start : c.start ≡ is.start = ap (λ (one : Chunk). one.start) its ∙ sym same in
     ap (λ (b : Bool). cond b is c ∷ map (swapped is) chunks) (eq-eqb c.start is.start start)
-    ∙ ap (λ (l : List Chunk). is ∷ l) (none_swapped is chunks (subst (λ (s : ℕ). AllByRecursion (λ (one : Chunk). one.start ≢ s) chunks) start
+    ∙ ap (λ (l : List Chunk). is ∷ l)
+    (none_swapped is chunks (subst (λ (s : ℕ). AllByRecursion (λ (one : Chunk). one.start ≢ s) chunks) start
     (starts_apart c chunks (not-true (meets_any (words_of c) (map words_of chunks)) both.0))))
 swapped_at (c ∷ chunks) (suc place) was is same apart found =
     let both = and_parts (not (meets_any (words_of c) (map words_of chunks))) (are_apart (map words_of chunks)) apart in
-    let other = at_place (λ (one : Chunk). one.start ≢ c.start) chunks place was found (starts_apart c chunks (not-true (meets_any (words_of c) (map words_of chunks)) both.0)) in
+    let other =
+    at_place (λ (one : Chunk). one.start ≢ c.start) chunks place was found
+    (starts_apart c chunks (not-true (meets_any (words_of c) (map words_of chunks)) both.0)) in
     ap (λ (b : Bool). cond b is c ∷ map (swapped is) chunks) (ne_eqb c.start is.start (λ e. other (sym same ∙ sym e)))
     ∙ ap (λ (l : List Chunk). c ∷ l) (swapped_at chunks place was is same both.1 found)
 
@@ -226,17 +274,24 @@ pub same_from_start : (chunks : List Chunk) (place other : ℕ) (a b : Chunk) �
     → slice_get chunks place ≡ Some a → slice_get chunks other ≡ Some b → a.start ≡ b.start → a ≡ b
 same_from_start [] place other a b apart found too same = absurd (cc)
 same_from_start (c ∷ chunks) place other a b apart found too same =
-    go place other found too (λ p q h k. same_from_start chunks p q a b (and_parts (not (meets_any (words_of c) (map words_of chunks))) (are_apart (map words_of chunks)) apart).1 h k same)
+    go place other found too
+    (λ p q h k. same_from_start chunks p q a b
+    (and_parts (not (meets_any (words_of c) (map words_of chunks))) (are_apart (map words_of chunks)) apart).1 h k
+    same)
   where
     clear : meets_any (words_of c) (map words_of chunks) ≡ false
-    clear = not-true (meets_any (words_of c) (map words_of chunks)) (and_parts (not (meets_any (words_of c) (map words_of chunks))) (are_apart (map words_of chunks)) apart).0
+    clear = not-true (meets_any (words_of c) (map words_of chunks))
+        (and_parts (not (meets_any (words_of c) (map words_of chunks))) (are_apart (map words_of chunks)) apart).0
 
     differ : (place : ℕ) (d : Chunk) → slice_get chunks place ≡ Some d → d.start ≢ c.start
-    differ place d found = at_place (λ (one : Chunk). one.start ≢ c.start) chunks place d found (starts_apart c chunks clear)
+    differ place d found =
+        at_place (λ (one : Chunk). one.start ≢ c.start) chunks place d found (starts_apart c chunks clear)
 
     go : (place other : ℕ) → slice_get (c ∷ chunks) place ≡ Some a → slice_get (c ∷ chunks) other ≡ Some b
         → ((p q : ℕ) → slice_get chunks p ≡ Some a → slice_get chunks q ≡ Some b → a ≡ b) → a ≡ b
     go zero zero found too rest = let first : c ≡ a = cc in let second : c ≡ b = cc in sym first ∙ second
-    go zero (suc other) found too rest = let first : c ≡ a = cc in absurd (differ other b too (sym same ∙ ap (λ (d : Chunk). d.start) (sym first)))
-    go (suc place) zero found too rest = let second : c ≡ b = cc in absurd (differ place a found (same ∙ ap (λ (d : Chunk). d.start) (sym second)))
+    go zero (suc other) found too rest = let first : c ≡ a =
+        cc in absurd (differ other b too (sym same ∙ ap (λ (d : Chunk). d.start) (sym first)))
+    go (suc place) zero found too rest = let second : c ≡ b =
+        cc in absurd (differ place a found (same ∙ ap (λ (d : Chunk). d.start) (sym second)))
     go (suc place) (suc other) found too rest = rest place other found too

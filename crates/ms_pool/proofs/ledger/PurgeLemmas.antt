@@ -16,10 +16,12 @@ use Rattle.ms_pool.proofs.ledger.SoundLemmas.{ledger_is_sound}
 
 pub purged_is_sound : (old : Ledger) → IsSoundLedger old → IsSoundLedger (purged old)
 purged_is_sound old sound = ledger_is_sound old rest sound refl
-    (record { order = sound.order; owners = sound.owners; given = sound.given; opened = sound.opened }) rest_is_sound (omega (
+    (record { order = sound.order; owners = sound.owners; given = sound.given; opened = sound.opened }) rest_is_sound
+    (omega (
       arith,
       (sound.spaces NonClass).granules,
-      fewer_slots (is_committed_now old.limits.policy old.committed held) (granule_of old.limits.policy) (has_chunk_in held) old.slots,
+      fewer_slots (is_committed_now old.limits.policy old.committed held) (granule_of old.limits.policy)
+          (has_chunk_in held) old.slots,
       ap length (sound.spaces NonClass).committed,
       ap length (sound.spaces Class).committed,
     ))

@@ -26,7 +26,8 @@ pub record IsOrderly (ledger : Ledger) : Type 0 where
 
 -- Both spaces are sound once their granules follow, if these keep the limit.
 pub spaces_are_sound : (ledger : Ledger) → ((space : Space) → IsSoundBut (state_in space ledger))
-    → length (committed_now (state_in NonClass ledger)) + length (committed_now (state_in Class ledger)) ≤ ledger.limits.granules
+    → length (committed_now (state_in NonClass ledger)) + length (committed_now (state_in Class ledger))
+    ≤ ledger.limits.granules
     → (space : Space) → IsSoundPool (state_in space (recommitted ledger))
 spaces_are_sound ledger sound few NonClass = record {
   held = (sound NonClass).held;
@@ -40,7 +41,9 @@ spaces_are_sound ledger sound few Class = record {
   held = (sound Class).held;
   slots = (sound Class).slots;
   below = (sound Class).below;
-  committed = sym (committed_settles ledger.limits.policy ledger.class_committed (held_in Class ledger) (class_slots ledger.limits.class_nodes));
+  committed =
+      sym (committed_settles ledger.limits.policy ledger.class_committed (held_in Class ledger)
+      (class_slots ledger.limits.class_nodes));
   granules = omega (arith, few);
   reserved = (sound Class).reserved;
 }
@@ -78,11 +81,14 @@ committed_there Class old loans slots = refl
 pub sound_with_change : (space : Space) (old : Ledger) (loans : List Loan) (slots : List ℕ) → IsSoundLedger old
     → chunks_in (other_space space) loans ≡ chunks_in (other_space space) old.loans
     → IsOrderly (changed space old loans slots) → IsSoundBut (state_in space (changed space old loans slots))
-    → length (committed_now (state_in space (changed space old loans slots))) + length (committed_of (other_space space) old) ≤ old.limits.granules
+    → length (committed_now (state_in space (changed space old loans slots))) + length
+    (committed_of (other_space space) old) ≤ old.limits.granules
     → IsSoundLedger (recommitted (changed space old loans slots))
 sound_with_change space old loans slots sound same orderly here few =
-    ledger_is_sound old mid sound refl orderly (each_space (λ (one : Space). IsSoundBut (state_in one mid)) space here sound_there)
-    (both_counts (λ (one : Space). length (committed_now (state_in one mid))) space old.limits.granules (omega (arith, few, ap length as_it_was)))
+    ledger_is_sound old mid sound refl orderly
+    (each_space (λ (one : Space). IsSoundBut (state_in one mid)) space here sound_there)
+    (both_counts (λ (one : Space). length (committed_now (state_in one mid))) space old.limits.granules
+    (omega (arith, few, ap length as_it_was)))
   where
     there : Space
     there = other_space space
@@ -103,19 +109,36 @@ sound_with_change space old loans slots sound same orderly here few =
 
     as_it_was : committed_now (state_in there mid) ≡ committed_of there old
     as_it_was =
-        ap (λ (l : List ℕ). committed_with old.limits.policy l (held_in there mid) (state_in there mid).slots) (committed_there there old loans slots)
-        ∙ ap (λ (l : List Chunk). committed_with old.limits.policy (committed_of there old) l (state_in there mid).slots) same
-        ∙ ap (λ (l : List ℕ). committed_with old.limits.policy (committed_of there old) (held_in there old) l) slots_same
+        ap (λ (l : List ℕ). committed_with old.limits.policy l (held_in there mid) (state_in there mid).slots)
+        (committed_there there old loans slots)
+        ∙ ap (λ (l : List Chunk). committed_with old.limits.policy (committed_of there old) l
+        (state_in there mid).slots) same
+        ∙ ap (λ (l : List ℕ). committed_with old.limits.policy (committed_of there old) (held_in there old) l)
+        slots_same
         ∙ sym (sound.spaces there).committed
 
 -- So where the slots stay.
 pub sound_with_loans : (space : Space) (old : Ledger) (loans : List Loan) → IsSoundLedger old
-    → chunks_in (other_space space) loans ≡ chunks_in (other_space space) old.loans → IsOrderly (record old { loans = loans })
+    → chunks_in (other_space space) loans ≡ chunks_in (other_space space) old.loans
+    → IsOrderly (record old { loans = loans })
     → AreHeld old.limits.policy (state_in space old).slots (chunks_in space loans)
-    → length (committed_with old.limits.policy (committed_of space old) (chunks_in space loans) (state_in space old).slots) + length (committed_of (other_space space) old)
+    → length (committed_with old.limits.policy (committed_of space old) (chunks_in space loans)
+    (state_in space old).slots) + length (committed_of (other_space space) old)
     ≤ old.limits.granules
     → IsSoundLedger (recommitted (record old { loans = loans }))
-sound_with_loans NonClass old loans sound same orderly held few = sound_with_change NonClass old loans old.slots sound same orderly
-    (record { held = held; slots = (sound.spaces NonClass).slots; below = (sound.spaces NonClass).below; reserved = (sound.spaces NonClass).reserved }) few
-sound_with_loans Class old loans sound same orderly held few = sound_with_change Class old loans old.slots sound same orderly
-    (record { held = held; slots = (sound.spaces Class).slots; below = (sound.spaces Class).below; reserved = (sound.spaces Class).reserved }) few
+sound_with_loans NonClass old loans sound same orderly held few =
+    sound_with_change NonClass old loans old.slots sound same orderly
+    (record {
+      held = held;
+      slots = (sound.spaces NonClass).slots;
+      below = (sound.spaces NonClass).below;
+      reserved = (sound.spaces NonClass).reserved;
+    }) few
+sound_with_loans Class old loans sound same orderly held few =
+    sound_with_change Class old loans old.slots sound same orderly
+    (record {
+      held = held;
+      slots = (sound.spaces Class).slots;
+      below = (sound.spaces Class).below;
+      reserved = (sound.spaces Class).reserved;
+    }) few

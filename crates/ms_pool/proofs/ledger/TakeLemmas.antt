@@ -6,7 +6,8 @@ use Rattle.std.specs.List.{All}
 use Rattle.std.specs.List.Sorted.{IsPermutation}
 use Rattle.std.proofs.lemmas.List.{append-nil, length-append, map-append}
 use Rattle.std.proofs.lemmas.List.Elements.{All-push}
-use Rattle.std.proofs.lemmas.List.Sorted.{IsPermutation-cons, IsPermutation-sym, IsPermutation-to_front, IsPermutation-trans}
+use Rattle.std.proofs.lemmas.List.Sorted.{IsPermutation-cons, IsPermutation-sym, IsPermutation-to_front}
+use Rattle.std.proofs.lemmas.List.Sorted.{IsPermutation-trans}
 use Rattle.ms_base.specs.declared.kind.Space.{Space}
 use Rattle.ms_base.specs.declared.span.Chunk.{Chunk}
 use Rattle.ms_base.specs.Level.{size_of}
@@ -35,33 +36,40 @@ with_chunk account chunk = record account { chunks = account.chunks ++ chunk ∷
 
 -- The ledger's record of an owner has the chunk too.
 pub record_with : (old : Ledger) (account : AccountState) (chunk : Chunk) → Serves old account
-    → IsPermutation (chunks_of (with_lent old account.space account.owner chunk) account.owner) (account.chunks ++ chunk ∷ [])
+    → IsPermutation (chunks_of (with_lent old account.space account.owner chunk) account.owner)
+    (account.chunks ++ chunk ∷ [])
 record_with old account chunk served =
     IsPermutation-trans new (chunk ∷ account.chunks) (account.chunks ++ chunk ∷ [])
     (IsPermutation-trans new (chunk ∷ chunks_of old account.owner) (chunk ∷ account.chunks)
-    (IsPermutation-sym (chunk ∷ chunks_of old account.owner) new (owned_by-with (record { owner = account.owner; chunk = chunk }) old.loans))
+    (IsPermutation-sym (chunk ∷ chunks_of old account.owner) new
+    (owned_by-with (record { owner = account.owner; chunk = chunk }) old.loans))
     (IsPermutation-cons chunk (chunks_of old account.owner) account.chunks served.chunks))
-    (IsPermutation-sym (account.chunks ++ chunk ∷ []) (chunk ∷ account.chunks) (IsPermutation-to_front account.chunks chunk))
+    (IsPermutation-sym (account.chunks ++ chunk ∷ []) (chunk ∷ account.chunks)
+    (IsPermutation-to_front account.chunks chunk))
   where
     new : List Chunk
     new = chunks_of (with_lent old account.space account.owner chunk) account.owner
 
 pub lent_serves : (old : Ledger) (account : AccountState) (chunk : Chunk) → Serves old account
     → Serves (with_lent old account.space account.owner chunk) (with_chunk account chunk)
-lent_serves old account chunk served = record { some = served.some; given = served.given; chunks = record_with old account chunk served }
+lent_serves old account chunk served =
+    record { some = served.some; given = served.given; chunks = record_with old account chunk served }
 
 -- What others have stays.
 pub lent_keeps_others : (old : Ledger) (space : Space) (owner : ℕ) (chunk : Chunk) (other : ℕ) → other ≢ owner
     → chunks_of (with_lent old space owner chunk) other ≡ chunks_of old other
-lent_keeps_others old space owner chunk other differs = owned_by-with_other other (record { owner = owner; chunk = chunk }) old.loans (λ same. differs (sym same))
+lent_keeps_others old space owner chunk other differs =
+    owned_by-with_other other (record { owner = owner; chunk = chunk }) old.loans (λ same. differs (sym same))
 
-pub lent_serves_others : (old : Ledger) (space : Space) (owner : ℕ) (chunk : Chunk) (other : AccountState) → other.owner ≢ owner
+pub lent_serves_others : (old : Ledger) (space : Space) (owner : ℕ) (chunk : Chunk) (other : AccountState)
+    → other.owner ≢ owner
     → Serves old other
     → Serves (with_lent old space owner chunk) other
 lent_serves_others old space owner chunk other differs served = record {
   some = served.some;
   given = served.given;
-  chunks = subst (λ (l : List Chunk). IsPermutation l other.chunks) (sym (lent_keeps_others old space owner chunk other.owner differs)) served.chunks;
+  chunks = subst (λ (l : List Chunk). IsPermutation l other.chunks)
+      (sym (lent_keeps_others old space owner chunk other.owner differs)) served.chunks;
 }
 
 -- The account's chunks with another that meets none of them.
@@ -71,9 +79,13 @@ pub lent_are_chunks : (old : Ledger) (account : AccountState) (chunk : Chunk) �
 lent_are_chunks old account chunk sound served chunks lendable = record {
   parts = All-push (λ (one : Chunk). IsPart one.start one.level) account.chunks chunk chunks.parts lendable.placed;
   inside = inside;
-  fronts = All-push (λ (one : Chunk). (1 ≤ one.front) × (one.front ≤ size_of one.level)) account.chunks chunk chunks.fronts (lendable.front.some, lendable.front.within);
-  apart = rw (map-append words_of account.chunks (chunk ∷ [])) (apart-with (map words_of account.chunks) (words_of chunk) []
-      (rw (append-nil (map words_of account.chunks)) (runs_from_clear chunk account.chunks (own_clear old account chunk.start chunk.level served chunks lendable.clear)))
+  fronts = All-push (λ (one : Chunk). (1 ≤ one.front) × (one.front ≤ size_of one.level)) account.chunks chunk
+      chunks.fronts (lendable.front.some, lendable.front.within);
+  apart = rw (map-append words_of account.chunks (chunk ∷ []))
+      (apart-with (map words_of account.chunks) (words_of chunk) []
+      (rw (append-nil (map words_of account.chunks))
+      (runs_from_clear chunk account.chunks
+      (own_clear old account chunk.start chunk.level served chunks lendable.clear)))
       (rw (append-nil (map words_of account.chunks)) chunks.apart));
   few = omega (arith, own_are_few old account sound served chunks, length-append account.chunks (chunk ∷ []));
 }
@@ -82,7 +94,8 @@ lent_are_chunks old account chunk sound served chunks lendable = record {
     slot = slot_of_space account.space old (slot_of chunk.start) sound lendable.slot
 
     inside : All (λ (one : Chunk). IsSlotOf account.space (slot_of one.start)) (account.chunks ++ chunk ∷ [])
-    inside = All-push (λ (one : Chunk). IsSlotOf account.space (slot_of one.start)) account.chunks chunk chunks.inside slot
+    inside = All-push (λ (one : Chunk). IsSlotOf account.space (slot_of one.start)) account.chunks chunk chunks.inside
+        slot
 
 -- What the chunk is to the account.
 pub taken_adds : (old : Ledger) (account : AccountState) (wanted most words : ℕ) (chunk : Chunk) → wanted ≤ most
@@ -92,7 +105,8 @@ taken_adds old account wanted most words chunk serves is = record {
   at_least = subst (λ (one : Chunk). wanted ≤ one.level) (sym its.is) (picked_serves pool wanted most words serves).0;
   at_most = subst (λ (one : Chunk). one.level ≤ most) (sym its.is) (picked_serves pool wanted most words serves).1;
   after = ap (λ (front : ℕ). with_chunk account (record { start = chunk.start; level = chunk.level; front = front }))
-      (ap (λ (one : Chunk). one.front) its.is ∙ sym (ap (λ (one : Chunk). front_for old.limits.policy (size_of one.level) words) its.is));
+      (ap (λ (one : Chunk). one.front) its.is
+      ∙ sym (ap (λ (one : Chunk). front_for old.limits.policy (size_of one.level) words) its.is));
 }
   where
     pool : PoolState
@@ -105,11 +119,13 @@ taken_adds old account wanted most words chunk serves is = record {
 pub record TakenWell (old : Ledger) (account : AccountState) (wanted most words : ℕ) (chunk : Chunk) : Type 0 where
   pub sound : IsSoundLedger (with_lent old account.space account.owner chunk)
   pub served : Serves (with_lent old account.space account.owner chunk) (with_chunk account chunk)
-  pub others : (other : AccountState) → other.owner ≢ account.owner → Serves old other → Serves (with_lent old account.space account.owner chunk) other
+  pub others : (other : AccountState) → other.owner ≢ account.owner → Serves old other
+      → Serves (with_lent old account.space account.owner chunk) other
   pub chunks : AreChunks account.space (account.chunks ++ chunk ∷ [])
   pub adds : Adds old.limits.policy wanted most words account (span_of chunk) (with_chunk account chunk)
 
-pub taken_well : (old : Ledger) (account : AccountState) (wanted most words : ℕ) (chunk : Chunk) → IsSoundLedger old → Serves old account
+pub taken_well : (old : Ledger) (account : AccountState) (wanted most words : ℕ) (chunk : Chunk) → IsSoundLedger old
+    → Serves old account
     → AreChunks account.space account.chunks → wanted ≤ most → most ≤ 12 → 1 ≤ words → words ≤ size_of most
     → taken (state_in account.space old) wanted most words ≡ Ok chunk → TakenWell old account wanted most words chunk
 taken_well old account wanted most words chunk sound served chunks serves real some fits is = record {
@@ -121,4 +137,6 @@ taken_well old account wanted most words chunk sound served chunks serves real s
 }
   where
     lendable : IsLendable (state_in account.space old) chunk
-    lendable = taken_is_lendable (state_in account.space old) wanted most words chunk (sound.spaces account.space) serves real some fits is
+    lendable =
+        taken_is_lendable (state_in account.space old) wanted most words chunk (sound.spaces account.space) serves real
+        some fits is

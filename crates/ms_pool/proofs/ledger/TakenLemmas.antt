@@ -1,6 +1,7 @@
 -- What a request for a chunk is answered: a part that meets no chunk, with a front by the rule, in a
 -- reserved slot or where one more may be reserved, and within the limit of granules.
-use Rattle.std.proofs.Common.{◌≡◌, ◌≤◌, ◌<◌, ◌+◌, ◌*◌, ℕ, Bool, true, false, not, ◌&&◌, [], length, sym, ap, ◌∙◌, subst, arith, inl, inr, max}
+use Rattle.std.proofs.Common.{◌≡◌, ◌≤◌, ◌<◌, ◌+◌, ◌*◌, ℕ, Bool, true, false, not, ◌&&◌, [], length, sym, ap, ◌∙◌, subst}
+use Rattle.std.proofs.Common.{arith, inl, inr, max}
 use Rattle.std.specs.Prelude.{◌==◌, ◌⊎◌, Ok}
 use Rattle.std.specs.List.{Any}
 use Rattle.std.proofs.lemmas.Bool.{and_parts, cases_eq, both_ways, eqb-true, eq-eqb, false_from_ne_true}
@@ -30,7 +31,8 @@ use Rattle.ms_pool.proofs.ledger.FoundLemmas.{room_is_found, lowest_within, new_
 
 -- A slot in which a chunk may be lent: a reserved one, or one more.
 abbrev pub HasSlot : PoolState → ℕ → Type 0
-HasSlot pool slot = (is_reserved pool.slots slot ≡ true) ⊎ ((slot ≤ length pool.slots) × (length pool.slots < node_limit pool))
+HasSlot pool slot =
+    (is_reserved pool.slots slot ≡ true) ⊎ ((slot ≤ length pool.slots) × (length pool.slots < node_limit pool))
 
 -- A chunk that the pool may lend besides those held.
 pub record IsLendable (pool : PoolState) (chunk : Chunk) : Type 0 where
@@ -48,13 +50,18 @@ record LiesWell (pool : PoolState) (start level : ℕ) : Type 0 where
 in_found : (pool : PoolState) (p m words : ℕ) → p ≤ m → m ≤ 12 → IsFound pool m (found_first pool p m words)
     → LiesWell pool (picked pool p m words).start (picked pool p m words).level
 in_found pool p m words h k found =
-    let some : Any (λ (other : Span). ((other.start == part.start) && (other.level == part.level)) ≡ true) (free_parts pool.held pool.slots) =
-    Any-from_list_any (λ (other : Span). (other.start == part.start) && (other.level == part.level)) (free_parts pool.held pool.slots) found.free in
+    let some : Any (λ (other : Span). ((other.start == part.start) && (other.level == part.level)) ≡ true)
+    (free_parts pool.held pool.slots) =
+    Any-from_list_any (λ (other : Span). (other.start == part.start) && (other.level == part.level))
+    (free_parts pool.held pool.slots) found.free in
     let both = and_parts (some.1.start == part.start) (some.1.level == part.level) some.4 in
     let start : some.1.start ≡ part.start = eqb-true some.1.start part.start both.0 in
     let level : some.1.level ≡ part.level = eqb-true some.1.level part.level both.1 in
-    let clear = lowest_is_clear pool.held pool.slots some.1 (max part.level p) (some.0, some.2, some.3) (omega (arith, level)) (omega (arith, found.serves)) in
-    subst (λ (n : ℕ). LiesWell pool n (max part.level p)) start (record { clear = clear.empty; slot = inl clear.reserved })
+    let clear =
+    lowest_is_clear pool.held pool.slots some.1 (max part.level p) (some.0, some.2, some.3) (omega (arith, level))
+    (omega (arith, found.serves)) in
+    subst (λ (n : ℕ). LiesWell pool n (max part.level p)) start
+    (record { clear = clear.empty; slot = inl clear.reserved })
   where
     part : Span
     part = found_first pool p m words
@@ -63,21 +70,30 @@ in_found pool p m words h k found =
 pub slot_of_root : (n : ℕ) → slot_of (n * node_words) ≡ n
 slot_of_root n = omega arith
 
-is_room_left : (room : Bool) (slots limit : ℕ) → room ≡ false → (not room && (slots == limit)) ≡ false → slots ≤ limit → slots < limit
+is_room_left : (room : Bool) (slots limit : ℕ) → room ≡ false → (not room && (slots == limit)) ≡ false → slots ≤ limit
+    → slots < limit
 is_room_left true slots limit none unmet h = absurd (cc)
 is_room_left false slots limit none unmet h = elim (cases_eq slots limit) [
   | inl same ↦ absurd (both_ways (slots == limit) unmet (eq-eqb slots limit same))
   | inr other ↦ omega (arith, other)
 ]
 
-in_new_root : (pool : PoolState) (p m words : ℕ) → p ≤ m → m ≤ 12 → IsSoundPool pool → meets_reserve_limit pool m ≡ false
+in_new_root : (pool : PoolState) (p m words : ℕ) → p ≤ m → m ≤ 12 → IsSoundPool pool
+    → meets_reserve_limit pool m ≡ false
     → (candidates pool p m words ≡ []) × (found_first pool p m words ≡ new_root pool)
     → LiesWell pool (picked pool p m words).start (picked pool p m words).level
 in_new_root pool p m words h k sound unmet none = record {
   clear = new_slot_is_clear pool.slots pool.held (picked pool p m words).start (picked pool p m words).level
-      (recursion_from_All (λ (chunk : Chunk). IsPart chunk.start chunk.level) pool.held sound.held.parts) sound.held.reserved
-      (picked_is_part pool p m words h k) (ap (is_reserved pool.slots) at ∙ lowest_is_not_reserved pool.slots (sorted_from_strictly_increasing pool.slots sound.slots));
-  slot = inr (omega (arith, at, lowest_within pool.slots), is_room_left (has_room pool m) (length pool.slots) (node_limit pool) no_room unmet sound.reserved);
+      (recursion_from_All (λ (chunk : Chunk). IsPart chunk.start chunk.level) pool.held sound.held.parts)
+      sound.held.reserved
+      (picked_is_part pool p m words h k)
+      (ap (is_reserved pool.slots) at ∙ lowest_is_not_reserved pool.slots
+      (sorted_from_strictly_increasing pool.slots sound.slots));
+  slot = inr (
+    omega (arith, at, lowest_within pool.slots),
+    is_room_left (has_room pool m) (length pool.slots)
+        (node_limit pool) no_room unmet sound.reserved,
+  );
 }
   where
     at : slot_of (picked pool p m words).start ≡ lowest_unreserved pool.slots
@@ -87,7 +103,8 @@ in_new_root pool p m words h k sound unmet none = record {
     no_room = false_from_ne_true (has_room pool m) (λ room. room_is_found pool p m words room none.0)
 
 -- So the chunk that a request is lent.
-pub taken_is_lendable : (pool : PoolState) (p m words : ℕ) (chunk : Chunk) → IsSoundPool pool → p ≤ m → m ≤ 12 → 1 ≤ words
+pub taken_is_lendable : (pool : PoolState) (p m words : ℕ) (chunk : Chunk) → IsSoundPool pool → p ≤ m → m ≤ 12
+    → 1 ≤ words
     → words ≤ size_of m
     → taken pool p m words ≡ Ok chunk → IsLendable pool chunk
 taken_is_lendable pool p m words chunk sound h k some fits is = subst (IsLendable pool) (sym its.is) (record {

@@ -4,7 +4,8 @@ use Rattle.metarun.proofs.devices.read_text.Given as goal
 
 -- what was read so far is the beginning of the input
 abbrev pub invariant-loop-piece : goal.invariant-loop-piece
-invariant-loop-piece g l = (vec_len l.text ≤ 8100001) × Consumes (g.R.Read.remaining l.fn.input) (g.R.Read.remaining l.input) l.text.items
+invariant-loop-piece g l =
+    (vec_len l.text ≤ 8100001) × Consumes (g.R.Read.remaining l.fn.input) (g.R.Read.remaining l.input) l.text.items
 
 abbrev pub decreases-loop-piece : goal.decreases-loop-piece
 decreases-loop-piece g l = 8100001 - vec_len l.text

@@ -5,5 +5,6 @@ use Rattle.metarun.proofs.options.number_given.Goals as goal
 
 pub returns-clause-given : goal.returns-clause-given
 returns-clause-given c = λ number small text.
-    decimal_is_read _ (λ bs r. ParsesUnsigned 64 10 bs r × ExplainsUnsignedError 10 bs r × HasUnsignedDigitsIfOk bs r) number
+    decimal_is_read _ (λ bs r. ParsesUnsigned 64 10 bs r × ExplainsUnsignedError 10 bs r × HasUnsignedDigitsIfOk bs r)
+    number
     c.get_one.result small (λ digits parsed gives. gives.0) (c.get_one.ensures.value (decimal number) text)

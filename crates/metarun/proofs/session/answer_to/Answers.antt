@@ -10,7 +10,9 @@ pub returns-in_err-trace-clause-err : goal.returns-in_err-trace-clause-err
 returns-in_err-trace-clause-err g c =
     let told = err_from_is_err_and c.from_residual-in_err-trace.result c.from_residual-in_err-trace.ensures.1 in
     let length_is = c.in_ok-text.text.ok.0 in
-    let blames = subst (λ (bytes : List ℕ). BlamesText bytes c.in_err-trace.field-0.0) c.deref.ensures.value c.in_err-trace.ensures.faults in
+    let blames =
+    subst (λ (bytes : List ℕ). BlamesText bytes c.in_err-trace.field-0.0) c.deref.ensures.value
+    c.in_err-trace.ensures.faults in
     rw (told.1, told.2) (blames_whole _ _ c.in_ok-text.text.items c.in_err-trace.field-0.0 (record {
       beginning = c.in_ok-text.ensures.bytes;
       most = omega (arith, length_is, c.in_ok-text.ensures.most);
@@ -27,7 +29,8 @@ returns-clause-ok g c =
     }) (record {
       trace = c.in_ok-trace.trace;
       answers = c.in_ok-replies.replies.answers.items;
-      reads = subst (λ (bytes : List ℕ). ReadsAs bytes c.in_ok-trace.trace) c.deref.ensures.value c.in_ok-trace.ensures.reads;
+      reads = subst (λ (bytes : List ℕ). ReadsAs bytes c.in_ok-trace.trace) c.deref.ensures.value
+          c.in_ok-trace.ensures.reads;
       own = c.in_ok-replies.ensures.own;
       output_is = c.in_ok-lines.ensures;
       run = run_outputs _ _ _ _ _ _ c.in_ok-lines.ensures c.in_ok-replies.ensures.run;

@@ -9,6 +9,7 @@ pub returns-in-Ok-clause-looked : goal.returns-in-Ok-clause-looked
 returns-in-Ok-clause-looked g c = record {
   served = c.in-Ok.ensures.served;
   rest = c.in-Ok.ensures.rest;
-  leaves = grown_leaves _ _ c.args.books.now c.args.chunk c.args.total c.args.may_enlarge c.args.source.now _ _ c.args.n _ c.in-Ok.ensures.grown
+  leaves = grown_leaves _ _ c.args.books.now c.args.chunk c.args.total c.args.may_enlarge c.args.source.now _ _ c.args.n
+      _ c.in-Ok.ensures.grown
       (c.in-Ok.ensures.awaits _ c.args.n (omega (arith, c.requires.asks.total_is)) c.requires.asks.total_is);
 }

@@ -19,5 +19,6 @@ pub returns-clause-takes : goal.returns-clause-takes
 returns-clause-takes g c = λ live.
     let least : c.min-wanted.result ≡ min c.in-Some.most c.next_level.result = search rules in
     takes_from _ _ c.args.books.now c.args.kind live _ _ c.args.n c.args.source.now c.take.result _ _
-    (least ∙ ap (λ (level : ℕ). min level c.next_level.result) c.in-Some.ensures.level ∙ ap (λ (level : ℕ). min (level_that_holds c.args.n) level) c.next_level.ensures)
+    (least ∙ ap (λ (level : ℕ). min level c.next_level.result) c.in-Some.ensures.level
+    ∙ ap (λ (level : ℕ). min (level_that_holds c.args.n) level) c.next_level.ensures)
     c.in-Some.ensures.level c.take.ensures.taken c.take.ensures.refused

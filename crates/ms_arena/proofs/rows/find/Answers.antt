@@ -6,12 +6,15 @@ use Rattle.ms_arena.proofs.rows.find.Goals as goal
 pub returns-in-Some-clause-found : goal.returns-in-Some-clause-found
 returns-in-Some-clause-found c =
     row_found c.args.rows.now c.place_of-place.result c.args.block c.in-Some.row.now c.place_of-place.ensures
-    (slice_get_read c.args.rows.now (length c.args.rows.now) c.place_of-place.result c.in-Some.row.now refl c.in-Some.ensures.lookup.3.0 c.in-Some.ensures.lookup.1) (sym c.if-is_block.ensures)
+    (slice_get_read c.args.rows.now (length c.args.rows.now) c.place_of-place.result c.in-Some.row.now refl
+    c.in-Some.ensures.lookup.3.0 c.in-Some.ensures.lookup.1) (sym c.if-is_block.ensures)
 
 pub returns-in_default-clause-none : goal.returns-in_default-clause-none
 returns-in_default-clause-none c =
     lacks_other c.args.rows.now c.place_of-place.result c.args.block c.in-Some.row.now c.requires
-    c.place_of-place.ensures (slice_get_read c.args.rows.now (length c.args.rows.now) c.place_of-place.result c.in-Some.row.now refl c.in-Some.ensures.lookup.3.0 c.in-Some.ensures.lookup.1) (sym c.if-is_block.ensures)
+    c.place_of-place.ensures
+    (slice_get_read c.args.rows.now (length c.args.rows.now) c.place_of-place.result c.in-Some.row.now refl
+    c.in-Some.ensures.lookup.3.0 c.in-Some.ensures.lookup.1) (sym c.if-is_block.ensures)
 
 pub returns-in_default-2-clause-none : goal.returns-in_default-2-clause-none
 returns-in_default-2-clause-none c =

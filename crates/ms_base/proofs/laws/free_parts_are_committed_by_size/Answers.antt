@@ -6,4 +6,5 @@ use Rattle.ms_base.proofs.laws.free_parts_are_committed_by_size.Goals as goal
 
 pub returns : goal.returns
 returns c = λ pool part number sound listed meets. committed_by_size pool part number sound
-    (All-contains (IsFreePart pool.held pool.slots) (free_parts pool.held pool.slots) part (listed_is_free pool.held pool.slots) listed) meets
+    (All-contains (IsFreePart pool.held pool.slots) (free_parts pool.held pool.slots) part
+    (listed_is_free pool.held pool.slots) listed) meets

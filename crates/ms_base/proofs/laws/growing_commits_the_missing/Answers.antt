@@ -2,4 +2,6 @@ use Rattle.ms_base.proofs.granules.GranuleGrowingLemmas.{growing_commits_the_mis
 use Rattle.ms_base.proofs.laws.growing_commits_the_missing.Goals as goal
 
 pub returns : goal.returns
-returns c = λ pool place was chunk sound found grows placed within. growing_commits_the_missing pool place was chunk sound found grows placed within
+returns c =
+    λ pool place was chunk sound found grows placed within. growing_commits_the_missing pool place was chunk sound found
+    grows placed within

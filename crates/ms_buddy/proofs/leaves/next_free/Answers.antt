@@ -17,7 +17,8 @@ returns-in-Free-clause-stack g c =
 pub returns-in-Free-clause-next : goal.returns-in-Free-clause-next
 returns-in-Free-clause-next g c =
     let turn = at_turn _ _ _ _ c.in-Some.ensures.items c.in-Some-top.is c.loop-top.invariant.0 in
-    sym c.loop-top.invariant.1 ∙ whole_next _ _ _ c.part.result turn c.in-Free.is c.part.ensures.start c.part.ensures.level
+    sym c.loop-top.invariant.1
+    ∙ whole_next _ _ _ c.part.result turn c.in-Free.is c.part.ensures.start c.part.ensures.level
 
 pub overflow_add-level : goal.overflow_add-level
 overflow_add-level g c =
@@ -81,12 +82,15 @@ loop-top-preserved g c =
     (on.stack, on.left ∙ c.loop-top.invariant.1)
 
 pub returns-in_default-top-clause-stack : goal.returns-in_default-top-clause-stack
-returns-in_default-top-clause-stack g c = absurd (gap_absurd _ _ _ c.in-Some.ensures.items c.in_default-top.is c.loop-top.invariant.0)
+returns-in_default-top-clause-stack g c =
+    absurd (gap_absurd _ _ _ c.in-Some.ensures.items c.in_default-top.is c.loop-top.invariant.0)
 
 pub returns-in_default-top-clause-next : goal.returns-in_default-top-clause-next
-returns-in_default-top-clause-next g c = absurd (gap_absurd _ _ _ c.in-Some.ensures.items c.in_default-top.is c.loop-top.invariant.0)
+returns-in_default-top-clause-next g c =
+    absurd (gap_absurd _ _ _ c.in-Some.ensures.items c.in_default-top.is c.loop-top.invariant.0)
 
 pub returns-clause-next : goal.returns-clause-next
 returns-clause-next g c =
-    let none = at_end c.loop-top.stack.items c.pop.new.self.items c.in_default.ensures.variant.1 c.in_default.ensures.items in
+    let none =
+    at_end c.loop-top.stack.items c.pop.new.self.items c.in_default.ensures.variant.1 c.in_default.ensures.items in
     (sym c.loop-top.invariant.1 ∙ none.0, none.1)

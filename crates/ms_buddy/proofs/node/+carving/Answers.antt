@@ -14,34 +14,51 @@ Node::carve-returns-then-number-level-clause-answers g t c =
 
 pub carve_in_half-carve-requires : goal.carve_in_half-carve-requires
 carve_in_half-carve-requires g t c κs within =
-    let may = lower_may c.args.span c.args.level c.args.start _ _ c.requires.part c.requires.low c.half_of.ensures.size c.if-span-middle.true in
+    let may =
+    lower_may c.args.span c.args.level c.args.start _ _ c.requires.part c.requires.low c.half_of.ensures.size
+    c.if-span-middle.true in
     (omega arith, (search rules, (search rules, may)))
 
 pub carve_in_half-carve-requires-else-span-middle : goal.carve_in_half-carve-requires-else-span-middle
 carve_in_half-carve-requires-else-span-middle g t c κs within =
-    let may = upper_may c.args.span c.args.level c.args.start _ _ c.requires.part c.requires.low c.half_of.ensures.size (omega arith) in
+    let may =
+    upper_may c.args.span c.args.level c.args.start _ _ c.requires.part c.requires.low c.half_of.ensures.size
+    (omega arith) in
     (omega arith, (search rules, (search rules, may)))
 
 pub carve_in_half-returns-in-Ok-clause-lent : goal.carve_in_half-returns-in-Ok-clause-lent
 carve_in_half-returns-in-Ok-clause-lent g t c =
-    let halves = halves_at c.args.level c.args.start _ _ c.args.lower.now c.args.upper.now c.requires.halves c.half_of.ensures.size in
-    lower_added (leaf_of c.args.span c.args.owner c.args.front) _ _ _ _ _ c.carve.new.self halves c.if-span-middle.true c.in-Ok.ensures.lent
+    let halves =
+    halves_at c.args.level c.args.start _ _ c.args.lower.now c.args.upper.now c.requires.halves
+    c.half_of.ensures.size in
+    lower_added (leaf_of c.args.span c.args.owner c.args.front) _ _ _ _ _ c.carve.new.self halves c.if-span-middle.true
+    c.in-Ok.ensures.lent
 
 pub carve_in_half-returns-in-Ok-carve-clause-lent : goal.carve_in_half-returns-in-Ok-carve-clause-lent
 carve_in_half-returns-in-Ok-carve-clause-lent g t c =
-    let halves = halves_at c.args.level c.args.start _ _ c.args.lower.now c.args.upper.now c.requires.halves c.half_of.ensures.size in
-    upper_added (leaf_of c.args.span c.args.owner c.args.front) _ _ _ _ _ c.carve-else-span-middle.new.self halves (omega arith) c.in-Ok-carve.ensures.lent
+    let halves =
+    halves_at c.args.level c.args.start _ _ c.args.lower.now c.args.upper.now c.requires.halves
+    c.half_of.ensures.size in
+    upper_added (leaf_of c.args.span c.args.owner c.args.front) _ _ _ _ _ c.carve-else-span-middle.new.self halves
+    (omega arith) c.in-Ok-carve.ensures.lent
 
 pub carve_in_half-returns-in-Err-clause-answers : goal.carve_in_half-returns-in-Err-clause-answers
 carve_in_half-returns-in-Err-clause-answers g t c =
-    let halves = halves_at c.args.level c.args.start _ _ c.args.lower.now c.args.upper.now c.requires.halves c.half_of.ensures.size in
+    let halves =
+    halves_at c.args.level c.args.start _ _ c.args.lower.now c.args.upper.now c.requires.halves
+    c.half_of.ensures.size in
     let fits = lower_fits c.args.span _ _ _ _ _ halves c.if-span-middle.true in
     let whole = lower_is_free c.args.span _ _ _ _ _ halves c.if-span-middle.true in
     record { room = search rules; refusal = same_refusal c.args.span _ _ fits whole _ c.in-Err.ensures.answers.refusal }
 
 pub carve_in_half-returns-in-Err-carve-clause-answers : goal.carve_in_half-returns-in-Err-carve-clause-answers
 carve_in_half-returns-in-Err-carve-clause-answers g t c =
-    let halves = halves_at c.args.level c.args.start _ _ c.args.lower.now c.args.upper.now c.requires.halves c.half_of.ensures.size in
+    let halves =
+    halves_at c.args.level c.args.start _ _ c.args.lower.now c.args.upper.now c.requires.halves
+    c.half_of.ensures.size in
     let fits = upper_fits c.args.span _ _ _ _ _ halves (omega arith) in
     let whole = upper_is_free c.args.span _ _ _ _ _ halves (omega arith) in
-    record { room = search rules; refusal = same_refusal c.args.span _ _ fits whole _ c.in-Err-carve.ensures.answers.refusal }
+    record {
+      room = search rules;
+      refusal = same_refusal c.args.span _ _ fits whole _ c.in-Err-carve.ensures.answers.refusal;
+    }

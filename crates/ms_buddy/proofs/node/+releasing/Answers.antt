@@ -10,7 +10,9 @@ use Rattle.ms_buddy.proofs.node.+releasing.Goals as goal
 
 pub release_in_half-release-freed-requires : goal.release_in_half-release-freed-requires
 release_in_half-release-freed-requires g t c κs within =
-    let halves = halves_at c.args.level c.args.start _ _ c.args.lower.now c.args.upper.now c.requires.halves c.half_of.ensures.size in (
+    let halves =
+    halves_at c.args.level c.args.start _ _ c.args.lower.now c.args.upper.now c.requires.halves
+    c.half_of.ensures.size in (
       omega arith,
       (
         search rules,
@@ -26,7 +28,9 @@ release_in_half-release-freed-requires g t c κs within =
 
 pub release_in_half-release-freed-requires-else-span-middle : goal.release_in_half-release-freed-requires-else-span-middle
 release_in_half-release-freed-requires-else-span-middle g t c κs within =
-    let halves = halves_at c.args.level c.args.start _ _ c.args.lower.now c.args.upper.now c.requires.halves c.half_of.ensures.size in (
+    let halves =
+    halves_at c.args.level c.args.start _ _ c.args.lower.now c.args.upper.now c.requires.halves
+    c.half_of.ensures.size in (
       omega arith,
       (
         search rules,
@@ -42,19 +46,27 @@ release_in_half-release-freed-requires-else-span-middle g t c κs within =
 
 pub release_in_half-returns-then-span-middle-clause-lent : goal.release_in_half-returns-then-span-middle-clause-lent
 release_in_half-returns-then-span-middle-clause-lent g t c =
-    let halves = halves_at c.args.level c.args.start _ _ c.args.lower.now c.args.upper.now c.requires.halves c.half_of.ensures.size in
-    lower_changed _ _ _ _ _ c.release-freed.new.self _ _ (without_acts c.args.span) halves c.if-span-middle.true c.release-freed.ensures.lent
+    let halves =
+    halves_at c.args.level c.args.start _ _ c.args.lower.now c.args.upper.now c.requires.halves
+    c.half_of.ensures.size in
+    lower_changed _ _ _ _ _ c.release-freed.new.self _ _ (without_acts c.args.span) halves c.if-span-middle.true
+    c.release-freed.ensures.lent
 
 pub release_in_half-returns-else-span-middle-clause-lent : goal.release_in_half-returns-else-span-middle-clause-lent
 release_in_half-returns-else-span-middle-clause-lent g t c =
-    let halves = halves_at c.args.level c.args.start _ _ c.args.lower.now c.args.upper.now c.requires.halves c.half_of.ensures.size in
+    let halves =
+    halves_at c.args.level c.args.start _ _ c.args.lower.now c.args.upper.now c.requires.halves
+    c.half_of.ensures.size in
     upper_changed _ _ _ _ _ c.release-freed-else-span-middle.new.self _ _ (without_acts c.args.span) halves
     (omega arith) c.release-freed-else-span-middle.ensures.lent
 
 pub release_in_half-returns-then-span-middle-clause-free : goal.release_in_half-returns-then-span-middle-clause-free
 release_in_half-returns-then-span-middle-clause-free g t c =
-    passed_on _ _ (λ freed. find (covers c.args.span.start) (free_in_halves c.args.level c.args.start c.release-freed.new.self c.args.upper.now) ≡ Some freed)
-    c.unless_free.ensures.same (lower_found _ _ _ c.release-freed.new.self c.args.upper.now _ c.release-freed.ensures.free)
+    passed_on _ _
+    (λ freed. find (covers c.args.span.start)
+    (free_in_halves c.args.level c.args.start c.release-freed.new.self c.args.upper.now) ≡ Some freed)
+    c.unless_free.ensures.same
+    (lower_found _ _ _ c.release-freed.new.self c.args.upper.now _ c.release-freed.ensures.free)
 
 pub release_in_half-returns-else-span-middle-clause-free : goal.release_in_half-returns-else-span-middle-clause-free
 release_in_half-returns-else-span-middle-clause-free g t c =

@@ -6,10 +6,16 @@ use Rattle.ms_commit.proofs.mask.lowest_set.Goals as goal
 
 -- The lowest place of the word that the loop has reached is the answer.
 here : (c : goal.Then-bits-ne0) → IsLowestIn c.args.words.now c.args.first c.args.end
-    (64 * c.loop-index.index + trailing_zeros w64 (bit_and (get_or c.args.words.now c.loop-index.index 0) c.bits_between.result))
+    (64 * c.loop-index.index + trailing_zeros w64
+    (bit_and (get_or c.args.words.now c.loop-index.index 0) c.bits_between.result))
 here c =
-    lowest_here c.args.words.now c.args.first c.args.end c.loop-index.index c.bits_between.result c.bits_between.ensures (omega (arith, c.if-bits-ne0.true))
-    (omega (arith, and_le_r (get_or c.args.words.now c.loop-index.index 0) c.bits_between.result, c.bits_between.type_inv)) c.loop-index.invariant
+    lowest_here c.args.words.now c.args.first c.args.end c.loop-index.index c.bits_between.result c.bits_between.ensures
+    (omega (arith, c.if-bits-ne0.true))
+    (omega (
+      arith,
+      and_le_r (get_or c.args.words.now c.loop-index.index 0) c.bits_between.result,
+      c.bits_between.type_inv,
+    )) c.loop-index.invariant
 
 pub returns-then-bits-ne0-clause-set : goal.returns-then-bits-ne0-clause-set
 returns-then-bits-ne0-clause-set c = (here c).set

@@ -17,11 +17,16 @@ loop-name-preserved c =
     let so_far = rw c.in-Some.ensures.steps at c.loop-name.invariant in
     let with = c.with-space.ensures in
     let with_class = c.with-class_space.ensures in
-    let row = c.loader_row.ensures ∙ ap (λ (kind : Kind). row_made name kind c.totals.result.0 c.totals.result.1) c.kind.ensures
+    let row =
+    c.loader_row.ensures
+    ∙ ap (λ (kind : Kind). row_made name kind c.totals.result.0 c.totals.result.1) c.kind.ensures
     ∙ row_is name state c.totals.result.0 c.totals.result.1 its theirs in
     record {
-      space = leads_on NonClass _ _ c.totals.result.0 name state left all so_far.space its with.chunks with.used with.live with.free_blocks;
-      class_space = leads_on Class _ _ c.totals.result.1 name state left all so_far.class_space theirs with_class.chunks with_class.used with_class.live with_class.free_blocks;
+      space = leads_on NonClass _ _ c.totals.result.0 name state left all so_far.space its with.chunks with.used
+          with.live with.free_blocks;
+      class_space =
+          leads_on Class _ _ c.totals.result.1 name state left all so_far.class_space theirs with_class.chunks
+          with_class.used with_class.live with_class.free_blocks;
       rows = rows_lead_on _ _ _ (name, state) left all so_far.rows c.push_reserved.ensures.items row;
       room = omega (arith, so_far.room, c.push_reserved.ensures.len, c.push_reserved.ensures.capacity);
     }

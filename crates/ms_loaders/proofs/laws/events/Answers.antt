@@ -4,7 +4,8 @@ use Rattle.ms_loaders.proofs.AddableLemmas.{taking_is_addable}
 use Rattle.ms_loaders.proofs.laws.events.Goals as goal
 
 pub returns-clause-serial : goal.returns-clause-serial
-returns-clause-serial c = λ old new moments good follow spread. spreads_are_serial taking_is_addable old new moments good follow spread
+returns-clause-serial c =
+    λ old new moments good follow spread. spreads_are_serial taking_is_addable old new moments good follow spread
 
 pub returns-clause-given_back : goal.returns-clause-given_back
 returns-clause-given_back c = λ m good none. nothing_is_left m good none

@@ -15,7 +15,11 @@ returns-then-not-is_reserved-clause-lowest c =
     let gone : is_reserved (all_slots nodes) slot ≡ false = sym c.is_reserved.ensures ∙ c.if-not-is_reserved.true in
     sym (lowest_unreserved-is nodes.slots slot (sym (reserved_low nodes slot low) ∙ gone)
     (λ k below. sym (reserved_low nodes k (omega (arith, below, low))) ∙ c.loop-slot.invariant k below)
-    (omega (arith, ap length (slots_are NonClass nodes c.requires.sound), length_from_full (is_reserved (all_slots nodes)) slot 64 (omega (arith, low)) c.loop-slot.invariant)))
+    (omega (
+      arith,
+      ap length (slots_are NonClass nodes c.requires.sound),
+      length_from_full (is_reserved (all_slots nodes)) slot 64 (omega (arith, low)) c.loop-slot.invariant,
+    )))
 
 pub returns : goal.returns
 returns c =
@@ -25,5 +29,6 @@ returns c =
       ap length (slots_are NonClass nodes c.requires.sound),
       c.requires.few,
       c.requires.left,
-      length_from_full (is_reserved (all_slots nodes)) 64 64 (omega arith) (λ k below. c.loop-slot.invariant k (omega (arith, below, c.loop-slot-test.false))),
+      length_from_full (is_reserved (all_slots nodes)) 64 64 (omega arith)
+          (λ k below. c.loop-slot.invariant k (omega (arith, below, c.loop-slot-test.false))),
     ))

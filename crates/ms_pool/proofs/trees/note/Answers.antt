@@ -6,7 +6,9 @@ use Rattle.ms_pool.proofs.trees.note.Goals as goal
 pub loop-level-preserved : goal.loop-level-preserved
 loop-level-preserved c = elim c.if-levels-level-eq1.branch [
   | then-levels-level-eq1 w ↦ rw w.roots-is
-      (one_told _ _ w.insert_range.new.self _ _ _ true c.requires c.loop-level.invariant (tells_set _ _ _ w.insert_range.ensures.added) (bit_set _ _ w.if-levels-level-eq1.true))
+      (one_told _ _ w.insert_range.new.self _ _ _ true c.requires c.loop-level.invariant
+      (tells_set _ _ _ w.insert_range.ensures.added) (bit_set _ _ w.if-levels-level-eq1.true))
   | else-levels-level-eq1 w ↦ rw w.roots-is
-      (one_told _ _ w.remove_range.new.self _ _ _ false c.requires c.loop-level.invariant (tells_clear _ _ _ w.remove_range.ensures.removed) (bit_clear _ _ w.if-levels-level-eq1.false))
+      (one_told _ _ w.remove_range.new.self _ _ _ false c.requires c.loop-level.invariant
+      (tells_clear _ _ _ w.remove_range.ensures.removed) (bit_clear _ _ w.if-levels-level-eq1.false))
 ]

@@ -9,14 +9,22 @@ use Rattle.ms_pool.proofs.ReleasedTreeLemmas.{leaf_there, place_in, released_loa
 use Rattle.ms_pool.proofs.trees.put_back_leaf.Goals as goal
 
 pub index_mut-tree-requires : goal.index_mut-tree-requires
-index_mut-tree-requires c = omega (arith, c.args.trees.now.ok.0, (leaf_there c.args.trees.now.items c.args.chunk.now (recursion_from_All AreLeaves c.args.trees.now.items c.requires.leaves) c.requires.lent).0)
+index_mut-tree-requires c =
+    omega (
+      arith,
+      c.args.trees.now.ok.0,
+      (leaf_there c.args.trees.now.items c.args.chunk.now
+          (recursion_from_All AreLeaves c.args.trees.now.items c.requires.leaves) c.requires.lent).0,
+    )
 
 pub release-part-requires : goal.release-part-requires
 release-part-requires c =
     let trees = c.args.trees.now.items in
     let chunk = c.args.chunk.now in
     let there = leaf_there trees chunk (recursion_from_All AreLeaves trees c.requires.leaves) c.requires.lent in
-    ap (λ (tree : List LentLeaf). is_lent tree (place_in chunk)) (get_or_read trees (chunk.start / root_words) c.index_mut-tree.result.now there.0 c.index_mut-tree.ensures.value []) ∙ there.1
+    ap (λ (tree : List LentLeaf). is_lent tree (place_in chunk))
+    (get_or_read trees (chunk.start / root_words) c.index_mut-tree.result.now there.0 c.index_mut-tree.ensures.value
+    []) ∙ there.1
 
 pub returns-clause-loans : goal.returns-clause-loans
 returns-clause-loans c =
@@ -26,11 +34,15 @@ returns-clause-loans c =
     let there = leaf_there trees chunk (recursion_from_All AreLeaves trees c.requires.leaves) c.requires.lent in
     ap (λ (tree : List LentLeaf). loans_from 0 (set trees root tree))
     (c.release-part.ensures.lent
-    ∙ ap (without_leaf (place_in chunk)) (get_or_read trees root c.index_mut-tree.result.now there.0 c.index_mut-tree.ensures.value []))
-    ∙ released_loans trees root chunk (place_in chunk) there.0 (recursion_from_All AreLeaves trees c.requires.leaves) (omega arith) refl (omega arith)
+    ∙ ap (without_leaf (place_in chunk))
+    (get_or_read trees root c.index_mut-tree.result.now there.0 c.index_mut-tree.ensures.value []))
+    ∙ released_loans trees root chunk (place_in chunk) there.0 (recursion_from_All AreLeaves trees c.requires.leaves)
+    (omega arith) refl (omega arith)
 
 pub returns-clause-there : goal.returns-clause-there
-returns-clause-there c = (leaf_there c.args.trees.now.items c.args.chunk.now (recursion_from_All AreLeaves c.args.trees.now.items c.requires.leaves) c.requires.lent).0
+returns-clause-there c =
+    (leaf_there c.args.trees.now.items c.args.chunk.now
+    (recursion_from_All AreLeaves c.args.trees.now.items c.requires.leaves) c.requires.lent).0
 
 pub returns-clause-free : goal.returns-clause-free
 returns-clause-free c =

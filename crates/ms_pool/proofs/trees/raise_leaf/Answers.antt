@@ -1,4 +1,5 @@
-use Rattle.std.proofs.Common.{◌≡◌, ◌<◌, ◌+◌, ◌*◌, ◌/◌, ◌%◌, [], List, length, set, sym, ap, subst, ◌∙◌, arith, eq-eqb, eqb-true}
+use Rattle.std.proofs.Common.{◌≡◌, ◌<◌, ◌+◌, ◌*◌, ◌/◌, ◌%◌, [], List, length, set, sym, ap, subst, ◌∙◌, arith, eq-eqb}
+use Rattle.std.proofs.Common.{eqb-true}
 use Rattle.std.specs.Prelude.{OnOk}
 use Rattle.std.proofs.lemmas.List.{get_or_read}
 use Rattle.std.proofs.lemmas.List.Elements.{recursion_from_All}
@@ -11,7 +12,8 @@ use Rattle.ms_pool.proofs.trees.raise_leaf.Goals as goal
 
 pub enlarge-requires-clause-within : goal.enlarge-requires-clause-within
 enlarge-requires-clause-within c =
-    grown_size c.args.chunk.now.level c.args.greater.now.level c.args.greater.now.front _ c.requires.may.within c.requires.may.grows
+    grown_size c.args.chunk.now.level c.args.greater.now.level c.args.greater.now.front _ c.requires.may.within
+    c.requires.may.grows
     (omega (arith, c.number.ensures.same, c.number.ensures.below))
 
 pub returns-clause-loans : goal.returns-clause-loans
@@ -26,9 +28,16 @@ returns-clause-loans c =
     let start : greater.start ≡ root * root_words + chunk.start % root_words = omega (arith, c.requires.may.start) in
     let leaves = recursion_from_All AreLeaves trees c.requires.leaves in
     elim c.if-eq.branch [
-      | then-eq w ↦ ap (λ (t : List LentLeaf). loans_from 0 (set trees root t)) (w.tree-is ∙ w.set_front.ensures ∙ ap (with_front part greater.front) read)
-          ∙ loans_with_front trees root part greater within leaves start (eqb-true greater.level chunk.level (sym c.eq.ensures ∙ w.if-eq.true)) (omega arith) c.requires.may.lent
+      | then-eq w ↦ ap (λ (t : List LentLeaf). loans_from 0 (set trees root t))
+          (w.tree-is ∙ w.set_front.ensures ∙ ap (with_front part greater.front) read)
+          ∙ loans_with_front trees root part greater within leaves start
+          (eqb-true greater.level chunk.level (sym c.eq.ensures ∙ w.if-eq.true)) (omega arith) c.requires.may.lent
       | else-eq+in-Ok w ↦ ap (λ (t : List LentLeaf). loans_from 0 (set trees root t))
-          (w.tree-is ∙ subst (λ r. OnOk r (w.enlarge.new.self ≡ with_parent part greater.front c.index_mut-tree.result.now)) w.in-Ok.is w.enlarge.ensures.lent ∙ ap (with_parent part greater.front) read)
-          ∙ loans_with_parent trees root part greater within leaves start (parent_level chunk.level greater.level _ c.requires.may.grows (λ same. absurd (cc (eq-eqb greater.level chunk.level same, c.eq.ensures, w.if-eq.false)))) (omega arith) c.requires.may.lent
+          (w.tree-is
+          ∙ subst (λ r. OnOk r (w.enlarge.new.self ≡ with_parent part greater.front c.index_mut-tree.result.now))
+          w.in-Ok.is w.enlarge.ensures.lent ∙ ap (with_parent part greater.front) read)
+          ∙ loans_with_parent trees root part greater within leaves start
+          (parent_level chunk.level greater.level _ c.requires.may.grows
+          (λ same. absurd (cc (eq-eqb greater.level chunk.level same, c.eq.ensures, w.if-eq.false))))
+          (omega arith) c.requires.may.lent
     ]

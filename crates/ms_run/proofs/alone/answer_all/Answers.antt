@@ -7,4 +7,5 @@ loop-line-init g c = rw c.in_ok-answers.ensures.items (refl, c.in_ok-system.ensu
 
 pub loop-line-preserved : goal.loop-line-preserved
 loop-line-preserved g c =
-    answers_next _ _ _ c.args.lines.now c.loop-line.line-index _ _ _ c.loop-line.invariant c.loop-line-test.true c.in_ok-answer_line.ensures
+    answers_next _ _ _ c.args.lines.now c.loop-line.line-index _ _ _ c.loop-line.invariant c.loop-line-test.true
+    c.in_ok-answer_line.ensures

@@ -4,22 +4,28 @@ use Rattle.ms_run.proofs.GrantLemmas.{replies_without, replies_at, replies_why}
 use Rattle.ms_run.proofs.blocks.allocate.Goals as goal
 
 pub returns-in_default-clause-refused : goal.returns-in_default-clause-refused
-returns-in_default-clause-refused g c =
-    (false, replies_without c.args.space c.args.loaders.now c.args.name c.args.block c.args.words (sym c.in_default.ensures.found))
+returns-in_default-clause-refused g c = (
+  false,
+  replies_without c.args.space c.args.loaders.now c.args.name c.args.block c.args.words
+      (sym c.in_default.ensures.found),
+)
 
 pub allocate-requires : goal.allocate-requires
 allocate-requires g c =
-    own_is_served c.args.space c.args.pool.now.knows c.args.loaders.now c.args.name c.in-Some.loader.now (sym c.in-Some.ensures.found) c.requires
+    own_is_served c.args.space c.args.pool.now.knows c.args.loaders.now c.args.name c.in-Some.loader.now
+    (sym c.in-Some.ensures.found) c.requires
 
 pub returns-in-Ok-clause-manned : goal.returns-in-Ok-clause-manned
 returns-in-Ok-clause-manned g c =
-    manned_after c.args.space c.args.pool.now c.allocate.new.source c.args.pool.now.knows.limits.policy c.args.loaders.now c.args.name
+    manned_after c.args.space c.args.pool.now c.allocate.new.source c.args.pool.now.knows.limits.policy
+    c.args.loaders.now c.args.name
     c.args.block c.args.words c.in-Some.loader.now c.allocate.new.self c.allocate.result (sym c.in-Some.ensures.found)
     c.allocate.ensures.allocates c.allocate.ensures.served c.allocate.ensures.rest c.requires
 
 pub returns-in-Ok-clause-served : goal.returns-in-Ok-clause-served
 returns-in-Ok-clause-served g c =
-    replies_at c.args.space c.args.pool.now.knows.limits.policy c.args.pool.now c.allocate.new.source c.args.loaders.now c.args.name
+    replies_at c.args.space c.args.pool.now.knows.limits.policy c.args.pool.now c.allocate.new.source c.args.loaders.now
+    c.args.name
     c.args.block c.args.words c.in-Some.loader.now c.allocate.new.self c.allocate.result c.in-Ok.made c.in-Ok.is
     (sym c.in-Some.ensures.found) c.allocate.ensures.allocates c.allocate.ensures.sound
 
@@ -28,13 +34,15 @@ returns-in-Ok-clause-others g c = others_stay c.args.loaders.now c.args.name c.a
 
 pub returns-in-Err-clause-manned : goal.returns-in-Err-clause-manned
 returns-in-Err-clause-manned g c =
-    manned_after c.args.space c.args.pool.now c.allocate.new.source c.args.pool.now.knows.limits.policy c.args.loaders.now c.args.name
+    manned_after c.args.space c.args.pool.now c.allocate.new.source c.args.pool.now.knows.limits.policy
+    c.args.loaders.now c.args.name
     c.args.block c.args.words c.in-Some.loader.now c.allocate.new.self c.allocate.result (sym c.in-Some.ensures.found)
     c.allocate.ensures.allocates c.allocate.ensures.served c.allocate.ensures.rest c.requires
 
 pub returns-in-Err-clause-refused : goal.returns-in-Err-clause-refused
 returns-in-Err-clause-refused g c =
-    replies_why c.args.space c.args.pool.now.knows.limits.policy c.args.pool.now c.allocate.new.source c.args.loaders.now c.args.name
+    replies_why c.args.space c.args.pool.now.knows.limits.policy c.args.pool.now c.allocate.new.source
+    c.args.loaders.now c.args.name
     c.args.block c.args.words c.in-Some.loader.now c.allocate.new.self c.allocate.result c.in-Err.refusal c.in-Err.is
     (sym c.in-Some.ensures.found) c.allocate.ensures.allocates
 

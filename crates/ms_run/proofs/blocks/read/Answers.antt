@@ -9,8 +9,10 @@ returns-in_default-clause-refused c = rw (own_missing c.args.loaders.now c.args.
 
 pub returns-clause-served : goal.returns-clause-served
 returns-clause-served c = ok_then _ _ c.read.result
-    (λ value word. own_read c.args.loaders.now c.args.name c.args.block c.args.index value c.in-Some.loader.now (sym c.in-Some.ensures) word) c.read.ensures.value
+    (λ value word. own_read c.args.loaders.now c.args.name c.args.block c.args.index value c.in-Some.loader.now
+    (sym c.in-Some.ensures) word) c.read.ensures.value
 
 pub returns-clause-refused : goal.returns-clause-refused
 returns-clause-refused c = err_then _ _ c.read.result
-    (λ refusal lacks. own_not_read c.args.loaders.now c.args.name c.args.block c.args.index refusal c.in-Some.loader.now (sym c.in-Some.ensures) lacks) c.read.ensures.refused
+    (λ refusal lacks. own_not_read c.args.loaders.now c.args.name c.args.block c.args.index refusal c.in-Some.loader.now
+    (sym c.in-Some.ensures) lacks) c.read.ensures.refused

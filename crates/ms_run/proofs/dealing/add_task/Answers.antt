@@ -13,7 +13,9 @@ returns-in_default c = record {
 
 pub returns-clause-added : goal.returns-clause-added
 returns-clause-added c =
-    one_added (place_in c.args.turn.now) c.args.line c.in-Step.step c.place-at.result c.args.lists.now.items c.index_mut.result.now c.push.new.self c.in-Step.is
+    one_added (place_in c.args.turn.now) c.args.line c.in-Step.step c.place-at.result c.args.lists.now.items
+    c.index_mut.result.now c.push.new.self c.in-Step.is
     (c.place-at.ensures.place ∙ ap (place_in c.args.turn.now) c.loader_named.ensures)
-    (slice_get-get_or c.args.lists.now.items c.place-at.result c.index_mut.result.now (omega (arith, c.place-at.ensures.within, c.requires.count, c.args.lists.now.ok.0))
+    (slice_get-get_or c.args.lists.now.items c.place-at.result c.index_mut.result.now
+    (omega (arith, c.place-at.ensures.within, c.requires.count, c.args.lists.now.ok.0))
     ∙ ap (λ (v : Vec Task Global). Some v) (sym c.index_mut.ensures.value)) c.in_ok-push.ensures.items

@@ -3,20 +3,31 @@ use Rattle.ms_shared.specs.SeatView.{SeatState}
 use Rattle.ms_loaders.specs.Used.{used_in}
 use Rattle.ms_run.specs.Turn.{place_in}
 use Rattle.ms_run.specs.Dealing.{Loaded}
-use Rattle.ms_run.proofs.DealLemmas.{dealing_starts, dealing_on, dealing_ends, next_free, beside_none, none_left, left_starts, left_more}
+use Rattle.ms_run.proofs.DealLemmas.{dealing_starts, dealing_on, dealing_ends, next_free, beside_none, none_left}
+use Rattle.ms_run.proofs.DealLemmas.{left_starts, left_more}
 use Rattle.ms_run.proofs.DealtUseLemmas.{shared_starts, shared_on, used_ends, meters_end}
 use Rattle.ms_run.proofs.dealing.deal_to.Goals as goal
 
 pub loop-seat-init : goal.loop-seat-init
 loop-seat-init c = (
-  dealing_starts (place_in c.args.turn.now) c.args.shared.now (vec_len c.args.seats) c.args.lines.now c.args.loaders c.args.seats.items c.remove-seat.result _ _
-      c.requires.seats c.requires.names c.remove-seat.ensures.value (c.into_iter-seat-iterator.ensures.into_iter_gives.0 ∙ c.remove-seat.ensures.items)
+  dealing_starts (place_in c.args.turn.now) c.args.shared.now (vec_len c.args.seats) c.args.lines.now c.args.loaders
+      c.args.seats.items c.remove-seat.result _ _
+      c.requires.seats c.requires.names c.remove-seat.ensures.value
+      (c.into_iter-seat-iterator.ensures.into_iter_gives.0 ∙ c.remove-seat.ensures.items)
       (sym c.args.seats.ok.0) c.in_ok-shares.ensures.items,
   omega (arith, c.len.ensures, c.in_ok-shares.ensures.capacity),
   left_starts (place_in c.args.turn.now) c.args.lines.now _ c.in_ok-lists.lists.items c.in_ok-lists.ensures.listed,
   c.in_ok-lists.ensures.count ∙ c.len-2.ensures,
   shared_starts c.args.loaders _ _ _ _ c.in_ok-shares.ensures.items c.remove-first_meter.ensures.items
-      (omega (arith, c.requires.meters, c.remove-first_meter.ensures.len, c.remove-first_meter.new.self.ok.0, c.remove-seat.ensures.len, c.remove-seat.new.self.ok.0, ap (λ (l : List SeatState). length l) c.into_iter-seat-iterator.ensures.into_iter_gives.0)),
+      (omega (
+        arith,
+        c.requires.meters,
+        c.remove-first_meter.ensures.len,
+        c.remove-first_meter.new.self.ok.0,
+        c.remove-seat.ensures.len,
+        c.remove-seat.new.self.ok.0,
+        ap (λ (l : List SeatState). length l) c.into_iter-seat-iterator.ensures.into_iter_gives.0,
+      )),
 )
 
 pub hand_all-requires-clause-crews : goal.hand_all-requires-clause-crews
@@ -25,70 +36,111 @@ hand_all-requires-clause-crews c =
     record {
       own = c.loop-seat.invariant.0.own;
       to_own = free.0;
-      beside = beside_none _ _ _ _ c.new-loaders.ensures c.loop-seat.invariant.0.manned c.loop-seat.invariant.0.names free.1;
+      beside = beside_none _ _ _ _ c.new-loaders.ensures c.loop-seat.invariant.0.manned c.loop-seat.invariant.0.names
+          free.1;
     }
 
 pub push_reserved-requires : goal.push_reserved-requires
 push_reserved-requires c =
-    omega (arith, c.loop-seat.invariant.0.count_is, ap (λ (l : List SeatState). length l) c.in-Some.ensures.steps.0, c.loop-seat.invariant.1, c.loop-seat.shares.ok.0)
+    omega (
+      arith,
+      c.loop-seat.invariant.0.count_is,
+      ap (λ (l : List SeatState). length l) c.in-Some.ensures.steps.0,
+      c.loop-seat.invariant.1,
+      c.loop-seat.shares.ok.0,
+    )
 
 pub loop-seat-preserved : goal.loop-seat-preserved
 loop-seat-preserved c = (
-  dealing_on (place_in c.args.turn.now) c.args.shared.now (vec_len c.args.seats) c.args.lines.now c.args.loaders c.loop-seat.first.seat c.hand_all.new.from.seat
-      c.loop-seat.first.loaders c.hand_all.new.from.loaders c.hand_all.new.to.seat c.hand_all.new.to.loaders c.in-Some.seat _ c.loop-seat.shares.items _ c.in_ok-share.share (c.len-at.result + 1)
-      (rw c.in-Some.ensures.steps.0 at c.loop-seat.invariant.0) (omega (arith, c.len-at.ensures, c.loop-seat.shares.ok.0))
+  dealing_on (place_in c.args.turn.now) c.args.shared.now (vec_len c.args.seats) c.args.lines.now c.args.loaders
+      c.loop-seat.first.seat c.hand_all.new.from.seat
+      c.loop-seat.first.loaders c.hand_all.new.from.loaders c.hand_all.new.to.seat c.hand_all.new.to.loaders
+      c.in-Some.seat _ c.loop-seat.shares.items _ c.in_ok-share.share (c.len-at.result + 1)
+      (rw c.in-Some.ensures.steps.0 at c.loop-seat.invariant.0)
+      (omega (arith, c.len-at.ensures, c.loop-seat.shares.ok.0))
       c.in_ok-hand_all.ensures.crews c.in_ok-hand_all.ensures.handed
       (record {
         seat_is = c.in_ok-share.ensures.seat;
         loaders_are = c.in_ok-share.ensures.loaders;
-        tasks = c.in_ok-share.ensures.tasks ∙ c.loop-seat.invariant.2 (c.len-at.result + 1) c.take_list-tasks.result (inr (omega (arith, c.len-at.ensures))) c.take_list-tasks.ensures.taken;
+        tasks = c.in_ok-share.ensures.tasks
+            ∙ c.loop-seat.invariant.2 (c.len-at.result + 1) c.take_list-tasks.result
+            (inr (omega (arith, c.len-at.ensures))) c.take_list-tasks.ensures.taken;
         room = c.in_ok-share.ensures.room;
         none = c.in_ok-share.ensures.none;
       }) c.push_reserved.ensures.items,
   omega (arith, c.push_reserved.ensures.capacity, c.loop-seat.invariant.1),
-  left_more (place_in c.args.turn.now) c.args.lines.now (vec_len c.loop-seat.shares) _ (c.len-at.result + 1) c.loop-seat.lists.items c.take_list-tasks.new.lists.items c.loop-seat.invariant.2
+  left_more (place_in c.args.turn.now) c.args.lines.now (vec_len c.loop-seat.shares) _
+      (c.len-at.result + 1) c.loop-seat.lists.items c.take_list-tasks.new.lists.items c.loop-seat.invariant.2
       c.push_reserved.ensures.len (omega (arith, c.len-at.ensures)) c.take_list-tasks.ensures.others,
   c.take_list-tasks.ensures.count ∙ c.loop-seat.invariant.3,
-  shared_on c.args.loaders c.loop-seat.first.loaders c.hand_all.new.from.loaders c.hand_all.new.to.loaders _ c.loop-seat.meters.items _ c.remove-meter.result c.in-Some.seat _
+  shared_on c.args.loaders c.loop-seat.first.loaders c.hand_all.new.from.loaders c.hand_all.new.to.loaders _
+      c.loop-seat.meters.items _ c.remove-meter.result c.in-Some.seat _
       c.loop-seat.shares.items _ c.in_ok-share.share (rw c.in-Some.ensures.steps.0 at c.loop-seat.invariant.4)
       (omega (arith, c.in_ok-hand_all.ensures.used, ap (λ (l : Loaded). used_in l) c.new-loaders.ensures))
-      c.remove-meter.ensures.value c.remove-meter.ensures.items c.in_ok-share.ensures.loaders c.in_ok-share.ensures.meter c.push_reserved.ensures.items,
+      c.remove-meter.ensures.value c.remove-meter.ensures.items c.in_ok-share.ensures.loaders
+      c.in_ok-share.ensures.meter c.push_reserved.ensures.items,
 )
 
 pub returns-in-Ok-clause-dealt : goal.returns-in-Ok-clause-dealt
 returns-in-Ok-clause-dealt c =
-    dealing_ends (place_in c.args.turn.now) c.args.shared.now (vec_len c.args.seats) c.args.lines.now c.args.loaders c.loop-seat.first.seat c.loop-seat.first.loaders
+    dealing_ends (place_in c.args.turn.now) c.args.shared.now (vec_len c.args.seats) c.args.lines.now c.args.loaders
+    c.loop-seat.first.seat c.loop-seat.first.loaders
     c.loop-seat.seat-iterator.rest.items c.loop-seat.shares.items _ c.in_ok-share-2.share
-    (none_left c.loop-seat.seat-iterator.rest.items (sym c.loop-seat.seat-iterator.rest.ok.0 ∙ c.in-None.ensures.steps.0))
+    (none_left c.loop-seat.seat-iterator.rest.items
+    (sym c.loop-seat.seat-iterator.rest.ok.0 ∙ c.in-None.ensures.steps.0))
     c.loop-seat.invariant.0
     (record {
       seat_is = c.in_ok-share-2.ensures.seat;
       loaders_are = c.in_ok-share-2.ensures.loaders;
-      tasks = c.in_ok-share-2.ensures.tasks ∙ c.loop-seat.invariant.2 0 c.take_list-tasks-2.result (inl refl) c.take_list-tasks-2.ensures.taken;
+      tasks = c.in_ok-share-2.ensures.tasks
+          ∙ c.loop-seat.invariant.2 0 c.take_list-tasks-2.result (inl refl) c.take_list-tasks-2.ensures.taken;
       room = c.in_ok-share-2.ensures.room;
       none = c.in_ok-share-2.ensures.none;
     }) c.in-Ok.ensures.items
 
 pub take_list-tasks-requires : goal.take_list-tasks-requires
 take_list-tasks-requires c = record {
-  within = omega (arith, c.loop-seat.invariant.0.count_is, ap (λ (l : List SeatState). length l) c.in-Some.ensures.steps.0, c.loop-seat.shares.ok.0, c.len-at.ensures, c.loop-seat.invariant.3);
+  within = omega (
+    arith,
+    c.loop-seat.invariant.0.count_is,
+    ap (λ (l : List SeatState). length l) c.in-Some.ensures.steps.0,
+    c.loop-seat.shares.ok.0,
+    c.len-at.ensures,
+    c.loop-seat.invariant.3,
+  );
 }
 
 pub take_list-tasks-requires-2 : goal.take_list-tasks-requires-2
-take_list-tasks-requires-2 c = record { within = omega (arith, c.loop-seat.invariant.0.count_is, c.loop-seat.invariant.3) }
+take_list-tasks-requires-2 c =
+    record { within = omega (arith, c.loop-seat.invariant.0.count_is, c.loop-seat.invariant.3) }
 
 pub remove-meter-requires : goal.remove-meter-requires
 remove-meter-requires c =
-    omega (arith, c.loop-seat.meters.ok.0, c.loop-seat.invariant.4.count, ap (λ (l : List SeatState). length l) c.in-Some.ensures.steps.0)
+    omega (
+      arith,
+      c.loop-seat.meters.ok.0,
+      c.loop-seat.invariant.4.count,
+      ap (λ (l : List SeatState). length l) c.in-Some.ensures.steps.0,
+    )
 
 pub returns-in-Ok-clause-meters : goal.returns-in-Ok-clause-meters
 returns-in-Ok-clause-meters c =
-    meters_end c.args.loaders c.loop-seat.first.loaders c.args.meters.items _ c.remove-first_meter.result c.loop-seat.seat-iterator.rest.items c.loop-seat.shares.items _ c.in_ok-share-2.share
-    c.loop-seat.invariant.4 (none_left c.loop-seat.seat-iterator.rest.items (sym c.loop-seat.seat-iterator.rest.ok.0 ∙ c.in-None.ensures.steps.0))
-    (omega (arith, c.args.meters.ok.0, c.requires.meters, c.args.seats.ok.0, ap (λ (l : List SeatState). length l) c.requires.seats.are))
+    meters_end c.args.loaders c.loop-seat.first.loaders c.args.meters.items _ c.remove-first_meter.result
+    c.loop-seat.seat-iterator.rest.items c.loop-seat.shares.items _ c.in_ok-share-2.share
+    c.loop-seat.invariant.4
+    (none_left c.loop-seat.seat-iterator.rest.items
+    (sym c.loop-seat.seat-iterator.rest.ok.0 ∙ c.in-None.ensures.steps.0))
+    (omega (
+      arith,
+      c.args.meters.ok.0,
+      c.requires.meters,
+      c.args.seats.ok.0,
+      ap (λ (l : List SeatState). length l) c.requires.seats.are,
+    ))
     c.remove-first_meter.ensures.value c.in_ok-share-2.ensures.meter c.in-Ok.ensures.items
 
 pub returns-in-Ok-clause-used : goal.returns-in-Ok-clause-used
 returns-in-Ok-clause-used c =
-    used_ends c.args.loaders c.loop-seat.first.loaders _ _ c.loop-seat.seat-iterator.rest.items c.loop-seat.shares.items _ c.in_ok-share-2.share
+    used_ends c.args.loaders c.loop-seat.first.loaders _ _ c.loop-seat.seat-iterator.rest.items c.loop-seat.shares.items
+    _ c.in_ok-share-2.share
     c.loop-seat.invariant.4 c.in_ok-share-2.ensures.loaders c.in-Ok.ensures.items

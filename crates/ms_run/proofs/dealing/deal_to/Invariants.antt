@@ -6,8 +6,10 @@ use Rattle.ms_run.proofs.dealing.deal_to.Given as goal
 
 abbrev pub invariant-loop-seat : goal.invariant-loop-seat
 invariant-loop-seat l =
-    IsDealing (place_in l.turn) l.shared (vec_len l.fn.seats) l.lines l.fn.loaders l.first.seat l.first.loaders l.seat-iterator.rest.items l.shares.items
+    IsDealing (place_in l.turn) l.shared (vec_len l.fn.seats) l.lines l.fn.loaders l.first.seat l.first.loaders
+    l.seat-iterator.rest.items l.shares.items
     × (vec_len l.fn.seats ≤ vec_capacity l.shares)
     × AreLeft (place_in l.turn) l.lines (vec_len l.shares) l.lists.items
     × (vec_len l.lists ≡ vec_len l.fn.seats)
-    × IsShared l.fn.loaders (drop 1 l.fn.meters.items) l.first.loaders l.meters.items l.seat-iterator.rest.items l.shares.items
+    × IsShared l.fn.loaders (drop 1 l.fn.meters.items) l.first.loaders l.meters.items l.seat-iterator.rest.items
+    l.shares.items

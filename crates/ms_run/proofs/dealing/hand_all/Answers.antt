@@ -16,10 +16,12 @@ hand_on-requires c = record { crews = c.loop-name.invariant.0 }
 
 pub loop-name-preserved : goal.loop-name-preserved
 loop-name-preserved c =
-    let so_far : IsHanding (place_in c.args.turn.now) c.args.at c.args.from.now.loaders c.loop-name.from.loaders c.loop-name.to.loaders c.loop-name.name-iterator.rest.items =
+    let so_far : IsHanding (place_in c.args.turn.now) c.args.at c.args.from.now.loaders c.loop-name.from.loaders
+    c.loop-name.to.loaders c.loop-name.name-iterator.rest.items =
     c.loop-name.invariant.1 in (
       c.in_ok-hand_on.ensures.crews,
-      handing_on (place_in c.args.turn.now) c.args.at c.args.from.now.loaders c.loop-name.from.loaders c.loop-name.to.loaders _ _ c.in-Some.name _
+      handing_on (place_in c.args.turn.now) c.args.at c.args.from.now.loaders c.loop-name.from.loaders
+          c.loop-name.to.loaders _ _ c.in-Some.name _
           (rw c.in-Some.ensures.steps.0 at so_far) c.in_ok-hand_on.ensures.handed,
       c.in_ok-hand_on.ensures.used ∙ c.loop-name.invariant.2,
     )
@@ -29,9 +31,12 @@ returns-clause-crews c = c.loop-name.invariant.0
 
 pub returns-clause-handed : goal.returns-clause-handed
 returns-clause-handed c =
-    handing_ends (place_in c.args.turn.now) c.args.at c.args.from.now.loaders c.loop-name.from.loaders c.loop-name.to.loaders
-    (subst (IsHanding (place_in c.args.turn.now) c.args.at c.args.from.now.loaders c.loop-name.from.loaders c.loop-name.to.loaders)
-    (none_left c.loop-name.name-iterator.rest.items (sym c.loop-name.name-iterator.rest.ok.0 ∙ c.in-None.ensures.steps.0)) c.loop-name.invariant.1)
+    handing_ends (place_in c.args.turn.now) c.args.at c.args.from.now.loaders c.loop-name.from.loaders
+    c.loop-name.to.loaders
+    (subst (IsHanding (place_in c.args.turn.now) c.args.at c.args.from.now.loaders c.loop-name.from.loaders
+    c.loop-name.to.loaders)
+    (none_left c.loop-name.name-iterator.rest.items
+    (sym c.loop-name.name-iterator.rest.ok.0 ∙ c.in-None.ensures.steps.0)) c.loop-name.invariant.1)
 
 pub returns-clause-used : goal.returns-clause-used
 returns-clause-used c = c.loop-name.invariant.2

@@ -1,6 +1,7 @@
 use Rattle.std.proofs.Common.{◌∙◌, sym, ap}
 use Rattle.ms_shared.specs.SeatView.{SeatState}
-use Rattle.ms_run.proofs.HandOnLemmas.{beside_after, first_served, second_served, handed_names, none_handed, beside_still}
+use Rattle.ms_run.proofs.HandOnLemmas.{beside_after, first_served, second_served, handed_names, none_handed}
+use Rattle.ms_run.proofs.HandOnLemmas.{beside_still}
 use Rattle.ms_run.proofs.DealtUseLemmas.{used_handed, used_still}
 use Rattle.ms_run.proofs.dealing.hand_on.Goals as goal
 
@@ -8,36 +9,48 @@ pub returns-in_default-clause-crews : goal.returns-in_default-clause-crews
 returns-in_default-clause-crews c = record {
   own = c.requires.crews.own;
   to_own = c.requires.crews.to_own;
-  beside = beside_still _ _ _ _ _ _ (sym c.remove.ensures.found ∙ c.in_default.is) c.remove.ensures.rest c.requires.crews.beside;
+  beside = beside_still _ _ _ _ _ _ (sym c.remove.ensures.found ∙ c.in_default.is) c.remove.ensures.rest
+      c.requires.crews.beside;
 }
 
 pub returns-in_default-clause-handed : goal.returns-in_default-clause-handed
-returns-in_default-clause-handed c = none_handed _ _ _ _ (sym c.remove.ensures.found ∙ c.in_default.is) c.remove.ensures.rest
+returns-in_default-clause-handed c =
+    none_handed _ _ _ _ (sym c.remove.ensures.found ∙ c.in_default.is) c.remove.ensures.rest
 
 pub hand-requires-clause-served : goal.hand-requires-clause-served
 hand-requires-clause-served c =
-    first_served c.args.name c.in-Some.loader _ _ c.args.from.now.seat c.args.to.now.seat _ (sym c.remove.ensures.found ∙ c.in-Some.is) c.requires.crews.beside c.accounts.ensures.account
+    first_served c.args.name c.in-Some.loader _ _ c.args.from.now.seat c.args.to.now.seat _
+    (sym c.remove.ensures.found ∙ c.in-Some.is) c.requires.crews.beside c.accounts.ensures.account
 
 pub hand-requires-2-clause-served : goal.hand-requires-2-clause-served
 hand-requires-2-clause-served c =
-    second_served c.args.name c.in-Some.loader _ _ c.args.from.now.seat c.args.to.now.seat _ _ _ (sym c.remove.ensures.found ∙ c.in-Some.is) c.requires.crews.beside
+    second_served c.args.name c.in-Some.loader _ _ c.args.from.now.seat c.args.to.now.seat _ _ _
+    (sym c.remove.ensures.found ∙ c.in-Some.is) c.requires.crews.beside
     c.accounts.ensures.account c.accounts.ensures.class_account c.hand.ensures.from
 
 pub returns-clause-crews : goal.returns-clause-crews
 returns-clause-crews c = record {
-  own = ap (λ (seat : SeatState). seat.id) c.hand-2.ensures.from ∙ ap (λ (seat : SeatState). seat.id) c.hand.ensures.from ∙ c.requires.crews.own;
-  to_own = ap (λ (seat : SeatState). seat.id) c.hand-2.ensures.to ∙ ap (λ (seat : SeatState). seat.id) c.hand.ensures.to ∙ c.requires.crews.to_own;
-  beside = beside_after c.args.name c.in-Some.loader _ _ _ _ c.args.from.now.seat c.args.to.now.seat _ _ _ _ _ _ (sym c.remove.ensures.found ∙ c.in-Some.is) c.in-Ok.ensures.fresh c.requires.crews.beside
-      c.accounts.ensures.account c.accounts.ensures.class_account c.hand.ensures.from c.hand.ensures.to c.hand-2.ensures.from c.hand-2.ensures.to c.remove.ensures.rest c.in-Ok.ensures.inserted;
+  own = ap (λ (seat : SeatState). seat.id) c.hand-2.ensures.from
+      ∙ ap (λ (seat : SeatState). seat.id) c.hand.ensures.from ∙ c.requires.crews.own;
+  to_own = ap (λ (seat : SeatState). seat.id) c.hand-2.ensures.to ∙ ap (λ (seat : SeatState). seat.id) c.hand.ensures.to
+      ∙ c.requires.crews.to_own;
+  beside = beside_after c.args.name c.in-Some.loader _ _ _ _ c.args.from.now.seat c.args.to.now.seat _ _ _ _ _ _
+      (sym c.remove.ensures.found ∙ c.in-Some.is) c.in-Ok.ensures.fresh c.requires.crews.beside
+      c.accounts.ensures.account c.accounts.ensures.class_account c.hand.ensures.from c.hand.ensures.to
+      c.hand-2.ensures.from c.hand-2.ensures.to c.remove.ensures.rest c.in-Ok.ensures.inserted;
 }
 
 pub returns-clause-handed : goal.returns-clause-handed
 returns-clause-handed c =
-    handed_names _ c.in-Some.loader _ _ _ _ c.requires.crews.beside.names (sym c.remove.ensures.found ∙ c.in-Some.is) c.remove.ensures.rest c.in-Ok.ensures.inserted
+    handed_names _ c.in-Some.loader _ _ _ _ c.requires.crews.beside.names (sym c.remove.ensures.found ∙ c.in-Some.is)
+    c.remove.ensures.rest c.in-Ok.ensures.inserted
 
 pub returns-in_default-clause-used : goal.returns-in_default-clause-used
-returns-in_default-clause-used c = used_still c.args.from.now.loaders c.args.to.now.loaders _ c.args.name (sym c.remove.ensures.found ∙ c.in_default.is) c.remove.ensures.rest
+returns-in_default-clause-used c =
+    used_still c.args.from.now.loaders c.args.to.now.loaders _ c.args.name
+    (sym c.remove.ensures.found ∙ c.in_default.is) c.remove.ensures.rest
 
 pub returns-clause-used : goal.returns-clause-used
 returns-clause-used c =
-    used_handed c.args.from.now.loaders c.args.to.now.loaders _ _ c.args.name c.in-Some.loader (sym c.remove.ensures.found ∙ c.in-Some.is) c.remove.ensures.rest c.in-Ok.ensures.fresh c.in-Ok.ensures.inserted
+    used_handed c.args.from.now.loaders c.args.to.now.loaders _ _ c.args.name c.in-Some.loader
+    (sym c.remove.ensures.found ∙ c.in-Some.is) c.remove.ensures.rest c.in-Ok.ensures.fresh c.in-Ok.ensures.inserted

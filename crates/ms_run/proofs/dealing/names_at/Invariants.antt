@@ -8,4 +8,5 @@ use Rattle.ms_run.proofs.dealing.names_at.Given as goal
 -- the names so far, then those that are to come
 abbrev pub invariant-loop-name : goal.invariant-loop-name
 invariant-loop-name l =
-    l.names.items ++ filter (is_placed (place_in l.turn) l.at) (keys_of l.name-iterator) ≡ filter (is_placed (place_in l.turn) l.at) (keys_of l.loaders)
+    l.names.items ++ filter (is_placed (place_in l.turn) l.at) (keys_of l.name-iterator)
+    ≡ filter (is_placed (place_in l.turn) l.at) (keys_of l.loaders)

@@ -19,13 +19,15 @@ open-requires-clause-own c =
 pub settle-requires-clause-fits : goal.settle-requires-clause-fits
 settle-requires-clause-fits c =
     may_settle _ c.args.shares.items _ c.committed.ensures.sound
-    (subst (λ (seats : List SeatState). Gathers seats c.in_ok-pool.pool) c.in_ok-seats.ensures.seats c.in_ok-pool.ensures.gathered)
+    (subst (λ (seats : List SeatState). Gathers seats c.in_ok-pool.pool) c.in_ok-seats.ensures.seats
+    c.in_ok-pool.ensures.gathered)
     c.requires.stand.manned c.in_ok-seats.ensures.loaders
 
 pub settle-requires-clause-all : goal.settle-requires-clause-all
 settle-requires-clause-all c =
     no_more _ c.args.shares.items _ c.committed.ensures.sound
-    (subst (λ (seats : List SeatState). Gathers seats c.in_ok-pool.pool) c.in_ok-seats.ensures.seats c.in_ok-pool.ensures.gathered)
+    (subst (λ (seats : List SeatState). Gathers seats c.in_ok-pool.pool) c.in_ok-seats.ensures.seats
+    c.in_ok-pool.ensures.gathered)
     c.requires.stand.manned c.in_ok-seats.ensures.loaders
 
 pub returns-clause-gathered : goal.returns-clause-gathered

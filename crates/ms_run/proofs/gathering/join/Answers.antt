@@ -4,7 +4,8 @@ use Rattle.ms_run.specs.Joined.{IsJoined}
 use Rattle.ms_run.proofs.GatherLemmas.{Loaders, joined_swapped, other_names}
 use Rattle.ms_run.proofs.gathering.join.Goals as goal
 
-swapped : (whole part : Loaders) (result : Result Loaders RunFault) → IfOk result (IsJoined part whole) → IfOk result (IsJoined whole part)
+swapped : (whole part : Loaders) (result : Result Loaders RunFault) → IfOk result (IsJoined part whole)
+    → IfOk result (IsJoined whole part)
 swapped whole part (Ok new) joined = joined_swapped whole part new joined
 swapped whole part (Err fault) joined = tt
 

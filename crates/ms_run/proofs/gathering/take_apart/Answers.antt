@@ -6,7 +6,8 @@ use Rattle.ms_run.proofs.gathering.take_apart.Goals as goal
 
 pub loop-share-init : goal.loop-share-init
 loop-share-init c =
-    let room = c.in_ok-seats.ensures in let more = c.in_ok-meters.ensures in let all = c.into_iter-share-iterator.ensures.into_iter_gives.0 in (
+    let room = c.in_ok-seats.ensures in let more = c.in_ok-meters.ensures in let all =
+    c.into_iter-share-iterator.ensures.into_iter_gives.0 in (
       taken_none _ _ _ _ _ room.items more.items c.new-loaders.ensures all,
       omega (arith, room.len, room.capacity, c.len.ensures, ap length all, c.args.shares.ok.0),
       omega (arith, more.len, more.capacity, c.len-2.ensures, ap length all, c.args.shares.ok.0),
@@ -24,18 +25,26 @@ join-requires c = next_differs _ c.in-Some.share _ _ c.in-Some.ensures.steps.0 c
 
 pub loop-share-preserved : goal.loop-share-preserved
 loop-share-preserved c =
-    let next = c.in-Some.ensures.steps.0 in let pushed = c.push_reserved.ensures in let metered = c.push_reserved-in-loop-share.ensures in (
-      taken_more _ _ _ _ _ _ _ _ _ c.in-Some.share c.loop-share.invariant.0 next pushed.items metered.items c.in_ok-loaders.ensures.joined,
+    let next = c.in-Some.ensures.steps.0 in let pushed = c.push_reserved.ensures in let metered =
+    c.push_reserved-in-loop-share.ensures in (
+      taken_more _ _ _ _ _ _ _ _ _ c.in-Some.share c.loop-share.invariant.0 next pushed.items metered.items
+          c.in_ok-loaders.ensures.joined,
       omega (arith, c.loop-share.invariant.1, ap length next, pushed.len, pushed.capacity),
       omega (arith, c.loop-share.invariant.2, ap length next, metered.len, metered.capacity),
       still_differ _ _ c.in-Some.share _ _ next c.loop-share.invariant.3 c.in_ok-loaders.ensures.joined,
     )
 
 pub returns-clause-seats : goal.returns-clause-seats
-returns-clause-seats c = (all_taken _ _ c.loop-share.loaders _ _ c.loop-share.invariant.0 (nil_from_length _ (sym c.loop-share.share-iterator.rest.ok.0 ∙ c.in-None.ensures.steps.0))).0
+returns-clause-seats c =
+    (all_taken _ _ c.loop-share.loaders _ _ c.loop-share.invariant.0
+    (nil_from_length _ (sym c.loop-share.share-iterator.rest.ok.0 ∙ c.in-None.ensures.steps.0))).0
 
 pub returns-clause-loaders : goal.returns-clause-loaders
-returns-clause-loaders c = (all_taken _ _ c.loop-share.loaders _ _ c.loop-share.invariant.0 (nil_from_length _ (sym c.loop-share.share-iterator.rest.ok.0 ∙ c.in-None.ensures.steps.0))).1
+returns-clause-loaders c =
+    (all_taken _ _ c.loop-share.loaders _ _ c.loop-share.invariant.0
+    (nil_from_length _ (sym c.loop-share.share-iterator.rest.ok.0 ∙ c.in-None.ensures.steps.0))).1
 
 pub returns-clause-meters : goal.returns-clause-meters
-returns-clause-meters c = (all_taken _ _ c.loop-share.loaders _ _ c.loop-share.invariant.0 (nil_from_length _ (sym c.loop-share.share-iterator.rest.ok.0 ∙ c.in-None.ensures.steps.0))).2
+returns-clause-meters c =
+    (all_taken _ _ c.loop-share.loaders _ _ c.loop-share.invariant.0
+    (nil_from_length _ (sym c.loop-share.share-iterator.rest.ok.0 ∙ c.in-None.ensures.steps.0))).2

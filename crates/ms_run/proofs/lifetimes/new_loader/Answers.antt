@@ -24,7 +24,8 @@ returns-then-contains-clause-refused g c =
 
 pub returns-in-Err-clause-manned : goal.returns-in-Err-clause-manned
 returns-in-Err-clause-manned g c =
-    manned_refused c.args.pool.now c.open_both.new.self c.args.loaders.now c.in-Err.refusal c.in-Err.ensures.event c.in-Err.ensures.others c.in-Err.ensures.counted c.requires
+    manned_refused c.args.pool.now c.open_both.new.self c.args.loaders.now c.in-Err.refusal c.in-Err.ensures.event
+    c.in-Err.ensures.others c.in-Err.ensures.counted c.requires
 
 pub returns-in-Err-clause-refused : goal.returns-in-Err-clause-refused
 returns-in-Err-clause-refused g c =
@@ -36,27 +37,34 @@ pub returns-in-Ok-insert-clause-manned : goal.returns-in-Ok-insert-clause-manned
 returns-in-Ok-insert-clause-manned g c =
     let unused = unused_name c.args.loaders.now c.args.name c.contains.result c.contains.ensures c.if-contains.false in
     let opened = c.in-Ok.ensures in
-    subst (IsManned c.open_both.new.self.knows) (sym (c.in-Ok-insert.ensures.inserted ∙ ap (with_new c.args.loaders.now c.args.name) c.new-loader.ensures.made))
-    (manned_opened c.args.pool.now c.open_both.new.self c.args.loaders.now c.args.name c.args.kind c.in-Ok.accounts unused
+    subst (IsManned c.open_both.new.self.knows)
+    (sym (c.in-Ok-insert.ensures.inserted ∙ ap (with_new c.args.loaders.now c.args.name) c.new-loader.ensures.made))
+    (manned_opened c.args.pool.now c.open_both.new.self c.args.loaders.now c.args.name c.args.kind c.in-Ok.accounts
+    unused
     opened.event opened.served opened.class_served opened.others opened.counted c.requires)
 
 pub returns-in-Ok-insert-clause-served : goal.returns-in-Ok-insert-clause-served
 returns-in-Ok-insert-clause-served g c =
     let unused = unused_name c.args.loaders.now c.args.name c.contains.result c.contains.ensures c.if-contains.false in
-    made_reply (own_in (states_of c.args.loaders.now) c.args.name) (own_in (states_of c.insert.new.self) c.args.name) c.args.name c.args.kind
+    made_reply (own_in (states_of c.args.loaders.now) c.args.name) (own_in (states_of c.insert.new.self) c.args.name)
+    c.args.name c.args.kind
     (own_missing c.args.loaders.now c.args.name unused)
     (own_found c.insert.new.self c.args.name (new_loader c.in-Ok.accounts.0 c.in-Ok.accounts.1 c.args.kind)
-    (ap (λ l. named l c.args.name) c.in-Ok-insert.ensures.inserted ∙ named_new_same c.args.loaders.now c.args.name c.new-loader.result ∙ ap Some c.new-loader.ensures.made))
+    (ap (λ l. named l c.args.name) c.in-Ok-insert.ensures.inserted
+    ∙ named_new_same c.args.loaders.now c.args.name c.new-loader.result ∙ ap Some c.new-loader.ensures.made))
 
 pub returns-in-Ok-insert-clause-used : goal.returns-in-Ok-insert-clause-used
 returns-in-Ok-insert-clause-used g c =
     let unused = unused_name c.args.loaders.now c.args.name c.contains.result c.contains.ensures c.if-contains.false in
-    ap used_at (ap (λ l. named l c.args.name) c.in-Ok-insert.ensures.inserted ∙ named_new_same c.args.loaders.now c.args.name c.new-loader.result ∙ ap Some c.new-loader.ensures.made)
+    ap used_at
+    (ap (λ l. named l c.args.name) c.in-Ok-insert.ensures.inserted
+    ∙ named_new_same c.args.loaders.now c.args.name c.new-loader.result ∙ ap Some c.new-loader.ensures.made)
     ∙ sym (ap used_at unused)
 
 pub returns-in-Ok-insert-clause-others : goal.returns-in-Ok-insert-clause-others
 returns-in-Ok-insert-clause-others g c =
-    λ other differs. ap (λ l. named l other) c.in-Ok-insert.ensures.inserted ∙ named_new_other c.args.loaders.now c.args.name c.new-loader.result other (λ e. differs (sym e))
+    λ other differs. ap (λ l. named l other) c.in-Ok-insert.ensures.inserted
+    ∙ named_new_other c.args.loaders.now c.args.name c.new-loader.result other (λ e. differs (sym e))
 
 pub returns-in-Err-insert-clause-manned : goal.returns-in-Err-insert-clause-manned
 returns-in-Err-insert-clause-manned g c =
@@ -66,18 +74,24 @@ returns-in-Err-insert-clause-manned g c =
     let closed = c.close_both.ensures in
     let same = c.in-Err-insert.ensures.back ∙ c.new-loader.ensures.made in
     let closes = closes_loader c.open_both.new.self c.close_both.new.self v c.into_accounts-account.result
-    (c.into_accounts-account.ensures.account ∙ ap (account_in NonClass) same) (c.into_accounts-account.ensures.class_account ∙ ap (account_in Class) same)
+    (c.into_accounts-account.ensures.account ∙ ap (account_in NonClass) same)
+    (c.into_accounts-account.ensures.class_account ∙ ap (account_in Class) same)
     (record { event = closed.event; others = closed.others; counted = closed.counted }) in
-    subst (IsManned c.close_both.new.self.knows) (new_then_without c.args.loaders.now c.args.name v unused ∙ sym c.in-Err-insert.ensures.unchanged)
-    (manned_closed (with_new c.args.loaders.now c.args.name v) c.args.name v (named_new_same c.args.loaders.now c.args.name v) c.open_both.new.self c.close_both.new.self closes
-    (manned_opened c.args.pool.now c.open_both.new.self c.args.loaders.now c.args.name c.args.kind c.in-Ok.accounts unused
+    subst (IsManned c.close_both.new.self.knows)
+    (new_then_without c.args.loaders.now c.args.name v unused ∙ sym c.in-Err-insert.ensures.unchanged)
+    (manned_closed (with_new c.args.loaders.now c.args.name v) c.args.name v
+    (named_new_same c.args.loaders.now c.args.name v) c.open_both.new.self c.close_both.new.self closes
+    (manned_opened c.args.pool.now c.open_both.new.self c.args.loaders.now c.args.name c.args.kind c.in-Ok.accounts
+    unused
     opened.event opened.served opened.class_served opened.others opened.counted c.requires))
 
 pub returns-in-Err-insert-clause-refused : goal.returns-in-Err-insert-clause-refused
 returns-in-Err-insert-clause-refused g c =
     let unused = unused_name c.args.loaders.now c.args.name c.contains.result c.contains.ensures c.if-contains.false in
     subst (λ (l : List (ℕ × LoaderView)).
-    (want : Bool) × OwnReply (own_in (states_of c.args.loaders.now) c.args.name) (New c.args.name c.args.kind) want (Refused c.in-Err-insert.refusal) (own_in (states_of l) c.args.name))
+    (want : Bool) × OwnReply (own_in (states_of c.args.loaders.now) c.args.name) (New c.args.name c.args.kind) want
+    (Refused c.in-Err-insert.refusal) (own_in (states_of l) c.args.name))
     (sym c.in-Err-insert.ensures.unchanged)
-    (insert_reply c.args.loaders.now (own_in (states_of c.args.loaders.now) c.args.name) c.in-Err-insert.refusal c.args.name c.args.kind unused
+    (insert_reply c.args.loaders.now (own_in (states_of c.args.loaders.now) c.args.name) c.in-Err-insert.refusal
+    c.args.name c.args.kind unused
     (own_missing c.args.loaders.now c.args.name unused) c.in-Err-insert.ensures.refused)

@@ -19,14 +19,16 @@ close_both-requires-clause-both g c =
     let found = sym c.remove.ensures.found ∙ c.in-Some.is in
     rw (c.into_accounts-account.ensures.account, c.into_accounts-account.ensures.class_account) (record {
       served = serves_first c.args.loaders.now c.args.name c.in-Some.loader found c.args.pool.now.knows c.requires;
-      class_served = serves_second c.args.loaders.now c.args.name c.in-Some.loader found c.args.pool.now.knows c.requires;
+      class_served =
+          serves_second c.args.loaders.now c.args.name c.in-Some.loader found c.args.pool.now.knows c.requires;
       space = refl;
       class_space = refl;
     })
 
 pub close_both-requires-clause-counted : goal.close_both-requires-clause-counted
 close_both-requires-clause-counted g c =
-    counts_some c.args.loaders.now c.args.name c.in-Some.loader (sym c.remove.ensures.found ∙ c.in-Some.is) c.args.pool.now.knows c.requires
+    counts_some c.args.loaders.now c.args.name c.in-Some.loader (sym c.remove.ensures.found ∙ c.in-Some.is)
+    c.args.pool.now.knows c.requires
 
 pub returns-in-Some-clause-manned : goal.returns-in-Some-clause-manned
 returns-in-Some-clause-manned g c =
@@ -35,28 +37,37 @@ returns-in-Some-clause-manned g c =
     c.into_accounts-account.ensures.account c.into_accounts-account.ensures.class_account
     (record { event = closed.event; others = closed.others; counted = closed.counted }) in
     subst (IsManned c.close_both.new.self.knows) (sym c.remove.ensures.rest)
-    (manned_closed c.args.loaders.now c.args.name c.in-Some.loader (sym c.remove.ensures.found ∙ c.in-Some.is) c.args.pool.now c.close_both.new.self closes c.requires)
+    (manned_closed c.args.loaders.now c.args.name c.in-Some.loader (sym c.remove.ensures.found ∙ c.in-Some.is)
+    c.args.pool.now c.close_both.new.self closes c.requires)
 
 pub returns-in-Some-clause-served : goal.returns-in-Some-clause-served
 returns-in-Some-clause-served g c =
-    subst (λ (l : List (ℕ × LoaderView)). OwnReply (own_in (states_of c.args.loaders.now) c.args.name) (Unload c.args.name) false Done (own_in (states_of l) c.args.name))
+    subst (λ (l : List (ℕ × LoaderView)). OwnReply (own_in (states_of c.args.loaders.now) c.args.name)
+    (Unload c.args.name) false Done (own_in (states_of l) c.args.name))
     (sym c.remove.ensures.rest)
-    (unloaded_reply c.args.loaders.now c.args.name c.in-Some.loader c.len.ensures.names (sym c.remove.ensures.found ∙ c.in-Some.is))
+    (unloaded_reply c.args.loaders.now c.args.name c.in-Some.loader c.len.ensures.names
+    (sym c.remove.ensures.found ∙ c.in-Some.is))
 
 pub returns-in-Some-clause-others : goal.returns-in-Some-clause-others
 returns-in-Some-clause-others g c =
-    λ other differs. ap (λ l. named l other) c.remove.ensures.rest ∙ named_without_other c.args.loaders.now c.args.name other (λ e. differs (sym e))
+    λ other differs. ap (λ l. named l other) c.remove.ensures.rest
+    ∙ named_without_other c.args.loaders.now c.args.name other (λ e. differs (sym e))
 
 pub returns-in-None-clause-manned : goal.returns-in-None-clause-manned
 returns-in-None-clause-manned g c =
-    subst (IsManned c.args.pool.now.knows) (sym (c.remove.ensures.rest ∙ without_missing c.args.loaders.now c.args.name (sym c.remove.ensures.found ∙ c.in-None.is))) c.requires
+    subst (IsManned c.args.pool.now.knows)
+    (sym (c.remove.ensures.rest
+    ∙ without_missing c.args.loaders.now c.args.name (sym c.remove.ensures.found ∙ c.in-None.is))) c.requires
 
 pub returns-in-None-clause-refused : goal.returns-in-None-clause-refused
 returns-in-None-clause-refused g c =
     let none = sym c.remove.ensures.found ∙ c.in-None.is in
-    subst (λ (l : List (ℕ × LoaderView)). OwnReply (own_in (states_of c.args.loaders.now) c.args.name) (Unload c.args.name) false (Refused NoLoader) (own_in (states_of l) c.args.name))
-    (sym (c.remove.ensures.rest ∙ without_missing c.args.loaders.now c.args.name none)) (none_reply c.args.loaders.now c.args.name none)
+    subst (λ (l : List (ℕ × LoaderView)). OwnReply (own_in (states_of c.args.loaders.now) c.args.name)
+    (Unload c.args.name) false (Refused NoLoader) (own_in (states_of l) c.args.name))
+    (sym (c.remove.ensures.rest ∙ without_missing c.args.loaders.now c.args.name none))
+    (none_reply c.args.loaders.now c.args.name none)
 
 pub returns-in-None-clause-others : goal.returns-in-None-clause-others
 returns-in-None-clause-others g c =
-    λ other differs. ap (λ l. named l other) c.remove.ensures.rest ∙ named_without_other c.args.loaders.now c.args.name other (λ e. differs (sym e))
+    λ other differs. ap (λ l. named l other) c.remove.ensures.rest
+    ∙ named_without_other c.args.loaders.now c.args.name other (λ e. differs (sym e))

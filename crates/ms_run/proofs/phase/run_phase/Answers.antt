@@ -9,11 +9,13 @@ use Rattle.ms_run.proofs.phase.run_phase.Goals as goal
 
 pub returns-then-is_empty-clause-phase : goal.returns-then-is_empty-clause-phase
 returns-then-is_empty-clause-phase g c =
-    ended_empty c.args.lines.now c.args.answers.now.items c.args.run.system (sym c.is_empty.ensures ∙ c.if-is_empty.true) c.requires.good
+    ended_empty c.args.lines.now c.args.answers.now.items c.args.run.system
+    (sym c.is_empty.ensures ∙ c.if-is_empty.true) c.requires.good
 
 pub merge-requires-clause-count : goal.merge-requires-clause-count
 merge-requires-clause-count g c =
-    c.in_ok-shares.shares.ok.0 ∙ same_count _ _ c.in_ok-shares.ensures.worked ∙ sym c.in_ok-shared.shares.ok.0 ∙ c.in_ok-shared.ensures.count
+    c.in_ok-shares.shares.ok.0 ∙ same_count _ _ c.in_ok-shares.ensures.worked ∙ sym c.in_ok-shared.shares.ok.0
+    ∙ c.in_ok-shared.ensures.count
 
 pub merge-requires-clause-answered : goal.merge-requires-clause-answered
 merge-requires-clause-answered g c =
@@ -22,9 +24,11 @@ merge-requires-clause-answered g c =
 
 pub gather-requires-clause-stand : goal.gather-requires-clause-stand
 gather-requires-clause-stand g c = record {
-  own = own_seats c.in_ok-shared.shared c.in_ok-shared.shares.items c.in_ok-shares.shares.items c.in_ok-shared.ensures.dealt.ready c.in_ok-shares.ensures.worked;
+  own = own_seats c.in_ok-shared.shared c.in_ok-shared.shares.items c.in_ok-shares.shares.items
+      c.in_ok-shared.ensures.dealt.ready c.in_ok-shares.ensures.worked;
   manned = all_manned c.in_ok-shared.shares.items c.in_ok-shares.shares.items c.in_ok-shares.ensures.worked;
-  all = c.in_ok-shared.ensures.dealt.count ∙ sym (same_count _ _ c.in_ok-shares.ensures.worked) ∙ sym c.in_ok-shares.shares.ok.0;
+  all = c.in_ok-shared.ensures.dealt.count ∙ sym (same_count _ _ c.in_ok-shares.ensures.worked)
+      ∙ sym c.in_ok-shares.shares.ok.0;
 }
 
 pub gather-requires-clause-apart : goal.gather-requires-clause-apart
@@ -36,21 +40,26 @@ gather-requires-clause-apart g c = (
 
 pub work_all-requires-after_bounds : goal.work_all-requires-after_bounds
 work_all-requires-after_bounds g c κs within =
-    ready_for c.in_ok-shared.shared c.in_ok-shared.meter _ c.in_ok-shared.shares.items c.in_ok-shared.ensures.dealt.ready c.in_ok-shared.ensures.meters.unmoved_all
+    ready_for c.in_ok-shared.shared c.in_ok-shared.meter _ c.in_ok-shared.shares.items
+    c.in_ok-shared.ensures.dealt.ready c.in_ok-shared.ensures.meters.unmoved_all
 
 pub close-requires-clause-own : goal.close-requires-clause-own
 close-requires-clause-own g c =
-    own_meters c.in_ok-shared.meter _ c.in_ok-shared.shares.items c.in_ok-shares.shares.items c.in_ok-system.meters.items
+    own_meters c.in_ok-shared.meter _ c.in_ok-shared.shares.items c.in_ok-shares.shares.items
+    c.in_ok-system.meters.items
     c.in_ok-shared.ensures.meters.unmoved_all c.in_ok-shares.ensures.worked c.in_ok-system.ensures.meters
 
 pub close-requires-clause-count : goal.close-requires-clause-count
 close-requires-clause-count g c =
-    c.in_ok-shared.ensures.meters.seats ∙ c.in_ok-shared.shares.ok.0 ∙ sym (same_count _ _ c.in_ok-shares.ensures.worked)
-    ∙ sym (length-map c.in_ok-shares.shares.items meter_of) ∙ ap length (sym c.in_ok-system.ensures.meters) ∙ sym c.in_ok-system.meters.ok.0
+    c.in_ok-shared.ensures.meters.seats ∙ c.in_ok-shared.shares.ok.0
+    ∙ sym (same_count _ _ c.in_ok-shares.ensures.worked)
+    ∙ sym (length-map c.in_ok-shares.shares.items meter_of) ∙ ap length (sym c.in_ok-system.ensures.meters)
+    ∙ sym c.in_ok-system.meters.ok.0
 
 pub returns-clause-phase : goal.returns-clause-phase
 returns-clause-phase g c =
-    ended (place_in c.activate.new.self) c.in_ok-shared.shared c.in_ok-shared.shares.items c.in_ok-shares.shares.items c.args.lines.now
+    ended (place_in c.activate.new.self) c.in_ok-shared.shared c.in_ok-shared.shares.items c.in_ok-shares.shares.items
+    c.args.lines.now
     _ _ c.into_parts-pool.result.1 c.args.run.system _
     (ap (λ (m : Machine). m.loaders) (sym c.into_parts-pool.ensures.machine))
     c.in_ok-shared.ensures.dealt c.in_ok-shares.ensures.worked c.in_ok-merge.ensures
@@ -59,7 +68,8 @@ returns-clause-phase g c =
 
 pub returns-clause-used : goal.returns-clause-used
 returns-clause-used g c =
-    used_after c.in_ok-shared.meter _ c.in_ok-shared.shares.items c.in_ok-shares.shares.items c.in_ok-system.meters.items _ _ c.in_ok-system.system
+    used_after c.in_ok-shared.meter _ c.in_ok-shared.shares.items c.in_ok-shares.shares.items
+    c.in_ok-system.meters.items _ _ c.in_ok-system.system
     c.in_ok-shared.ensures.meters.unmoved_all c.in_ok-shares.ensures.worked c.in_ok-system.ensures.meters
     (c.requires.used ∙ ap used_words_of (sym c.into_parts-pool.ensures.machine)
     ∙ used_machine c.into_parts-pool.result.0 c.into_parts-pool.result.1 ∙ sym c.in_ok-shared.ensures.used)

@@ -1,11 +1,13 @@
 use Rattle.std.proofs.Common.{arith}
-use Rattle.ms_run.proofs.ReplayLemmas.{phases_start, steps_there, stops_next, phases_more, phases_next, phases_end, used_none}
+use Rattle.ms_run.proofs.ReplayLemmas.{phases_start, steps_there, stops_next, phases_more, phases_next, phases_end}
+use Rattle.ms_run.proofs.ReplayLemmas.{used_none}
 use Rattle.ms_run.proofs.replaying.run_phases.Goals.{then-at-lines+in_ok-answer_between, else-at-lines}
 use Rattle.ms_run.proofs.replaying.run_phases.Goals as goal
 
 pub loop-at-init : goal.loop-at-init
 loop-at-init g c = (
-  phases_start c.args.settings c.args.lines.now c.in_ok-answers.answers.items c.in_ok-system.system c.in_ok-answers.ensures.items c.in_ok-system.ensures,
+  phases_start c.args.settings c.args.lines.now c.in_ok-answers.answers.items c.in_ok-system.system
+      c.in_ok-answers.ensures.items c.in_ok-system.ensures,
   used_none c.in_ok-system.system c.args.settings c.in_ok-system.ensures,
 )
 
@@ -13,19 +15,28 @@ pub run_phase-requires-clause-good : goal.run_phase-requires-clause-good
 run_phase-requires-clause-good g c κs within = c.loop-at.invariant.0.2
 
 pub run_phase-requires-clause-steps : goal.run_phase-requires-clause-steps
-run_phase-requires-clause-steps g c κs within = steps_there c.args.lines.now c.loop-at.at c.steps_first-count.result c.steps_first-count.ensures.steps
+run_phase-requires-clause-steps g c κs within =
+    steps_there c.args.lines.now c.loop-at.at c.steps_first-count.result c.steps_first-count.ensures.steps
 
 pub answer_between-requires-clause-no_step : goal.answer_between-requires-clause-no_step
-answer_between-requires-clause-no_step g c = stops_next c.args.lines.now c.loop-at.at c.steps_first-count.result _ c.steps_first-count.ensures.stops c.if-at-lines.true
+answer_between-requires-clause-no_step g c =
+    stops_next c.args.lines.now c.loop-at.at c.steps_first-count.result _ c.steps_first-count.ensures.stops
+    c.if-at-lines.true
 
 pub loop-at-preserved : goal.loop-at-preserved
 loop-at-preserved g c =
-    let more = phases_more _ _ _ c.args.lines.now c.loop-at.at c.steps_first-count.result _ _ c.loop-at.invariant.0 c.steps_first-count.ensures.within c.in_ok-run.ensures.phase in
+    let more =
+    phases_more _ _ _ c.args.lines.now c.loop-at.at c.steps_first-count.result _ _ c.loop-at.invariant.0
+    c.steps_first-count.ensures.within c.in_ok-run.ensures.phase in
     elim c.if-at-lines.branch [
-      | then-at-lines+in_ok-answer_between w ↦ rw (w.answers-is, w.at-is)
-          (phases_next _ _ c.args.lines.now _ _ _ _ more w.if-at-lines.true w.in_ok-answer_between.ensures, c.in_ok-run.ensures.used)
+      | then-at-lines+in_ok-answer_between w ↦ rw (w.answers-is, w.at-is) (
+        phases_next _ _ c.args.lines.now _ _ _ _ more w.if-at-lines.true w.in_ok-answer_between.ensures,
+        c.in_ok-run.ensures.used,
+      )
       | else-at-lines w ↦ rw (w.answers-is, w.at-is) (more, c.in_ok-run.ensures.used)
     ]
 
 pub returns-clause-own : goal.returns-clause-own
-returns-clause-own g c = phases_end c.args.settings c.args.lines.now c.loop-at.at c.loop-at.answers.items c.loop-at.run.system c.loop-at.invariant.0 (omega (arith, c.loop-at-test.false))
+returns-clause-own g c =
+    phases_end c.args.settings c.args.lines.now c.loop-at.at c.loop-at.answers.items c.loop-at.run.system
+    c.loop-at.invariant.0 (omega (arith, c.loop-at-test.false))

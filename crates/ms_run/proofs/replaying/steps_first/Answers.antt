@@ -7,7 +7,9 @@ pub loop-count-init : goal.loop-count-init
 loop-count-init c = λ k line within. absurd (omega (arith, within))
 
 pub loop-count-preserved : goal.loop-count-preserved
-loop-count-preserved c = steps_more c.args.lines.now c.loop-count.count _ c.in-Step.field-0 c.loop-count-test.true c.loop-count.invariant c.in-Step.is
+loop-count-preserved c =
+    steps_more c.args.lines.now c.loop-count.count _ c.in-Step.field-0 c.loop-count-test.true c.loop-count.invariant
+    c.in-Step.is
 
 pub returns-in_default : goal.returns-in_default
 returns-in_default c = record {
@@ -18,7 +20,8 @@ returns-in_default c = record {
 
 pub returns-clause-steps : goal.returns-clause-steps
 returns-clause-steps c =
-    let ends : c.loop-count.count ≡ length c.args.lines.now = omega (arith, c.loop-count-test.false, c.loop-count.auto.count-end) in
+    let ends : c.loop-count.count ≡ length c.args.lines.now =
+    omega (arith, c.loop-count-test.false, c.loop-count.auto.count-end) in
     subst (λ (n : ℕ). AreSteps (take n c.args.lines.now)) ends c.loop-count.invariant
 
 pub returns-clause-stops : goal.returns-clause-stops

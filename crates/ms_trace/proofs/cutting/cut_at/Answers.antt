@@ -5,7 +5,8 @@ use Rattle.ms_trace.proofs.CutLemmas.{cut_nowhere, cut_there}
 use Rattle.ms_trace.proofs.cutting.cut_at.Goals as goal
 
 pub returns-in-None-clause-parts : goal.returns-in-None-clause-parts
-returns-in-None-clause-parts c = cut_nowhere (λ byte. nat_eq byte c.args.separator) c.args.text.now (sym c.in-None.is ∙ c.requires)
+returns-in-None-clause-parts c =
+    cut_nowhere (λ byte. nat_eq byte c.args.separator) c.args.text.now (sym c.in-None.is ∙ c.requires)
 
 pub returns-in-Some-clause-parts : goal.returns-in-Some-clause-parts
 returns-in-Some-clause-parts c =

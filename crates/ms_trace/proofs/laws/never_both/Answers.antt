@@ -10,4 +10,5 @@ returns c = λ text trace number kind reads fault.
     let faultless : AreFaultless 1 (fault.before ++ fault.line ∷ fault.after) =
     rw fault.lines_are at (faultless_from_reads 1 (lines_of text) trace.lines reads) in
     let place : number ≡ 1 + length fault.before = omega (arith, fault.number_is) in
-    clash (fault_of number fault.line) kind (rw place (no_fault_among 1 fault.before fault.line fault.after faultless)) fault.kind_is
+    clash (fault_of number fault.line) kind (rw place (no_fault_among 1 fault.before fault.line fault.after faultless))
+    fault.kind_is

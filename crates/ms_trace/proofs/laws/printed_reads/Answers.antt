@@ -5,4 +5,6 @@ use Rattle.ms_trace.proofs.PrintingLemmas.{printed_reads}
 use Rattle.ms_trace.proofs.laws.printed_reads.Goals as goal
 
 pub returns : goal.returns
-returns c = λ trace valid rises. printed_reads 0 trace.lines (recursion_from_All (λ (line : Line). IsValid line.command) trace.lines valid) rises
+returns c =
+    λ trace valid rises. printed_reads 0 trace.lines
+    (recursion_from_All (λ (line : Line). IsValid line.command) trace.lines valid) rises

@@ -18,7 +18,8 @@ loop-line-preserved g c =
           (rw c.in_ok-print_gap.ensures
           (line_printed items c.loop-line.line-index c.loop-line.last _ c.loop-line.text.items
           (text_from 1 items) c.loop-line-test.true c.loop-line.invariant.printed))));
-      rises = rises_on items c.loop-line.line-index c.loop-line.last _ c.loop-line-test.true c.loop-line.invariant.rises;
+      rises = rises_on items c.loop-line.line-index c.loop-line.last _ c.loop-line-test.true
+          c.loop-line.invariant.rises;
       valid = All-more (λ (line : Line). IsValid line.command) items
           c.loop-line.line-index _ c.loop-line-test.true c.loop-line.invariant.valid c.print_command.ensures.valid;
     }
@@ -28,8 +29,10 @@ returns-clause-reads g c =
     let items : List Line = c.as_slice-line-items.result.now in
     let all : take c.loop-line.line-index items ≡ items = grind (arith, common_steps) in
     let none : drop c.loop-line.line-index items ≡ [] = grind (arith, common_steps) in
-    let text : c.loop-line.text.items ≡ text_from 1 items = sym (append-nil c.loop-line.text.items) ∙ rw none at c.loop-line.invariant.printed in
+    let text : c.loop-line.text.items ≡ text_from 1 items =
+    sym (append-nil c.loop-line.text.items) ∙ rw none at c.loop-line.invariant.printed in
     let valid : All (λ (line : Line). IsValid line.command) items = rw all at c.loop-line.invariant.valid in
     rw text
     (rw (sym c.as_slice-line-items.ensures)
-    (printed_reads 0 items (recursion_from_All (λ (line : Line). IsValid line.command) items valid) (rw c.as_slice-line-items.ensures c.requires)))
+    (printed_reads 0 items (recursion_from_All (λ (line : Line). IsValid line.command) items valid)
+    (rw c.as_slice-line-items.ensures c.requires)))

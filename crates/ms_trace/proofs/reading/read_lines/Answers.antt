@@ -15,7 +15,8 @@ returns-in_err-keep-clause-faults g c =
     let some : 0 < length rest = grind (arith, nat_tests, c.is_empty.ensures, c.loop-rest-test.true) in
     let p = err_from_is_err_and c.from_residual.result c.from_residual.ensures.1 in
     rw (p.1, p.2)
-    (blames_text c.args.text.now rest (text_after after) c.cut_line.result.0.now c.loop-rest.number c.loop-rest.lines.items _ c.loop-rest.invariant.read
+    (blames_text c.args.text.now rest (text_after after) c.cut_line.result.0.now c.loop-rest.number
+    c.loop-rest.lines.items _ c.loop-rest.invariant.read
     (lines_of-cut rest c.cut_line.result.0.now after some c.cut_line.ensures.parts) c.in_err-keep.ensures.fault)
 
 rest_is : (after : Option (Bor (List ℕ))) (empty : Bor (List ℕ)) → empty.now ≡ []
@@ -32,13 +33,17 @@ loop-rest-preserved g c =
     rw c.unwrap_or-rest.ensures (rest_is after c.as_slice.result c.as_slice.ensures) in
     record {
       read = rw left
-          (line_more c.args.text.now rest (text_after after) c.cut_line.result.0.now c.loop-rest.number c.loop-rest.lines.items c.keep.new.lines.items
-          c.loop-rest.invariant.read (lines_of-cut rest c.cut_line.result.0.now after some c.cut_line.ensures.parts) c.in_ok-keep.ensures.kept);
-      few = kept_number (c.loop-rest.number + 1) c.cut_line.result.0.now c.loop-rest.lines.items c.keep.new.lines.items c.in_ok-keep.ensures.kept;
+          (line_more c.args.text.now rest (text_after after) c.cut_line.result.0.now c.loop-rest.number
+          c.loop-rest.lines.items c.keep.new.lines.items
+          c.loop-rest.invariant.read (lines_of-cut rest c.cut_line.result.0.now after some c.cut_line.ensures.parts)
+          c.in_ok-keep.ensures.kept);
+      few = kept_number (c.loop-rest.number + 1) c.cut_line.result.0.now c.loop-rest.lines.items c.keep.new.lines.items
+          c.in_ok-keep.ensures.kept;
     }
 
 pub returns-clause-in_order : goal.returns-clause-in_order
 returns-clause-in_order g c =
     let none : length c.loop-rest.rest.now ≡ 0 = grind (arith, nat_tests, c.is_empty.ensures, c.loop-rest-test.false) in
     numbers_rise 0 1 (lines_of c.args.text.now) c.loop-rest.lines.items (omega arith)
-    (all_read c.args.text.now c.loop-rest.rest.now c.loop-rest.number c.loop-rest.lines.items c.loop-rest.invariant.read none)
+    (all_read c.args.text.now c.loop-rest.rest.now c.loop-rest.number c.loop-rest.lines.items c.loop-rest.invariant.read
+    none)

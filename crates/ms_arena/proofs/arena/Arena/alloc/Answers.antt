@@ -7,10 +7,14 @@ use Rattle.ms_arena.proofs.arena.Arena.alloc.Goals as goal
 use Rattle.ms_arena.proofs.arena.Arena.alloc.Goals.{After-account}
 
 -- The block is live at the start that was found.
-settled : (g : Over) (c : After-account g) → Settles c.start_of.new.books c.self.inside.kind c.made_room.new.live.blocks c.in_ok-start.start c.in_ok-contents.contents
+settled : (g : Over) (c : After-account g)
+    → Settles c.start_of.new.books c.self.inside.kind c.made_room.new.live.blocks c.in_ok-start.start
+    c.in_ok-contents.contents
 settled g c =
-    settles c.self.inside.kind c.self.inside.books c.made_room.new.books c.start_of.new.books c.self.inside.live.blocks c.made_room.new.live.blocks c.in_ok-start.start c.in_ok-n.n c.in_ok-contents.contents _
-    c.self.invariant c.in_ok-contents.ensures.books c.in_ok-contents.ensures.blocks c.in_ok-start.ensures.looked.leaves.awaits c.in_ok-contents.ensures.contents c.account.ensures.chunks
+    settles c.self.inside.kind c.self.inside.books c.made_room.new.books c.start_of.new.books c.self.inside.live.blocks
+    c.made_room.new.live.blocks c.in_ok-start.start c.in_ok-n.n c.in_ok-contents.contents _
+    c.self.invariant c.in_ok-contents.ensures.books c.in_ok-contents.ensures.blocks
+    c.in_ok-start.ensures.looked.leaves.awaits c.in_ok-contents.ensures.contents c.account.ensures.chunks
     (omega (arith, c.in_ok-contents.ensures.room, c.in_ok-start.ensures.looked.leaves.room))
 
 pub insert-requires-clause-other : goal.insert-requires-clause-other

@@ -28,11 +28,16 @@ pub returns-clause-sums : goal.returns-clause-sums
 returns-clause-sums c =
     let within = within_used c.self.inside.books.state c.self.inside.live.blocks c.self.invariant.sound.books in
     rw (← c.self.view_is) (record {
-      chunks = c.held.ensures.count ∙ ap (λ (account : AccountState). length account.chunks) c.account-2.ensures.account;
-      capacity = c.sums_of-capacity.ensures.capacity ∙ ap (λ (account : AccountState). capacity_of account.chunks) c.account.ensures.account;
-      fronts = c.sums_of-capacity.ensures.fronts ∙ ap (λ (account : AccountState). fronts_of account.chunks) c.account.ensures.account;
+      chunks = c.held.ensures.count
+          ∙ ap (λ (account : AccountState). length account.chunks) c.account-2.ensures.account;
+      capacity =
+          c.sums_of-capacity.ensures.capacity
+          ∙ ap (λ (account : AccountState). capacity_of account.chunks) c.account.ensures.account;
+      fronts = c.sums_of-capacity.ensures.fronts
+          ∙ ap (λ (account : AccountState). fronts_of account.chunks) c.account.ensures.account;
       used = c.used-used.ensures.sum;
       live = c.words-live.ensures ∙ sym within.same;
       free_blocks = c.kept_words-free_blocks.ensures;
-      waste = omega (arith, within.fit, c.used-used.ensures.sum, c.words-live.ensures, c.kept_words-free_blocks.ensures);
+      waste = omega
+          (arith, within.fit, c.used-used.ensures.sum, c.words-live.ensures, c.kept_words-free_blocks.ensures);
     })

@@ -5,45 +5,66 @@ use Rattle.ms_arena.specs.Alloc.{with_current}
 use Rattle.ms_base.specs.Good.{IsSound}
 use Rattle.ms_arena.specs.Books.{BooksView, account_in}
 use Rattle.ms_arena.proofs.ChunkLemmas.{has_its_start}
-use Rattle.ms_arena.proofs.BookLemmas.{GrowsCurrent, books_small, current_in, grows_current, grown_awaits, books_grown, grown_view}
+use Rattle.ms_arena.proofs.BookLemmas.{GrowsCurrent, books_small, current_in, grows_current, grown_awaits, books_grown}
+use Rattle.ms_arena.proofs.BookLemmas.{grown_view}
 use Rattle.ms_arena.proofs.books.Books.grow.Given.{Over}
 use Rattle.ms_arena.proofs.books.Books.grow.Goals as goal
 use Rattle.ms_arena.proofs.books.Books.grow.Goals.{After-raise}
 
 -- What the account is once its current chunk grew.
 grown : (g : Over) (c : After-raise g)
-    → let f = c.self.inside in GrowsCurrent (g.S.ChunkSource.limits c.args.source.now).policy (record { chunks = f.account.chunks; tops = f.tops.items; kept = f.kept.kept })
-    c.args.chunk c.args.total (record { owner = f.account.owner; space = f.account.space; chunks = f.account.chunks }) c.grow.new.account
+    → let f = c.self.inside in
+    GrowsCurrent (g.S.ChunkSource.limits c.args.source.now).policy
+    (record { chunks = f.account.chunks; tops = f.tops.items; kept = f.kept.kept })
+    c.args.chunk c.args.total (record { owner = f.account.owner; space = f.account.space; chunks = f.account.chunks })
+    c.grow.new.account
 grown g c =
-    grows_current _ _ _ _ c.args.total c.args.chunk c.args.may_enlarge c.self.inside.account _ c.grow.new.account c.self.invariant
+    grows_current _ _ _ _ c.args.total c.args.chunk c.args.may_enlarge c.self.inside.account _ c.grow.new.account
+    c.self.invariant
     (current_in _ _ c.args.chunk c.self.view_is c.requires.may.current_is) refl c.in_ok-grow.ensures.grown
 
 pub grow-requires-clause-held : goal.grow-requires-clause-held
 grow-requires-clause-held g c =
-    has_its_start c.self.inside.account.chunks _ c.args.chunk (current_in _ _ c.args.chunk c.self.view_is c.requires.may.current_is)
+    has_its_start c.self.inside.account.chunks _ c.args.chunk
+    (current_in _ _ c.args.chunk c.self.view_is c.requires.may.current_is)
 
 pub raise-requires-clause-fits : goal.raise-requires-clause-fits
 raise-requires-clause-fits g c = omega (arith, books_small _ _ _ c.self.invariant, c.requires.may.small)
 
 pub invariant_of-self-2 : goal.invariant_of-self-2
 invariant_of-self-2 g c =
-    let more = subst (λ (books : BooksView). current_top books.state + 2 ≤ c.args.total) (sym c.self.view_is) c.requires.may.more in
-    books_grown _ _ _ _ c.args.total (c.held.result - 1) _ c.args.chunk c.self.inside.account c.grow.new.account c.raise.new.tops.items c.self.invariant (grown g c)
-    c.held-2.ensures.chunks more (ap (λ (h : ℕ). h - 1) c.held.ensures.count) c.raise.ensures.tops c.raise.ensures.counted.used
+    let more =
+    subst (λ (books : BooksView). current_top books.state + 2 ≤ c.args.total)
+    (sym c.self.view_is) c.requires.may.more in
+    books_grown _ _ _ _ c.args.total (c.held.result - 1) _ c.args.chunk c.self.inside.account c.grow.new.account
+    c.raise.new.tops.items c.self.invariant (grown g c)
+    c.held-2.ensures.chunks more (ap (λ (h : ℕ). h - 1) c.held.ensures.count) c.raise.ensures.tops
+    c.raise.ensures.counted.used
 
 pub returns-clause-grown : goal.returns-clause-grown
 returns-clause-grown g c = record {
   span = c.in_ok-grow.field-0;
-  asked = subst (λ (books : BooksView). g.S.ChunkSource.grew c.args.source.now (account_in books) c.args.chunk.start c.args.total c.args.may_enlarge (Ok c.in_ok-grow.field-0) c.grow.new.self) c.self.view_is c.in_ok-grow.ensures.grew;
-  state = grown_view _ _ c.args.total c.args.chunk _ _ c.grow.new.account c.raise.new.tops.items (c.held.result - 1) _ _ _ (grown g c) (ap (λ (h : ℕ). h - 1) c.held.ensures.count) c.raise.ensures.tops
+  asked = subst
+      (λ (books : BooksView). g.S.ChunkSource.grew c.args.source.now (account_in books) c.args.chunk.start c.args.total
+      c.args.may_enlarge (Ok c.in_ok-grow.field-0) c.grow.new.self) c.self.view_is c.in_ok-grow.ensures.grew;
+  state = grown_view _ _ c.args.total c.args.chunk _ _ c.grow.new.account c.raise.new.tops.items
+      (c.held.result - 1) _ _ _ (grown g c) (ap (λ (h : ℕ). h - 1) c.held.ensures.count) c.raise.ensures.tops
       (omega (arith, c.raise.ensures.counted.capacity, c.raise.ensures.counted.len))
-      ∙ ap (λ (books : BooksView). record books { state = with_top (with_current books.state (reaching (g.S.ChunkSource.limits c.args.source.now).policy c.args.chunk c.args.total)) c.args.total }) c.self.view_is;
+      ∙ ap (λ (books : BooksView).
+      record books {
+        state = with_top
+            (with_current books.state (reaching (g.S.ChunkSource.limits c.args.source.now).policy c.args.chunk c.args.total))
+            c.args.total;
+      }) c.self.view_is;
 }
 
 pub returns-clause-awaits : goal.returns-clause-awaits
 returns-clause-awaits g c = λ start n starts sum live sound.
-    grown_awaits _ _ _ _ c.args.total n (c.held.result - 1) start c.args.chunk c.self.inside.account c.grow.new.account c.raise.new.tops.items c.self.invariant (grown g c)
-    c.held-2.ensures.chunks (subst (λ (books : BooksView). c.args.total ≡ current_top books.state + n) (sym c.self.view_is) sum) (omega (arith, sum, c.requires.may.more))
+    grown_awaits _ _ _ _ c.args.total n (c.held.result - 1) start c.args.chunk c.self.inside.account c.grow.new.account
+    c.raise.new.tops.items c.self.invariant (grown g c)
+    c.held-2.ensures.chunks
+    (subst (λ (books : BooksView). c.args.total ≡ current_top books.state + n) (sym c.self.view_is) sum)
+    (omega (arith, sum, c.requires.may.more))
     (subst (λ (books : BooksView). start ≡ c.args.chunk.start + current_top books.state) (sym c.self.view_is) starts)
     (ap (λ (h : ℕ). h - 1) c.held.ensures.count) c.raise.ensures.tops
     live (subst (λ (books : BooksView). IsSound books.state live) (sym c.self.view_is) sound)

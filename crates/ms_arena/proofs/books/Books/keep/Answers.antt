@@ -10,14 +10,17 @@ add-requires-clause-words c = c.requires.awaits.long
 pub add-requires-clause-ends : goal.add-requires-clause-ends
 add-requires-clause-ends c =
     (may_be_kept _ _ _ (run_of c.args.block) c.self.invariant
-    (subst (λ (books : BooksView). Awaits books.state [] (run_of c.args.block)) (sym c.self.view_is) c.requires.awaits)).ends
+    (subst (λ (books : BooksView). Awaits books.state [] (run_of c.args.block))
+    (sym c.self.view_is) c.requires.awaits)).ends
 
 pub add-requires-clause-apart : goal.add-requires-clause-apart
 add-requires-clause-apart c =
     (may_be_kept _ _ _ (run_of c.args.block) c.self.invariant
-    (subst (λ (books : BooksView). Awaits books.state [] (run_of c.args.block)) (sym c.self.view_is) c.requires.awaits)).apart
+    (subst (λ (books : BooksView). Awaits books.state [] (run_of c.args.block))
+    (sym c.self.view_is) c.requires.awaits)).apart
 
 pub invariant_of-self : goal.invariant_of-self
 invariant_of-self c =
     books_with_kept _ _ _ (run_of c.args.block) _ c.self.invariant
-    (subst (λ (books : BooksView). Awaits books.state [] (run_of c.args.block)) (sym c.self.view_is) c.requires.awaits) c.add.ensures.kept
+    (subst (λ (books : BooksView). Awaits books.state [] (run_of c.args.block)) (sym c.self.view_is) c.requires.awaits)
+    c.add.ensures.kept

@@ -2,15 +2,18 @@ use Rattle.std.proofs.Common.{◌+◌, ◌-◌, ◌∙◌, ap, arith, subst, sym
 use Rattle.ms_base.specs.Place.{tops_with}
 use Rattle.ms_base.specs.Good.{IsSound}
 use Rattle.ms_arena.specs.Books.{BooksView, Awaits}
-use Rattle.ms_arena.proofs.BookLemmas.{books_small, free_awaits, books_placed_free, top_awaits, books_placed_at_top, same_books, same_sound}
+use Rattle.ms_arena.proofs.BookLemmas.{books_small, free_awaits, books_placed_free, top_awaits, books_placed_at_top}
+use Rattle.ms_arena.proofs.BookLemmas.{same_books, same_sound}
 use Rattle.ms_arena.proofs.books.Books.place.Goals as goal
 
 pub invariant_of-self : goal.invariant_of-self
-invariant_of-self c = books_placed_free _ _ _ c.args.n c.in-Some.start _ c.self.invariant c.in-Some.ensures.placed c.requires.some
+invariant_of-self c =
+    books_placed_free _ _ _ c.args.n c.in-Some.start _ c.self.invariant c.in-Some.ensures.placed c.requires.some
 
 pub returns-in-Some-clause-awaits : goal.returns-in-Some-clause-awaits
 returns-in-Some-clause-awaits c = λ live sound.
-    free_awaits _ _ _ c.args.n c.in-Some.start c.place_free.new.kept.kept c.self.invariant c.in-Some.ensures.placed c.requires.some
+    free_awaits _ _ _ c.args.n c.in-Some.start c.place_free.new.kept.kept c.self.invariant c.in-Some.ensures.placed
+    c.requires.some
     live (subst (λ (books : BooksView). IsSound books.state live) (sym c.self.view_is) sound)
 
 pub raise-requires-clause-fits : goal.raise-requires-clause-fits
@@ -22,16 +25,31 @@ raise-requires-clause-fits c =
 pub invariant_of-self-3 : goal.invariant_of-self-3
 invariant_of-self-3 c =
     books_placed_at_top _ _ _ c.args.n (c.held.result - 1) _ c.in_ok-chunk.chunk _
-    (same_books _ _ _ _ _ c.place_free.new.kept c.in_default.ensures.unchanged c.self.invariant) (sym c.in_ok-chunk.ensures.chunk)
-    (omega (arith, c.if-top-n.false, c.in_ok-chunk.ensures.top)) c.requires.some (ap (λ (h : ℕ). h - 1) c.held.ensures.count)
-    (c.raise.ensures.tops ∙ ap (λ (t : ℕ). tops_with c.self.inside.tops.items (c.held.result - 1) (t + c.args.n)) c.in_ok-chunk.ensures.top)
+    (same_books _ _ _ _ _ c.place_free.new.kept c.in_default.ensures.unchanged c.self.invariant)
+    (sym c.in_ok-chunk.ensures.chunk)
+    (omega (arith, c.if-top-n.false, c.in_ok-chunk.ensures.top)) c.requires.some
+    (ap (λ (h : ℕ). h - 1) c.held.ensures.count)
+    (c.raise.ensures.tops
+    ∙ ap (λ (t : ℕ). tops_with c.self.inside.tops.items (c.held.result - 1) (t + c.args.n))
+    c.in_ok-chunk.ensures.top)
     c.raise.ensures.counted.used
 
 pub returns-clause-awaits : goal.returns-clause-awaits
 returns-clause-awaits c = λ live sound.
-    subst (λ (t : ℕ). Awaits (record { chunks = c.self.inside.account.chunks; tops = c.raise.new.tops.items; kept = c.place_free.new.kept.kept }) live (c.in_ok-chunk.chunk.start + t, c.args.n)) (sym c.in_ok-chunk.ensures.top)
+    subst (λ (t : ℕ). Awaits
+    (record {
+      chunks = c.self.inside.account.chunks;
+      tops = c.raise.new.tops.items;
+      kept = c.place_free.new.kept.kept;
+    }) live (c.in_ok-chunk.chunk.start + t, c.args.n))
+    (sym c.in_ok-chunk.ensures.top)
     (top_awaits _ _ _ c.args.n (c.held.result - 1) c.in_ok-chunk.chunk _
-    (same_books _ _ _ _ _ c.place_free.new.kept c.in_default.ensures.unchanged c.self.invariant) (sym c.in_ok-chunk.ensures.chunk)
-    (omega (arith, c.if-top-n.false, c.in_ok-chunk.ensures.top)) c.requires.some (ap (λ (h : ℕ). h - 1) c.held.ensures.count)
-    (c.raise.ensures.tops ∙ ap (λ (t : ℕ). tops_with c.self.inside.tops.items (c.held.result - 1) (t + c.args.n)) c.in_ok-chunk.ensures.top)
-    live (same_sound _ _ live _ c.place_free.new.kept c.in_default.ensures.unchanged (subst (λ (books : BooksView). IsSound books.state live) (sym c.self.view_is) sound)))
+    (same_books _ _ _ _ _ c.place_free.new.kept c.in_default.ensures.unchanged c.self.invariant)
+    (sym c.in_ok-chunk.ensures.chunk)
+    (omega (arith, c.if-top-n.false, c.in_ok-chunk.ensures.top)) c.requires.some
+    (ap (λ (h : ℕ). h - 1) c.held.ensures.count)
+    (c.raise.ensures.tops
+    ∙ ap (λ (t : ℕ). tops_with c.self.inside.tops.items (c.held.result - 1) (t + c.args.n))
+    c.in_ok-chunk.ensures.top)
+    live (same_sound _ _ live _ c.place_free.new.kept c.in_default.ensures.unchanged
+    (subst (λ (books : BooksView). IsSound books.state live) (sym c.self.view_is) sound)))

@@ -9,4 +9,5 @@ pub invariant_of-self : goal.invariant_of-self
 invariant_of-self c =
     subst (λ (rows : List LiveBlock). AreNamed (entries_of rows)) (sym c.remove.ensures.items)
     (rise_without_row c.self.inside.rows.items c.in-Some.place c.args.block c.self.invariant
-    (subst (λ (rows : List LiveBlock). IsRowAt rows c.in-Some.place c.args.block) c.deref.ensures.value c.in-Some.ensures.found))
+    (subst (λ (rows : List LiveBlock). IsRowAt rows c.in-Some.place c.args.block) c.deref.ensures.value
+    c.in-Some.ensures.found))

@@ -48,7 +48,8 @@ pub returns-in-None-clause-none : goal.returns-in-None-clause-none
 returns-in-None-clause-none g c = rw (← c.self.view_is) (missed g c).none
 
 pub returns-in-None-clause-answer : goal.returns-in-None-clause-answer
-returns-in-None-clause-answer g c = sym (best_fit-none c.args.self.now.kept c.args.words (returns-in-None-clause-none g c))
+returns-in-None-clause-answer g c =
+    sym (best_fit-none c.args.self.now.kept c.args.words (returns-in-None-clause-none g c))
 
 pub returns-in-None-clause-unchanged : goal.returns-in-None-clause-unchanged
 returns-in-None-clause-unchanged g c =

@@ -36,7 +36,9 @@ leaf_at-requires-else-offset-middle g t c κs within =
 pub returns-then-offset-middle-clause-leaf : goal.returns-then-offset-middle-clause-leaf
 returns-then-offset-middle-clause-leaf g t c =
     let s = at_split _ c.args.start _ _ _ _ _ _ _ c.in-Split.is c.requires.tree c.half_of.ensures.size in
-    rw (s.lent, s.free) (lower_leaf _ _ _ c.in-Split.lower.value c.in-Split.upper.value _ _ (rw c.deref.ensures at c.leaf_at.ensures.leaf))
+    rw (s.lent, s.free)
+    (lower_leaf _ _ _ c.in-Split.lower.value c.in-Split.upper.value _ _
+    (rw c.deref.ensures at c.leaf_at.ensures.leaf))
 
 pub returns-else-offset-middle-clause-leaf : goal.returns-else-offset-middle-clause-leaf
 returns-else-offset-middle-clause-leaf g t c =

@@ -26,8 +26,13 @@ next_free-requires g t c κs within =
 
 pub next_free-requires-in-Split : goal.next_free-requires-in-Split
 next_free-requires-in-Split g t c κs within =
-    let s = at_split _ c.args.start _ _ _ _ _ _ _ c.in-Split.is c.requires.tree c.half_of.ensures.size in
-    (omega (arith, s.low), (search rules, (rw c.deref-in-Split.ensures s.halves.low_tree, (lower_place _ _ c.requires.place s.low, c.requires.wanted))))
+    let s = at_split _ c.args.start _ _ _ _ _ _ _ c.in-Split.is c.requires.tree c.half_of.ensures.size in (
+      omega (arith, s.low),
+      (
+        search rules,
+        (rw c.deref-in-Split.ensures s.halves.low_tree, (lower_place _ _ c.requires.place s.low, c.requires.wanted)),
+      ),
+    )
 
 pub next_free-requires-in-None : goal.next_free-requires-in-None
 next_free-requires-in-None g t c κs within =
@@ -45,12 +50,14 @@ next_free-requires-in-None g t c κs within =
 pub returns-then-from-middle : goal.returns-then-from-middle
 returns-then-from-middle g t c =
     let s = at_split _ c.args.start _ _ _ _ _ _ _ c.in-Split.is c.requires.tree c.half_of.ensures.size in
-    found_above _ _ _ _ _ _ _ _ _ _ s c.deref.ensures c.next_free.ensures (none_below_from _ _ _ _ _ s.halves.low_tree (omega (arith, s.halves.size)))
+    found_above _ _ _ _ _ _ _ _ _ _ s c.deref.ensures c.next_free.ensures
+    (none_below_from _ _ _ _ _ s.halves.low_tree (omega (arith, s.halves.size)))
 
 pub returns-in-Some : goal.returns-in-Some
 returns-in-Some g t c =
     let s = at_split _ c.args.start _ _ _ _ _ _ _ c.in-Split.is c.requires.tree c.half_of.ensures.size in
-    found_below _ _ _ _ _ _ _ _ _ s (told_below _ _ _ _ _ _ _ _ c.deref-in-Split.ensures c.next_free-in-Split.ensures c.in-Some.is)
+    found_below _ _ _ _ _ _ _ _ _ s
+    (told_below _ _ _ _ _ _ _ _ c.deref-in-Split.ensures c.next_free-in-Split.ensures c.in-Some.is)
 
 pub returns-in-None : goal.returns-in-None
 returns-in-None g t c =

@@ -28,6 +28,7 @@ returns-then-span-middle-clause-lent g t c =
 pub returns-else-span-middle-clause-lent : goal.returns-else-span-middle-clause-lent
 returns-else-span-middle-clause-lent g t c =
     let s = at_split _ c.args.start _ _ _ _ _ _ _ c.in-Split.is c.requires.tree c.half_of.ensures.size in
-    upper_changed _ _ _ _ _ c.set_front-else-span-middle.new.self _ _ (front_acts c.args.span c.args.front) s.halves (omega arith)
+    upper_changed _ _ _ _ _ c.set_front-else-span-middle.new.self _ _ (front_acts c.args.span c.args.front) s.halves
+    (omega arith)
     (rw c.deref_mut-else-span-middle.ensures.value at c.set_front-else-span-middle.ensures.lent)
     ∙ ap (with_front c.args.span c.args.front) (sym s.lent)

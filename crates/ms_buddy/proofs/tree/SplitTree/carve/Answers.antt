@@ -24,7 +24,8 @@ carve-requires-clause-part g c = record {
 pub returns-clause-no_room : goal.returns-clause-no_room
 returns-clause-no_room g c =
     let e = sym (ap free_of c.self.view_is) ∙ free_of-tree c.self.inside.node c.self.invariant in
-    rw e (no_room_exactly (span_at c.args.at c.args.level) (free_in 0 0 c.self.inside.node) c.carve.result c.carve.ensures.answers)
+    rw e (no_room_exactly (span_at c.args.at c.args.level) (free_in 0 0 c.self.inside.node) c.carve.result
+    c.carve.ensures.answers)
 
 pub returns-clause-refusal : goal.returns-clause-refusal
 returns-clause-refusal g c =

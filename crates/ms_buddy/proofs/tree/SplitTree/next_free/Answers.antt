@@ -8,4 +8,5 @@ use Rattle.ms_buddy.proofs.tree.SplitTree.next_free.Goals as goal
 pub returns : goal.returns
 returns g c =
     rw c.number.ensures.same at c.next_free.ensures
-    ∙ ap (find (is_of_from c.args.level c.args.from)) (sym (free_of-tree c.self.inside.node c.self.invariant) ∙ ap free_of c.self.view_is)
+    ∙ ap (find (is_of_from c.args.level c.args.from))
+    (sym (free_of-tree c.self.inside.node c.self.invariant) ∙ ap free_of c.self.view_is)

@@ -14,9 +14,11 @@ before_first first count slot before = grind (arith, nat_tests)
 pub returns-then-slot-ge-SLOTS : goal.returns-then-slot-ge-SLOTS
 returns-then-slot-ge-SLOTS c =
     from_first 64 c.self.inside.class_slots c.args.slot c.if-slot-ge-SLOTS.true
-    ∙ reserved_past c.self.inside c.args.self.now c.args.slot c.self.view_is (sym c.contains.ensures ∙ c.if-contains.false)
+    ∙ reserved_past c.self.inside c.args.self.now c.args.slot c.self.view_is
+    (sym c.contains.ensures ∙ c.if-contains.false)
 
 pub returns-else-slot-ge-SLOTS : goal.returns-else-slot-ge-SLOTS
 returns-else-slot-ge-SLOTS c =
     before_first 64 c.self.inside.class_slots c.args.slot c.if-slot-ge-SLOTS.false
-    ∙ reserved_past c.self.inside c.args.self.now c.args.slot c.self.view_is (sym c.contains.ensures ∙ c.if-contains.false)
+    ∙ reserved_past c.self.inside c.args.self.now c.args.slot c.self.view_is
+    (sym c.contains.ensures ∙ c.if-contains.false)

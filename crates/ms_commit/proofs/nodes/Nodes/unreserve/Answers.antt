@@ -13,7 +13,8 @@ remove-requires c = (omega arith, (c.requires.below, omega (arith, c.requires.be
 
 pub invariant_of-self : goal.invariant_of-self
 invariant_of-self c =
-    let reserved = slot_in_kept c.self.inside c.args.self.now c.args.slot c.self.view_is c.requires.reserved c.requires.below in
+    let reserved =
+    slot_in_kept c.self.inside c.args.self.now c.args.slot c.self.view_is c.requires.reserved c.requires.below in
     let slots = c.remove.ensures in
     let granules = c.remove_range.ensures in
     kept_unreserve c.self.inside c.remove.new.self c.remove_range.new.self c.args.slot c.count-cleared.result

@@ -3,7 +3,9 @@ use Rattle.ms_loaders.proofs.SumsLemmas.{sums_of_arena}
 use Rattle.ms_loaders.proofs.loader.Loader.totals.Goals as goal
 
 pub returns-clause-sums : goal.returns-clause-sums
-returns-clause-sums c = rw (← c.self.view_is) (sums_of_arena c.self.inside c.self.invariant NonClass c.totals.result c.totals.ensures.sums)
+returns-clause-sums c =
+    rw (← c.self.view_is) (sums_of_arena c.self.inside c.self.invariant NonClass c.totals.result c.totals.ensures.sums)
 
 pub returns-clause-class_sums : goal.returns-clause-class_sums
-returns-clause-class_sums c = rw (← c.self.view_is) (sums_of_arena c.self.inside c.self.invariant Class c.totals-2.result c.totals-2.ensures.sums)
+returns-clause-class_sums c =
+    rw (← c.self.view_is) (sums_of_arena c.self.inside c.self.invariant Class c.totals-2.result c.totals-2.ensures.sums)

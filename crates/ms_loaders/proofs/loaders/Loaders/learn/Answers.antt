@@ -9,11 +9,13 @@ use Rattle.ms_loaders.proofs.loaders.Loaders.learn.Goals as goal
 
 pub loop-loader-init : goal.loop-loader-init
 loop-loader-init c = λ all. subst (λ entries. All IsSoundView (values_of entries)) c.self.view_is
-    (subst (All IsSoundView) (c.into_iter-loader-iterator.ensures.into_iter_gives ∙ c.values-loader-items.ensures.rest) all)
+    (subst (All IsSoundView) (c.into_iter-loader-iterator.ensures.into_iter_gives ∙ c.values-loader-items.ensures.rest)
+    all)
 
 pub loop-loader-preserved : goal.loop-loader-preserved
 loop-loader-preserved c = λ all. c.loop-loader.invariant (rw c.in-Some.ensures.steps
-    (All-from_recursion IsSoundView (c.in-Some.loader.now ∷ c.next.new.self) (c.accounts.ensures.sound, recursion_from_All IsSoundView c.next.new.self all)))
+    (All-from_recursion IsSoundView (c.in-Some.loader.now ∷ c.next.new.self)
+    (c.accounts.ensures.sound, recursion_from_All IsSoundView c.next.new.self all)))
 
 pub returns-clause-names : goal.returns-clause-names
 returns-clause-names c = subst (λ (entries : List (ℕ × LoaderView)). AreNamed entries) c.self.view_is

@@ -7,34 +7,52 @@ use Rattle.ms_loaders.proofs.system.System.allocate.Goals as goal
 use Rattle.ms_loaders.proofs.system.System.allocate.Goals.{in-Ok, in-Err}
 
 pub returns-in_default-clause-refused : goal.returns-in_default-clause-refused
-returns-in_default-clause-refused c = rw (← c.self.view_is) (alloc_finds_none c.args.space c.self.inside.pool c.self.inside.loaders c.args.name c.args.block c.args.words (sym c.in_default.ensures.found))
+returns-in_default-clause-refused c =
+    rw (← c.self.view_is)
+    (alloc_finds_none c.args.space c.self.inside.pool c.self.inside.loaders c.args.name c.args.block c.args.words
+    (sym c.in_default.ensures.found))
 
 pub allocate-answer-requires : goal.allocate-answer-requires
-allocate-answer-requires c = own_served c.args.space c.self.inside.pool c.self.inside.loaders c.args.name c.in-Some.loader.now (sym c.in-Some.ensures.found) c.self.invariant.together.served
+allocate-answer-requires c =
+    own_served c.args.space c.self.inside.pool c.self.inside.loaders c.args.name c.in-Some.loader.now
+    (sym c.in-Some.ensures.found) c.self.invariant.together.served
 
 pub invariant_of-self-2 : goal.invariant_of-self-2
 invariant_of-self-2 c =
     let answer = c.allocate-answer in
     record {
-      together = together_after c.args.space c.self.inside.pool answer.new.source c.self.inside.loaders c.args.name c.args.block c.args.words c.in-Some.loader.now answer.new.self answer.result
-          (sym c.in-Some.ensures.found) answer.ensures.allocates answer.ensures.served answer.ensures.rest.others answer.ensures.rest.counted c.committed.ensures.sound answer.ensures.sound c.self.invariant.together;
-      policy_is = c.self.invariant.policy_is ∙ ap (λ (limits : Limits). limits.policy) (sym answer.ensures.rest.limits_stay);
+      together =
+          together_after c.args.space c.self.inside.pool answer.new.source c.self.inside.loaders c.args.name
+          c.args.block c.args.words c.in-Some.loader.now answer.new.self answer.result
+          (sym c.in-Some.ensures.found) answer.ensures.allocates answer.ensures.served answer.ensures.rest.others
+          answer.ensures.rest.counted c.committed.ensures.sound answer.ensures.sound c.self.invariant.together;
+      policy_is =
+          c.self.invariant.policy_is ∙ ap (λ (limits : Limits). limits.policy) (sym answer.ensures.rest.limits_stay);
     }
 
 pub returns-clause-served : goal.returns-clause-served
 returns-clause-served c =
     let answer = c.allocate-answer in
-    let together = together_after c.args.space c.self.inside.pool answer.new.source c.self.inside.loaders c.args.name c.args.block c.args.words c.in-Some.loader.now answer.new.self answer.result
-    (sym c.in-Some.ensures.found) answer.ensures.allocates answer.ensures.served answer.ensures.rest.others answer.ensures.rest.counted c.committed.ensures.sound answer.ensures.sound c.self.invariant.together in
+    let together =
+    together_after c.args.space c.self.inside.pool answer.new.source c.self.inside.loaders c.args.name c.args.block
+    c.args.words c.in-Some.loader.now answer.new.self answer.result
+    (sym c.in-Some.ensures.found) answer.ensures.allocates answer.ensures.served answer.ensures.rest.others
+    answer.ensures.rest.counted c.committed.ensures.sound answer.ensures.sound c.self.invariant.together in
     elim c.match-answer.branch [
-      | in-Ok w ↦ rw (w.result-is, ← c.self.view_is) (alloc_answers_at c.args.space c.self.inside.pool answer.new.source c.self.inside.loaders c.args.name c.args.block c.args.words
-          c.in-Some.loader.now answer.new.self answer.result w.in-Ok.made w.in-Ok.is (sym c.in-Some.ensures.found) answer.ensures.allocates c.self.invariant.together together)
+      | in-Ok w ↦ rw (w.result-is, ← c.self.view_is)
+          (alloc_answers_at c.args.space c.self.inside.pool answer.new.source c.self.inside.loaders c.args.name
+          c.args.block c.args.words
+          c.in-Some.loader.now answer.new.self answer.result w.in-Ok.made w.in-Ok.is (sym c.in-Some.ensures.found)
+          answer.ensures.allocates c.self.invariant.together together)
       | in-Err w ↦ rw w.result-is tt
     ]
 
 pub returns-clause-refused : goal.returns-clause-refused
 returns-clause-refused c = elim c.match-answer.branch [
   | in-Ok w ↦ rw w.result-is tt
-  | in-Err w ↦ rw (w.result-is, ← c.self.view_is) (alloc_answers_why c.args.space c.self.inside.pool c.allocate-answer.new.source c.self.inside.loaders c.args.name c.args.block c.args.words
-      c.in-Some.loader.now c.allocate-answer.new.self c.allocate-answer.result w.in-Err.refusal w.in-Err.is (sym c.in-Some.ensures.found) c.allocate-answer.ensures.allocates c.self.invariant.together)
+  | in-Err w ↦ rw (w.result-is, ← c.self.view_is)
+      (alloc_answers_why c.args.space c.self.inside.pool c.allocate-answer.new.source c.self.inside.loaders c.args.name
+      c.args.block c.args.words
+      c.in-Some.loader.now c.allocate-answer.new.self c.allocate-answer.result w.in-Err.refusal w.in-Err.is
+      (sym c.in-Some.ensures.found) c.allocate-answer.ensures.allocates c.self.invariant.together)
 ]

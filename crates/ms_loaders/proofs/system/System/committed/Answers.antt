@@ -8,6 +8,14 @@ use Rattle.ms_loaders.proofs.system.System.committed.Goals as goal
 pub overflow_mul-result : goal.overflow_mul-result
 overflow_mul-result c =
     let pool = c.self.inside.pool in
-    let product : c.committed.result * c.granule.result ≡ (length pool.committed + length pool.class_committed) * granule_of pool.limits.policy =
-    ap (λ (n : ℕ). n * c.granule.result) c.committed.ensures.count ∙ ap (λ (n : ℕ). (length pool.committed + length pool.class_committed) * n) (c.granule.ensures ∙ ap granule_of c.self.invariant.policy_is) in
-    omega (arith, product, committed_fits (machine_of pool c.self.inside.loaders) (machine_is_good pool c.self.inside.loaders c.self.invariant.together))
+    let product : c.committed.result * c.granule.result
+    ≡ (length pool.committed + length pool.class_committed) * granule_of pool.limits.policy =
+    ap (λ (n : ℕ). n * c.granule.result) c.committed.ensures.count
+    ∙ ap (λ (n : ℕ). (length pool.committed + length pool.class_committed) * n)
+    (c.granule.ensures ∙ ap granule_of c.self.invariant.policy_is) in
+    omega (
+      arith,
+      product,
+      committed_fits (machine_of pool c.self.inside.loaders)
+          (machine_is_good pool c.self.inside.loaders c.self.invariant.together),
+    )

@@ -2,4 +2,7 @@ use Rattle.ms_loaders.proofs.CloseLemmas.{machine_purged_is}
 use Rattle.ms_loaders.proofs.system.System.purge.Goals as goal
 
 pub returns-clause-step : goal.returns-clause-step
-returns-clause-step c = rw (← c.self.view_is) (machine_purged_is c.self.inside.pool c.purge-gone.new.self c.self.inside.loaders c.purge-gone.ensures.1 c.committed.ensures.sound c.self.invariant.together)
+returns-clause-step c =
+    rw (← c.self.view_is)
+    (machine_purged_is c.self.inside.pool c.purge-gone.new.self c.self.inside.loaders c.purge-gone.ensures.1
+    c.committed.ensures.sound c.self.invariant.together)

@@ -11,31 +11,51 @@ use Rattle.ms_loaders.proofs.system.System.run.Goals as goal
 use Rattle.ms_loaders.proofs.system.System.run.Goals.{in-Ok, in-Err}
 
 pub returns-in_err-replies-clause-before : goal.returns-in_err-replies-clause-before
-returns-in_err-replies-clause-before c = subst IsGood c.self.view_is (machine_is_good c.self.inside.pool c.self.inside.loaders c.self.invariant.together)
+returns-in_err-replies-clause-before c =
+    subst IsGood c.self.view_is (machine_is_good c.self.inside.pool c.self.inside.loaders c.self.invariant.together)
 
 pub returns-in_err-replies-clause-after : goal.returns-in_err-replies-clause-after
-returns-in_err-replies-clause-after c = subst IsGood c.self.view_is (machine_is_good c.self.inside.pool c.self.inside.loaders c.self.invariant.together)
+returns-in_err-replies-clause-after c =
+    subst IsGood c.self.view_is (machine_is_good c.self.inside.pool c.self.inside.loaders c.self.invariant.together)
 
 pub returns-in_err-replies-clause-emptied : goal.returns-in_err-replies-clause-emptied
-returns-in_err-replies-clause-emptied c = nothing_is_left _ (subst IsGood c.self.view_is (machine_is_good c.self.inside.pool c.self.inside.loaders c.self.invariant.together))
+returns-in_err-replies-clause-emptied c =
+    nothing_is_left _
+    (subst IsGood c.self.view_is (machine_is_good c.self.inside.pool c.self.inside.loaders c.self.invariant.together))
 
 pub loop-step-preserved : goal.loop-step-preserved
 loop-step-preserved c =
-    let same : reply_of c.serve.result ≡ c.match-serve.reply = elim c.match-serve.branch [ in-Ok w ↦ rw w.in-Ok.is (sym w.reply-is) | in-Err w ↦ rw w.in-Err.is (sym w.reply-is) ] in
+    let same : reply_of c.serve.result ≡ c.match-serve.reply =
+    elim c.match-serve.branch [
+      | in-Ok w ↦ rw w.in-Ok.is (sym w.reply-is)
+      | in-Err w ↦
+          rw w.in-Err.is (sym w.reply-is)
+    ] in
     record {
       so_far =
-          rw (take_more c.args.steps.now c.loop-step.step-index (New 0 Standard) c.loop-step-test.true, c.push_reserved.ensures.items)
-          (run_on (take c.loop-step.step-index c.args.steps.now) c.loop-step.replies.items c.args.self.now c.loop-step.self c.serve.new.self
-          (get_or c.args.steps.now c.loop-step.step-index (New 0 Standard)) c.match-serve.reply c.loop-step.invariant.so_far (rw same at c.serve.ensures));
+          rw (
+            take_more c.args.steps.now c.loop-step.step-index (New 0 Standard) c.loop-step-test.true,
+            c.push_reserved.ensures.items,
+          )
+          (run_on (take c.loop-step.step-index c.args.steps.now) c.loop-step.replies.items c.args.self.now
+          c.loop-step.self c.serve.new.self
+          (get_or c.args.steps.now c.loop-step.step-index (New 0 Standard)) c.match-serve.reply
+          c.loop-step.invariant.so_far (rw same at c.serve.ensures));
       told = omega (arith, c.push_reserved.ensures.len, c.loop-step.invariant.told);
       room = omega (arith, c.push_reserved.ensures.capacity, c.loop-step.invariant.room);
     }
 
 pub returns-clause-before : goal.returns-clause-before
-returns-clause-before c = subst IsGood c.self.view_is (machine_is_good c.self.inside.pool c.self.inside.loaders c.self.invariant.together)
+returns-clause-before c =
+    subst IsGood c.self.view_is (machine_is_good c.self.inside.pool c.self.inside.loaders c.self.invariant.together)
 
 pub returns-clause-after : goal.returns-clause-after
-returns-clause-after c = subst IsGood c.self-2.view_is (machine_is_good c.self-2.inside.pool c.self-2.inside.loaders c.self-2.invariant.together)
+returns-clause-after c =
+    subst IsGood c.self-2.view_is
+    (machine_is_good c.self-2.inside.pool c.self-2.inside.loaders c.self-2.invariant.together)
 
 pub returns-clause-emptied : goal.returns-clause-emptied
-returns-clause-emptied c = nothing_is_left _ (subst IsGood c.self-2.view_is (machine_is_good c.self-2.inside.pool c.self-2.inside.loaders c.self-2.invariant.together))
+returns-clause-emptied c =
+    nothing_is_left _
+    (subst IsGood c.self-2.view_is
+    (machine_is_good c.self-2.inside.pool c.self-2.inside.loaders c.self-2.invariant.together))

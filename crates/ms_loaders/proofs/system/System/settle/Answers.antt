@@ -5,7 +5,8 @@ use Rattle.ms_loaders.proofs.system.System.settle.Goals as goal
 
 pub returns-clause-good : goal.returns-clause-good
 returns-clause-good c =
-    let no_more : open_accounts c.args.pool ≤ accounts_in c.args.loaders = omega (arith, c.accounts-opened.ensures, c.len.ensures.count, c.if-opened-gathered.false) in
+    let no_more : open_accounts c.args.pool ≤ accounts_in c.args.loaders =
+    omega (arith, c.accounts-opened.ensures, c.len.ensures.count, c.if-opened-gathered.false) in
     machine_is_good c.args.pool c.args.loaders (record {
       ledger_sound = c.committed.ensures.sound;
       loaders_sound = c.learn.ensures.sound;

@@ -4,4 +4,5 @@ use Rattle.ms_loaders.proofs.FitLemmas.{machine_is_good}
 use Rattle.ms_loaders.proofs.system.System.step.Goals as goal
 
 pub returns-clause-good : goal.returns-clause-good
-returns-clause-good c = subst IsGood c.self.view_is (machine_is_good c.self.inside.pool c.self.inside.loaders c.self.invariant.together)
+returns-clause-good c =
+    subst IsGood c.self.view_is (machine_is_good c.self.inside.pool c.self.inside.loaders c.self.invariant.together)

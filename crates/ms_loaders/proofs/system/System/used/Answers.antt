@@ -10,13 +10,27 @@ use Rattle.ms_loaders.proofs.UsedLemmas.{used_in_both, used_is, used_fits}
 use Rattle.ms_loaders.proofs.system.System.used.Goals as goal
 
 pub loop-loader-init : goal.loop-loader-init
-loop-loader-init c = subst (λ (m : Machine). 0 + sum_by used_in_both c.into_iter-loader-iterator.result ≡ used_words NonClass m + used_words Class m) c.self.view_is
-    (none c.into_iter-loader-iterator.result ∙ ap (sum_by used_in_both) (c.into_iter-loader-iterator.ensures.into_iter_gives ∙ c.values-loader-items.ensures) ∙ used_is c.self.inside.loaders)
+loop-loader-init c =
+    subst (λ (m : Machine). 0 + sum_by used_in_both c.into_iter-loader-iterator.result
+    ≡ used_words NonClass m + used_words Class m) c.self.view_is
+    (none c.into_iter-loader-iterator.result
+    ∙ ap (sum_by used_in_both) (c.into_iter-loader-iterator.ensures.into_iter_gives ∙ c.values-loader-items.ensures)
+    ∙ used_is c.self.inside.loaders)
   where
     none : (l : List LoaderView) → 0 + sum_by used_in_both l ≡ sum_by used_in_both l
     none l = omega arith
 
 pub overflow_add-words : goal.overflow_add-words
 overflow_add-words c =
-    let all = rw (c.in-Some.ensures.steps, sum_by-cons used_in_both c.in-Some.loader.now c.next.new.self, ← c.self.view_is) at c.loop-loader.invariant in
-    omega (arith, all, c.used-words.ensures, used_fits _ (machine_is_good c.self.inside.pool c.self.inside.loaders c.self.invariant.together))
+    let all =
+    rw (
+      c.in-Some.ensures.steps,
+      sum_by-cons used_in_both c.in-Some.loader.now c.next.new.self,
+      ← c.self.view_is,
+    ) at c.loop-loader.invariant in
+    omega (
+      arith,
+      all,
+      c.used-words.ensures,
+      used_fits _ (machine_is_good c.self.inside.pool c.self.inside.loaders c.self.invariant.together),
+    )

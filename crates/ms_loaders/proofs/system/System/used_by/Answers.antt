@@ -6,4 +6,6 @@ use Rattle.ms_loaders.proofs.UsedLemmas.{used_mapped}
 use Rattle.ms_loaders.proofs.system.System.used_by.Goals as goal
 
 pub returns : goal.returns
-returns c = subst (λ (m : Machine). c.used_by.result ≡ used_if (named m.loaders c.args.name)) c.self.view_is (c.used_by.ensures ∙ used_mapped c.self.inside.loaders c.args.name)
+returns c =
+    subst (λ (m : Machine). c.used_by.result ≡ used_if (named m.loaders c.args.name)) c.self.view_is
+    (c.used_by.ensures ∙ used_mapped c.self.inside.loaders c.args.name)

@@ -11,16 +11,21 @@ close-requires-clause-counted c =
 
 pub close-requires-2-clause-served : goal.close-requires-2-clause-served
 close-requires-2-clause-served c =
-    served_still (ledger_of c.args.self.now) (ledger_of c.close.new.self) c.args.account.now c.args.class_account.now c.requires.both.space c.requires.both.class_space
-    c.requires.both.served c.requires.both.class_served c.held.ensures.chunks c.held-2.ensures.chunks c.close.ensures.closed
+    served_still (ledger_of c.args.self.now) (ledger_of c.close.new.self) c.args.account.now c.args.class_account.now
+    c.requires.both.space c.requires.both.class_space
+    c.requires.both.served c.requires.both.class_served c.held.ensures.chunks c.held-2.ensures.chunks
+    c.close.ensures.closed
 
 pub close-requires-2-clause-counted : goal.close-requires-2-clause-counted
 close-requires-2-clause-counted c =
     subst (λ (s : Space). 0 < opened_in (ledger_of c.close.new.self) s) (sym c.requires.both.class_space)
-    (let same = counted_still (ledger_of c.args.self.now) (ledger_of c.close.new.self) c.args.account.now c.requires.both.space c.close.ensures.closed in
+    (let same = counted_still (ledger_of c.args.self.now) (ledger_of c.close.new.self) c.args.account.now
+    c.requires.both.space c.close.ensures.closed in
     omega (arith, c.requires.class_counted, same))
 
 pub returns-clause-closed : goal.returns-clause-closed
 returns-clause-closed c =
-    both_closed (ledger_of c.args.self.now) (ledger_of c.close.new.self) (ledger_of c.close-2.new.self) c.args.account.now c.args.class_account.now
-    c.requires.kept.sound c.requires.both.space c.requires.both.class_space c.close.ensures.closed c.close-2.ensures.closed
+    both_closed (ledger_of c.args.self.now) (ledger_of c.close.new.self) (ledger_of c.close-2.new.self)
+    c.args.account.now c.args.class_account.now
+    c.requires.kept.sound c.requires.both.space c.requires.both.class_space c.close.ensures.closed
+    c.close-2.ensures.closed

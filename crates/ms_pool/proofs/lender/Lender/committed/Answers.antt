@@ -4,4 +4,5 @@ use Rattle.ms_commit.proofs.SpaceLemmas.{are_of_two_spaces}
 use Rattle.ms_pool.proofs.lender.Lender.committed.Goals as goal
 
 pub returns : goal.returns
-returns c = c.committed.ensures.count ∙ sym ((are_of_two_spaces c.args.self.now.nodes c.requires.nodes).counted NonClass)
+returns c =
+    c.committed.ensures.count ∙ sym ((are_of_two_spaces c.args.self.now.nodes c.requires.nodes).counted NonClass)

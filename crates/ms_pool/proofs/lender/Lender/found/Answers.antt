@@ -24,18 +24,32 @@ returns-in-Some-smaller c =
 pub returns-in-Some-smaller-2 : goal.returns-in-Some-smaller-2
 returns-in-Some-smaller-2 c =
     sym (first_found-is (state_in c.args.space (ledger_of c.args.self.now)) c.args.wanted c.args.most c.args.words
-    ∙ found_later _ _ (sym c.in_default.ensures) ∙ found_later _ _ (sym c.in_default-larger.ensures) ∙ found_later _ _ (sym c.in_default-smaller.ensures)
+    ∙ found_later _ _ (sym c.in_default.ensures) ∙ found_later _ _ (sym c.in_default-larger.ensures)
+    ∙ found_later _ _ (sym c.in_default-smaller.ensures)
     ∙ found_here _ _ c.in-Some-smaller-2.part (sym c.in-Some-smaller-2.ensures))
 
 pub returns : goal.returns
 returns c =
     c.larger-2.ensures
     ∙ sym (first_found-is (state_in c.args.space (ledger_of c.args.self.now)) c.args.wanted c.args.most c.args.words
-    ∙ found_later _ _ (sym c.in_default.ensures) ∙ found_later _ _ (sym c.in_default-larger.ensures) ∙ found_later _ _ (sym c.in_default-smaller.ensures)
+    ∙ found_later _ _ (sym c.in_default.ensures) ∙ found_later _ _ (sym c.in_default-larger.ensures)
+    ∙ found_later _ _ (sym c.in_default-smaller.ensures)
     ∙ found_later _ _ (sym c.in_default-smaller-2.ensures))
 
 pub larger-requires-clause-fits : goal.larger-requires-clause-fits
-larger-requires-clause-fits c = omega (arith, c.requires.asks.fits, size_falls c.args.wanted c.args.most c.requires.asks.levels (omega (arith, c.number.ensures.same, c.number.ensures.below)))
+larger-requires-clause-fits c =
+    omega (
+      arith,
+      c.requires.asks.fits,
+      size_falls c.args.wanted c.args.most c.requires.asks.levels
+          (omega (arith, c.number.ensures.same, c.number.ensures.below)),
+    )
 
 pub larger-requires-2-clause-fits : goal.larger-requires-2-clause-fits
-larger-requires-2-clause-fits c = omega (arith, c.requires.asks.fits, size_falls c.args.wanted c.args.most c.requires.asks.levels (omega (arith, c.number.ensures.same, c.number.ensures.below)))
+larger-requires-2-clause-fits c =
+    omega (
+      arith,
+      c.requires.asks.fits,
+      size_falls c.args.wanted c.args.most c.requires.asks.levels
+          (omega (arith, c.number.ensures.same, c.number.ensures.below)),
+    )

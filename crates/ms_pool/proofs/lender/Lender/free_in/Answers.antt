@@ -4,12 +4,16 @@ use Rattle.ms_pool.proofs.LentCountLemmas.{no_count}
 use Rattle.ms_pool.proofs.lender.Lender.free_in.Goals as goal
 
 pub loop-slot-init : goal.loop-slot-init
-loop-slot-init c = counted_to_first c.args.space c.args.self.now _ _ c.requires c.slots_of-first.ensures.first refl (λ level. no_count 13 level 0 refl)
+loop-slot-init c =
+    counted_to_first c.args.space c.args.self.now _ _ c.requires c.slots_of-first.ensures.first refl
+    (λ level. no_count 13 level 0 refl)
 
 pub loop-slot-preserved : goal.loop-slot-preserved
 loop-slot-preserved c =
-    counted_to_next c.args.space c.args.self.now c.loop-slot.counted.free c.free_in_slot-counted.result.free c.loop-slot.slot
-    (omega (arith, c.loop-slot-test.true, c.slots_of-first.ensures.end)) c.loop-slot.invariant c.free_in_slot-counted.ensures
+    counted_to_next c.args.space c.args.self.now c.loop-slot.counted.free c.free_in_slot-counted.result.free
+    c.loop-slot.slot
+    (omega (arith, c.loop-slot-test.true, c.slots_of-first.ensures.end)) c.loop-slot.invariant
+    c.free_in_slot-counted.ensures
 
 pub free_in_slot-counted-requires : goal.free_in_slot-counted-requires
 free_in_slot-counted-requires c = record {

@@ -10,7 +10,12 @@ loop-leaf-init c =
     let trees = c.args.self.now.trees.items in
     let left : c.into_iter-leaf-iterator.result ≡ free_of (get_or trees c.args.root []) =
     c.into_iter-leaf-iterator.ensures.into_iter_gives ∙ c.free_leaves-leaf-items.ensures ∙ ap free_of c.tree.ensures in
-    record { can = tt; ends = tt; full = refl; counted = λ level h. ap (λ (parts : List Span). get_or c.args.before.free level 0 + parts_of level parts) left }
+    record {
+      can = tt;
+      ends = tt;
+      full = refl;
+      counted = λ level h. ap (λ (parts : List Span). get_or c.args.before.free level 0 + parts_of level parts) left;
+    }
 
 pub loop-leaf-preserved : goal.loop-leaf-preserved
 loop-leaf-preserved c = record {
@@ -27,13 +32,20 @@ loop-leaf-preserved c = record {
 
 pub with_part-counted-requires : goal.with_part-counted-requires
 with_part-counted-requires c = record {
-  fits = λ h. part_room (get_or c.loop-leaf.counted.free c.in-Some.leaf.level 0) (get_or c.args.before.free c.in-Some.leaf.level 0) c.loop-leaf.leaf-iterator
-      (free_of (get_or c.args.self.now.trees.items c.args.root [])) c.next.new.self c.in-Some.leaf c.in-Some.ensures.steps
+  fits = λ h. part_room (get_or c.loop-leaf.counted.free c.in-Some.leaf.level 0)
+      (get_or c.args.before.free c.in-Some.leaf.level 0) c.loop-leaf.leaf-iterator
+      (free_of (get_or c.args.self.now.trees.items c.args.root [])) c.next.new.self c.in-Some.leaf
+      c.in-Some.ensures.steps
       (c.loop-leaf.invariant.counted c.in-Some.leaf.level h) (c.requires.room c.in-Some.leaf.level h);
 }
 
 pub returns : goal.returns
 returns c = record {
   full = c.loop-leaf.invariant.full;
-  counts = λ level h. omega (arith, c.loop-leaf.invariant.counted level h, ap (parts_of level) c.in-None.ensures.steps.0, parts_of-none level);
+  counts = λ level h. omega (
+    arith,
+    c.loop-leaf.invariant.counted level h,
+    ap (parts_of level) c.in-None.ensures.steps.0,
+    parts_of-none level,
+  );
 }

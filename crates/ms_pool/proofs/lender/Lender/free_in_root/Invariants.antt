@@ -9,5 +9,6 @@ invariant-loop-leaf l = record {
   can : (goal.iterator-loop-leaf).can_next l.leaf-iterator;
   ends : (goal.iterator-loop-leaf).is_finite l.leaf-iterator;
   full : length l.counted.free ≡ length l.fn.before.free;
-  counted : (level : ℕ) → level < 13 → get_or l.counted.free level 0 + parts_of level l.leaf-iterator ≡ get_or l.fn.before.free level 0 + parts_of level (free_of (get_or l.self.trees.items l.root []));
+  counted : (level : ℕ) → level < 13 → get_or l.counted.free level 0 + parts_of level l.leaf-iterator
+      ≡ get_or l.fn.before.free level 0 + parts_of level (free_of (get_or l.self.trees.items l.root []));
 }

@@ -3,64 +3,121 @@ use Rattle.ms_pool.specs.Ledger.{state_in}
 use Rattle.ms_pool.specs.Keeping.{ledger_of}
 use Rattle.ms_pool.proofs.GrowingLemmas.{past_space, stays_as_it_was}
 use Rattle.ms_pool.proofs.ReachLemmas.{grown_no_room, grown_stays}
-use Rattle.ms_pool.proofs.ReplacingLemmas.{found_there, grew_there, grows_there, reached_there, rises_there, stays_there}
+use Rattle.ms_pool.proofs.ReplacingLemmas.{found_there, grew_there, grows_there, reached_there, rises_there}
+use Rattle.ms_pool.proofs.ReplacingLemmas.{stays_there}
 use Rattle.ms_pool.proofs.lender.Lender.grow.Goals as goal
 
 pub returns-then-total-chunk-clause-grown : goal.returns-then-total-chunk-clause-grown
 returns-then-total-chunk-clause-grown c =
-    let at_ = found_there c.args.self.now _ _ c.args.start _ c.index.result.now _ c.requires.kept c.account.view_is c.requires.served c.account.invariant c.deref.ensures.value c.place_of-place.ensures.there c.place_of-place.ensures.starts c.index.ensures in
-    rw (← c.account.view_is, c.span_of.ensures) (stays_there c.args.self.now _ _ _ _ c.args.total c.args.may_enlarge c.requires.kept at_ c.if-total-chunk.true)
+    let at_ =
+    found_there c.args.self.now _ _ c.args.start _ c.index.result.now _ c.requires.kept c.account.view_is
+    c.requires.served c.account.invariant c.deref.ensures.value c.place_of-place.ensures.there
+    c.place_of-place.ensures.starts c.index.ensures in
+    rw (← c.account.view_is, c.span_of.ensures)
+    (stays_there c.args.self.now _ _ _ _ c.args.total c.args.may_enlarge c.requires.kept at_ c.if-total-chunk.true)
 
 pub returns-then-total-chunk-clause-grew : goal.returns-then-total-chunk-clause-grew
 returns-then-total-chunk-clause-grew c =
-    let at_ = found_there c.args.self.now _ _ c.args.start _ c.index.result.now _ c.requires.kept c.account.view_is c.requires.served c.account.invariant c.deref.ensures.value c.place_of-place.ensures.there c.place_of-place.ensures.starts c.index.ensures in
-    rw (← c.account.view_is) (grew_there c.args.self.now _ _ _ _ c.args.total c.args.may_enlarge _ _ at_
-    (c.index.result.now, grown_stays (state_in c.account.inside.space (ledger_of c.args.self.now)) c.index.result.now c.args.total c.args.may_enlarge c.if-total-chunk.true, c.span_of.ensures, stays_as_it_was (ledger_of c.args.self.now) c.account.inside.owner c.index.result.now c.requires.kept.sound at_.own.loan))
+    let at_ =
+    found_there c.args.self.now _ _ c.args.start _ c.index.result.now _ c.requires.kept c.account.view_is
+    c.requires.served c.account.invariant c.deref.ensures.value c.place_of-place.ensures.there
+    c.place_of-place.ensures.starts c.index.ensures in
+    rw (← c.account.view_is) (grew_there c.args.self.now _ _ _ _ c.args.total c.args.may_enlarge _ _ at_ (
+      c.index.result.now,
+      grown_stays (state_in c.account.inside.space (ledger_of c.args.self.now)) c.index.result.now
+          c.args.total c.args.may_enlarge c.if-total-chunk.true,
+      c.span_of.ensures,
+      stays_as_it_was (ledger_of c.args.self.now) c.account.inside.owner c.index.result.now c.requires.kept.sound
+          at_.own.loan,
+    ))
 
 pub reaching-requires : goal.reaching-requires
 reaching-requires c =
-    let at_ = found_there c.args.self.now _ _ c.args.start _ c.index.result.now _ c.requires.kept c.account.view_is c.requires.served c.account.invariant c.deref.ensures.value c.place_of-place.ensures.there c.place_of-place.ensures.starts c.index.ensures in
+    let at_ =
+    found_there c.args.self.now _ _ c.args.start _ c.index.result.now _ c.requires.kept c.account.view_is
+    c.requires.served c.account.invariant c.deref.ensures.value c.place_of-place.ensures.there
+    c.place_of-place.ensures.starts c.index.ensures in
     record { kept = c.requires.kept; own = at_.own.there }
 
 pub returns-in_default-clause-grew : goal.returns-in_default-clause-grew
 returns-in_default-clause-grew c =
-    let at_ = found_there c.args.self.now _ _ c.args.start _ c.index.result.now _ c.requires.kept c.account.view_is c.requires.served c.account.invariant c.deref.ensures.value c.place_of-place.ensures.there c.place_of-place.ensures.starts c.index.ensures in
-    rw (← c.account.view_is) (grew_there c.args.self.now _ _ _ _ c.args.total c.args.may_enlarge _ _ at_
-    (grown_no_room (state_in c.account.inside.space (ledger_of c.args.self.now)) c.index.result.now c.args.total c.args.may_enlarge c.if-total-chunk.false (sym c.reaching.ensures ∙ c.in_default.is), refl))
+    let at_ =
+    found_there c.args.self.now _ _ c.args.start _ c.index.result.now _ c.requires.kept c.account.view_is
+    c.requires.served c.account.invariant c.deref.ensures.value c.place_of-place.ensures.there
+    c.place_of-place.ensures.starts c.index.ensures in
+    rw (← c.account.view_is) (grew_there c.args.self.now _ _ _ _ c.args.total c.args.may_enlarge _ _ at_ (
+      grown_no_room (state_in c.account.inside.space (ledger_of c.args.self.now)) c.index.result.now c.args.total
+          c.args.may_enlarge c.if-total-chunk.false (sym c.reaching.ensures ∙ c.in_default.is),
+      refl,
+    ))
 
 pub commit_limit-requires : goal.commit_limit-requires
 commit_limit-requires c =
-    let at_ = found_there c.args.self.now _ _ c.args.start _ c.index.result.now _ c.requires.kept c.account.view_is c.requires.served c.account.invariant c.deref.ensures.value c.place_of-place.ensures.there c.place_of-place.ensures.starts c.index.ensures in
-    let there = reached_there c.args.self.now _ _ _ _ c.in-Some.greater c.args.total c.args.may_enlarge c.requires.kept at_ c.if-total-chunk.false (sym c.reaching.ensures ∙ c.in-Some.is) in
+    let at_ =
+    found_there c.args.self.now _ _ c.args.start _ c.index.result.now _ c.requires.kept c.account.view_is
+    c.requires.served c.account.invariant c.deref.ensures.value c.place_of-place.ensures.there
+    c.place_of-place.ensures.starts c.index.ensures in
+    let there =
+    reached_there c.args.self.now _ _ _ _ c.in-Some.greater c.args.total c.args.may_enlarge c.requires.kept at_
+    c.if-total-chunk.false (sym c.reaching.ensures ∙ c.in-Some.is) in
     record { kept = c.requires.kept; some = there.well.some; inside = there.fits.inside; fits = there.fits.fits }
 
 pub returns-in-Some-commit_limit-clause-grew : goal.returns-in-Some-commit_limit-clause-grew
 returns-in-Some-commit_limit-clause-grew c =
-    let at_ = found_there c.args.self.now _ _ c.args.start _ c.index.result.now _ c.requires.kept c.account.view_is c.requires.served c.account.invariant c.deref.ensures.value c.place_of-place.ensures.there c.place_of-place.ensures.starts c.index.ensures in
-    rw (← c.account.view_is, c.in-Some-commit_limit.ensures.refusal) (grew_there c.args.self.now _ _ _ _ c.args.total c.args.may_enlarge _ _ at_
-    (past_space c.account.inside.space c.args.self.now c.index.result.now c.in-Some.greater c.args.total c.args.may_enlarge c.requires.kept c.if-total-chunk.false (sym c.reaching.ensures ∙ c.in-Some.is) c.in-Some-commit_limit.ensures.met, refl))
+    let at_ =
+    found_there c.args.self.now _ _ c.args.start _ c.index.result.now _ c.requires.kept c.account.view_is
+    c.requires.served c.account.invariant c.deref.ensures.value c.place_of-place.ensures.there
+    c.place_of-place.ensures.starts c.index.ensures in
+    rw (← c.account.view_is, c.in-Some-commit_limit.ensures.refusal)
+    (grew_there c.args.self.now _ _ _ _ c.args.total c.args.may_enlarge _ _ at_ (
+      past_space c.account.inside.space c.args.self.now c.index.result.now c.in-Some.greater c.args.total
+          c.args.may_enlarge c.requires.kept c.if-total-chunk.false (sym c.reaching.ensures ∙ c.in-Some.is)
+          c.in-Some-commit_limit.ensures.met,
+      refl,
+    ))
 
 pub replace-requires : goal.replace-requires
 replace-requires c =
-    let at_ = found_there c.args.self.now _ _ c.args.start _ c.index.result.now _ c.requires.kept c.account.view_is c.requires.served c.account.invariant c.deref.ensures.value c.place_of-place.ensures.there c.place_of-place.ensures.starts c.index.ensures in
-    let grows = grows_there c.args.self.now _ _ _ _ c.in-Some.greater c.args.total c.args.may_enlarge c.requires.kept at_ c.if-total-chunk.false (sym c.reaching.ensures ∙ c.in-Some.is) c.in_default-commit_limit.ensures.within in
+    let at_ =
+    found_there c.args.self.now _ _ c.args.start _ c.index.result.now _ c.requires.kept c.account.view_is
+    c.requires.served c.account.invariant c.deref.ensures.value c.place_of-place.ensures.there
+    c.place_of-place.ensures.starts c.index.ensures in
+    let grows =
+    grows_there c.args.self.now _ _ _ _ c.in-Some.greater c.args.total c.args.may_enlarge c.requires.kept at_
+    c.if-total-chunk.false (sym c.reaching.ensures ∙ c.in-Some.is) c.in_default-commit_limit.ensures.within in
     record { kept = c.requires.kept; own = at_.own.there; may = grows.may }
 
 pub invariant_of-account : goal.invariant_of-account
 invariant_of-account c =
-    let at_ = found_there c.args.self.now _ _ c.args.start _ c.index.result.now _ c.requires.kept c.account.view_is c.requires.served c.account.invariant c.deref.ensures.value c.place_of-place.ensures.there c.place_of-place.ensures.starts c.index.ensures in
-    let grows = grows_there c.args.self.now _ _ _ _ c.in-Some.greater c.args.total c.args.may_enlarge c.requires.kept at_ c.if-total-chunk.false (sym c.reaching.ensures ∙ c.in-Some.is) c.in_default-commit_limit.ensures.within in
+    let at_ =
+    found_there c.args.self.now _ _ c.args.start _ c.index.result.now _ c.requires.kept c.account.view_is
+    c.requires.served c.account.invariant c.deref.ensures.value c.place_of-place.ensures.there
+    c.place_of-place.ensures.starts c.index.ensures in
+    let grows =
+    grows_there c.args.self.now _ _ _ _ c.in-Some.greater c.args.total c.args.may_enlarge c.requires.kept at_
+    c.if-total-chunk.false (sym c.reaching.ensures ∙ c.in-Some.is) c.in_default-commit_limit.ensures.within in
     grows.good.chunks
 
 pub returns-clause-grown : goal.returns-clause-grown
 returns-clause-grown c =
-    let at_ = found_there c.args.self.now _ _ c.args.start _ c.index.result.now _ c.requires.kept c.account.view_is c.requires.served c.account.invariant c.deref.ensures.value c.place_of-place.ensures.there c.place_of-place.ensures.starts c.index.ensures in
-    let grows = grows_there c.args.self.now _ _ _ _ c.in-Some.greater c.args.total c.args.may_enlarge c.requires.kept at_ c.if-total-chunk.false (sym c.reaching.ensures ∙ c.in-Some.is) c.in_default-commit_limit.ensures.within in
-    rw (← c.account.view_is, c.span_of-span.ensures) (rises_there c.args.self.now _ _ _ _ _ c.args.total c.args.may_enlarge at_ grows)
+    let at_ =
+    found_there c.args.self.now _ _ c.args.start _ c.index.result.now _ c.requires.kept c.account.view_is
+    c.requires.served c.account.invariant c.deref.ensures.value c.place_of-place.ensures.there
+    c.place_of-place.ensures.starts c.index.ensures in
+    let grows =
+    grows_there c.args.self.now _ _ _ _ c.in-Some.greater c.args.total c.args.may_enlarge c.requires.kept at_
+    c.if-total-chunk.false (sym c.reaching.ensures ∙ c.in-Some.is) c.in_default-commit_limit.ensures.within in
+    rw (← c.account.view_is, c.span_of-span.ensures)
+    (rises_there c.args.self.now _ _ _ _ _ c.args.total c.args.may_enlarge at_ grows)
 
 pub returns-clause-grew : goal.returns-clause-grew
 returns-clause-grew c =
-    let at_ = found_there c.args.self.now _ _ c.args.start _ c.index.result.now _ c.requires.kept c.account.view_is c.requires.served c.account.invariant c.deref.ensures.value c.place_of-place.ensures.there c.place_of-place.ensures.starts c.index.ensures in
-    let grows = grows_there c.args.self.now _ _ _ _ c.in-Some.greater c.args.total c.args.may_enlarge c.requires.kept at_ c.if-total-chunk.false (sym c.reaching.ensures ∙ c.in-Some.is) c.in_default-commit_limit.ensures.within in
+    let at_ =
+    found_there c.args.self.now _ _ c.args.start _ c.index.result.now _ c.requires.kept c.account.view_is
+    c.requires.served c.account.invariant c.deref.ensures.value c.place_of-place.ensures.there
+    c.place_of-place.ensures.starts c.index.ensures in
+    let grows =
+    grows_there c.args.self.now _ _ _ _ c.in-Some.greater c.args.total c.args.may_enlarge c.requires.kept at_
+    c.if-total-chunk.false (sym c.reaching.ensures ∙ c.in-Some.is) c.in_default-commit_limit.ensures.within in
     rw (← c.account.view_is) (grew_there c.args.self.now _ _ _ _ c.args.total c.args.may_enlarge _ _ at_
     (c.in-Some.greater, grows.answered, c.span_of-span.ensures, c.replace.ensures.grown))

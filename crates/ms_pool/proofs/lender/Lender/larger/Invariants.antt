@@ -9,5 +9,10 @@ use Rattle.ms_pool.proofs.lender.Lender.larger.Given as goal
 -- What is found first lies at the levels that are left.
 abbrev pub invariant-loop-below : goal.invariant-loop-below
 invariant-loop-below l =
-    slice_get (flat_map (found_at (state_in l.fn.wish.space (ledger_of l.self)) l.fn.wish.words l.fn.wish.committed) (levels_down l.fn.wanted)) 0
-    ≡ slice_get (flat_map (λ below. found_at (state_in l.fn.wish.space (ledger_of l.self)) l.fn.wish.words l.fn.wish.committed (l.fn.wanted - below)) (range_with_len l.below (l.fn.wanted + 1 - l.below))) 0
+    slice_get
+    (flat_map (found_at (state_in l.fn.wish.space (ledger_of l.self)) l.fn.wish.words l.fn.wish.committed)
+    (levels_down l.fn.wanted)) 0
+    ≡ slice_get
+    (flat_map
+    (λ below. found_at (state_in l.fn.wish.space (ledger_of l.self)) l.fn.wish.words l.fn.wish.committed
+    (l.fn.wanted - below)) (range_with_len l.below (l.fn.wanted + 1 - l.below))) 0

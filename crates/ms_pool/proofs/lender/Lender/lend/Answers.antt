@@ -6,7 +6,12 @@ use Rattle.ms_pool.proofs.lender.Lender.lend.Goals as goal
 
 pub carve-requires-clause-may : goal.carve-requires-clause-may
 carve-requires-clause-may c = record {
-  there = omega (arith, c.requires.kept.trees, open_is_low c.args.space c.args.self.now.nodes (slot_of c.args.chunk.now.start) c.requires.kept.nodes c.requires.kept.sound.nodes.1 c.requires.may.slot);
+  there = omega (
+    arith,
+    c.requires.kept.trees,
+    open_is_low c.args.space c.args.self.now.nodes (slot_of c.args.chunk.now.start)
+        c.requires.kept.nodes c.requires.kept.sound.nodes.1 c.requires.may.slot,
+  );
   placed = c.requires.may.placed;
   some = c.requires.may.some;
   within = c.requires.may.within;
@@ -14,30 +19,51 @@ carve-requires-clause-may c = record {
 
 pub overflow_cast-chunk : goal.overflow_cast-chunk
 overflow_cast-chunk c =
-    (omega (arith, c.requires.kept.nodes.class_slots, open_is_low c.args.space c.args.self.now.nodes (slot_of c.args.chunk.now.start) c.requires.kept.nodes c.requires.kept.sound.nodes.1 c.requires.may.slot))
+    (omega (
+      arith,
+      c.requires.kept.nodes.class_slots,
+      open_is_low c.args.space c.args.self.now.nodes (slot_of c.args.chunk.now.start) c.requires.kept.nodes
+          c.requires.kept.sound.nodes.1 c.requires.may.slot,
+    ))
 
 pub reserve-requires-clause-lowest : goal.reserve-requires-clause-lowest
-reserve-requires-clause-lowest c = λ gone. (open_where_fresh c.args.space c.args.self.now.nodes (slot_of c.args.chunk.now.start) c.requires.may.slot gone).0
+reserve-requires-clause-lowest c =
+    λ gone. (open_where_fresh c.args.space c.args.self.now.nodes (slot_of c.args.chunk.now.start) c.requires.may.slot
+    gone).0
 
 pub reserve-requires-clause-left : goal.reserve-requires-clause-left
-reserve-requires-clause-left c = λ gone. (open_where_fresh c.args.space c.args.self.now.nodes (slot_of c.args.chunk.now.start) c.requires.may.slot gone).1
+reserve-requires-clause-left c =
+    λ gone. (open_where_fresh c.args.space c.args.self.now.nodes (slot_of c.args.chunk.now.start) c.requires.may.slot
+    gone).1
 
 pub commit-requires-clause-fits : goal.commit-requires-clause-fits
-commit-requires-clause-fits c = front_is_low c.args.space c.args.self.now c.args.chunk.now c.requires.kept c.requires.may.placed c.requires.may.within c.requires.may.slot
+commit-requires-clause-fits c =
+    front_is_low c.args.space c.args.self.now c.args.chunk.now c.requires.kept c.requires.may.placed
+    c.requires.may.within c.requires.may.slot
 
 pub commit-requires-clause-reserved : goal.commit-requires-clause-reserved
 commit-requires-clause-reserved c =
-    front_is_reserved c.args.self.now c.args.chunk.now c.reserve.new.nodes c.granule.result c.reserve.ensures.reserved c.granule.ensures c.requires.kept c.requires.may.placed c.requires.may.some c.requires.may.within
+    front_is_reserved c.args.self.now c.args.chunk.now c.reserve.new.nodes c.granule.result c.reserve.ensures.reserved
+    c.granule.ensures c.requires.kept c.requires.may.placed c.requires.may.some c.requires.may.within
 
 pub commit-requires-clause-limit : goal.commit-requires-clause-limit
 commit-requires-clause-limit c =
-    front_within c.args.space c.args.self.now c.args.chunk.now c.reserve.new.nodes c.granule.result c.reserve.ensures.reserved c.granule.ensures c.requires.kept c.requires.may.some c.requires.may.inside c.requires.may.limit
+    front_within c.args.space c.args.self.now c.args.chunk.now c.reserve.new.nodes c.granule.result
+    c.reserve.ensures.reserved c.granule.ensures c.requires.kept c.requires.may.some c.requires.may.inside
+    c.requires.may.limit
 
 pub returns-clause-lent : goal.returns-clause-lent
 returns-clause-lent c = λ _.
-    (lent_shows c.args.space c.args.self.now c.args.owner c.args.chunk.now c.reserve.new.nodes c.commit.new.nodes c.carve.new.trees.items c.granule.result c.requires.kept c.requires.may c.reserve.ensures.reserved c.reserve.ensures.sound c.granule.ensures c.commit.ensures.committed c.commit.ensures.sound (c.if-not-carve.ensures.lent refl)).after
+    (lent_shows c.args.space c.args.self.now c.args.owner c.args.chunk.now c.reserve.new.nodes c.commit.new.nodes
+    c.carve.new.trees.items c.granule.result c.requires.kept c.requires.may c.reserve.ensures.reserved
+    c.reserve.ensures.sound c.granule.ensures c.commit.ensures.committed c.commit.ensures.sound
+    (c.if-not-carve.ensures.lent refl)).after
 
 pub returns-clause-kept : goal.returns-clause-kept
 returns-clause-kept c =
-    kept_where_shown c.args.self.now c.commit.new.nodes c.carve.new.trees _ c.requires.kept c.if-not-carve.ensures.count c.if-not-carve.ensures.leaves c.commit.ensures.sound
-    (lent_shows c.args.space c.args.self.now c.args.owner c.args.chunk.now c.reserve.new.nodes c.commit.new.nodes c.carve.new.trees.items c.granule.result c.requires.kept c.requires.may c.reserve.ensures.reserved c.reserve.ensures.sound c.granule.ensures c.commit.ensures.committed c.commit.ensures.sound (c.if-not-carve.ensures.lent refl)) c.requires.may.sound
+    kept_where_shown c.args.self.now c.commit.new.nodes c.carve.new.trees _ c.requires.kept c.if-not-carve.ensures.count
+    c.if-not-carve.ensures.leaves c.commit.ensures.sound
+    (lent_shows c.args.space c.args.self.now c.args.owner c.args.chunk.now c.reserve.new.nodes c.commit.new.nodes
+    c.carve.new.trees.items c.granule.result c.requires.kept c.requires.may c.reserve.ensures.reserved
+    c.reserve.ensures.sound c.granule.ensures c.commit.ensures.committed c.commit.ensures.sound
+    (c.if-not-carve.ensures.lent refl)) c.requires.may.sound

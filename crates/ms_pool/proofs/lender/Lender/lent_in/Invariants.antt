@@ -10,5 +10,6 @@ use Rattle.ms_pool.proofs.lender.Lender.lent_in.Given as goal
 abbrev pub invariant-loop-root : goal.invariant-loop-root
 invariant-loop-root l = record {
   low : 2 * first_slot l.fn.space ≤ l.root;
-  counted : HasCounted none_counted (held_in l.fn.space (ledger_of l.self)) (left_from l.fn.space l.self.trees.items l.root) l.counted;
+  counted : HasCounted none_counted (held_in l.fn.space (ledger_of l.self))
+      (left_from l.fn.space l.self.trees.items l.root) l.counted;
 }

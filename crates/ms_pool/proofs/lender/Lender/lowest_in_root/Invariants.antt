@@ -10,8 +10,12 @@ use Rattle.ms_pool.proofs.lender.Lender.lowest_in_root.Given as goal
 abbrev pub invariant-loop-leaf : goal.invariant-loop-leaf
 invariant-loop-leaf l = record {
   within : l.from ≤ root_words;
-  first : find (passes_from (is_enough_in l.self.nodes.granules (granule_of l.self.policy) l.wish.words l.wish.committed l.root) l.level 0) (free_of (get_or l.self.trees.items l.root []))
-      ≡ find (passes_from (is_enough_in l.self.nodes.granules (granule_of l.self.policy) l.wish.words l.wish.committed l.root) l.level l.from) (free_of (get_or l.self.trees.items l.root []));
+  first : find
+      (passes_from (is_enough_in l.self.nodes.granules (granule_of l.self.policy) l.wish.words l.wish.committed l.root)
+      l.level 0) (free_of (get_or l.self.trees.items l.root []))
+      ≡ find (passes_from
+      (is_enough_in l.self.nodes.granules (granule_of l.self.policy) l.wish.words l.wish.committed l.root) l.level
+      l.from) (free_of (get_or l.self.trees.items l.root []));
 }
 
 abbrev pub decreases-loop-leaf : goal.decreases-loop-leaf

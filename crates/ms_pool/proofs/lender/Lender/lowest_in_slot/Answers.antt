@@ -14,8 +14,10 @@ returns-in-Some c =
     let lender = c.args.self.now in
     let space = c.args.wish.space in
     let test = grants (state_in space (ledger_of lender)) c.args.wish.words c.args.wish.committed c.args.level in
-    sym (ap (λ b. find test (cond b (free_in_slot (held_in space (ledger_of lender)) c.args.slot) [])) (sym c.is_reserved.ensures ∙ c.if-is_reserved.true)
-    ∙ slot_found space lender c.args.wish.words c.args.wish.committed c.args.level c.args.slot c.requires.kept c.args.wish.some c.requires.fits c.requires.low c.requires.high
+    sym (ap (λ b. find test (cond b (free_in_slot (held_in space (ledger_of lender)) c.args.slot) []))
+    (sym c.is_reserved.ensures ∙ c.if-is_reserved.true)
+    ∙ slot_found space lender c.args.wish.words c.args.wish.committed c.args.level c.args.slot c.requires.kept
+    c.args.wish.some c.requires.fits c.requires.low c.requires.high
     ∙ found_here _ _ c.in-Some.part (sym c.lowest_in_root.ensures ∙ c.in-Some.is))
 
 pub returns-then-is_reserved : goal.returns-then-is_reserved
@@ -25,8 +27,10 @@ returns-then-is_reserved c =
     let space = c.args.wish.space in
     let test = grants (state_in space (ledger_of lender)) c.args.wish.words c.args.wish.committed c.args.level in
     c.lowest_in_root-then-is_reserved.ensures
-    ∙ sym (ap (λ b. find test (cond b (free_in_slot (held_in space (ledger_of lender)) c.args.slot) [])) (sym c.is_reserved.ensures ∙ c.if-is_reserved.true)
-    ∙ slot_found space lender c.args.wish.words c.args.wish.committed c.args.level c.args.slot c.requires.kept c.args.wish.some c.requires.fits c.requires.low c.requires.high
+    ∙ sym (ap (λ b. find test (cond b (free_in_slot (held_in space (ledger_of lender)) c.args.slot) []))
+    (sym c.is_reserved.ensures ∙ c.if-is_reserved.true)
+    ∙ slot_found space lender c.args.wish.words c.args.wish.committed c.args.level c.args.slot c.requires.kept
+    c.args.wish.some c.requires.fits c.requires.low c.requires.high
     ∙ found_later _ _ (sym c.lowest_in_root.ensures ∙ c.in_default.is))
 
 pub returns : goal.returns
@@ -35,4 +39,5 @@ returns c =
     let lender = c.args.self.now in
     let space = c.args.wish.space in
     let test = grants (state_in space (ledger_of lender)) c.args.wish.words c.args.wish.committed c.args.level in
-    sym (ap (λ b. find test (cond b (free_in_slot (held_in space (ledger_of lender)) c.args.slot) [])) (sym c.is_reserved.ensures ∙ c.if-is_reserved.false))
+    sym (ap (λ b. find test (cond b (free_in_slot (held_in space (ledger_of lender)) c.args.slot) []))
+    (sym c.is_reserved.ensures ∙ c.if-is_reserved.false))

@@ -9,24 +9,32 @@ use Rattle.ms_pool.proofs.ReleasedTreeLemmas.{leaf_there}
 use Rattle.ms_pool.proofs.lender.Lender.may_become_parent.Goals as goal
 
 pub tree-requires : goal.tree-requires
-tree-requires c = (leaf_there c.args.self.now.trees.items c.args.chunk.now (recursion_from_All AreLeaves c.args.self.now.trees.items c.requires.kept.leaves) c.requires.own.lent).0
+tree-requires c =
+    (leaf_there c.args.self.now.trees.items c.args.chunk.now
+    (recursion_from_All AreLeaves c.args.self.now.trees.items c.requires.kept.leaves) c.requires.own.lent).0
 
 pub can_become_parent-requires : goal.can_become_parent-requires
 can_become_parent-requires c =
     let trees = c.args.self.now.trees.items in
     let chunk = c.args.chunk.now in
-    let there = leaf_there trees chunk (recursion_from_All AreLeaves trees c.requires.kept.leaves) c.requires.own.lent in
-    ap (λ (tree : List LentLeaf). is_lent tree (span_at (chunk.start % root_words) chunk.level)) c.tree.ensures ∙ there.1
+    let there = leaf_there trees chunk (recursion_from_All AreLeaves trees c.requires.kept.leaves) c.requires.own.lent
+    in
+    ap (λ (tree : List LentLeaf). is_lent tree (span_at (chunk.start % root_words) chunk.level)) c.tree.ensures
+    ∙ there.1
 
 pub returns : goal.returns
 unfolding has_room
 returns c =
     let trees = c.args.self.now.trees.items in
     let chunk = c.args.chunk.now in
-    let there = leaf_there trees chunk (recursion_from_All AreLeaves trees c.requires.kept.leaves) c.requires.own.lent in
+    let there = leaf_there trees chunk (recursion_from_All AreLeaves trees c.requires.kept.leaves) c.requires.own.lent
+    in
     let is = c.can_become_parent.ensures
-    ∙ ap (λ (tree : List LentLeaf). can_enlarge (span_at (chunk.start % root_words) chunk.level) (free_of tree)) c.tree.ensures in
+    ∙ ap (λ (tree : List LentLeaf). can_enlarge (span_at (chunk.start % root_words) chunk.level) (free_of tree))
+    c.tree.ensures in
     record {
-      room = is ∙ sym (parents_alike c.args.space c.args.self.now chunk c.requires.kept c.requires.own.lent c.requires.own.reserved);
+      room = is
+          ∙ sym (parents_alike c.args.space c.args.self.now chunk c.requires.kept c.requires.own.lent
+          c.requires.own.reserved);
       no_root = λ can. no_root_can (span_at (chunk.start % root_words) chunk.level) _ (sym is ∙ can);
     }

@@ -7,13 +7,17 @@ use Rattle.ms_pool.specs.Growing.{has_room}
 use Rattle.ms_pool.specs.Ledger.{state_in}
 use Rattle.ms_pool.specs.Keeping.{ledger_of}
 use Rattle.ms_pool.proofs.BuddyLemmas.{parent_size}
-use Rattle.ms_pool.proofs.ReachLemmas.{first_false, parent_is, reached_front, reached_none, reached_parent, second_false, third_false}
-use Rattle.ms_pool.proofs.lender.Lender.reaching.Goals.{else-total-size-2-via-then-total-size-2+then-may_enlarge+else-may_become_parent, else-total-size-2-via-then-total-size-2+else-may_enlarge, else-total-size-2-via-else-total-size-2}
+use Rattle.ms_pool.proofs.ReachLemmas.{first_false, parent_is, reached_front, reached_none, reached_parent}
+use Rattle.ms_pool.proofs.ReachLemmas.{second_false, third_false}
+use Rattle.ms_pool.proofs.lender.Lender.reaching.Goals.{else-total-size-2-via-then-total-size-2+then-may_enlarge+else-may_become_parent}
+use Rattle.ms_pool.proofs.lender.Lender.reaching.Goals.{else-total-size-2-via-then-total-size-2+else-may_enlarge}
+use Rattle.ms_pool.proofs.lender.Lender.reaching.Goals.{else-total-size-2-via-else-total-size-2}
 use Rattle.ms_pool.proofs.lender.Lender.reaching.Goals as goal
 
 pub returns-then-total-size : goal.returns-then-total-size
 returns-then-total-size c =
-    reached_front (state_in c.args.space (ledger_of c.args.self.now)) c.args.chunk.now c.chunk_at.result c.args.total c.args.may_enlarge
+    reached_front (state_in c.args.space (ledger_of c.args.self.now)) c.args.chunk.now c.chunk_at.result c.args.total
+    c.args.may_enlarge
     (omega (arith, c.if-total-size.true, c.words-size.ensures.size)) c.chunk_at.ensures
 
 pub chunk_at-requires-then-may_become_parent : goal.chunk_at-requires-then-may_become_parent
@@ -30,22 +34,29 @@ chunk_at-requires-then-may_become_parent c =
 
 pub returns-then-may_become_parent : goal.returns-then-may_become_parent
 returns-then-may_become_parent c =
-    reached_parent (state_in c.args.space (ledger_of c.args.self.now)) c.args.chunk.now c.chunk_at-then-may_become_parent.result c.args.total c.args.may_enlarge
-    (omega (arith, c.if-total-size.false, c.words-size.ensures.size)) (omega (arith, c.if-total-size-2.true, c.words-size.ensures.size)) c.if-may_enlarge.true
+    reached_parent (state_in c.args.space (ledger_of c.args.self.now)) c.args.chunk.now
+    c.chunk_at-then-may_become_parent.result c.args.total c.args.may_enlarge
+    (omega (arith, c.if-total-size.false, c.words-size.ensures.size))
+    (omega (arith, c.if-total-size-2.true, c.words-size.ensures.size)) c.if-may_enlarge.true
     (sym (c.if-may_become_parent.ensures.room))
-    (parent_is c.args.self.now.policy c.args.chunk.now.start c.args.chunk.now.level c.new-level.result c.args.total c.chunk_at-then-may_become_parent.result c.chunk_at-then-may_become_parent.ensures
+    (parent_is c.args.self.now.policy c.args.chunk.now.start c.args.chunk.now.level c.new-level.result c.args.total
+    c.chunk_at-then-may_become_parent.result c.chunk_at-then-may_become_parent.ensures
     (c.new-level.ensures ∙ ap (λ (n : ℕ). n - 1) c.number.ensures.same))
 
 pub returns : goal.returns
 returns c =
     let pool = state_in c.args.space (ledger_of c.args.self.now) in
     let chunk = c.args.chunk.now in
-    reached_none pool chunk c.args.total c.args.may_enlarge (omega (arith, c.if-total-size.false, c.words-size.ensures.size)) (elim c.else-total-size-2.branch [
+    reached_none pool chunk c.args.total c.args.may_enlarge
+    (omega (arith, c.if-total-size.false, c.words-size.ensures.size)) (elim c.else-total-size-2.branch [
       | else-total-size-2-via-then-total-size-2+then-may_enlarge+else-may_become_parent w ↦
-          third_false (nat_le c.args.total (2 * size_of chunk.level)) c.args.may_enlarge (has_room pool chunk) (sym w.may_become_parent.ensures.room ∙ w.if-may_become_parent.false)
+          third_false (nat_le c.args.total (2 * size_of chunk.level)) c.args.may_enlarge (has_room pool chunk)
+          (sym w.may_become_parent.ensures.room ∙ w.if-may_become_parent.false)
       | else-total-size-2-via-then-total-size-2+else-may_enlarge w ↦
-          second_false (nat_le c.args.total (2 * size_of chunk.level)) c.args.may_enlarge (has_room pool chunk) w.if-may_enlarge.false
+          second_false (nat_le c.args.total (2 * size_of chunk.level)) c.args.may_enlarge
+          (has_room pool chunk) w.if-may_enlarge.false
       | else-total-size-2-via-else-total-size-2 w ↦
           first_false (nat_le c.args.total (2 * size_of chunk.level)) c.args.may_enlarge (has_room pool chunk)
-          (lt-leb c.args.total (2 * size_of chunk.level) (omega (arith, w.if-total-size-2.false, c.words-size.ensures.size)))
+          (lt-leb c.args.total (2 * size_of chunk.level)
+          (omega (arith, w.if-total-size-2.false, c.words-size.ensures.size)))
     ])

@@ -6,4 +6,5 @@ use Rattle.ms_pool.proofs.lender.Lender.reserve_limit.Goals as goal
 pub returns-in-Class : goal.returns-in-Class
 returns-in-Class c =
     rw (c.class_slots.ensures, c.class_slots-in-Class.ensures, c.in-Class.is)
-    (ap (λ (n : ℕ). ReserveLimit n c.args.self.now.nodes.class_slots) (sym (length-range_with_len 64 c.args.self.now.nodes.class_slots)))
+    (ap (λ (n : ℕ). ReserveLimit n c.args.self.now.nodes.class_slots)
+    (sym (length-range_with_len 64 c.args.self.now.nodes.class_slots)))

@@ -15,16 +15,19 @@ lowest_free-requires-clause-fits c =
       arith,
       c.requires.fits,
       size_falls c.new.result c.args.most
-          (omega (arith, c.new.ensures, c.number-number-end.ensures.same, c.loop-number-test.true)) (omega (arith, c.number-number-end.ensures.same, c.number-number-end.ensures.below)),
+          (omega (arith, c.new.ensures, c.number-number-end.ensures.same, c.loop-number-test.true))
+          (omega (arith, c.number-number-end.ensures.same, c.number-number-end.ensures.below)),
     )
 
 pub loop-number-preserved : goal.loop-number-preserved
 loop-number-preserved c =
     let pool = state_in c.args.wish.space (ledger_of c.args.self.now) in
     let levels = found_at pool c.args.wish.words c.args.wish.committed in
-    none_here levels c.loop-number.number (c.args.most + 1) (slice_get (flat_map levels (levels_up c.args.wanted c.args.most)) 0) c.lowest_free.result
+    none_here levels c.loop-number.number (c.args.most + 1)
+    (slice_get (flat_map levels (levels_up c.args.wanted c.args.most)) 0) c.lowest_free.result
     (omega (arith, c.loop-number-test.true, c.number-number-end.ensures.same)) c.loop-number.invariant
-    (c.lowest_free.ensures ∙ first_at-is pool c.args.wish.words c.args.wish.committed c.new.result ∙ ap (λ (level : ℕ). slice_get (levels level) 0) c.new.ensures)
+    (c.lowest_free.ensures ∙ first_at-is pool c.args.wish.words c.args.wish.committed c.new.result
+    ∙ ap (λ (level : ℕ). slice_get (levels level) 0) c.new.ensures)
     c.in_default.is
 
 pub returns-in-Some : goal.returns-in-Some
@@ -32,13 +35,18 @@ unfolding first_up
 returns-in-Some c =
     let pool = state_in c.args.wish.space (ledger_of c.args.self.now) in
     let levels = found_at pool c.args.wish.words c.args.wish.committed in
-    sym (some_here levels c.loop-number.number (c.args.most + 1) (slice_get (flat_map levels (levels_up c.args.wanted c.args.most)) 0) c.lowest_free.result c.in-Some.part
+    sym (some_here levels c.loop-number.number (c.args.most + 1)
+    (slice_get (flat_map levels (levels_up c.args.wanted c.args.most)) 0) c.lowest_free.result c.in-Some.part
     (omega (arith, c.loop-number-test.true, c.number-number-end.ensures.same)) c.loop-number.invariant
-    (c.lowest_free.ensures ∙ first_at-is pool c.args.wish.words c.args.wish.committed c.new.result ∙ ap (λ (level : ℕ). slice_get (levels level) 0) c.new.ensures)
+    (c.lowest_free.ensures ∙ first_at-is pool c.args.wish.words c.args.wish.committed c.new.result
+    ∙ ap (λ (level : ℕ). slice_get (levels level) 0) c.new.ensures)
     c.in-Some.is)
 
 pub returns : goal.returns
 unfolding first_up
 returns c =
-    let levels = found_at (state_in c.args.wish.space (ledger_of c.args.self.now)) c.args.wish.words c.args.wish.committed in
-    sym (c.loop-number.invariant ∙ head_end levels c.loop-number.number (c.args.most + 1) (omega (arith, c.loop-number-test.false, c.number-number-end.ensures.same)))
+    let levels =
+    found_at (state_in c.args.wish.space (ledger_of c.args.self.now)) c.args.wish.words c.args.wish.committed in
+    sym (c.loop-number.invariant
+    ∙ head_end levels c.loop-number.number (c.args.most + 1)
+    (omega (arith, c.loop-number-test.false, c.number-number-end.ensures.same)))

@@ -9,5 +9,9 @@ use Rattle.ms_pool.proofs.lender.Lender.smaller.Given as goal
 -- What is found first lies at the levels that are left.
 abbrev pub invariant-loop-number : goal.invariant-loop-number
 invariant-loop-number l =
-    slice_get (flat_map (found_at (state_in l.fn.wish.space (ledger_of l.self)) l.fn.wish.words l.fn.wish.committed) (levels_up l.fn.wanted l.fn.most)) 0
-    ≡ slice_get (flat_map (found_at (state_in l.fn.wish.space (ledger_of l.self)) l.fn.wish.words l.fn.wish.committed) (range_with_len l.number (l.fn.most + 1 - l.number))) 0
+    slice_get
+    (flat_map (found_at (state_in l.fn.wish.space (ledger_of l.self)) l.fn.wish.words l.fn.wish.committed)
+    (levels_up l.fn.wanted l.fn.most)) 0
+    ≡ slice_get
+    (flat_map (found_at (state_in l.fn.wish.space (ledger_of l.self)) l.fn.wish.words l.fn.wish.committed)
+    (range_with_len l.number (l.fn.most + 1 - l.number))) 0

@@ -3,34 +3,48 @@ use Rattle.ms_base.proofs.free.HalvesLemmas.{size_falls}
 use Rattle.ms_pool.specs.Lending.{span_of}
 use Rattle.ms_pool.specs.Ledger.{state_in}
 use Rattle.ms_pool.specs.Keeping.{ledger_of}
-use Rattle.ms_pool.proofs.TakingLemmas.{IsPickedThere, TakesThere, adds_there, picked_there, taken_commit, taken_reserve, takes_there}
+use Rattle.ms_pool.proofs.TakingLemmas.{IsPickedThere, TakesThere, adds_there, picked_there, taken_commit}
+use Rattle.ms_pool.proofs.TakingLemmas.{taken_reserve, takes_there}
 use Rattle.ms_pool.proofs.lender.Lender.take.Goals as goal
 use Rattle.ms_pool.proofs.lender.Lender.take.Goals.{After-chunk_at-chunk, In_default-commit_limit}
 
 -- The chunk is as the search found it.
-picked : (c : After-chunk_at-chunk) → IsPickedThere c.args.self.now c.account.inside.space c.args.wanted c.args.most c.args.words c.chunk_at-chunk.result
+picked : (c : After-chunk_at-chunk)
+    → IsPickedThere c.args.self.now c.account.inside.space c.args.wanted c.args.most c.args.words
+    c.chunk_at-chunk.result
 picked c =
-    picked_there c.args.self.now c.account.inside.space c.args.wanted c.args.most c.args.words c.in-Some.span c.chunk_at-chunk.result c.requires.kept
+    picked_there c.args.self.now c.account.inside.space c.args.wanted c.args.most c.args.words c.in-Some.span
+    c.chunk_at-chunk.result c.requires.kept
     (record { may = c.requires.asks; real = omega (arith, c.number.ensures.same, c.number.ensures.below) })
     c.in-Some.ensures.picked c.in-Some.ensures.slot c.chunk_at-chunk.ensures
 
 -- Within the limit, all is well with it once it is lent.
 takes : (c : In_default-commit_limit)
-    → IsPickedThere c.args.self.now c.account.inside.space c.args.wanted c.args.most c.args.words c.chunk_at-chunk.result
+    → IsPickedThere c.args.self.now c.account.inside.space c.args.wanted c.args.most c.args.words
+    c.chunk_at-chunk.result
     → let f = c.account.inside in
-    TakesThere c.args.self.now (record { owner = f.owner; space = f.space; chunks = f.chunks.items }) c.args.wanted c.args.most c.args.words c.chunk_at-chunk.result
+    TakesThere c.args.self.now (record { owner = f.owner; space = f.space; chunks = f.chunks.items }) c.args.wanted
+    c.args.most c.args.words c.chunk_at-chunk.result
 takes c at_ =
     takes_there c.args.self.now _ _ c.args.wanted c.args.most c.args.words c.chunk_at-chunk.result c.requires.kept at_
-    c.account.view_is c.requires.served c.account.invariant c.in-Some.ensures.room c.in_default-commit_limit.ensures.within
+    c.account.view_is c.requires.served c.account.invariant c.in-Some.ensures.room
+    c.in_default-commit_limit.ensures.within
 
 pub returns-in_default-clause-took : goal.returns-in_default-clause-took
 returns-in_default-clause-took c =
-    rw (← c.account.view_is, c.reserve_limit.ensures)
-    (taken_reserve (state_in c.account.inside.space (ledger_of c.args.self.now)) c.args.wanted c.args.most c.args.words c.in_default.ensures.full, refl)
+    rw (← c.account.view_is, c.reserve_limit.ensures) (
+      taken_reserve (state_in c.account.inside.space (ledger_of c.args.self.now)) c.args.wanted c.args.most c.args.words
+          c.in_default.ensures.full,
+      refl,
+    )
 
 pub chunk_at-chunk-requires : goal.chunk_at-chunk-requires
 chunk_at-chunk-requires c =
-    omega (arith, c.requires.asks.fits, size_falls 0 c.args.most (omega arith) (omega (arith, c.number.ensures.same, c.number.ensures.below)))
+    omega (
+      arith,
+      c.requires.asks.fits,
+      size_falls 0 c.args.most (omega arith) (omega (arith, c.number.ensures.same, c.number.ensures.below)),
+    )
 
 pub commit_limit-requires : goal.commit_limit-requires
 commit_limit-requires c =
@@ -40,38 +54,49 @@ commit_limit-requires c =
 pub returns-in-Some-commit_limit-clause-took : goal.returns-in-Some-commit_limit-clause-took
 returns-in-Some-commit_limit-clause-took c =
     let at_ = picked (goal.at.returns-in-Some-commit_limit-clause-took c).After-chunk_at-chunk in
-    rw (← c.account.view_is, c.in-Some-commit_limit.ensures.refusal)
-    (taken_commit c.account.inside.space c.args.self.now c.args.wanted c.args.most c.args.words c.chunk_at-chunk.result c.requires.kept at_.asks.may.levels at_.asks.real at_.asks.may.some at_.asks.may.fits at_.is c.in-Some.ensures.room c.in-Some-commit_limit.ensures.met, refl)
+    rw (← c.account.view_is, c.in-Some-commit_limit.ensures.refusal) (
+      taken_commit c.account.inside.space c.args.self.now c.args.wanted c.args.most c.args.words c.chunk_at-chunk.result
+          c.requires.kept at_.asks.may.levels at_.asks.real at_.asks.may.some at_.asks.may.fits at_.is
+          c.in-Some.ensures.room c.in-Some-commit_limit.ensures.met,
+      refl,
+    )
 
 pub returns-then-is_err-clause-took : goal.returns-then-is_err-clause-took
 returns-then-is_err-clause-took c =
-    let at_ = goal.at.returns-then-is_err-clause-took c in let well = takes at_.In_default-commit_limit (picked at_.After-chunk_at-chunk) in
+    let at_ = goal.at.returns-then-is_err-clause-took c in let well =
+    takes at_.In_default-commit_limit (picked at_.After-chunk_at-chunk) in
     rw (← c.account.view_is) ((c.chunk_at-chunk.result, well.ok), refl)
 
 pub lend-requires : goal.lend-requires
 lend-requires c =
-    let at_ = goal.at.lend-requires c in let well = takes at_.In_default-commit_limit (picked at_.After-chunk_at-chunk) in
+    let at_ = goal.at.lend-requires c in let well =
+    takes at_.In_default-commit_limit (picked at_.After-chunk_at-chunk) in
     record { kept = c.requires.kept; may = well.may }
 
 pub returns-then-not-lend-clause-took : goal.returns-then-not-lend-clause-took
 returns-then-not-lend-clause-took c =
-    let at_ = goal.at.returns-then-not-lend-clause-took c in let well = takes at_.In_default-commit_limit (picked at_.After-chunk_at-chunk) in
+    let at_ = goal.at.returns-then-not-lend-clause-took c in let well =
+    takes at_.In_default-commit_limit (picked at_.After-chunk_at-chunk) in
     rw (← c.account.view_is) ((c.chunk_at-chunk.result, well.ok), c.if-not-lend.ensures.unchanged refl)
 
 pub invariant_of-account-2 : goal.invariant_of-account-2
 invariant_of-account-2 c =
-    let at_ = goal.at.invariant_of-account-2 c in let well = takes at_.In_default-commit_limit (picked at_.After-chunk_at-chunk) in
+    let at_ = goal.at.invariant_of-account-2 c in let well =
+    takes at_.In_default-commit_limit (picked at_.After-chunk_at-chunk) in
     rw (c.push_reserved.ensures.items, c.reserve.ensures.items) well.good.chunks
 
 pub returns-clause-added : goal.returns-clause-added
 returns-clause-added c =
-    let at_ = goal.at.returns-clause-added c in let well = takes at_.In_default-commit_limit (picked at_.After-chunk_at-chunk) in
+    let at_ = goal.at.returns-clause-added c in let well =
+    takes at_.In_default-commit_limit (picked at_.After-chunk_at-chunk) in
     rw (← c.account.view_is, c.push_reserved.ensures.items, c.reserve.ensures.items)
-    (adds_there c.args.self.now _ c.args.wanted c.args.most c.args.words c.in-Some.span c.chunk_at-chunk.result c.chunk_at-chunk.ensures well)
+    (adds_there c.args.self.now _ c.args.wanted c.args.most c.args.words c.in-Some.span c.chunk_at-chunk.result
+    c.chunk_at-chunk.ensures well)
 
 pub returns-clause-took : goal.returns-clause-took
 returns-clause-took c =
-    let at_ = goal.at.returns-clause-took c in let well = takes at_.In_default-commit_limit (picked at_.After-chunk_at-chunk) in
+    let at_ = goal.at.returns-clause-took c in let well =
+    takes at_.In_default-commit_limit (picked at_.After-chunk_at-chunk) in
     rw (← c.account.view_is) (record {
       chunk = c.chunk_at-chunk.result;
       picked = well.ok;

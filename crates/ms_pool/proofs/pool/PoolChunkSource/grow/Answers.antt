@@ -4,11 +4,14 @@ use Rattle.ms_pool.proofs.pool.PoolChunkSource.grow.Goals as goal
 
 pub returns-clause-served : goal.returns-clause-served
 returns-clause-served c =
-    grew_serves c.args.self.now c.args.account.now c.args.start c.args.total c.args.may_enlarge c.grow.result c.grow.new.self c.grow.new.account
-    c.learn.ensures c.requires.served c.held.ensures.chunks c.grow.ensures.grew c.grow.ensures.grown c.grow.ensures.unchanged
+    grew_serves c.args.self.now c.args.account.now c.args.start c.args.total c.args.may_enlarge c.grow.result
+    c.grow.new.self c.grow.new.account
+    c.learn.ensures c.requires.served c.held.ensures.chunks c.grow.ensures.grew c.grow.ensures.grown
+    c.grow.ensures.unchanged
 
 pub returns-clause-rest : goal.returns-clause-rest
 returns-clause-rest c =
     keeps_rest c.args.account.now.owner c.args.self.now c.grow.new.self
-    (grew_keeps c.args.self.now c.args.account.now c.args.start c.args.total c.args.may_enlarge c.grow.result c.grow.new.self
+    (grew_keeps c.args.self.now c.args.account.now c.args.start c.args.total c.args.may_enlarge c.grow.result
+    c.grow.new.self
     c.learn.ensures c.requires.served c.held.ensures.chunks c.grow.ensures.grew)

@@ -9,10 +9,13 @@ returns-clause-served c =
       may = c.requires.asks;
       real = omega (arith, c.number.ensures.same, c.number.ensures.below);
     } in
-    took_serves c.args.self.now c.args.account.now c.args.wanted c.args.most c.args.words c.take.result c.take.new.self c.take.new.account
-    c.learn.ensures c.requires.served c.held.ensures.chunks asks c.take.ensures.took c.take.ensures.added c.take.ensures.unchanged
+    took_serves c.args.self.now c.args.account.now c.args.wanted c.args.most c.args.words c.take.result c.take.new.self
+    c.take.new.account
+    c.learn.ensures c.requires.served c.held.ensures.chunks asks c.take.ensures.took c.take.ensures.added
+    c.take.ensures.unchanged
 
 pub returns-clause-rest : goal.returns-clause-rest
 returns-clause-rest c =
     keeps_rest c.args.account.now.owner c.args.self.now c.take.new.self
-    (took_keeps c.args.self.now c.args.account.now c.args.wanted c.args.most c.args.words c.take.result c.take.new.self c.take.ensures.took)
+    (took_keeps c.args.self.now c.args.account.now c.args.wanted c.args.most c.args.words c.take.result c.take.new.self
+    c.take.ensures.took)

@@ -5,7 +5,8 @@ use Rattle.ms_pool.proofs.tests.desk.both_opened.Goals as goal
 pub returns-clause-others : goal.returns-clause-others
 returns-clause-others c =
     all_served_by c.args.pool.now c.open_both.new.self c.args.accounts.now.items
-    (λ account. both_opened_leaves_served c.args.pool.now c.open_both.result c.open_both.new.self account c.open_both.ensures.opened) c.requires
+    (λ account. both_opened_leaves_served c.args.pool.now c.open_both.result c.open_both.new.self account
+    c.open_both.ensures.opened) c.requires
 
 pub returns-clause-apart : goal.returns-clause-apart
 returns-clause-apart c =

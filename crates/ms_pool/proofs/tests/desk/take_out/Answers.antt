@@ -7,9 +7,11 @@ use Rattle.ms_pool.proofs.tests.desk.take_out.Goals as goal
 pub returns-clause-stands : goal.returns-clause-stands
 returns-clause-stands g c = record {
   served = c.requires.served c.args.place c.taken.result c.taken.ensures.stood;
-  others = rw c.taken.ensures.after (others_are_served c.args.pool.now c.args.accounts.now.items c.args.place c.taken.ensures.there c.requires);
+  others = rw c.taken.ensures.after
+      (others_are_served c.args.pool.now c.args.accounts.now.items c.args.place c.taken.ensures.there c.requires);
   apart = subst (λ (l : List (Option AccountState)). HasNone c.taken.result.owner l) (sym c.taken.ensures.after)
-      (others_are_apart c.args.pool.now c.args.accounts.now.items c.args.place c.taken.result c.taken.ensures.there c.requires
+      (others_are_apart c.args.pool.now c.args.accounts.now.items c.args.place c.taken.result c.taken.ensures.there
+      c.requires
       c.taken.ensures.stood);
 }
 

@@ -1,7 +1,8 @@
 use Rattle.std.proofs.Common.{◌∙◌}
 use Rattle.ms_shared.proofs.LockCallLemmas.{moves_at, is_call, over_lock, limits_stay, open_both_raises}
 use Rattle.ms_shared.proofs.MovesLemmas.{open_both_moves}
-use Rattle.ms_shared.proofs.LockOpenLemmas.{open_both_serve, class_open_both_serve, open_both_others, open_both_counts, both_new_are}
+use Rattle.ms_shared.proofs.LockOpenLemmas.{open_both_serve, class_open_both_serve, open_both_others, open_both_counts}
+use Rattle.ms_shared.proofs.LockOpenLemmas.{both_new_are}
 use Rattle.ms_shared.proofs.locked_pool.LockedPool.open_both.Goals as goal
 
 pub let_go-requires-clause-moves : goal.let_go-requires-clause-moves
@@ -11,8 +12,11 @@ let_go-requires-clause-moves g c =
 
 pub returns : goal.returns
 returns g c =
-    let pool = c.seize-pool.ensures in let opened = c.open_both-answer.ensures.opened in let result = c.open_both-answer.result in
-    let call = is_call _ _ c.self.inside.seat.me.0 _ c.seize-pool.result c.open_both-answer.new.self _ _ c.self.view_is pool.known pool.sound pool.seat c.let_go.ensures.seat (c.let_go.ensures.own ∙ pool.own) in
+    let pool = c.seize-pool.ensures in let opened = c.open_both-answer.ensures.opened in let result =
+    c.open_both-answer.result in
+    let call =
+    is_call _ _ c.self.inside.seat.me.0 _ c.seize-pool.result c.open_both-answer.new.self _ _ c.self.view_is
+    pool.known pool.sound pool.seat c.let_go.ensures.seat (c.let_go.ensures.own ∙ pool.own) in
     record {
       event = over_lock _ _ _ _ _ call opened;
       served = open_both_serve _ _ _ _ call result opened;

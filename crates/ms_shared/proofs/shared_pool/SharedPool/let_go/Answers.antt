@@ -17,10 +17,12 @@ store-requires c =
       search rules,
       lets_go_at _ _ _ _ _ c.args.pool (subst (λ (m : Sat). 0 < m.0.parts) me c.requires.live)
           (subst (λ (m : Sat). m.0.taken ≡ Some (taken_of m.0)) me c.requires.has)
-          (subst (λ (m : Sat). Moves m.0.knows (taken_of m.0) c.args.pool) me c.requires.moves) (ap (λ (m : Sat). m.1) (sym me)),
+          (subst (λ (m : Sat). Moves m.0.knows (taken_of m.0) c.args.pool) me c.requires.moves)
+          (ap (λ (m : Sat). m.1) (sym me)),
     )
 
 pub returns-clause-seat : goal.returns-clause-seat
 returns-clause-seat c =
     let e = c.exchange.ensures in let me = put _ _ _ c.requires.slots e.3 in
-    c.store.ensures.2 c.args.pool (ap (λ (m : Sat). m.1) me) ∙ ap (λ (m : Sat). (after m.0 (taken_of m.0) c.args.pool, [])) me
+    c.store.ensures.2 c.args.pool (ap (λ (m : Sat). m.1) me)
+    ∙ ap (λ (m : Sat). (after m.0 (taken_of m.0) c.args.pool, [])) me

@@ -9,15 +9,24 @@ use Rattle.ms_shared.proofs.shared_pool.SharedPool.new.Goals as goal
 
 pub new-requires : goal.new-requires
 new-requires c =
-    let some = c.requires.some in let slots = c.push_reserved.ensures.items ∙ ap (λ (l : List (Option Ledger)). l ++ Some c.args.pool ∷ []) c.in-Ok-Ok.ensures'.items in
-    subst (λ (l : List (Option Ledger)). IsLocked c.args.seats c.of.result.value.limits (opening (0 ∷ []) l (first_view c.args.seats c.of.result.value))) (sym slots)
-    (subst (λ (p : Ledger). IsLocked c.args.seats p.limits (opening (0 ∷ []) (Some c.args.pool ∷ []) (first_view c.args.seats p))) (sym c.of.ensures)
+    let some = c.requires.some in let slots =
+    c.push_reserved.ensures.items
+    ∙ ap (λ (l : List (Option Ledger)). l ++ Some c.args.pool ∷ []) c.in-Ok-Ok.ensures'.items in
+    subst (λ (l : List (Option Ledger)). IsLocked c.args.seats c.of.result.value.limits
+    (opening (0 ∷ []) l (first_view c.args.seats c.of.result.value))) (sym slots)
+    (subst (λ (p : Ledger). IsLocked c.args.seats p.limits
+    (opening (0 ∷ []) (Some c.args.pool ∷ []) (first_view c.args.seats p))) (sym c.of.ensures)
     (begins c.args.seats c.args.pool (omega arith) c.all_totals.ensures.tallies))
 
 pub loop-init : goal.loop-init
 loop-init c =
-    let table = c.in-Ok.ensures.ok in let len = c.in-Ok-Ok.ensures.len in let cap = c.in-Ok-Ok.ensures.capacity in
-    (deals_begin _ _ _ _ _ c.requires.some c.in-Ok-Ok.ensures.items (ap (λ (m : Sat). m.0) table.4), table.2, ap (λ (m : Sat). m.1) table.4, omega arith, omega arith)
+    let table = c.in-Ok.ensures.ok in let len = c.in-Ok-Ok.ensures.len in let cap = c.in-Ok-Ok.ensures.capacity in (
+      deals_begin _ _ _ _ _ c.requires.some c.in-Ok-Ok.ensures.items (ap (λ (m : Sat). m.0) table.4),
+      table.2,
+      ap (λ (m : Sat). m.1) table.4,
+      omega arith,
+      omega arith,
+    )
 
 pub split_seat-next-requires : goal.split_seat-next-requires
 split_seat-next-requires c =
@@ -26,8 +35,11 @@ split_seat-next-requires c =
 
 pub loop-preserved : goal.loop-preserved
 loop-preserved c =
-    let inv = c.loop.invariant in let s = c.split_seat-next.ensures in let more = c.loop-test.true in let len = c.push_reserved-in-loop.ensures.len in let cap = c.push_reserved-in-loop.ensures.capacity in let count = inv.3 in let room = inv.4 in (
-      deals_more _ _ _ _ _ _ c.loop.rest.me.0 c.split_seat-next.result.me.0 _ inv.0 more c.push_reserved-in-loop.ensures.items
+    let inv = c.loop.invariant in let s = c.split_seat-next.ensures in let more = c.loop-test.true in let len =
+    c.push_reserved-in-loop.ensures.len in let cap = c.push_reserved-in-loop.ensures.capacity in let count =
+    inv.3 in let room = inv.4 in (
+      deals_more _ _ _ _ _ _ c.loop.rest.me.0 c.split_seat-next.result.me.0 _ inv.0 more
+          c.push_reserved-in-loop.ensures.items
           (seen_as _ _ _ _ (s.0 ∙ inv.1) (ap (λ (m : Sat). m.0.knows) s.2)) (ap (λ (m : Sat). m.0) s.4),
       s.3 ∙ inv.1,
       ap (λ (m : Sat). m.1) s.4,
@@ -38,5 +50,6 @@ loop-preserved c =
 pub returns-after-loop-clause-seats : goal.returns-after-loop-clause-seats
 returns-after-loop-clause-seats c =
     let inv = c.loop.invariant in let all = c.loop-test.false in
-    deals_end _ _ _ _ _ _ c.loop.rest.me.0 _ inv.0 (omega arith) c.push_reserved-in-Ok.ensures.items (seen_as _ _ _ _ inv.1 refl)
+    deals_end _ _ _ _ _ _ c.loop.rest.me.0 _ inv.0 (omega arith) c.push_reserved-in-Ok.ensures.items
+    (seen_as _ _ _ _ inv.1 refl)
     ∙ ap (new_seats c.in-Ok.table.shared.table_id c.args.seats) c.of.ensures

@@ -7,12 +7,18 @@ use Rattle.ms_shared.proofs.shared_pool.SharedPool.pass.Goals as goal
 
 pub split_seat-note-requires : goal.split_seat-note-requires
 split_seat-note-requires g c =
-    let id = ap (λ (l : LockState). l.id) (sym c.self.view_is) in let parts = c.requires.from.parts in
-    (c.requires.from.own ∙ id, search rules, cut _ _ _ _ _ _ (cuts_account g.B.Owner.owner g.B.Owner.space c.args.from.now.me.0 (omega arith) c.requires.counted))
+    let id = ap (λ (l : LockState). l.id) (sym c.self.view_is) in let parts = c.requires.from.parts in (
+      c.requires.from.own
+          ∙ id,
+      search rules,
+      cut _ _ _ _ _ _
+          (cuts_account g.B.Owner.owner g.B.Owner.space c.args.from.now.me.0 (omega arith) c.requires.counted),
+    )
 
 pub join_seat-requires : goal.join_seat-requires
 join_seat-requires g c =
-    let id = ap (λ (l : LockState). l.id) (sym c.self.view_is) in let note = c.split_seat-note.ensures in let parts = c.requires.to.parts in (
+    let id = ap (λ (l : LockState). l.id) (sym c.self.view_is) in let note = c.split_seat-note.ensures in let parts =
+    c.requires.to.parts in (
       c.requires.to.own ∙ id,
       note.3 ∙ c.requires.from.own ∙ id,
       ap (λ (m : Sat). m.1) note.4,
@@ -22,18 +28,29 @@ join_seat-requires g c =
 
 pub split_seat-part-requires : goal.split_seat-part-requires
 split_seat-part-requires g c =
-    let id = ap (λ (l : LockState). l.id) (sym c.self.view_is) in let note = c.split_seat-note.ensures in let to = c.join_seat.ensures in
-    let two = c.requires.to.parts in let one : c.split_seat-note.result.me.0.parts ≡ 1 = ap (λ (m : Sat). m.0.parts) note.4 in
-    let three : c.join_seat.new.seat.me.0.parts ≡ c.args.to.now.me.0.parts + c.split_seat-note.result.me.0.parts = ap (λ (m : Sat). m.0.parts) to.2 in
-    (to.0 ∙ c.requires.to.own ∙ id, search rules, cut _ _ _ _ _ _ (cuts_blank c.join_seat.new.seat.me.0 _ 1 (omega arith) (omega arith) (omega arith)))
+    let id = ap (λ (l : LockState). l.id) (sym c.self.view_is) in let note = c.split_seat-note.ensures in let to =
+    c.join_seat.ensures in
+    let two = c.requires.to.parts in let one : c.split_seat-note.result.me.0.parts ≡ 1 =
+    ap (λ (m : Sat). m.0.parts) note.4 in
+    let three : c.join_seat.new.seat.me.0.parts ≡ c.args.to.now.me.0.parts + c.split_seat-note.result.me.0.parts =
+    ap (λ (m : Sat). m.0.parts) to.2 in (
+      to.0 ∙ c.requires.to.own
+          ∙ id,
+      search rules,
+      cut _ _ _ _ _ _ (cuts_blank c.join_seat.new.seat.me.0 _ 1 (omega arith) (omega arith) (omega arith)),
+    )
 
 pub join_seat-requires-2 : goal.join_seat-requires-2
 join_seat-requires-2 g c =
-    let id = ap (λ (l : LockState). l.id) (sym c.self.view_is) in let from = c.split_seat-note.ensures in let part = c.split_seat-part.ensures in
-    let two = c.requires.from.parts in let one : c.split_seat-note.new.seat.me.0.parts ≡ c.args.from.now.me.0.parts - 1 = ap (λ (m : Sat). m.0.parts) from.2 in (
+    let id = ap (λ (l : LockState). l.id) (sym c.self.view_is) in let from = c.split_seat-note.ensures in let part =
+    c.split_seat-part.ensures in
+    let two = c.requires.from.parts in
+    let one : c.split_seat-note.new.seat.me.0.parts ≡ c.args.from.now.me.0.parts - 1 =
+    ap (λ (m : Sat). m.0.parts) from.2 in (
       from.0 ∙ c.requires.from.own ∙ id,
       part.3 ∙ c.join_seat.ensures.0 ∙ c.requires.to.own ∙ id,
       ap (λ (m : Sat). m.1) part.4,
       search rules,
-      join _ _ _ _ _ _ (omega arith) (ap (λ (m : Sat). m.0.taken) from.2 ∙ c.requires.from.free) (ap (λ (m : Sat). m.0.taken) part.4),
+      join _ _ _ _ _ _ (omega arith) (ap (λ (m : Sat). m.0.taken) from.2 ∙ c.requires.from.free)
+          (ap (λ (m : Sat). m.0.taken) part.4),
     )

@@ -11,13 +11,16 @@ compare_exchange-requires g c =
     let inv = c.loop.invariant in let here = sym inv.3 in (
       search rules,
       search rules,
-      tries_at _ _ _ _ _ (subst (λ (m : Sat). 0 < m.0.parts) here c.requires.live) (subst (λ (m : Sat). m.0.taken ≡ None) here c.requires.free)
+      tries_at _ _ _ _ _ (subst (λ (m : Sat). 0 < m.0.parts) here c.requires.live)
+          (subst (λ (m : Sat). m.0.taken ≡ None) here c.requires.free)
           (ap (λ (m : Sat). m.1) inv.3 ∙ c.requires.slots),
     )
 
 pub exchange-requires : goal.exchange-requires
 exchange-requires g c =
-    let took = c.compare_exchange.ensures.2.0 c.if-compare_exchange-eq0.true in let taken = ap (λ (m : Sat). m.1) took.1 in (
-      c.compare_exchange.ensures.0 ∙ c.loop.invariant.2 ∙ c.requires.own ∙ ap (λ (l : LockState). l.id) (sym c.self.view_is),
+    let took = c.compare_exchange.ensures.2.0 c.if-compare_exchange-eq0.true in let taken =
+    ap (λ (m : Sat). m.1) took.1 in (
+      c.compare_exchange.ensures.0 ∙ c.loop.invariant.2 ∙ c.requires.own
+          ∙ ap (λ (l : LockState). l.id) (sym c.self.view_is),
       (Some took.0, taken ∙ ap (λ (l : List (ℕ × Option Ledger)). (0, Some took.0) ∷ rest l) (sym taken)),
     )

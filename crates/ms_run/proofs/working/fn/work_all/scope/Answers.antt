@@ -39,7 +39,8 @@ loop-share-preserved g c =
     let same = inv.2 in
     let room = inv.3 in
     let there = ap length step.0 in (
-      one_more (λ handle. handle.promise.0.value) _ _ c.in-Ok.handle c.in-Some.share _ _ _ items step.0 (ap (λ promise. promise.0.value) c.in-Ok.ensures.ok ∙ c.of.ensures) inv.0,
+      one_more (λ handle. handle.promise.0.value) _ _ c.in-Ok.handle c.in-Some.share _ _ _ items step.0
+          (ap (λ promise. promise.0.value) c.in-Ok.ensures.ok ∙ c.of.ensures) inv.0,
       fewer_ready _ c.captures.meter.now c.in-Some.share _ _ step.0 inv.1,
       omega arith,
       omega arith,
@@ -58,9 +59,11 @@ returns-in-Ok-join_promised g c = record {
       let made = c.in-Ok-join_promised.done.ok in
       let held = c.loop-share.handles.ok in
       let none : length (into_iter_items c.loop-share.share-iterator) ≡ 0 = omega arith in
-      let all : map (λ handle. handle.promise.0.value) c.loop-share.handles.items ≡ c.captures.shares.items = only _ _ _ none inv.0 ∙ given.0 in
+      let all : map (λ handle. handle.promise.0.value) c.loop-share.handles.items ≡ c.captures.shares.items =
+      only _ _ _ none inv.0 ∙ given.0 in
       subst (λ (shares : List Share). AllWorked shares c.in-Ok-join_promised.done.items) all
-      (all_worked (λ handle. handle.promise.0.value) c.loop-share.handles.items c.in-Ok-join_promised.done.items (omega arith)
+      (all_worked (λ handle. handle.promise.0.value) c.loop-share.handles.items c.in-Ok-join_promised.done.items
+      (omega arith)
       (λ i d below. let kept = (each i d (omega arith)).1 in (kept.handle, kept.handle_is, kept.kept)));
   wanting = tt;
 }
