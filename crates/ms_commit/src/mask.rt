@@ -13,6 +13,11 @@ ghost use Rattle.std.specs.Prelude.{◌≡◌, ℕ, ◌+◌, ◌-◌, ◌*◌, �
 ghost use Rattle.std.specs.Prelude.{nat_lt, List, [], length, IfSome, IfNone};
 ghost use Rattle.std.specs.List.{filter, range_with_len};
 ghost use Rattle.ms_commit.specs.Mask.{is_one, is_set, IsLowestClear};
+ghost use Rattle.std.specs.Ordering.{nat_cmp};
+ghost use Rattle.std.specs.BTreeSet.{insert_key};
+ghost use Rattle.ms_base.specs.Pick.{lowest_unreserved};
+ghost use Rattle.ms_base.specs.Committed.{is_among};
+ghost use Rattle.ms_commit.specs.NumberSet.{count_within, with_range, without_range, without_number, IsSetBelow};
 
 use std::marker::Model;
 
@@ -35,13 +40,6 @@ impl<const WORDS: usize> Model for Mask<WORDS> {
 }
 
 impl<const WORDS: usize> Mask<WORDS> {
-    ghost use Rattle.std.specs.Prelude.{◌≡◌, ℕ, ◌+◌, ◌*◌, ◌^◌, ◌<◌, ◌≤◌, false, true, [], length, IfSome, IfNone};
-    ghost use Rattle.std.specs.Ordering.{nat_cmp};
-    ghost use Rattle.std.specs.BTreeSet.{insert_key};
-    ghost use Rattle.ms_base.specs.Pick.{lowest_unreserved};
-    ghost use Rattle.ms_base.specs.Committed.{is_among};
-    ghost use Rattle.ms_commit.specs.NumberSet.{count_within, with_range, without_range, without_number, IsSetBelow};
-
     /// Makes the empty set.
     pub fn empty() -> Mask<WORDS>
         ensures { result ≡ [] }

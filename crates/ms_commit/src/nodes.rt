@@ -15,7 +15,14 @@
 //! Nothing here takes memory.
 //! After HotSpot's virtualSpaceNode.hpp and commitLimiter.hpp; there each node has a mask of its
 //! own, and here one mask has all slots. The class space's slots are this project's choice.
-ghost use Rattle.std.specs.Prelude.{◌≡◌, ◌≤◌};
+ghost use Rattle.std.specs.Prelude.{◌≡◌, ◌≤◌, ◌+◌, ◌^◌, ◌<◌, ◌↔◌, IsTrue, IsErr, IfOk, IfErr, OnOk, OnErr, length};
+ghost use Rattle.ms_base.specs.Part.{is_reserved};
+ghost use Rattle.ms_base.specs.declared.sizes.TheConstants.{SLOTS, CLASS_SLOTS};
+ghost use Rattle.ms_base.specs.Pick.{lowest_unreserved};
+ghost use Rattle.ms_base.specs.Committed.{is_among};
+ghost use Rattle.ms_commit.specs.NumberSet.{count_missing};
+ghost use Rattle.ms_commit.specs.Nodes.{IsGranuleSize, all_slots, no_nodes, AreInReserved, with_slot, without_slot};
+ghost use Rattle.ms_commit.specs.Nodes.{with_granules, without_granules, granules_with, AreSound};
 
 use crate::mask::{BITS, Mask};
 use ms_base::{CLASS_SLOTS, NODE_WORDS, Refusal, SLOTS};
@@ -65,15 +72,6 @@ impl Model for Nodes {
 }
 
 impl Nodes {
-    ghost use Rattle.std.specs.Prelude.{◌≡◌, ◌+◌, ◌^◌, ◌<◌, ◌≤◌, ◌↔◌, IsTrue, IsErr, IfOk, IfErr, OnOk, OnErr, length};
-    ghost use Rattle.ms_base.specs.Part.{is_reserved};
-    ghost use Rattle.ms_base.specs.declared.sizes.TheConstants.{SLOTS, CLASS_SLOTS};
-    ghost use Rattle.ms_base.specs.Pick.{lowest_unreserved};
-    ghost use Rattle.ms_base.specs.Committed.{is_among};
-    ghost use Rattle.ms_commit.specs.NumberSet.{count_missing};
-    ghost use Rattle.ms_commit.specs.Nodes.{IsGranuleSize, all_slots, no_nodes, AreInReserved, with_slot, without_slot};
-    ghost use Rattle.ms_commit.specs.Nodes.{with_granules, without_granules, granules_with, AreSound};
-
     /// Makes nodes of which only the slots of the class space are reserved, 64 and up, 0 to 16 of
     /// them. The node limit is 1 to 64 nodes besides these; the granule limit is in granules of
     /// both spaces, any number; a granule has 8192 words, 64 KB, the default of JEP 387, or 2048.

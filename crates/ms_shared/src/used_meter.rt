@@ -5,7 +5,7 @@
 //! between any two steps. So no add is lost, whoever else adds. Each call is one atomic step; only
 //! `new` takes memory, and nothing takes a lock or waits.
 //! This project's choice; HotSpot's runningCounters.cpp has such a word.
-ghost use Rattle.std.specs.Prelude.{◌≡◌, ◌≢◌, ◌%◌, ◌^◌, ◌<◌, ◌≤◌, ◌↔◌, IsOk, IfOk, IfErr, OnErr, vec_len, replicate};
+ghost use Rattle.std.specs.Prelude.{◌≡◌, ◌≢◌, ◌%◌, ◌^◌, ◌<◌, ◌≤◌, ◌↔◌, IsOk, IfOk, IfErr, OnErr, vec_len, replicate, []};
 ghost use Rattle.std.specs.List.{All, sum_by};
 ghost use Rattle.ms_shared.specs.MeterRule.{added, taken_off, meter_view};
 
@@ -161,8 +161,6 @@ fn gathered(table: Table<u8, MeterView, usize, Metered, Global>, mut seats: Vec<
 }
 
 impl MeterSeat {
-    ghost use Rattle.std.specs.Prelude.{[]};
-
     /// Gives the seat of the table out.
     fn into_table_seat(self) -> Seat<u8, MeterView>
         ensures own { result.table_id ≡ self.id }
