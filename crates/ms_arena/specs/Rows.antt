@@ -1,25 +1,14 @@
--- The live blocks of an arena as the code keeps them: rows in rising order of start.
-use Rattle.std.specs.Prelude.{◌≡◌, ℕ, ◌<◌, ◌≤◌, ◌==◌, ◌&&◌, Bool, List, length, map, slice_get, slice_set, slice_index}
-use Rattle.std.specs.Prelude.{Some}
-use Rattle.std.specs.List.{remove}
-use Rattle.std.specs.Map.{keys_of}
+-- The live blocks of an arena, and which words of them are read and written.
+use Rattle.std.specs.Prelude.{◌≡◌, ℕ, ◌<◌, ◌≤◌, List, length, slice_get, slice_set, Some}
 use Rattle.ms_base.specs.declared.span.Block.{Block}
-use Rattle.ms_base.specs.declared.words.LiveBlock.{LiveBlock}
 use Rattle.ms_base.specs.declared.refusal.Refusal.{Refusal}
 use Rattle.ms_base.specs.declared.refusal.Refusal.TheVariants.{NotLive, OutOfRange}
-use Rattle.ms_base.specs.Names.{named, with_changed, without}
+use Rattle.ms_base.specs.Names.{named, with_changed}
 
 -- The live blocks, as contents by start, and how many more there is room for.
 pub record LiveRows : Type 0 where
   pub blocks : List (ℕ × List ℕ)
   pub room : ℕ
-
--- A row's block, by its start.
-abbrev pub entry_of : LiveBlock → ℕ × List ℕ
-entry_of row = (row.start, row.contents)
-
-abbrev pub entries_of : List LiveBlock → List (ℕ × List ℕ)
-entries_of rows = map entry_of rows
 
 -- The block is among them, with these contents.
 pub record HasRow (blocks : List (ℕ × List ℕ)) (block : Block) (contents : List ℕ) : Type 0 where
@@ -55,24 +44,3 @@ abbrev pub RowRefused : List (ℕ × List ℕ) → Block → ℕ → Refusal →
 RowRefused blocks block index NotLive = LacksRow blocks block
 RowRefused blocks block index (OutOfRange words) = IsPastRow blocks block index words
 RowRefused blocks block index _ = ⊥
-
--- The row is that block.
-abbrev pub is_row : LiveBlock → Block → Bool
-is_row row block = (row.start == block.start) && (length row.contents == block.words)
-
--- The place is where a start belongs: all before it are lower, and none from it on is.
-pub record IsPlaceOf (blocks : List (ℕ × List ℕ)) (start place : ℕ) : Type 0 where
-  pub within : place ≤ length blocks
-  pub below : (k : ℕ) → k < place → slice_index (keys_of blocks) k < start
-  pub above : place < length blocks → start ≤ slice_index (keys_of blocks) place
-
--- The block's row stands at the place: so a change of it is a change there, and without it the
--- others are left.
-pub record IsRowAt (rows : List LiveBlock) (place : ℕ) (block : Block) : Type 0 where
-  pub contents : List ℕ
-  pub at : slice_get rows place ≡ Some (record { start = block.start; contents = contents })
-  pub row : HasRow (entries_of rows) block contents
-  pub changed : (other : List ℕ)
-      → entries_of (slice_set rows place (record { start = block.start; contents = other }))
-      ≡ with_changed (entries_of rows) block.start other
-  pub gone : entries_of (remove rows place) ≡ without (entries_of rows) block.start

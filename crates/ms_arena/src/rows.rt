@@ -1,46 +1,48 @@
-//! The live blocks of one arena: rows in rising order of start, each with its words.
+//! The live blocks of one arena: a hash map from where each block starts to the words that it has.
 //!
-//!     rows      | 0, words | 12, words | 512, words |   room   |
+//!     start            512         0         12
+//!     rows         |  words  |  words  |  words  |  room  |
 //!
-//! Kept true: the starts rise. A block is found by bisection. Only `reserve` takes memory: a row is
-//! inserted in room that was made before, so that nothing fails once a source has lent a chunk.
+//! Starts and sizes are in words of 8 bytes; the rows lie in no order. A row is found, added and taken
+//! out in about the same time, however many blocks are live.
+//! Only `reserve` takes memory: a row is inserted in room that was made before, so that nothing fails
+//! once a source has lent a chunk.
 //! HotSpot's arenas know no live blocks; that this one does is this project's choice.
 ghost use Rattle.std.specs.Prelude.{◌≡◌, ℕ, ◌^◌, ◌<◌, IfOk, OnOk, OnErr, IfErr, IfSome, IfNone, length, List, [], None};
 ghost use Rattle.std.specs.List.{sum_by};
-ghost use Rattle.ms_base.specs.Names.{AreNamed, named, with_new, without};
-ghost use Rattle.ms_arena.specs.Rows.{HasRow, LacksRow, ReadsRow, WritesRow, RowRefused, IsRowAt, IsPlaceOf};
-ghost use Rattle.ms_arena.specs.Rows.{entries_of, is_row};
+ghost use Rattle.ms_base.specs.Names.{named, with_new, without};
+ghost use Rattle.ms_base.specs.Hashed.{by_name};
+ghost use Rattle.ms_arena.specs.Rows.{HasRow, LacksRow, ReadsRow, WritesRow, RowRefused};
 
-use ms_base::{Block, LiveBlock, Refusal, Words};
+use ms_base::{Block, Refusal, Words};
 use std::alloc::{AllocError, Global};
+use std::collections::HashMap;
 use std::marker::Model;
 
 /// The live blocks of one arena, and room for more of them. A start is a word number.
 #[derive(Drop)]
 pub struct Rows {
-    /// A row for each live block; their starts rise.
-    rows: Vec<LiveBlock>,
+    /// The words of each live block, by its start.
+    rows: HashMap<u64, Words>,
 }
 
 impl Model for Rows {
-    ghost use Rattle.std.specs.Prelude.{◌-◌, vec_len, vec_capacity};
-    ghost use Rattle.ms_base.specs.Names.{AreNamed};
-    ghost use Rattle.ms_arena.specs.Rows.{LiveRows, entries_of};
+    ghost use Rattle.std.specs.HashMap.{spare};
+    ghost use Rattle.ms_base.specs.Hashed.{by_name};
+    ghost use Rattle.ms_arena.specs.Rows.{LiveRows};
 
     ghost Value = { LiveRows };
 
-    ghost view = { λ r. record { blocks = entries_of r.rows.items; room = vec_capacity r.rows - vec_len r.rows } };
-
-    ghost invariant = { λ r. AreNamed (entries_of r.rows.items) };
+    ghost view = { λ r. record { blocks = by_name r.rows.entries; room = spare r.rows } };
 }
 
 impl Rows {
     /// Makes a list of no blocks, which takes its memory from the allocator. Takes none yet.
     pub fn new(alloc: Global) -> Rows
-        ensures { result ≡ record { blocks = []; room = 0 } }
+        ensures { result.blocks ≡ [] }
     {
         Rows {
-            rows: Vec::new(alloc),
+            rows: HashMap::new(alloc),
         }
     }
 
@@ -65,7 +67,10 @@ impl Rows {
         requires { sum_by (λ (block : ℕ × List ℕ). length block.1) self.now.blocks < 2 ^ 64 }
         ensures { result ≡ sum_by (λ (block : ℕ × List ℕ). length block.1) self.now.blocks }
     {
-        self.rows.iter().map(|row| row.contents.len() as u64).sum()
+        self.rows
+            .values()
+            .map(|contents| contents.len() as u64)
+            .sum()
     }
 
     /// Reads a word of a block.
@@ -73,13 +78,13 @@ impl Rows {
         ensures value { IfOk result (λ value. ReadsRow self.now.blocks block index value) }
         ensures refused { IfErr result (λ refusal. RowRefused self.now.blocks block index refusal) }
     {
-        let Some(place) = find(&self.rows, block) else {
+        let Some(contents) = find(&self.rows, block) else {
             return Err(Refusal::NotLive);
         };
         if index >= block.words {
             return Err(Refusal::OutOfRange { words: block.words });
         }
-        Ok(self.rows[place].contents.get(index as usize))
+        Ok(contents.get(index as usize))
     }
 
     /// Writes a word of a block.
@@ -89,13 +94,16 @@ impl Rows {
         ensures refused { IfErr result (λ refusal. RowRefused self.old.blocks block index refusal) }
         ensures unchanged { OnErr result (self.new ≡ self.old) }
     {
-        let Some(place) = find(&self.rows, block) else {
+        let Some(contents) = self.rows.get_mut(&block.start) else {
             return Err(Refusal::NotLive);
         };
+        if contents.len() as u64 != block.words {
+            return Err(Refusal::NotLive);
+        }
         if index >= block.words {
             return Err(Refusal::OutOfRange { words: block.words });
         }
-        self.rows[place].contents.set(index as usize, value);
+        contents.set(index as usize, value);
         Ok(())
     }
 
@@ -105,10 +113,8 @@ impl Rows {
         requires other { named self.old.blocks start ≡ None }
         ensures { self.new.blocks ≡ with_new self.old.blocks start contents }
     {
-        let place = place_of(&self.rows, start);
-        let row = LiveBlock { start, contents };
-        match self.rows.insert(place, row) {
-            Ok(()) => {}
+        match self.rows.insert(start, contents) {
+            Ok(_) => {}
             Err(_) => unreachable!(),
         }
     }
@@ -121,38 +127,21 @@ impl Rows {
         ensures not_live { OnErr result (LacksRow self.old.blocks block) }
         ensures unchanged { OnErr result (self.new ≡ self.old) }
     {
-        let Some(place) = find(&self.rows, block) else {
+        if find(&self.rows, block).is_none() {
             return Err(Refusal::NotLive);
-        };
-        let _ = self.rows.remove(place);
+        }
+        let _ = self.rows.remove(&block.start);
         Ok(())
     }
 }
 
-/// Finds the row of a block, by bisection.
-fn find(rows: &[LiveBlock], block: Block) -> Option<usize>
-    requires { AreNamed (entries_of rows.now) }
-    ensures found { IfSome result (λ place. IsRowAt rows.now place block) }
-    ensures none { IfNone result (LacksRow (entries_of rows.now) block) }
+/// Finds the words of a block: those at its start, where they are as many as it has.
+fn find(rows: &HashMap<u64, Words>, block: Block) -> Option<&Words>
+    ensures found { IfSome result (λ contents. HasRow (by_name rows.now.entries) block contents.now) }
+    ensures none { IfNone result (LacksRow (by_name rows.now.entries) block) }
 {
-    let place = place_of(rows, block.start);
-    match rows.get(place) {
-        Some(row) if is_block(row, block) => Some(place),
+    match rows.get(&block.start) {
+        Some(contents) if contents.len() as u64 == block.words => Some(contents),
         _ => None,
     }
-}
-
-/// Tells whether the row is that block.
-fn is_block(row: &LiveBlock, block: Block) -> bool
-    ensures { result ≡ is_row row.now block }
-{
-    row.start == block.start && row.contents.len() as u64 == block.words
-}
-
-/// Finds the place of the first row that starts no lower.
-fn place_of(rows: &[LiveBlock], start: u64) -> usize
-    requires { AreNamed (entries_of rows.now) }
-    ensures { IsPlaceOf (entries_of rows.now) start result }
-{
-    rows.partition_point(|row| row.start < start)
 }

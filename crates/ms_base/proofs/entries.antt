@@ -2,3 +2,4 @@
 pub mod NameLemmas
 pub mod EntryLemmas
 pub mod LookupLemmas
+pub mod HashedLemmas

@@ -7,6 +7,7 @@ pub mod Spaces
 pub mod Growth
 -- what has a name
 pub mod Names
+pub mod Hashed
 -- chunks that are held, and what they leave
 pub mod Front
 pub mod Held

@@ -30,7 +30,7 @@ use Rattle.ms_pool.specs.Ledger.{Ledger, held_in, state_in}
 use Rattle.ms_pool.specs.Calls.{Took, Grew}
 use Rattle.ms_arena.specs.Arena.{IsAskable, PlaceRefused}
 use Rattle.ms_loaders.specs.Loader.{LoaderView, IsSoundView, NameRefused, AllocatesBlock}
-use Rattle.ms_base.specs.WordLaws.{alloc_in}
+use Rattle.ms_base.specs.Request.{alloc_in}
 use Rattle.ms_loaders.specs.System.{states_of, machine_of, AreTogether}
 use Rattle.ms_loaders.proofs.OutcomeLemmas.{SameBut, IsNotMade, TakeCause}
 use Rattle.ms_loaders.proofs.AskedLemmas.{outcome}

@@ -1,7 +1,6 @@
 -- What a loader's allocation does to it, from what the arena of the space answers.
 use Rattle.std.proofs.Common.{◌≡◌, ℕ, true, None, Result, Ok, Err, replicate, refl, sym, ap, ◌∙◌, subst, OnOk, OnErr}
 use Rattle.std.proofs.Common.{inl, inr}
-use Rattle.std.specs.BTreeMap.{BTreeMap}
 use Rattle.ms_base.specs.declared.kind.Space.{Space}
 use Rattle.ms_base.specs.declared.kind.Space.TheVariants.{NonClass, Class}
 use Rattle.ms_base.specs.declared.policy.Policy.{Policy}
@@ -17,7 +16,7 @@ use Rattle.ms_arena.specs.Arena.{ArenaView, IsSoundArena}
 use Rattle.ms_arena.specs.Alloc.{TakeRelation, GrowRelation}
 use Rattle.ms_loaders.specs.Loader.{with_state, IsArenaOf, AfterAlloc, NameRefused, AllocatesBlock}
 use Rattle.ms_loaders.specs.LoaderInside.{live_at, blocks_of, IsLoader, view_of}
-use Rattle.ms_loaders.specs.Naming.{EnterRefused, AsksNamed, AllocatesNamed}
+use Rattle.ms_loaders.specs.Naming.{BlockNames, EnterRefused, AsksNamed, AllocatesNamed}
 use Rattle.ms_loaders.specs.declared.loader.Loader.TheInside.{Inside}
 use Rattle.ms_loaders.proofs.MappedLemmas.{found-mapped, missing-mapped}
 use Rattle.ms_loaders.proofs.LoaderChangeLemmas.{ChangesIn, made_matches, made_blocks}
@@ -59,7 +58,7 @@ pub record IsAllocated {S : Type 0} (grew : GrowRelation S) (took : TakeRelation
   pub allocates : AllocatesBlock grew took policy space (view_of a) name words before answer (view_of new) after
   pub unchanged : OnErr answer (view_of new ≡ view_of a)
 
-module _ (space : Space) (a : Inside) (its : IsLoader a) (name : ℕ) (arena : ArenaView) (names : BTreeMap ℕ Block) where
+module _ (space : Space) (a : Inside) (its : IsLoader a) (name : ℕ) (arena : ArenaView) (names : BlockNames) where
   made : (block : Block) → named a.names.entries name ≡ None → IsSoundArena arena
       → names.entries ≡ with_new a.names.entries name block → named (arena_in space a).live block.start ≡ None
       → Makes (arena_in space a) block arena → IsAsked space a name arena (Ok block) (with_arena_at space a arena names)

@@ -2,7 +2,6 @@
 use Rattle.std.proofs.Common.{◌≡◌, ℕ, true, false, Some, Result, Ok, Err, List, length, refl, sym, ap, ◌∙◌, subst, IfOk}
 use Rattle.std.proofs.Common.{IfErr, length-set, inl, inr, OnOk, OnErr}
 use Rattle.std.specs.Prelude.{slice_set}
-use Rattle.std.specs.BTreeMap.{BTreeMap}
 use Rattle.std.proofs.lemmas.Bool.{both_ways}
 use Rattle.ms_base.specs.declared.kind.Kind.{Kind}
 use Rattle.ms_base.specs.declared.kind.Space.{Space}
@@ -19,6 +18,7 @@ use Rattle.ms_base.proofs.entries.EntryLemmas.{rises_without}
 use Rattle.ms_arena.specs.Arena.{ArenaView, IsSoundArena, IsLive, IsNotLive, ReadsWord, WritesWord as WritesIn}
 use Rattle.ms_arena.specs.Arena.{WordRefused, FreesBlock as FreesIn}
 use Rattle.ms_loaders.specs.Loader.{LoaderView, with_state, HasWord, WritesWord, FreesBlock, LacksWord}
+use Rattle.ms_loaders.specs.Naming.{BlockNames}
 use Rattle.ms_loaders.specs.LoaderInside.{Contents, live_at, blocks_of, contents_in, IsLoader, view_of}
 use Rattle.ms_loaders.specs.declared.loader.Loader.TheInside.{Inside}
 use Rattle.ms_loaders.proofs.MappedLemmas.{found-mapped}
@@ -43,11 +43,11 @@ abbrev pub contents_at : Inside → Contents
 contents_at a = contents_in a.arena a.class_arena
 
 -- The loader with another arena in a space, and other names.
-abbrev pub with_arena_at : Space → Inside → ArenaView → BTreeMap ℕ Block → Inside
+abbrev pub with_arena_at : Space → Inside → ArenaView → BlockNames → Inside
 with_arena_at space a arena names =
     record a { arena = by_space space arena a.arena; class_arena = by_space space a.class_arena arena; names = names }
 
-pub changes_of : (space : Space) (a : Inside) (arena : ArenaView) (names : BTreeMap ℕ Block) (live : List (ℕ × List ℕ))
+pub changes_of : (space : Space) (a : Inside) (arena : ArenaView) (names : BlockNames) (live : List (ℕ × List ℕ))
     → arena.live ≡ live
     → ChangesIn space (contents_at a) (contents_at (with_arena_at space a arena names)) live
 changes_of NonClass a arena names live e = record { here_is = e; there_is = refl }
@@ -57,7 +57,7 @@ live_in : (space : Space) (a : Inside) → contents_at a space ≡ (arena_in spa
 live_in NonClass a = refl
 live_in Class a = refl
 
-pub replaced : (space : Space) (a : Inside) (arena : ArenaView) (names : BTreeMap ℕ Block) → IsLoader a
+pub replaced : (space : Space) (a : Inside) (arena : ArenaView) (names : BlockNames) → IsLoader a
     → arena.space ≡ (arena_in space a).space
     → arena.kind ≡ (arena_in space a).kind → IsSoundArena arena → AreNamed names.entries
     → ((one : Space) → Matches (contents_at (with_arena_at space a arena names)) names.entries one)
@@ -83,7 +83,7 @@ replaced Class a arena names its space kind sound rises matches = record {
 }
 
 -- A loader as it was, but for the arena of a space and its blocks.
-pub changed_view : (space : Space) (a : Inside) (arena : ArenaView) (names : BTreeMap ℕ Block)
+pub changed_view : (space : Space) (a : Inside) (arena : ArenaView) (names : BlockNames)
     (blocks : List (ℕ × LiveBlock)) → arena.owner ≡ (arena_in space a).owner
     → arena.kind ≡ (arena_in space a).kind → blocks_of (contents_at (with_arena_at space a arena names)) names.entries
     ≡ blocks
@@ -249,7 +249,7 @@ module _ (a : Inside) (its : IsLoader a) (space : Space) (name : ℕ) (block : B
       (subst (λ (v : ArenaView). with_arena_at space a v a.names ≡ a) (sym same) (as_it_was space a))
 
   -- The block is freed, its name being gone.
-  module _ (names : BTreeMap ℕ Block) (gone : names.entries ≡ without a.names.entries name) where
+  module _ (names : BlockNames) (gone : names.entries ≡ without a.names.entries name) where
     freeing : (arena : ArenaView) → FreesIn (arena_in space a) block arena → IsSoundArena arena
         → IsDone a (FreesBlock (view_of a).state name) (with_arena_at space a arena names)
     freeing arena frees sound = record {

@@ -1,4 +1,4 @@
--- How an allocation enters a name, and what it does to names, arena and source.
+-- The names of a loader's blocks; how an allocation enters one, and what it does to names, arena and source.
 use Rattle.std.specs.Prelude.{◌≡◌, ℕ, ◌⊎◌, List, Some, None, Result, Ok, Err, IfOk, OnErr}
 use Rattle.ms_base.specs.declared.policy.Policy.{Policy}
 use Rattle.ms_base.specs.declared.span.Block.{Block}
@@ -7,6 +7,10 @@ use Rattle.ms_base.specs.declared.refusal.Refusal.TheVariants.{BlockExists}
 use Rattle.ms_base.specs.Names.{named, with_new}
 use Rattle.ms_arena.specs.Arena.{ArenaView, PlaceRefused}
 use Rattle.ms_arena.specs.Alloc.{TakeRelation, GrowRelation, Allocates}
+
+-- The blocks in rising order of their names.
+pub record BlockNames : Type 0 where
+  pub entries : List (ℕ × Block)
 
 -- Why a name is not entered, in the order of the checks.
 abbrev pub EnterRefused : List (ℕ × Block) → ℕ → ℕ → Refusal → Type 0

@@ -22,7 +22,6 @@ use ms_arena::{Arena, ArenaTotals};
 use ms_base::{Block, Kind, NODE_WORDS, Refusal, SLOTS, Space};
 use ms_pool::{Account, ChunkSource};
 use std::alloc::Global;
-use std::collections::BTreeMap;
 use std::marker::Model;
 
 /// One class loader. After HotSpot's ClassLoaderMetaspace, which has an arena in each space too; the
@@ -70,7 +69,7 @@ impl Loader {
         Loader {
             arena: Arena::new(alloc, account, kind),
             class_arena: Arena::new(alloc, class_account, kind),
-            names: BTreeMap::new(alloc),
+            names: Names::new(alloc),
         }
     }
 
@@ -144,13 +143,13 @@ impl Loader {
         ensures value { IfOk result (HasWord self.now.state name index) }
         ensures refused { IfErr result (LacksWord self.now.state name index) }
     {
-        let Some(block) = self.names.get(&name) else {
+        let Some(block) = self.names.get(name) else {
             return Err(Refusal::NoBlock);
         };
         if is_class(block.start) {
-            self.class_arena.read(*block, index)
+            self.class_arena.read(block, index)
         } else {
-            self.arena.read(*block, index)
+            self.arena.read(block, index)
         }
     }
 
@@ -163,9 +162,8 @@ impl Loader {
         ensures owners { self.new ≡ with_state self.old self.new.state }
         ensures sound { IsSoundView self.new }
     {
-        let block = match self.names.get(&name) {
-            Some(block) => *block,
-            None => return Err(Refusal::NoBlock),
+        let Some(block) = self.names.get(name) else {
+            return Err(Refusal::NoBlock);
         };
         if is_class(block.start) {
             let answer = self.class_arena.write(block, index, value);
@@ -187,7 +185,7 @@ impl Loader {
         ensures owners { self.new ≡ with_state self.old self.new.state }
         ensures sound { IsSoundView self.new }
     {
-        let Some(block) = self.names.remove(&name) else {
+        let Some(block) = self.names.remove(name) else {
             return Err(Refusal::NoBlock);
         };
         if is_class(block.start) {

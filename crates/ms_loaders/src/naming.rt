@@ -1,9 +1,16 @@
 //! The names of a loader's blocks, and how an allocation enters one.
 //!
+//!     name           7          3               9
+//!     block     | [0, 10) | [10, 14) | [67108864, ..) |  room  |
+//!
+//! A hash map from each name to where its block starts, and its words; the names lie in no order. A name
+//! is found, entered and taken out in about the same time, however many there are; only where the room
+//! is used up do all names move.
 //! Making room for a name takes memory, so it is done before the arena is asked; the room is then held
-//! until the block is known, and the name enters it with no second search. Where the arena refuses, the
-//! room is let go, and no name was ever entered.
-ghost use Rattle.std.specs.Prelude.{◌≡◌, ◌<◌, IfOk, OnOk};
+//! until the block is known, and the name enters it with no second search. Where the arena refuses, no
+//! name was ever entered, and the room stays for a later one.
+ghost use Rattle.std.specs.Prelude.{◌≡◌, ◌<◌, IfOk, IfNone, OnOk, []};
+ghost use Rattle.ms_base.specs.Names.{AreNamed, named, without};
 ghost use Rattle.ms_arena.specs.Arena.{IsSoundArena, PlaceRefused, account_of};
 ghost use Rattle.ms_pool.specs.Source.{LeavesRest};
 ghost use Rattle.ms_loaders.specs.Naming.{AllocatesNamed};
@@ -11,15 +18,62 @@ ghost use Rattle.ms_loaders.specs.Naming.{AllocatesNamed};
 use ms_arena::Arena;
 use ms_base::{Block, ROOT_WORDS, Refusal};
 use ms_pool::ChunkSource;
-use std::collections::BTreeMap;
-use std::collections::btree_map::Entry;
+use std::alloc::Global;
+use std::collections::HashMap;
+use std::collections::hash_map::Entry;
+use std::marker::Model;
 
-/// Blocks by name.
-pub type Names = BTreeMap<u32, Block>;
+/// Blocks by name, 0 to 2^32 - 1.
+#[derive(Drop)]
+pub struct Names {
+    /// The block of each name: where it starts, and its words.
+    blocks: HashMap<u32, Block>,
+}
+
+impl Model for Names {
+    ghost use Rattle.std.specs.Prelude.{nat_eq};
+    ghost use Rattle.std.specs.HashMap.{IsUnique};
+    ghost use Rattle.ms_base.specs.Hashed.{by_name};
+    ghost use Rattle.ms_loaders.specs.Naming.{BlockNames};
+
+    ghost Value = { BlockNames };
+
+    ghost view = { λ names. record { entries = by_name names.blocks.entries } };
+
+    ghost invariant = { λ names. IsUnique nat_eq names.blocks };
+}
+
+impl Names {
+    /// Makes a map of no names, which takes its memory from the allocator. Takes none yet.
+    pub fn new(alloc: Global) -> Names
+        ensures empty { result.entries ≡ [] }
+    {
+        Names {
+            blocks: HashMap::new(alloc),
+        }
+    }
+
+    /// Tells which block has a name, if one has. Takes no memory.
+    pub fn get(&self, name: u32) -> Option<Block>
+        ensures block { result ≡ named self.now.entries name }
+        ensures names { AreNamed self.now.entries }
+    {
+        self.blocks.get(&name).copied()
+    }
+
+    /// Takes a name out, and tells which block had it, if one had. Takes no memory.
+    pub fn remove(&mut self, name: u32) -> Option<Block>
+        ensures block { result ≡ named self.old.entries name }
+        ensures entries { self.new.entries ≡ without self.old.entries name }
+        ensures unchanged { IfNone result (self.new ≡ self.old) }
+    {
+        self.blocks.remove(&name)
+    }
+}
 
 /// Allocates a block of so many words in the arena, under a new name. Refused with `BlockExists` where
 /// the name is used, then with `ZeroWords` and `TooLarge`, with `OutOfMemory` where the name finds no
-/// room, and as the arena refuses; then nothing changes. Takes memory, and walks over the names once.
+/// room, and as the arena refuses; then nothing changes. Takes memory, and looks the name up once.
 pub fn allocate_in<S: ChunkSource>(
     names: &mut Names,
     arena: &mut Arena,
@@ -34,7 +88,7 @@ pub fn allocate_in<S: ChunkSource>(
         arena.old name words source.old result names.new.entries arena.new source.new }
     ensures sound { OnOk result (IsSoundArena arena.new) }
 {
-    match names.entry(name) {
+    match names.blocks.entry(name) {
         Ok(Entry::Vacant(slot)) => {
             let block = arena.alloc(source, words)?;
             // What is true of every arena is learnt here.

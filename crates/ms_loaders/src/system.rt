@@ -13,7 +13,7 @@ ghost use Rattle.ms_base.specs.Transition.{Transition, LacksLoader};
 ghost use Rattle.ms_base.specs.Run.{Run};
 ghost use Rattle.ms_base.specs.Names.{named};
 ghost use Rattle.ms_base.specs.SumLaws.{HoldsNothing};
-ghost use Rattle.ms_base.specs.WordLaws.{alloc_in};
+ghost use Rattle.ms_base.specs.Request.{alloc_in};
 ghost use Rattle.ms_loaders.specs.System.{reply_of};
 ghost use Rattle.ms_loaders.specs.Sums.{sums_in};
 ghost use Rattle.ms_loaders.specs.Used.{used_if};
@@ -265,7 +265,7 @@ impl System {
         ensures { Transition self.old step (reply_of result) self.new }
     {
         match step {
-            Step::New { loader, kind } => done(self.new_loader(loader, kind)),
+            Step::New { loader, kind } => self.new_loader(loader, kind).map(|()| Reply::Ok),
             Step::Alloc {
                 loader,
                 block,
@@ -281,14 +281,14 @@ impl System {
                 block,
                 index,
                 value,
-            } => done(self.write(loader, block, index, value)),
+            } => self.write(loader, block, index, value).map(|()| Reply::Ok),
             Step::Read {
                 loader,
                 block,
                 index,
             } => Ok(Reply::Value(self.read(loader, block, index)?)),
-            Step::Free { loader, block } => done(self.free(loader, block)),
-            Step::Unload { loader } => done(self.unload(loader)),
+            Step::Free { loader, block } => self.free(loader, block).map(|()| Reply::Ok),
+            Step::Unload { loader } => self.unload(loader).map(|()| Reply::Ok),
             Step::Purge => {
                 let _ = self.purge();
                 Ok(Reply::Ok)
@@ -316,16 +316,5 @@ impl System {
         // That the state is good is learnt here.
         let _ = &self.loaders;
         Ok(replies)
-    }
-}
-
-/// The reply to a step that answers no number, with a refusal as an error.
-fn done(answer: Result<(), Refusal>) -> Result<Reply, Refusal>
-    ensures ok { OnOk answer (result ≡ Ok Reply.Ok) }
-    ensures refused { IfErr answer (λ refusal. result ≡ Err refusal) }
-{
-    match answer {
-        Ok(()) => Ok(Reply::Ok),
-        Err(refusal) => Err(refusal),
     }
 }

@@ -1,6 +1,6 @@
 -- Whether the buddy of a lent leaf is one free leaf, by the leaf that covers its first word.
-use Rattle.std.proofs.Common.{◌≡◌, ◌<◌, ◌≤◌, ℕ, suc, ◌+◌, ◌-◌, ◌*◌, ◌%◌, Bool, true, false, cond, ◌&&◌, ◌||◌, List, []}
-use Rattle.std.proofs.Common.{◌∷◌, ◌++◌, map, Some, refl, sym, ap, subst, ◌∙◌, arith, eq-eqb, eqb-true, ne_eqb, lt-ltb}
+use Rattle.std.proofs.Common.{◌≡◌, ◌<◌, ◌≤◌, ℕ, ◌+◌, ◌-◌, ◌*◌, ◌%◌, Bool, true, false, cond, ◌&&◌, ◌||◌, List, []}
+use Rattle.std.proofs.Common.{◌∷◌, map, Some, refl, sym, ap, subst, ◌∙◌, arith, eq-eqb, eqb-true, ne_eqb, lt-ltb}
 use Rattle.std.proofs.Common.{ltb-true, inl, inr}
 use Rattle.std.specs.Prelude.{◌==◌, nat_le, nat_lt}
 use Rattle.std.specs.List.{AllByRecursion, find, list_any}
@@ -8,15 +8,15 @@ use Rattle.std.proofs.Math.Nat.{add-mod_right}
 use Rattle.std.proofs.lemmas.Bool.{and_parts, cases_eq, false_from_ne_true}
 use Rattle.std.proofs.lemmas.Bool.Decides.{nat_tests}
 use Rattle.std.proofs.lemmas.List.Elements.{recursion_from_All}
-use Rattle.ms_base.specs.declared.span.Chunk.{Chunk}
 use Rattle.ms_base.specs.declared.span.Span.{Span}
 use Rattle.ms_base.specs.Interval.{meet}
 use Rattle.ms_base.specs.Level.{size_of}
 use Rattle.ms_base.specs.Part.{IsPart, buddy_start, is_leader}
 use Rattle.ms_base.specs.Held.{meets_chunk}
 use Rattle.ms_base.specs.FreeParts.{free_within}
-use Rattle.ms_base.proofs.free.FreeLemmas.{IsFreeWithin, by_halves, listed_are_free}
-use Rattle.ms_base.proofs.free.HalvesLemmas.{IsStart, multiple_of_smaller, size_of_halves, steps_apart, words_over}
+use Rattle.ms_base.proofs.free.FreeLemmas.{IsFreeWithin, listed_are_free}
+use Rattle.ms_base.proofs.free.HalvesLemmas.{multiple_of_smaller, steps_apart}
+use Rattle.ms_base.proofs.free.RisingLemmas.{Rises, within_rises}
 use Rattle.ms_buddy.specs.Leaves.{LentLeaf, IsLeafAt, can_enlarge, chunk_of, covers, free_of, is_lent, is_same, leaf_of}
 use Rattle.ms_buddy.specs.Leaves.{span_at, AreLeaves}
 use Rattle.ms_buddy.specs.declared.node.Leaf.{Leaf}
@@ -25,36 +25,8 @@ use Rattle.ms_buddy.specs.Leaves.{span_of as leaf_span}
 use Rattle.ms_buddy.proofs.TreeHalvesLemmas.{size_of-halves, size_of-some}
 use Rattle.ms_pool.proofs.WalkedLemmas.{covers_both, free_is_clear}
 
--- Parts rise from low to high: each starts where the one before ends, or later.
-abbrev AreRising : ℕ → ℕ → List Span → Type 0
-AreRising low high [] = low ≤ high
-AreRising low high (part ∷ parts) = (low ≤ part.start) × AreRising (part.start + size_of part.level) high parts
-
-rising_lower : (a low high : ℕ) (parts : List Span) → a ≤ low → AreRising low high parts → AreRising a high parts
-rising_lower a low high [] h rises = omega (arith, rises)
-rising_lower a low high (part ∷ parts) h rises = (omega (arith, rises.0), rises.1)
-
-rising_joined : (low middle high : ℕ) (xs ys : List Span) → AreRising low middle xs → AreRising middle high ys
-    → AreRising low high (xs ++ ys)
-rising_joined low middle high [] ys first second = rising_lower low middle high ys first second
-rising_joined low middle high (part ∷ xs) ys first second =
-    (first.0, rising_joined (part.start + size_of part.level) middle high xs ys first.1 second)
-
-within_rises : (held : List Chunk) (below start : ℕ) → below ≤ 12 → IsStart below start
-    → AreRising start (start + words_over below) (free_within held below start)
-within_rises held = by_halves held (λ below start parts. AreRising start (start + words_over below) parts) (record {
-  none = λ start whole meets. omega arith;
-  itself = λ below start h whole clear. (omega arith, omega arith);
-  halves = λ below start lower upper h whole meets first second.
-      let end : start + words_over (suc below) ≡ start + words_over below + words_over below =
-      omega (arith, size_of_halves below h) in
-      subst (λ (high : ℕ). AreRising start high (lower ++ upper)) (sym end)
-      (rising_joined start (start + words_over below) (start + words_over below + words_over below) lower upper first
-      second);
-})
-
 -- A part of the list is the first that covers its own first word.
-later_parts : (low high : ℕ) (buddy : Span) (parts : List Span) → AreRising low high parts
+later_parts : (low high : ℕ) (buddy : Span) (parts : List Span) → Rises low high parts
     → list_any (is_same buddy) parts ≡ true → low ≤ buddy.start
 later_parts low high buddy [] rises there = absurd (cc)
 later_parts low high buddy (part ∷ parts) rises there =
@@ -70,7 +42,7 @@ later_parts low high buddy (part ∷ parts) rises there =
         )
     go false same e later = omega (arith, rises.0, later e)
 
-listed_is_found : (low high : ℕ) (buddy : Span) (parts : List Span) → AreRising low high parts
+listed_is_found : (low high : ℕ) (buddy : Span) (parts : List Span) → Rises low high parts
     → list_any (is_same buddy) parts ≡ true → (found : Span) × (find (covers buddy.start) parts ≡ Some found)
     × (found.level ≡ buddy.level)
 listed_is_found low high buddy [] rises there = absurd (cc)
@@ -160,7 +132,7 @@ buddy_by_free tree start level part placed found = elim (cases_eq part.level lev
     free : List Span
     free = free_within (map chunk_of tree) 12 0
 
-    rises : AreRising 0 (0 + size_of 0) free
+    rises : Rises 0 (0 + size_of 0) free
     rises = within_rises (map chunk_of tree) 12 0 (omega arith) refl
 
     part_is : IsFreeWithin (map chunk_of tree) 0 (0 + size_of 0) part

@@ -142,6 +142,18 @@ impl Lender {
         }
     }
 
+    /// How many granules of a chunk's front are missing.
+    fn missing(&self, space: Space, chunk: &Chunk) -> u64
+        requires kept { IsKept self.now }
+        requires some { 1 ≤ chunk.now.front }
+        requires inside { IsRunOf space chunk.now.start chunk.now.front }
+        requires fits { chunk.now.start + chunk.now.front < 2 ^ 63 }
+        ensures { result ≡ lacking (state_in space (ledger_of self.now)) chunk.now }
+    {
+        let (first, count) = granules_meeting(granule(self.policy), chunk.start, chunk.front);
+        self.nodes.missing(first, count)
+    }
+
     /// The refusal where the granules of a front that are missing would pass the limit.
     fn commit_limit(&self, space: Space, chunk: &Chunk) -> Option<Refusal>
         requires kept { IsKept self.now }
@@ -159,8 +171,7 @@ impl Lender {
             (length self.now.nodes.granules + lacking (state_in space (ledger_of self.now)) chunk.now
             ≤ self.now.nodes.limits.granules) }
     {
-        let (first, count) = granules_meeting(granule(self.policy), chunk.start, chunk.front);
-        let need = self.nodes.missing(first, count);
+        let need = self.missing(space, chunk);
         let committed = self.nodes.committed();
         let limit = self.nodes.granule_limit();
         if need > limit - committed {

@@ -2,7 +2,7 @@
 -- after, and no owner is of both. For `hand_on`.
 use Rattle.std.proofs.Common.{◌≡◌, ◌≢◌, ◌≤◌, ◌+◌, ℕ, Bool, true, false, cond, not, ◌||◌, Some, None, List, [], ◌∷◌}
 use Rattle.std.proofs.Common.{◌++◌, map, length, refl, sym, ap, ◌∙◌, subst, ◌⊎◌, inl, inr, ⊎_elim, arith, eq-eqb}
-use Rattle.std.proofs.Common.{ne_eqb}
+use Rattle.std.proofs.Common.{ne_eqb, ◌<◌}
 use Rattle.std.specs.Prelude.{◌==◌, IsTrue}
 use Rattle.std.specs.Ordering.{nat_cmp}
 use Rattle.std.specs.declared.cmp.Ordering.TheVariants.{Less}
@@ -174,6 +174,9 @@ module _ (name : ℕ) (v : LoaderView) (loaders others : Loaded) (from to : Seat
 
   pub serves_second : ServesBy (without_account v.owner NonClass from) (account_in Class v)
   serves_second = left_serves from v.owner NonClass (account_in Class v) own_differ parts.2
+
+  pub counts_second : 0 < opened_by (without_account v.owner NonClass from) Class
+  counts_second = omega (arith, its.manned.opened Class, long)
 
   still : (accounts : List AccountState) → times v.owner (map owner_of accounts) ≡ 0
       → times v.class_owner (map owner_of accounts) ≡ 0
@@ -390,6 +393,19 @@ second_served name v loaders others from to from_mid account class_account found
       c_is,
     )
     (serves_second name v loaders others from.knows to.knows found its)
+
+pub second_counted : (name : ℕ) (v : LoaderView) (loaders others : Loaded) (from to from_mid : SeatState)
+    (account class_account : AccountState)
+    → named loaders name ≡ Some v → AreBeside from.knows loaders to.knows others → account ≡ account_in NonClass v
+    → class_account ≡ account_in Class v
+    → from_mid ≡ handed_from account from → 0 < opened_by from_mid.knows class_account.space
+second_counted name v loaders others from to from_mid account class_account found its a_is c_is from_1 =
+    rw (
+      ap (λ (s : SeatState). s.knows) from_1
+          ∙ ap (λ (a : AccountState). without_account a.owner a.space from.knows) a_is,
+      c_is,
+    )
+    (counts_second name v loaders others from.knows to.knows found its)
 
 -- What has a name then.
 none_above : {X : Type 0} (low : ℕ) (es : List (ℕ × X)) → AllByRecursion (λ k. nat_cmp low k ≡ Less) (keys_of es)

@@ -21,7 +21,7 @@ use Rattle.ms_base.specs.declared.refusal.Refusal.TheVariants.{OutOfRange, OutOf
 use Rattle.ms_base.specs.declared.refusal.Refusal.TheVariants.{BlockExists, IdsUsedUp}
 use Rattle.ms_base.specs.Interval.{meet, meets_any}
 use Rattle.ms_base.specs.Names.{named, with_changed}
-use Rattle.ms_base.specs.Request.{loader_of}
+use Rattle.ms_base.specs.Request.{alloc_in, loader_of}
 use Rattle.ms_base.specs.Spaces.{space_at}
 use Rattle.ms_base.specs.Live.{run_of, runs_of, block_words}
 use Rattle.ms_base.specs.State.{LoaderState, Machine, empty_loader}
@@ -29,7 +29,6 @@ use Rattle.ms_base.specs.Good.{IsGood}
 use Rattle.ms_base.specs.Transition.{HasLoader, Transition, Leaves, Cause, NewCause, AllocCause, BlockCause, WordCause}
 use Rattle.ms_base.specs.Transition.{Serves, Makes, Allocates, Writes, Reads, Frees, Unloads, with_allocated}
 use Rattle.ms_base.specs.Transition.{with_block, with_freed, zeroed}
-use Rattle.ms_base.specs.WordLaws.{alloc_in}
 use Rattle.ms_base.specs.Alone.{OwnLoader, OwnReply}
 use Rattle.ms_base.proofs.entries.LookupLemmas.{named_changed_same, named_changed_other, named_new_same}
 use Rattle.ms_base.proofs.entries.LookupLemmas.{named_new_other, named_without_other}

@@ -20,11 +20,11 @@ use Rattle.std.proofs.Crossing.{crosses}
 use Rattle.std.proofs.MapsCrossing.{BTreeMap-send}
 use Rattle.std.proofs.option.Option.TheSendSync as option
 use Rattle.ms_base.proofs.step.Reply.TheSendSync as reply
-use Rattle.ms_base.proofs.span.Block.TheSendSync as block
 use Rattle.ms_pool.proofs.account.Account.TheSendSync as account
 use Rattle.ms_shared.below.atomic_table.proofs.shared.Seat.TheSendSync as table_seat
 use Rattle.ms_loaders.below.ms_blocks.proofs.tree.Tree.TheLaws.TheKnot.{send-Tree, send-Fork}
 use Rattle.ms_loaders.below.ms_arena.proofs.rows.Rows.TheSendSync as rows
+use Rattle.ms_loaders.proofs.naming.Names.TheSendSync as names
 use Rattle.ms_loaders.below.ms_buddy.proofs.node.Node.TheLaws.TheKnot as node
 use Rattle.ms_loaders.below.ms_commit.proofs.mask.Mask.TheSendSync as mask
 use Rattle.ms_loaders.below.ms_commit.proofs.nodes.Nodes.TheSendSync as nodes
@@ -42,7 +42,7 @@ use Rattle.ms_run.specs.contracts.share.Share as share
 
 loaders_send : IsSend loaders.the_row
 loaders_send =
-    search (sendable, crosses, BTreeMap-send, send-Tree, send-Fork, rows.the_send, block.the_send, account.the_send)
+    search (sendable, crosses, BTreeMap-send, send-Tree, send-Fork, rows.the_send, names.the_send, account.the_send)
     depth 60 fits 30000
 
 seat_send : IsSend seat.the_row

@@ -3,7 +3,7 @@
 ghost use Rattle.std.specs.Prelude.{◌≡◌, ◌≢◌, IfOk, OnOk, IfErr, ℕ, true, false, Bool};
 ghost use Rattle.ms_base.specs.Names.{named};
 ghost use Rattle.ms_base.specs.Alone.{OwnReply};
-ghost use Rattle.ms_base.specs.WordLaws.{alloc_in};
+ghost use Rattle.ms_base.specs.Request.{alloc_in};
 ghost use Rattle.ms_loaders.specs.System.{states_of};
 ghost use Rattle.ms_loaders.specs.Used.{used_at};
 ghost use Rattle.ms_run.specs.Own.{own_in};

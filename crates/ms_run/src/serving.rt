@@ -67,7 +67,9 @@ fn serve<R: Wait>(
         → used_at (named loaders.new name) ≡ used_at (named loaders.old name) }
 {
     match step {
-        Step::New { loader, kind } => done(new_loader(alloc, pool, loaders, loader, kind)),
+        Step::New { loader, kind } => {
+            new_loader(alloc, pool, loaders, loader, kind).map(|()| Reply::Ok)
+        }
         Step::Alloc {
             loader,
             block,
@@ -83,26 +85,17 @@ fn serve<R: Wait>(
             block,
             index,
             value,
-        } => done(write(loaders, loader, block, index, value)),
+        } => write(loaders, loader, block, index, value).map(|()| Reply::Ok),
         Step::Read {
             loader,
             block,
             index,
         } => Ok(Reply::Value(read(loaders, loader, block, index)?)),
-        Step::Free { loader, block } => done(free(loaders, loader, block)),
-        Step::Unload { loader } => done(unload(pool, loaders, loader)),
+        Step::Free { loader, block } => free(loaders, loader, block).map(|()| Reply::Ok),
+        Step::Unload { loader } => unload(pool, loaders, loader).map(|()| Reply::Ok),
         Step::Purge => {
             let _ = pool.purge();
             Ok(Reply::Ok)
         }
     }
-}
-
-/// The reply where a call answers nothing but that it is done.
-fn done(answer: Result<(), Refusal>) -> Result<Reply, Refusal>
-    ensures done { OnOk answer (result ≡ Ok Reply.Ok) }
-    ensures refused { IfErr answer (λ refusal. result ≡ Err refusal) }
-{
-    answer?;
-    Ok(Reply::Ok)
 }

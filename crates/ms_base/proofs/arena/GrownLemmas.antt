@@ -31,13 +31,13 @@ use Rattle.ms_base.proofs.machine.ChangeLemmas.{changed, good_with_change, slots
 use Rattle.ms_base.proofs.machine.BackedLemmas.{middle_is_clear}
 
 -- The chunks before and after a place.
-record Parted (chunks : List Chunk) (place : ℕ) (was is : Chunk) : Type 0 where
-  before : List Chunk
-  after : List Chunk
-  old : chunks ≡ before ++ was ∷ after
-  new : slice_set chunks place is ≡ before ++ is ∷ after
+pub record Parted (chunks : List Chunk) (place : ℕ) (was is : Chunk) : Type 0 where
+  pub before : List Chunk
+  pub after : List Chunk
+  pub old : chunks ≡ before ++ was ∷ after
+  pub new : slice_set chunks place is ≡ before ++ is ∷ after
 
-parted_at : (chunks : List Chunk) (place : ℕ) (was is : Chunk) → slice_get chunks place ≡ Some was
+pub parted_at : (chunks : List Chunk) (place : ℕ) (was is : Chunk) → slice_get chunks place ≡ Some was
     → Parted chunks place was is
 parted_at [] place was is found = absurd (cc)
 parted_at (c ∷ chunks) zero was is found =

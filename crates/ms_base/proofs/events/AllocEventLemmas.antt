@@ -12,7 +12,7 @@ use Rattle.ms_base.specs.Live.{block_words}
 use Rattle.ms_base.specs.State.{ArenaState, LoaderState, Machine, arena_of, with_arena, slots_in, recommitted}
 use Rattle.ms_base.specs.Good.{IsGood}
 use Rattle.ms_base.specs.Transition.{HasLoader, with_allocated, zeroed, Change, MayChange, Allocates, Transition}
-use Rattle.ms_base.specs.WordLaws.{alloc_in}
+use Rattle.ms_base.specs.Request.{alloc_in}
 use Rattle.ms_base.proofs.entries.EntryLemmas.{rises_with_changed}
 use Rattle.ms_base.proofs.entries.LookupLemmas.{named_changed_same, named_changed_other}
 use Rattle.ms_base.proofs.machine.ChangeLemmas.{changed}

@@ -20,7 +20,7 @@ use Rattle.ms_base.specs.State.{ArenaState, LoaderState, Machine, PoolState, are
 use Rattle.ms_base.specs.State.{recommitted}
 use Rattle.ms_base.specs.Good.{IsGood}
 use Rattle.ms_base.specs.Transition.{HasLoader, with_loader, Change, MayChange, IsServable, AllocCause, Transition}
-use Rattle.ms_base.specs.WordLaws.{alloc_in}
+use Rattle.ms_base.specs.Request.{alloc_in}
 use Rattle.ms_base.specs.Event.{taking, growing, acting, lent, replied, refused, Takes, TakesNone, Grows, with_chunk_at}
 use Rattle.ms_base.specs.Spread.{SpreadStep, Part, AreWhole, AsksChunk, words_for}
 use Rattle.ms_base.specs.Serial.{is_place}

@@ -7,9 +7,8 @@ use Rattle.ms_base.specs.declared.step.Step.{Step}
 use Rattle.ms_base.specs.declared.step.Reply.{Reply}
 use Rattle.ms_base.specs.declared.step.Reply.TheVariants.{Ok as Done, At, Value, Refused}
 use Rattle.ms_base.specs.declared.refusal.Refusal.{Refusal}
-use Rattle.ms_base.specs.Request.{loader_of}
+use Rattle.ms_base.specs.Request.{alloc_in, loader_of}
 use Rattle.ms_base.specs.State.{Machine}
-use Rattle.ms_base.specs.WordLaws.{alloc_in}
 use Rattle.ms_base.specs.Event.{Event, taking, acting, Answer, lent, replied, refused, Happens}
 use Rattle.ms_base.specs.Spread.{SpreadStep, IsOwnReply, Part, AreWhole, HasNoSpan, not_asked, not_had, GoesOn}
 use Rattle.ms_base.specs.Serial.{is_place}

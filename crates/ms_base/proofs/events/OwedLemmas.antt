@@ -8,11 +8,10 @@ use Rattle.ms_base.specs.declared.step.Reply.TheVariants.{At, Refused}
 use Rattle.ms_base.specs.declared.refusal.Refusal.{Refusal}
 use Rattle.ms_base.specs.declared.refusal.Refusal.TheVariants.{CommitLimit, ReserveLimit, OutOfMemory}
 use Rattle.ms_base.specs.Names.{named, with_changed}
-use Rattle.ms_base.specs.Request.{loader_of}
+use Rattle.ms_base.specs.Request.{alloc_in, loader_of}
 use Rattle.ms_base.specs.State.{LoaderState, Machine, slots_in, with_slots, recommitted}
 use Rattle.ms_base.specs.Good.{IsSoundLoader, IsGood}
 use Rattle.ms_base.specs.Transition.{HasLoader, with_loader, Change, Allocates, IsServable}
-use Rattle.ms_base.specs.WordLaws.{alloc_in}
 use Rattle.ms_base.specs.Event.{growing, acting, replied, refused, Happens, Adds, ActsNotCause, IsSoundAfter, GrowsNone}
 use Rattle.ms_base.specs.Spread.{SpreadStep, Part, AreWhole}
 use Rattle.ms_base.specs.Serial.{is_place}

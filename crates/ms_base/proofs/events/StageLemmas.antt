@@ -15,7 +15,7 @@ use Rattle.ms_base.specs.Names.{AreNamed, named}
 use Rattle.ms_base.specs.State.{LoaderState, Machine, empty_loader, chunks_held}
 use Rattle.ms_base.specs.Good.{IsSoundLoader, IsGood}
 use Rattle.ms_base.specs.Run.{Run}
-use Rattle.ms_base.specs.WordLaws.{alloc_in}
+use Rattle.ms_base.specs.Request.{alloc_in}
 use Rattle.ms_base.specs.Event.{Event, closing, acting, Answer, accepted, replied, Happens, AddsBlock, emptied}
 use Rattle.ms_base.specs.Event.{loader_of_event}
 use Rattle.ms_base.specs.Spread.{SpreadStep, Part, AreWhole, HasNoSpan, GoesOn, IsAskedFor, words_asked}

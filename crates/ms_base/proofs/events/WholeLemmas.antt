@@ -21,7 +21,7 @@ use Rattle.ms_base.specs.Spaces.{space_at}
 use Rattle.ms_base.specs.State.{LoaderState, Machine}
 use Rattle.ms_base.specs.Good.{IsGood}
 use Rattle.ms_base.specs.Transition.{HasLoader, with_loader, with_block, with_freed}
-use Rattle.ms_base.specs.WordLaws.{alloc_in}
+use Rattle.ms_base.specs.Request.{alloc_in}
 use Rattle.ms_base.specs.Event.{Event, opening, growing, closing, acting, Answer, accepted, lent, replied, refused}
 use Rattle.ms_base.specs.Event.{Happens}
 use Rattle.ms_base.specs.Spread.{SpreadStep, Spreads, IsWhole, IsAlone, Part, parts_of, AreWhole, HasNoSpan, not_asked}

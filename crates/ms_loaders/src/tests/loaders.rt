@@ -108,7 +108,10 @@ fn a_loader_has_blocks_by_name(rt: HostRuntime) {
 fn a_loader_gives_its_accounts_back(rt: HostRuntime) {
     let mut pool = pool_of(&rt, Settings::DEFAULT);
     let mut loader = first_loader(&rt, &mut pool, Kind::Standard, Settings::DEFAULT);
-    let block = allocate_at_last(&mut loader, &mut pool, Space::NonClass, 1, 10);
+    let block = match loader.alloc(&mut pool, 1, 10) {
+        Err(Refusal::OutOfMemory) => loader.alloc(&mut pool, 1, 10),
+        answer => answer,
+    };
     assert_eq!(&rt;
         block,
         Ok(Block {
@@ -138,7 +141,7 @@ fn a_class_block_lies_in_the_class_space(rt: HostRuntime) {
     let mut pool = pool_of(&rt, settings);
     let mut loader = first_loader(&rt, &mut pool, Kind::Standard, settings);
     let block = match loader.calloc(&mut pool, 1, 10) {
-        Err(Refusal::OutOfMemory) => allocate_at_last(&mut loader, &mut pool, Space::Class, 1, 10),
+        Err(Refusal::OutOfMemory) => loader.calloc(&mut pool, 1, 10),
         answer => answer,
     };
     let place = Block {

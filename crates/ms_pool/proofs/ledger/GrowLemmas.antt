@@ -20,7 +20,7 @@ use Rattle.ms_base.specs.State.{PoolState}
 use Rattle.ms_base.specs.Pick.{granule_in}
 use Rattle.ms_base.specs.Causes.{granules_missing}
 use Rattle.ms_base.specs.PoolSteps.{grown}
-use Rattle.ms_base.proofs.arena.GrownLemmas.{GrowsClear}
+use Rattle.ms_base.proofs.arena.GrownLemmas.{GrowsClear, Parted, parted_at}
 use Rattle.ms_base.proofs.granules.GranuleCountLemmas.{meets_front, count_with_front, committed_in_slots}
 use Rattle.ms_base.proofs.machine.HeldLemmas.{held_rest, held_with}
 use Rattle.ms_base.proofs.runs.ApartLemmas.{list_any-with}
@@ -35,7 +35,7 @@ use Rattle.ms_pool.proofs.ledger.LoanOrderLemmas.{start_of}
 use Rattle.ms_pool.proofs.ledger.AccountLemmas.{own_clear}
 use Rattle.ms_pool.proofs.ledger.GreaterLemmas.{IsGreater, IsReached, grown_is_greater, grown_reaches, grown_is_apart}
 use Rattle.ms_pool.proofs.ledger.GreaterLemmas.{grown_meets_none}
-use Rattle.ms_pool.proofs.ledger.LoanAtLemmas.{IsLoan, Parted, parted_at, loan_of, contains_at, replaced, replaced_at}
+use Rattle.ms_pool.proofs.ledger.LoanAtLemmas.{IsLoan, loan_of, contains_at, replaced, replaced_at}
 use Rattle.ms_pool.proofs.ledger.LoanAtLemmas.{order_replaced, owners_replaced, swapped, swapped_at, owned_by-replaced}
 use Rattle.ms_base.proofs.granules.GranuleGrowingLemmas.{meets_further}
 

@@ -28,28 +28,6 @@ contains_at (c ∷ chunks) zero chunk found = let its : c ≡ chunk = cc in (0, 
 contains_at (c ∷ chunks) (suc place) chunk found = let rest = contains_at chunks place chunk found in
     (suc rest.0, omega (arith, rest.1), rest.2)
 
--- The chunks before and after a place.
-pub record Parted (chunks : List Chunk) (place : ℕ) (was is : Chunk) : Type 0 where
-  pub before : List Chunk
-  pub after : List Chunk
-  pub old : chunks ≡ before ++ was ∷ after
-  pub new : slice_set chunks place is ≡ before ++ is ∷ after
-
-pub parted_at : (chunks : List Chunk) (place : ℕ) (was is : Chunk) → slice_get chunks place ≡ Some was
-    → Parted chunks place was is
-parted_at [] place was is found = absurd (cc)
-parted_at (c ∷ chunks) zero was is found =
-    let its : c ≡ was =
-    cc in record { before = []; after = chunks; old = ap (λ (d : Chunk). d ∷ chunks) its; new = refl }
-parted_at (c ∷ chunks) (suc place) was is found =
-    let rest = parted_at chunks place was is found in
-    record {
-      before = c ∷ rest.before;
-      after = rest.after;
-      old = ap (λ (l : List Chunk). c ∷ l) rest.old;
-      new = ap (λ (l : List Chunk). c ∷ l) rest.new;
-    }
-
 -- The loan of an owner's chunk.
 pub record IsLoan (owner : ℕ) (chunk : Chunk) (loans : List Loan) : Type 0 where
   pub before : List Loan

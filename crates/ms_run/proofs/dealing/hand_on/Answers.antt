@@ -1,7 +1,7 @@
 use Rattle.std.proofs.Common.{◌∙◌, sym, ap}
 use Rattle.ms_shared.specs.SeatView.{SeatState}
-use Rattle.ms_run.proofs.HandOnLemmas.{beside_after, first_served, second_served, handed_names, none_handed}
-use Rattle.ms_run.proofs.HandOnLemmas.{beside_still}
+use Rattle.ms_run.proofs.HandOnLemmas.{beside_after, first_served, second_served, second_counted}
+use Rattle.ms_run.proofs.HandOnLemmas.{beside_still, handed_names, none_handed}
 use Rattle.ms_run.proofs.DealtUseLemmas.{used_handed, used_still}
 use Rattle.ms_run.proofs.dealing.hand_on.Goals as goal
 
@@ -25,6 +25,12 @@ hand-requires-clause-served c =
 pub hand-requires-2-clause-served : goal.hand-requires-2-clause-served
 hand-requires-2-clause-served c =
     second_served c.args.name c.in-Some.loader _ _ c.args.from.now.seat c.args.to.now.seat _ _ _
+    (sym c.remove.ensures.found ∙ c.in-Some.is) c.requires.crews.beside
+    c.accounts.ensures.account c.accounts.ensures.class_account c.hand.ensures.from
+
+pub hand-requires-2-clause-counted : goal.hand-requires-2-clause-counted
+hand-requires-2-clause-counted c =
+    second_counted c.args.name c.in-Some.loader _ _ c.args.from.now.seat c.args.to.now.seat _ _ _
     (sym c.remove.ensures.found ∙ c.in-Some.is) c.requires.crews.beside
     c.accounts.ensures.account c.accounts.ensures.class_account c.hand.ensures.from
 

@@ -6,18 +6,18 @@ use Rattle.ms_loaders.proofs.ViewLemmas.{view_is_sound}
 use Rattle.ms_loaders.proofs.LoaderLemmas.{err_then, contents_at, word_is_written, word_is_lacking, not_class}
 use Rattle.ms_loaders.proofs.loader.Loader.write.Goals as goal
 
-pub returns-in-None-clause-refused : goal.returns-in-None-clause-refused
-returns-in-None-clause-refused c =
+pub returns-in_default-clause-refused : goal.returns-in_default-clause-refused
+returns-in_default-clause-refused c =
     rw (← c.self.view_is)
     (missing-mapped (live_at (contents_at c.self.inside)) c.self.inside.names.entries c.args.name
-    (sym c.in-None.ensures.value))
+    (sym c.in_default.ensures.block))
 
-pub returns-in-None-clause-sound : goal.returns-in-None-clause-sound
-returns-in-None-clause-sound c = rw (← c.self.view_is) (view_is_sound c.self.inside c.self.invariant)
+pub returns-in_default-clause-sound : goal.returns-in_default-clause-sound
+returns-in_default-clause-sound c = rw (← c.self.view_is) (view_is_sound c.self.inside c.self.invariant)
 
 pub invariant_of-self : goal.invariant_of-self
 invariant_of-self c =
-    (word_is_written c.self.inside c.self.invariant Class c.args.name c.in-Some.block.now (sym c.in-Some.ensures.value)
+    (word_is_written c.self.inside c.self.invariant Class c.args.name c.in-Some.block (sym c.in-Some.ensures.block)
     (sym c.is_class.ensures ∙ c.if-is_class.true)
     c.write-answer.result c.args.index c.args.value c.write-answer.new.self c.write-answer.ensures.written
     c.write-answer.ensures.unchanged c.account.ensures.sound).loader
@@ -25,28 +25,28 @@ invariant_of-self c =
 pub returns-then-is_class-clause-written : goal.returns-then-is_class-clause-written
 returns-then-is_class-clause-written c =
     rw (← c.self.view_is)
-    (word_is_written c.self.inside c.self.invariant Class c.args.name c.in-Some.block.now (sym c.in-Some.ensures.value)
+    (word_is_written c.self.inside c.self.invariant Class c.args.name c.in-Some.block (sym c.in-Some.ensures.block)
     (sym c.is_class.ensures ∙ c.if-is_class.true)
     c.write-answer.result c.args.index c.args.value c.write-answer.new.self c.write-answer.ensures.written
     c.write-answer.ensures.unchanged c.account.ensures.sound).done
 
 pub returns-then-is_class-clause-refused : goal.returns-then-is_class-clause-refused
 returns-then-is_class-clause-refused c = rw (← c.self.view_is) (err_then _ _ c.write-answer.result
-    (word_is_lacking c.self.inside c.self.invariant Class c.args.name c.in-Some.block.now (sym c.in-Some.ensures.value)
+    (word_is_lacking c.self.inside c.self.invariant Class c.args.name c.in-Some.block (sym c.in-Some.ensures.block)
     (sym c.is_class.ensures ∙ c.if-is_class.true) c.args.index) c.write-answer.ensures.refused)
 
 pub returns-then-is_class-clause-sound : goal.returns-then-is_class-clause-sound
 returns-then-is_class-clause-sound c =
     view_is_sound _
-    (word_is_written c.self.inside c.self.invariant Class c.args.name c.in-Some.block.now (sym c.in-Some.ensures.value)
+    (word_is_written c.self.inside c.self.invariant Class c.args.name c.in-Some.block (sym c.in-Some.ensures.block)
     (sym c.is_class.ensures ∙ c.if-is_class.true)
     c.write-answer.result c.args.index c.args.value c.write-answer.new.self c.write-answer.ensures.written
     c.write-answer.ensures.unchanged c.account.ensures.sound).loader
 
 pub invariant_of-self-else-is_class : goal.invariant_of-self-else-is_class
 invariant_of-self-else-is_class c =
-    (word_is_written c.self.inside c.self.invariant NonClass c.args.name c.in-Some.block.now
-    (sym c.in-Some.ensures.value) (not_class c.in-Some.block.now.start (sym c.is_class.ensures ∙ c.if-is_class.false))
+    (word_is_written c.self.inside c.self.invariant NonClass c.args.name c.in-Some.block
+    (sym c.in-Some.ensures.block) (not_class c.in-Some.block.start (sym c.is_class.ensures ∙ c.if-is_class.false))
     c.write-answer-else-is_class.result c.args.index c.args.value c.write-answer-else-is_class.new.self
     c.write-answer-else-is_class.ensures.written c.write-answer-else-is_class.ensures.unchanged
     c.account-else-is_class.ensures.sound).loader
@@ -54,24 +54,24 @@ invariant_of-self-else-is_class c =
 pub returns-else-is_class-clause-written : goal.returns-else-is_class-clause-written
 returns-else-is_class-clause-written c =
     rw (← c.self.view_is)
-    (word_is_written c.self.inside c.self.invariant NonClass c.args.name c.in-Some.block.now
-    (sym c.in-Some.ensures.value) (not_class c.in-Some.block.now.start (sym c.is_class.ensures ∙ c.if-is_class.false))
+    (word_is_written c.self.inside c.self.invariant NonClass c.args.name c.in-Some.block
+    (sym c.in-Some.ensures.block) (not_class c.in-Some.block.start (sym c.is_class.ensures ∙ c.if-is_class.false))
     c.write-answer-else-is_class.result c.args.index c.args.value c.write-answer-else-is_class.new.self
     c.write-answer-else-is_class.ensures.written c.write-answer-else-is_class.ensures.unchanged
     c.account-else-is_class.ensures.sound).done
 
 pub returns-else-is_class-clause-refused : goal.returns-else-is_class-clause-refused
 returns-else-is_class-clause-refused c = rw (← c.self.view_is) (err_then _ _ c.write-answer-else-is_class.result
-    (word_is_lacking c.self.inside c.self.invariant NonClass c.args.name c.in-Some.block.now
-    (sym c.in-Some.ensures.value)
-    (not_class c.in-Some.block.now.start (sym c.is_class.ensures ∙ c.if-is_class.false)) c.args.index)
+    (word_is_lacking c.self.inside c.self.invariant NonClass c.args.name c.in-Some.block
+    (sym c.in-Some.ensures.block)
+    (not_class c.in-Some.block.start (sym c.is_class.ensures ∙ c.if-is_class.false)) c.args.index)
     c.write-answer-else-is_class.ensures.refused)
 
 pub returns-else-is_class-clause-sound : goal.returns-else-is_class-clause-sound
 returns-else-is_class-clause-sound c =
     view_is_sound _
-    (word_is_written c.self.inside c.self.invariant NonClass c.args.name c.in-Some.block.now
-    (sym c.in-Some.ensures.value) (not_class c.in-Some.block.now.start (sym c.is_class.ensures ∙ c.if-is_class.false))
+    (word_is_written c.self.inside c.self.invariant NonClass c.args.name c.in-Some.block
+    (sym c.in-Some.ensures.block) (not_class c.in-Some.block.start (sym c.is_class.ensures ∙ c.if-is_class.false))
     c.write-answer-else-is_class.result c.args.index c.args.value c.write-answer-else-is_class.new.self
     c.write-answer-else-is_class.ensures.written c.write-answer-else-is_class.ensures.unchanged
     c.account-else-is_class.ensures.sound).loader
