@@ -6,7 +6,7 @@ use Rattle.std.specs.Prelude.{nat_eq}
 use Rattle.std.specs.List.{AllByRecursion, IsDistinct, sum_by}
 use Rattle.std.specs.List.Sorted.{IsPermutation}
 use Rattle.std.specs.Map.{keys_of, values_of, lookup}
-use Rattle.std.proofs.lemmas.Bool.{cases_eq, false_from_ne_true, eq-eqb, eqb-true}
+use Rattle.std.proofs.lemmas.Bool.{cases_eq, eq-eqb, ne_eqb}
 use Rattle.std.proofs.lemmas.List.Sorted.{IsPermutation-refl, IsPermutation-sym, IsPermutation-cons}
 use Rattle.std.proofs.lemmas.List.Sorted.{IsPermutation-trans, IsPermutation-middle, length_permutation}
 use Rattle.std.proofs.lemmas.List.Sums.{sum_by-cons}
@@ -25,9 +25,6 @@ pub rises_by_name : {X : Type 0} (es : List (ℕ × X)) → AreNamed (by_name es
 rises_by_name [] = λ k h. absurd (omega arith)
 rises_by_name (e ∷ es) = rises_with_new (by_name es) e.0 e.1 (rises_by_name es)
 
-is_other : (name other : ℕ) → (name ≡ other → ⊥) → nat_eq name other ≡ false
-is_other name other differ = false_from_ne_true (nat_eq name other) (λ e. differ (eqb-true name other e))
-
 -- What has a name: the first entry with that key.
 pub named_by_name : {X : Type 0} (es : List (ℕ × X)) (name : ℕ) → named (by_name es) name ≡ lookup (nat_eq name) es
 named_by_name [] name = refl
@@ -35,7 +32,7 @@ named_by_name (e ∷ es) name = elim (cases_eq e.0 name) [
   | inl same ↦ ap (named (with_new (by_name es) e.0 e.1)) (sym same) ∙ named_new_same (by_name es) e.0 e.1
       ∙ sym (lookup_head (nat_eq name) e es (eq-eqb name e.0 (sym same)))
   | inr differ ↦ named_new_other (by_name es) e.0 e.1 name differ ∙ named_by_name es name
-      ∙ sym (lookup_tail (nat_eq name) e es (is_other name e.0 (λ e_is. differ (sym e_is))))
+      ∙ sym (lookup_tail (nat_eq name) e es (ne_eqb name e.0 (λ e_is. differ (sym e_is))))
 ]
 
 -- Which list in rising order they are.
@@ -62,7 +59,7 @@ set_here old new name value sets other same =
 set_other : {X : Type 0} (old new : List (ℕ × X)) (name : ℕ) (value : Option X) → Sets old new name value
     → (other : ℕ) → (name ≡ other → ⊥) → lookup (nat_eq other) new ≡ named (by_name old) other
 set_other old new name value sets other differ =
-    sets other ∙ ap (λ b. cond b value (lookup (nat_eq other) old)) (is_other name other differ)
+    sets other ∙ ap (λ b. cond b value (lookup (nat_eq other) old)) (ne_eqb name other differ)
     ∙ sym (named_by_name old other)
 
 -- A new name, another value at a name that is there, and a name that goes.
