@@ -1,5 +1,5 @@
 -- What a hash map has at a block's start, as the rows by name say it. The functions of `rows` use these.
-use Rattle.std.proofs.Common.{◌≡◌, ◌<◌, ℕ, Some, None, List, length, refl, sym, ap, ◌∙◌, arith}
+use Rattle.std.proofs.Common.{◌≡◌, ◌<◌, ℕ, Some, None, List, length, sym, ap, ◌∙◌, arith}
 use Rattle.std.specs.Prelude.{nat_eq, slice_set}
 use Rattle.std.specs.Map.{lookup, set_value}
 use Rattle.std.proofs.lemmas.Map.Steps.{set_value_same}
@@ -45,13 +45,9 @@ written_row old new block contents after index value found words within is sets 
     row = has_row old block contents found words
 
 -- Words written back as they were read change nothing.
-pub written_back : (old new : List (ℕ × List ℕ)) (start was is : ℕ) (contents : List ℕ) (rows : LiveRows)
-    → lookup (nat_eq start) old ≡ Some contents → new ≡ set_value (nat_eq start) old contents → is ≡ was
-    → record { blocks = by_name old; room = was } ≡ rows → record { blocks = by_name new; room = is } ≡ rows
-written_back old new start was is contents rows found set same view =
-    rows_with (by_name new) (by_name old) is was
-    (ap by_name (set ∙ set_value_same (nat_eq start) old contents found)) same ∙ view
-  where
-    rows_with : (xs ys : List (ℕ × List ℕ)) (m n : ℕ) → xs ≡ ys → m ≡ n
-        → (let made : LiveRows = record { blocks = xs; room = m } in made) ≡ record { blocks = ys; room = n }
-    rows_with xs ys m n e f = rw (e, f) refl
+pub written_back : (old new : List (ℕ × List ℕ)) (start room : ℕ) (contents : List ℕ) (rows : LiveRows)
+    → lookup (nat_eq start) old ≡ Some contents → new ≡ set_value (nat_eq start) old contents
+    → record { blocks = by_name old; room = room } ≡ rows → record { blocks = by_name new; room = room } ≡ rows
+written_back old new start room contents rows found set view =
+    ap (λ (es : List (ℕ × List ℕ)). let made : LiveRows = record { blocks = by_name es; room = room } in made)
+    (set ∙ set_value_same (nat_eq start) old contents found) ∙ view

@@ -24,25 +24,31 @@ use std::marker::Model;
 pub struct Rows {
     /// The words of each live block, by its start.
     rows: HashMap<u64, Words>,
+    /// How many rows more may be inserted before `reserve` is asked again: 0 or 1.
+    room: usize,
 }
 
 impl Model for Rows {
+    ghost use Rattle.std.specs.Prelude.{◌≤◌};
     ghost use Rattle.std.specs.HashMap.{spare};
     ghost use Rattle.ms_base.specs.Hashed.{by_name};
     ghost use Rattle.ms_arena.specs.Rows.{LiveRows};
 
     ghost Value = { LiveRows };
 
-    ghost view = { λ r. record { blocks = by_name r.rows.entries; room = spare r.rows } };
+    ghost view = { λ r. record { blocks = by_name r.rows.entries; room = r.room } };
+
+    ghost invariant = { λ r. r.room ≤ spare r.rows };
 }
 
 impl Rows {
-    /// Makes a list of no blocks, which takes its memory from the allocator. Takes none yet.
+    /// Makes a map of no blocks, which takes its memory from the allocator. Takes none yet.
     pub fn new(alloc: Global) -> Rows
-        ensures { result.blocks ≡ [] }
+        ensures { result ≡ record { blocks = []; room = 0 } }
     {
         Rows {
             rows: HashMap::new(alloc),
+            room: 0,
         }
     }
 
@@ -59,7 +65,9 @@ impl Rows {
         ensures room { OnOk result (0 < self.new.room) }
         ensures blocks { self.new.blocks ≡ self.old.blocks }
     {
-        self.rows.reserve(1)
+        self.rows.reserve(1)?;
+        self.room = 1;
+        Ok(())
     }
 
     /// Tells how many words the live blocks have together.
@@ -114,7 +122,7 @@ impl Rows {
         ensures { self.new.blocks ≡ with_new self.old.blocks start contents }
     {
         match self.rows.insert(start, contents) {
-            Ok(_) => {}
+            Ok(_) => self.room -= 1,
             Err(_) => unreachable!(),
         }
     }

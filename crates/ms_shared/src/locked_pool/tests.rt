@@ -299,64 +299,26 @@ fn the_limit_of_granules_is_met_over_the_lock(rt: HostRuntime) -> Result<(), Fai
     Ok(())
 }
 
-/// Has both seats in a thread of their own, each with its account.
-fn take_both<R: Threads + Wait + Sync>(
-    rt: &R,
-    lock: &SharedPool,
-    one: PoolSeat,
-    account: Account,
-    other: PoolSeat,
-    another: Account,
-) -> ((PoolSeat, Account), (PoolSeat, Account))
-    requires own { one.id ≡ lock.now.id }
-    requires other_own { other.id ≡ lock.now.id }
-    requires served { ServesBy one.knows account }
-    requires other_served { ServesBy other.knows another }
-    requires counted { 0 < opened_by one.knows account.space }
-    requires other_counted { 0 < opened_by other.knows another.space }
-    ensures own { result.0.0.id ≡ one.id }
-    ensures other_own { result.1.0.id ≡ other.id }
-    ensures served { ServesBy result.0.0.knows result.0.1 }
-    ensures counted { 0 < opened_by result.0.0.knows result.0.1.space }
-{
-    thread::join(
-        rt,
-        move || -> (PoolSeat, Account)
-            requires own { one.id ≡ lock.now.id }
-            requires served { ServesBy one.knows account }
-            requires counted { 0 < opened_by one.knows account.space }
-            ensures own { result.0.id ≡ one.id }
-            ensures served { ServesBy result.0.knows result.1 }
-            ensures counted { 0 < opened_by result.0.knows result.1.space }
-        { take_one(rt, lock, one, account, 10) },
-        move || -> (PoolSeat, Account)
-            requires own { other.id ≡ lock.now.id }
-            requires served { ServesBy other.knows another }
-            requires counted { 0 < opened_by other.knows another.space }
-            ensures { result.0.id ≡ other.id }
-        { take_one(rt, lock, other, another, 10) },
-    )
-}
-
 #[test]
 fn an_account_is_handed_to_another_thread(rt: HostRuntime) -> Result<(), Fail> {
     let (lock, one, other) = two_seats(&rt, rt.alloc(), 8192)?;
-    let (one, opened) = open_at(&rt, &lock, one);
-    let (other, also_opened) = open_at(&rt, &lock, other);
-    let (Some(account), Some(another)) = (opened, also_opened) else {
+    let mut seats = vec![in rt.alloc(); one]?;
+    seats.push(other)?;
+    let mut lent = in_threads(&rt, &lock, seats)?;
+    let (Some((mut other, another)), Some((mut one, account))) = (lent.pop(), lent.pop()) else {
+        panic!(rt; "two threads were asked")
+    };
+    let (Some(another), Some(account)) = (another, account) else {
         panic!(rt; "there are owner numbers")
     };
-    let ((mut one, account), (mut other, another)) = take_both(
-        &rt, &lock, one, account, other, another,
-    );
     lock.hand(&mut one, &mut other, &account);
-    let (other, account) = take_one(&rt, &lock, other, account, 10);
-    assert!(rt; account.held() == 2 && another.held() == 1);
+    let (other, account) = take_one(&rt, &lock, other, account, 12);
+    assert!(rt; account.held() == 65 && another.held() == 64);
     let mut seats = vec![in rt.alloc(); one]?;
     seats.push(other)?;
     let Ok(pool) = lock.into_pool(seats) else {
         panic!(rt; "all seats are given")
     };
-    assert!(rt; pool.all_totals(Space::NonClass).lent[10] == 3);
+    assert!(rt; pool.all_totals(Space::NonClass).lent[12] == 129);
     Ok(())
 }

@@ -18,9 +18,8 @@ returns-then-len-block-clause-refused c =
 pub returns-then-len-block-clause-unchanged : goal.returns-then-len-block-clause-unchanged
 returns-then-len-block-clause-unchanged c =
     written_back c.self.inside.rows.entries (c.get_mut.follows.lender c.in-Some.contents.now).entries c.args.block.start
-    _ _ c.in-Some.contents.now c.args.self.now (sym c.in-Some.ensures.value)
-    (c.get_mut.follows.holds c.in-Some.contents.now).0 (c.get_mut.follows.holds c.in-Some.contents.now).6
-    c.self.view_is
+    c.self.inside.room c.in-Some.contents.now c.args.self.now (sym c.in-Some.ensures.value)
+    (c.get_mut.follows.holds c.in-Some.contents.now).0 c.self.view_is
 
 pub returns-then-index-block-clause-refused : goal.returns-then-index-block-clause-refused
 returns-then-index-block-clause-refused c =
@@ -36,9 +35,8 @@ returns-then-index-block-clause-refused c =
 pub returns-then-index-block-clause-unchanged : goal.returns-then-index-block-clause-unchanged
 returns-then-index-block-clause-unchanged c =
     written_back c.self.inside.rows.entries (c.get_mut.follows.lender c.in-Some.contents.now).entries c.args.block.start
-    _ _ c.in-Some.contents.now c.args.self.now (sym c.in-Some.ensures.value)
-    (c.get_mut.follows.holds c.in-Some.contents.now).0 (c.get_mut.follows.holds c.in-Some.contents.now).6
-    c.self.view_is
+    c.self.inside.room c.in-Some.contents.now c.args.self.now (sym c.in-Some.ensures.value)
+    (c.get_mut.follows.holds c.in-Some.contents.now).0 c.self.view_is
 
 pub returns-clause-written : goal.returns-clause-written
 returns-clause-written c =
