@@ -1,0 +1,179 @@
+"""Traces that are made to be slow: each must end within ten processor seconds on one processor, and within a gigabyte."""
+import ctypes
+
+from claims import Test, expect, expect_ended
+from outputs import answers_of, expect_sums, reports_of
+from program import MEGABYTE, OneProcessor
+
+MOST_SECONDS, MOST_MEMORY, MOST_LINES = 10, 1024 * MEGABYTE, 100000
+WORD = 1 << 64
+
+
+def text_of(lines):
+    lines = list(lines)
+    expect(len(lines) <= MOST_LINES, "a trace is too long", len(lines))
+    return ("\n".join(lines) + "\n").encode()
+
+
+def answered(bench, words, text):
+    """Runs a trace on one processor within the bounds, and gives its answers and what it took."""
+    with OneProcessor():
+        ended = bench.run(words, text, seconds=6 * MOST_SECONDS)
+    figures = f"{ended.seconds:.2f} processor seconds, {ended.memory // MEGABYTE} MB"
+    expect(ended.status == 0, f"status {ended.status} after {figures}", ended.errors)
+    expect_ended(ended, 0)
+    expect(ended.seconds < MOST_SECONDS and ended.memory < MOST_MEMORY, f"it took {figures}")
+    return answers_of(ended.output), figures
+
+
+def expect_all(answers, reply):
+    """Fails the test where a line is answered otherwise."""
+    other = next((answer for answer in answers if answer.reply != reply), None)
+    expect(other is None, "a line is answered", other)
+
+
+def colliding(bench, count):
+    """The lowest names whose hashes end alike, as many bits as a table of so many names looks at."""
+    groups = 1
+    while 9 * groups < count:
+        groups *= 2
+    names = (ctypes.c_uint * count)()
+    found = ctypes.CDLL(bench.built("colliding")).fill(names, count, groups - 1)
+    expect(found == count, "too few names collide", found)
+    return list(names)
+
+
+def names_of_one_place(bench):
+    """Block names that the map of names looks for in one place; the last ones come and go, and absent ones are asked for."""
+    names = colliding(bench, 33000)
+    present, absent = names[:32000], names[32000:]
+    lines = ["new 1 standard"] + [f"alloc 1 {name} 2" for name in present]
+    while len(lines) < MOST_LINES - 4:
+        at = len(lines) % 1000
+        lines += [f"read 1 {present[-1 - at]} 0", f"free 1 {absent[at]}", f"free 1 {present[-1 - at]}", f"alloc 1 {present[-1 - at]} 2"]
+    answers, figures = answered(bench, (), text_of(lines))
+    expect(len(answers) == len(lines), "not each line is answered")
+    expect_all(answers[:32001], b"ok")
+    for place, reply in enumerate((b"value 0", b"refused NoBlock", b"ok", b"ok")):
+        expect_all(answers[32001 + place::4], reply)
+    return figures
+
+
+def weight_of(start):
+    """The weight of a free block, as the tree of free blocks draws it from the block's start."""
+    spread = start * 0x9e3779b97f4a7c15 % WORD
+    return (spread ^ spread >> 32) * 0xd6e8feb86659fd93 % WORD
+
+
+def blocks_by_weight(count, most):
+    """Lists blocks, (start, words, is to be freed): a heavier one is larger, and what is left at a chunk's end stays.
+
+    A boot loader alone has a root chunk, and then halves of root chunks one behind the other.
+    """
+    start, blocks = 0, []
+    while len(blocks) < count:
+        words = 2 + (most - 2) * weight_of(start) // WORD
+        end = 524288 if start < 524288 else start // 262144 * 262144 + 262144
+        rest = end - start - words
+        if rest < 0 or rest == 1:
+            blocks.append((start, end - start, False))
+            start = end
+        else:
+            blocks.append((start, words, True))
+            start += words
+    return blocks
+
+
+def depth_of(blocks):
+    """Counts the forks on the way to the smallest of the blocks: those that outweigh all that rank before them."""
+    depth, heaviest = 0, -1
+    for _, start in sorted((words, start) for start, words, is_freed in blocks if is_freed):
+        if weight_of(start) > heaviest:
+            depth, heaviest = depth + 1, weight_of(start)
+    return depth
+
+
+def deepest_tree(bench, workers):
+    """Free blocks whose weights rise with their sizes: the tree of them is nearly a list, and each line walks it."""
+    blocks = blocks_by_weight(15500, 8300)
+    freed = [name for name, (_, _, is_freed) in enumerate(blocks) if is_freed]
+    lines = ["new 1 boot"] + [f"alloc 1 {name} {words}" for name, (_, words, _) in enumerate(blocks)]
+    placed = bench.run(["--addresses"], text_of(lines), seconds=30)
+    wanted = [b"ok"] + [b"at %d" % start for start, _, _ in blocks]
+    expect([answer.reply for answer in answers_of(placed.output)] == wanted, "a block lies elsewhere than the trace is made for")
+    lines += [f"free 1 {name}" for name in sorted(freed, key=lambda name: -weight_of(blocks[name][0]))]
+    while len(lines) < MOST_LINES - 3:
+        lines += [f"alloc 1 {len(blocks)} 2", f"free 1 {len(blocks)}"]
+    lines.append("report")
+    answers, figures = answered(bench, ["--workers", str(workers)], text_of(lines))
+    expect_all(answers, b"ok")
+    expect_sums(reports_of(answers)[0])
+    return f"{figures}, {depth_of(blocks)} deep"
+
+
+def all_loader_names(bench, workers):
+    """65,536 loaders, each name that there is, falling; blocks for half of them, and all numbers add up."""
+    lines = [f"new {name} hidden" for name in reversed(range(65536))]
+    lines += [f"alloc {name} 1 2" for name in range(0, 65536, 2)][:MOST_LINES - len(lines) - 1]
+    lines.append("report")
+    answers, figures = answered(bench, ["--workers", str(workers)], text_of(lines))
+    expect_all(answers, b"ok")
+    report, = reports_of(answers)
+    expect_sums(report)
+    expect(report.spaces[0].numbers["loaders"] == 65536, report.spaces[0])
+    expect(report.spaces[0].numbers["live"] == 2 * (len(lines) - 65537), report.spaces[0])
+    return figures
+
+
+def phases_of_one_line(bench, workers):
+    """45,000 phases of one line each, while 1,000 loaders stand by."""
+    lines = [f"new {name} standard" for name in range(1000)] + [f"alloc {name} 1 2" for name in range(1000)] + ["sync"]
+    for number in range(45000):
+        lines += [f"write {number % 1000} 1 0 {number}", "sync"]
+    lines.append("report")
+    answers, figures = answered(bench, ["--workers", str(workers)], text_of(lines))
+    expect(len(answers) == len(lines), "not each line is answered")
+    expect_all(answers, b"ok")
+    report, = reports_of(answers)
+    expect_sums(report)
+    expect(report.spaces[0].numbers["live"] == 2000, report.spaces[0])
+    return figures
+
+
+def one_loader_of_many_chunks(bench):
+    """A hidden loader of 99,000 blocks, two a chunk, which all go at once."""
+    lines = ["new 1 hidden"] + [f"alloc 1 {name} 128" for name in range(99000)] + ["report", "unload 1", "purge", "report"]
+    answers, figures = answered(bench, (), text_of(lines))
+    expect_all(answers, b"ok")
+    first, last = reports_of(answers)
+    expect_sums(first)
+    expect(first.loaders == [(1, "hidden", 49500, 99000 * 128, 99000 * 128, 99000 * 128)], first.loaders)
+    expect(set(last.spaces[0].numbers.values()) == {0}, last)
+    return figures
+
+
+def a_pool_of_small_parts(bench):
+    """Every second of 31,000 chunks of 128 words goes; then loaders come and ask for what fits between, or doesn't."""
+    lines = [line for name in range(31000) for line in (f"new {name} hidden", f"alloc {name} 1 128")]
+    lines += [f"unload {name}" for name in range(0, 31000, 2)]
+    name = 40000
+    while len(lines) < MOST_LINES - 3:
+        lines += [f"new {name} hidden", f"alloc {name} 1 {129 if name % 2 else 128}"]
+        name += 1
+    lines.append("report")
+    answers, figures = answered(bench, (), text_of(lines))
+    expect_all(answers, b"ok")
+    expect_sums(reports_of(answers)[0])
+    return figures
+
+
+def tests():
+    yield Test("block names that hash to one place", names_of_one_place)
+    for workers in (1, 2):
+        yield Test(f"the deepest tree of free blocks, {workers} at work", deepest_tree, (workers,))
+    yield Test("one loader of 49,500 chunks", one_loader_of_many_chunks)
+    yield Test("a pool of small parts", a_pool_of_small_parts)
+    for workers in (1, 8):
+        yield Test(f"all 65,536 loader names, {workers} at work", all_loader_names, (workers,))
+    for workers in (1, 2, 8):
+        yield Test(f"45,000 phases of one line, {workers} at work", phases_of_one_line, (workers,))

@@ -1,0 +1,106 @@
+"""What stands in an output: the replies, and in each report the numbers and their sums."""
+from typing import NamedTuple
+
+from claims import expect
+
+LABELS = ("loaders", "nodes", "reserved", "granules", "committed", "chunks", "capacity", "fronts", "used", "live", "free blocks", "waste")
+NODE_WORDS = 1048576
+
+
+class Answer(NamedTuple):
+    """The reply to a line; a report's lines where it is one."""
+
+    line: int
+    reply: bytes
+    report: list
+
+
+class Space(NamedTuple):
+    """The numbers of a space: by label, and by level the words, the held chunks and the free parts."""
+
+    numbers: dict
+    levels: list
+
+
+class Report(NamedTuple):
+    """A report: its spaces, the class space second where there is one, and the loaders' rows."""
+
+    spaces: list
+    loaders: list
+
+
+def answers_of(output):
+    """Reads an output: a line that begins with a digit is a reply, and the others are the report's after it."""
+    expect(output == b"" or output.endswith(b"\n"), "the output ends within a line", output[-80:])
+    answers = []
+    for line in output.split(b"\n")[:-1]:
+        if line[:1].isdigit():
+            number, _, reply = line.partition(b" ")
+            answers.append(Answer(int(number), reply, []))
+        else:
+            expect(answers, "a report without a reply", line)
+            answers[-1].report.append(line)
+    return answers
+
+
+def number_lines(lines, labels):
+    """Takes the lines of these labels off, and gives their numbers."""
+    numbers = {}
+    for label in labels:
+        line = lines.pop(0).decode()
+        expect(line[:14].strip() == label, "a report's line of", label, "is", line)
+        numbers[label] = int(line[14:])
+    return numbers
+
+
+def level_lines(lines, title):
+    """Takes a table by levels off: for each its words, the held chunks and the free parts."""
+    expect(lines.pop(0) == title, "no line", title)
+    lines.pop(0)
+    table = [tuple(map(int, lines.pop(0).split())) for _ in range(13)]
+    expect([row[0] for row in table] == list(range(13)), "the levels are not 0 to 12")
+    return [row[1:] for row in table]
+
+
+def report_of(lines):
+    """Reads a report."""
+    lines = list(lines)
+    expect(lines.pop(0) == b"Metaspace", "a report begins otherwise")
+    spaces = [Space(number_lines(lines, LABELS), level_lines(lines, b"Chunks by level"))]
+    if lines[0] == b"Class space":
+        lines.pop(0)
+        spaces.append(Space(number_lines(lines, LABELS[1:]), level_lines(lines, b"Class chunks by level")))
+    expect(lines.pop(0) == b"Loaders", "no line Loaders")
+    lines.pop(0)
+    rows = [line.decode().split() for line in lines]
+    return Report(spaces, [(int(name), kind, *map(int, rest)) for name, kind, *rest in rows])
+
+
+def reports_of(answers):
+    return [report_of(answer.report) for answer in answers if answer.report]
+
+
+def expect_sums(report, granule=8192):
+    """Fails the test where a report's numbers don't add up as docs/FORMATS.md says."""
+    for space in report.spaces:
+        numbers, levels = space
+        parts = numbers["live"] + numbers["free blocks"] + numbers["waste"]
+        expect(numbers["used"] == parts, "used is not live plus free blocks plus waste", numbers)
+        expect(numbers["reserved"] == NODE_WORDS * numbers["nodes"], "reserved", numbers)
+        expect(numbers["committed"] == granule * numbers["granules"], "committed", numbers)
+        expect(numbers["chunks"] == sum(held for _, held, _ in levels), "chunks", numbers, levels)
+        expect(numbers["capacity"] == sum(words * held for words, held, _ in levels), "capacity", numbers, levels)
+        whole = sum(words * (held + free) for words, held, free in levels)
+        expect(numbers["reserved"] == whole, "held and free parts don't make the nodes", numbers, levels)
+        expect(numbers["used"] <= numbers["fronts"] <= numbers["capacity"], "fronts", numbers)
+    expect(report.spaces[0].numbers["loaders"] == len(report.loaders), "loaders", report)
+    expect(report.loaders == sorted(report.loaders), "the loaders don't rise", report.loaders)
+    for place, label in ((2, "chunks"), (3, "capacity"), (4, "used"), (5, "live")):
+        whole = sum(space.numbers[label] for space in report.spaces)
+        expect(whole == sum(row[place] for row in report.loaders), f"the loaders' {label} don't add up", report)
+
+
+def of_any_schedule(report):
+    """The part of a report that no schedule of workers changes."""
+    live = [space.numbers["live"] for space in report.spaces]
+    return report.spaces[0].numbers["loaders"], live, [(name, kind, rest[3]) for name, kind, *rest in report.loaders]
