@@ -9,12 +9,12 @@
 //! is about twice the logarithm of its blocks in base 2 for starts as they come. Nothing that is
 //! proved rests on the weights. Recursion goes as deep as the tree: only blocks whose weights fall
 //! as their ranks rise make it deep.
-//! Forks come from outside and go back whole. Each operation says which list of blocks the tree
-//! holds then, from left to right.
+//! Forks come from outside and go back whole; on the way down links are changed where they stand.
+//! Each operation says which list of blocks the tree holds then, from left to right.
 ghost use Rattle.std.specs.Prelude.{◌≡◌, ◌<◌, ◌∷◌, ◌++◌};
 ghost use Rattle.std.specs.Option.{option_map};
 ghost use Rattle.ms_blocks.specs.Rank.{IsRanked, ranks_before, with_ranked, first_fit, without_fit};
-ghost use Rattle.ms_blocks.specs.Tree.{blocks_of};
+ghost use Rattle.ms_blocks.specs.Tree.{blocks_of, TakesTop};
 
 use ms_base::Block;
 use std::alloc::Allocator;
@@ -48,95 +48,103 @@ impl<A: Allocator> Fork<A> {
     }
 }
 
-/// Adds the spare fork's block to those of a ranked tree.
+/// Adds the spare fork's block to those of a ranked tree: its fork goes on top of the first tree on
+/// the way that weighs less.
 pub fn insert<A: Allocator>(tree: &mut Tree<A>, spare: Box<Fork<A>, A>)
     ensures { IsRanked (blocks_of tree.old) →
         blocks_of tree.new ≡ with_ranked (blocks_of tree.old) spare.value.block }
 {
-    *tree = with_fork(mem::replace(tree, Tree::Empty), spare);
+    match tree {
+        Tree::Forked(fork) if weight(fork) >= weight(&spare) => {
+            if ranks_first(&fork.block, &spare.block) {
+                insert(&mut fork.right, spare);
+            } else {
+                insert(&mut fork.left, spare);
+            }
+        }
+        _ => put_on_top(tree, spare),
+    }
 }
 
-/// Takes the first block of a ranked tree that has so many words, with its fork.
+/// Puts the spare fork on top of a ranked tree, which it cuts in two.
+fn put_on_top<A: Allocator>(tree: &mut Tree<A>, mut spare: Box<Fork<A>, A>)
+    ensures { IsRanked (blocks_of tree.old) →
+        blocks_of tree.new ≡ with_ranked (blocks_of tree.old) spare.value.block }
+{
+    let block = spare.block;
+    let fork = &mut *spare;
+    cut(
+        mem::replace(tree, Tree::Empty),
+        &block,
+        &mut fork.left,
+        &mut fork.right,
+    );
+    *tree = Tree::Forked(spare);
+}
+
+/// Takes the first block of a ranked tree that has so many words, with its fork: the fork on the
+/// way that fits, and has nothing to its left that does.
 pub fn take_fit<A: Allocator>(tree: &mut Tree<A>, words: u64) -> Option<Box<Fork<A>, A>>
     ensures found { IsRanked (blocks_of tree.old) →
         first_fit (blocks_of tree.old) words ≡ option_map (λ fork. fork.value.block) result }
     ensures left { IsRanked (blocks_of tree.old) →
         blocks_of tree.new ≡ without_fit (blocks_of tree.old) words }
 {
-    let (rest, found) = without_fork(mem::replace(tree, Tree::Empty), words);
-    *tree = rest;
-    found
-}
-
-/// The tree with a fork more: it goes on top of the first tree on its way that weighs less.
-fn with_fork<A: Allocator>(tree: Tree<A>, mut spare: Box<Fork<A>, A>) -> Tree<A>
-    ensures { IsRanked (blocks_of tree) →
-        blocks_of result ≡ with_ranked (blocks_of tree) spare.value.block }
-{
     match tree {
-        Tree::Forked(mut fork) if weight(&fork) >= weight(&spare) => {
-            if ranks_first(&fork.block, &spare.block) {
-                fork.right = with_fork(mem::replace(&mut fork.right, Tree::Empty), spare);
-                Tree::Forked(fork)
-            } else {
-                fork.left = with_fork(mem::replace(&mut fork.left, Tree::Empty), spare);
-                Tree::Forked(fork)
+        Tree::Empty => None,
+        Tree::Forked(fork) => {
+            if fork.block.words < words {
+                return take_fit(&mut fork.right, words);
+            }
+            match take_fit(&mut fork.left, words) {
+                Some(found) => Some(found),
+                None => take_top(tree),
             }
         }
-        tree => {
-            let (left, right) = cut(tree, &spare.block);
-            spare.left = left;
-            spare.right = right;
-            Tree::Forked(spare)
-        }
     }
 }
 
-/// The tree without its first fit, and that one's fork: the fork on the way that fits, and has
-/// nothing to its left that does.
-fn without_fork<A: Allocator>(tree: Tree<A>, words: u64) -> (Tree<A>, Option<Box<Fork<A>, A>>)
-    ensures found { IsRanked (blocks_of tree) →
-        first_fit (blocks_of tree) words ≡ option_map (λ fork. fork.value.block) result.1 }
-    ensures left { IsRanked (blocks_of tree) →
-        blocks_of result.0 ≡ without_fit (blocks_of tree) words }
+/// Takes the fork on top, and joins the trees below it. Out of line, so that what it keeps for
+/// itself isn't kept at each turn of `take_fit`.
+#[inline(never)]
+fn take_top<A: Allocator>(tree: &mut Tree<A>) -> Option<Box<Fork<A>, A>>
+    ensures { TakesTop tree.old (blocks_of tree.new) (option_map (λ fork. fork.value.block) result) }
 {
-    let Tree::Forked(mut fork) = tree else {
-        return (Tree::Empty, None);
-    };
-    if fork.block.words < words {
-        let (right, found) = without_fork(mem::replace(&mut fork.right, Tree::Empty), words);
-        fork.right = right;
-        return (Tree::Forked(fork), found);
-    }
-    let (left, found) = without_fork(mem::replace(&mut fork.left, Tree::Empty), words);
-    match found {
-        Some(found) => {
-            fork.left = left;
-            (Tree::Forked(fork), Some(found))
-        }
-        None => {
+    match mem::replace(tree, Tree::Empty) {
+        Tree::Empty => None,
+        Tree::Forked(mut fork) => {
+            let left = mem::replace(&mut fork.left, Tree::Empty);
             let right = mem::replace(&mut fork.right, Tree::Empty);
-            (join(left, right), Some(fork))
+            *tree = join(left, right);
+            Some(fork)
         }
     }
 }
 
-/// Cuts a ranked tree in two: the blocks that rank before the one at hand, and the others.
-fn cut<A: Allocator>(tree: Tree<A>, at: &Block) -> (Tree<A>, Tree<A>)
+/// Cuts a ranked tree in two: the blocks that rank before the one at hand, and the others. What the
+/// two places held before is let go.
+fn cut<A: Allocator>(tree: Tree<A>, at: &Block, before: &mut Tree<A>, behind: &mut Tree<A>)
     ensures { IsRanked (blocks_of tree) →
-        with_ranked (blocks_of tree) at.now ≡ blocks_of result.0 ++ at.now ∷ blocks_of result.1 }
+        with_ranked (blocks_of tree) at.now ≡ blocks_of before.new ++ at.now ∷ blocks_of behind.new }
 {
     match tree {
-        Tree::Empty => (Tree::Empty, Tree::Empty),
+        Tree::Empty => {
+            *before = Tree::Empty;
+            *behind = Tree::Empty;
+        }
         Tree::Forked(mut fork) => {
             if ranks_first(&fork.block, at) {
-                let (before, behind) = cut(mem::replace(&mut fork.right, Tree::Empty), at);
-                fork.right = before;
-                (Tree::Forked(fork), behind)
+                let right = mem::replace(&mut fork.right, Tree::Empty);
+                *before = Tree::Forked(fork);
+                if let Tree::Forked(low) = before {
+                    cut(right, at, &mut low.right, behind);
+                }
             } else {
-                let (before, behind) = cut(mem::replace(&mut fork.left, Tree::Empty), at);
-                fork.left = behind;
-                (before, Tree::Forked(fork))
+                let left = mem::replace(&mut fork.left, Tree::Empty);
+                *behind = Tree::Forked(fork);
+                if let Tree::Forked(high) = behind {
+                    cut(left, at, before, &mut high.left);
+                }
             }
         }
     }
