@@ -2,7 +2,7 @@
 -- `replaying`.
 use Rattle.std.proofs.Common.{◌≡◌, ◌≢◌, ◌≤◌, ◌<◌, ◌+◌, ℕ, Bool, true, false, cond, Option, Some, None, List, [], ◌∷◌}
 use Rattle.std.proofs.Common.{◌++◌, length, take, drop, ◌-◌, get_or, slice_get, refl, sym, ap, ◌∙◌, subst, append_assoc}
-use Rattle.std.proofs.Common.{arith}
+use Rattle.std.proofs.Common.{arith, Box, Global}
 use Rattle.std.specs.Prelude.{◌==◌, ◌&&◌, ◌||◌}
 use Rattle.std.specs.List.{All, filter, flat_map}
 use Rattle.std.specs.List.Sorted.{IsStrictlyIncreasing}
@@ -47,7 +47,7 @@ use Rattle.ms_run.proofs.OwnStepLemmas.{IsOwn, transition_own, transition_others
 use Rattle.ms_run.proofs.OwnStepLemmas.{purge_done}
 
 -- Where a step is asked there is no report.
-none_reported : (command : Command) (asked : Step) (m : Machine) (report : Option Totals) → step_of command ≡ Some asked
+none_reported : (command : Command) (asked : Step) (m : Machine) (report : Option (Box Totals Global)) → step_of command ≡ Some asked
     → Reports command m report → report ≡ None
 none_reported (Asks step) asked m report asks told = told
 none_reported Sync asked m report asks told = told

@@ -1,5 +1,6 @@
 -- What a replay answers, whatever the number of workers and their order (this project's choice).
-use Rattle.std.specs.Prelude.{◌≡◌, ℕ, ⊤, List, [], ◌∷◌, ◌++◌, Option, Some, None}
+use Rattle.std.specs.Prelude.{◌≡◌, ℕ, ⊤, List, [], ◌∷◌, ◌++◌, Option, Some, None, Box}
+use Rattle.std.specs.declared.alloc.Global.{Global}
 use Rattle.ms_base.specs.declared.step.Step.{Step}
 use Rattle.ms_base.specs.declared.step.Reply.{Reply}
 use Rattle.ms_base.specs.declared.step.Reply.TheVariants.{Ok as Done}
@@ -25,11 +26,11 @@ Advances (Some asked) old reply new = Transition old asked reply new
 Advances None old reply new = (reply ≡ Done) × (new ≡ old)
 
 -- Where a report is asked for, the totals are those of the machine; elsewhere there are none.
-abbrev pub Reports : Command → Machine → Option Totals → Type 0
+abbrev pub Reports : Command → Machine → Option (Box Totals Global) → Type 0
 Reports (Asks step) m report = report ≡ None
 Reports Sync m report = report ≡ None
 Reports Report m None = ⊥
-Reports Report m (Some totals) = sums_in totals ≡ sums_of m
+Reports Report m (Some totals) = sums_in totals.value ≡ sums_of m
 
 -- The answers to the lines of a trace, of which one follows the other: the machine runs from old to
 -- new, and each line has one.
