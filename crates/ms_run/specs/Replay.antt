@@ -80,6 +80,12 @@ pub data Replays (first : Machine) : List Line → List Answer → Machine → T
       → Replays first lines answers state → IsEnd state line answer
       → Replays first (lines ++ line ∷ []) (answers ++ answer ∷ []) state
 
+-- From a state on that was reached, the lines are answered phase by phase, up to a good one.
+pub record GoesOn (old : Machine) (lines : List Line) (answers : List Answer) (new : Machine) : Type 0 where
+  pub replays : (first : Machine) (before : List Line) (said : List Answer) → Replays first before said old
+      → Replays first (before ++ lines) (said ++ answers) new
+  pub good : IsGood new
+
 -- A whole trace is, from a machine on that has nothing.
 pub record IsReplay (limits : Limits) (lines : List Line) (answers : List Answer) : Type 0 where
   pub last : Machine
