@@ -12,7 +12,7 @@ from workbench import ROOT
 
 CRATE = os.path.join(ROOT, "crates", "refusals")
 TAKING = ("carve", "take", "reserve", "place", "alloc", "pool", "insert", "new_loader", "run", "totals",
-          "parse", "print", "text", "lines", "shared", "meter", "replay")
+          "parse", "print", "text", "lines", "shared", "meter", "replay", "retire")
 QUIET = ("quiet_pool", "quiet_lock", "quiet_blocks", "quiet_arena", "quiet_loader", "quiet_system", "quiet_meter")
 OUTSIDE = b"refused outside a call\n"
 
