@@ -152,18 +152,47 @@ def one_loader_of_many_chunks(bench):
     return figures
 
 
-def a_pool_of_small_parts(bench):
+def small_parts():
     """Every second of 31,000 chunks of 128 words goes; then loaders come and ask for what fits between, or doesn't."""
     lines = [line for name in range(31000) for line in (f"new {name} hidden", f"alloc {name} 1 128")]
     lines += [f"unload {name}" for name in range(0, 31000, 2)]
-    name = 40000
-    while len(lines) < MOST_LINES - 3:
+    for name in range(40000, 40000 + (MOST_LINES - len(lines)) // 2 - 1):
         lines += [f"new {name} hidden", f"alloc {name} 1 {129 if name % 2 else 128}"]
-        name += 1
-    lines.append("report")
-    answers, figures = answered(bench, (), text_of(lines))
+    return lines + ["report"]
+
+
+def a_pool_of_small_parts(bench):
+    """All that come are served."""
+    answers, figures = answered(bench, (), text_of(small_parts()))
     expect_all(answers, b"ok")
     expect_sums(reports_of(answers)[0])
+    return figures
+
+
+def a_limit_among_small_parts(bench):
+    """485 granules hold the 31,000 chunks, and 5,120 words more: 20 chunks of 256 words, and nothing that 129 words fit into."""
+    lines = small_parts()
+    answers, figures = answered(bench, ["--max-granules", "485"], text_of(lines))
+    larger = [answer for answer, line in zip(answers, lines) if line.endswith(" 129")]
+    expect_all(larger[:20], b"ok")
+    expect_all(larger[20:], b"refused CommitLimit")
+    expect_all([answer for answer, line in zip(answers, lines) if not line.endswith(" 129")], b"ok")
+    expect_sums(reports_of(answers)[0])
+    return figures
+
+
+def the_largest_block_comes_and_goes(bench):
+    """A block of a whole root chunk is written at one place and freed, 24,999 times; the next reads 0 there."""
+    lines, index = ["new 1 boot"], 0
+    for number in range(24999):
+        lines += ["alloc 1 1 524288", f"read 1 1 {index}"]
+        index = number * 7919 % 524288
+        lines += [f"write 1 1 {index} 7", "free 1 1"]
+    answers, figures = answered(bench, (), text_of(lines))
+    expect(len(answers) == len(lines), "not each line is answered")
+    expect_all(answers[2::4], b"value 0")
+    for place in (1, 3, 4):
+        expect_all(answers[place::4], b"ok")
     return figures
 
 
@@ -173,6 +202,8 @@ def tests():
         yield Test(f"the deepest tree of free blocks, {workers} at work", deepest_tree, (workers,))
     yield Test("one loader of 49,500 chunks", one_loader_of_many_chunks)
     yield Test("a pool of small parts", a_pool_of_small_parts)
+    yield Test("a limit among small parts", a_limit_among_small_parts)
+    yield Test("the largest block comes and goes", the_largest_block_comes_and_goes)
     for workers in (1, 8):
         yield Test(f"all 65,536 loader names, {workers} at work", all_loader_names, (workers,))
     for workers in (1, 2, 8):
