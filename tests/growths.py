@@ -22,34 +22,36 @@ MOST_GROWTHS = 3000
 TRACES = {
     "a fresh loader in each space": (
         ["--class-nodes", "1"],
-        "new 1 standard / alloc 1 1 10 / calloc 1 2 10 / sync / new 2 boot / calloc 2 1 4000 / alloc 2 2 9000 / free 1 1 / "
-        "alloc 1 3 4 / sync / write 2 2 8999 7 / read 2 2 8999 / read 1 3 0 / report"),
+        "new 1 standard / alloc 1 1 10 / calloc 1 2 10 / sync / new 2 boot / calloc 2 1 4000 / alloc 2 2 9000 / "
+        "free 1 1 / alloc 1 3 4 / sync / write 2 2 8999 7 / read 2 2 8999 / read 1 3 0 / report"),
     "the granule limit is met": (
         ["--max-granules", "1"],
-        "new 1 standard / alloc 1 1 8192 / sync / new 2 standard / alloc 2 1 1 / sync / free 1 1 / alloc 1 2 100 / sync / "
-        "alloc 2 1 1 / sync / unload 1 / sync / alloc 2 1 1 / alloc 2 2 8000 / report"),
+        "new 1 standard / alloc 1 1 8192 / sync / new 2 standard / alloc 2 1 1 / sync / free 1 1 / "
+        "alloc 1 2 100 / sync / alloc 2 1 1 / sync / unload 1 / sync / alloc 2 1 1 / alloc 2 2 8000 / report"),
     "the node limit is met": (
         ["--nodes", "1"],
-        "new 1 boot / alloc 1 1 1 / sync / new 2 boot / alloc 2 1 1 / sync / new 3 boot / alloc 3 1 1 / sync / unload 1 / "
-        "sync / alloc 3 1 524288 / report"),
+        "new 1 boot / alloc 1 1 1 / sync / new 2 boot / alloc 2 1 1 / sync / new 3 boot / alloc 3 1 1 / sync / "
+        "unload 1 / sync / alloc 3 1 524288 / report"),
     "loaders go and nodes are given back": (
         [],
-        "new 1 boot / new 2 boot / new 3 standard / sync / alloc 1 1 524288 / sync / alloc 2 1 524288 / sync / alloc 3 1 10 / "
-        "sync / unload 1 / unload 2 / sync / purge / sync / report / new 1 hidden / alloc 1 1 26 / sync / unload 3 / unload 1 / "
-        "sync / purge / sync / report"),
+        "new 1 boot / new 2 boot / new 3 standard / sync / alloc 1 1 524288 / sync / alloc 2 1 524288 / sync / "
+        "alloc 3 1 10 / sync / unload 1 / unload 2 / sync / purge / sync / report / new 1 hidden / "
+        "alloc 1 1 26 / sync / unload 3 / unload 1 / sync / purge / sync / report"),
     "free blocks and retired chunks": (
         [],
-        "new 1 standard / alloc 1 1 10 / write 1 1 0 7 / free 1 1 / alloc 1 2 4 / alloc 1 3 5 / read 1 2 0 / sync / "
-        "new 2 standard / alloc 2 1 10 / sync / alloc 1 4 600 / alloc 1 5 2 / free 1 4 / alloc 1 6 300 / alloc 1 7 200 / report"),
+        "new 1 standard / alloc 1 1 10 / write 1 1 0 7 / free 1 1 / alloc 1 2 4 / alloc 1 3 5 / read 1 2 0 / "
+        "sync / new 2 standard / alloc 2 1 10 / sync / alloc 1 4 600 / alloc 1 5 2 / free 1 4 / alloc 1 6 300 / "
+        "alloc 1 7 200 / report"),
     "four loaders move on": (
         ["--policy", "none", "--max-granules", "256"],
-        "new 1 standard / new 2 boot / new 3 reflection / new 4 hidden / alloc 1 1 4 / alloc 2 1 4 / alloc 3 1 4 / alloc 4 1 4 / "
-        "write 1 1 0 11 / write 2 1 0 22 / write 3 1 0 33 / write 4 1 0 44 / sync / read 1 1 0 / read 2 1 0 / read 3 1 0 / "
-        "read 4 1 0 / alloc 1 2 600 / alloc 2 2 600 / alloc 3 2 600 / alloc 4 2 100 / report"),
+        "new 1 standard / new 2 boot / new 3 reflection / new 4 hidden / alloc 1 1 4 / alloc 2 1 4 / "
+        "alloc 3 1 4 / alloc 4 1 4 / write 1 1 0 11 / write 2 1 0 22 / write 3 1 0 33 / write 4 1 0 44 / sync / "
+        "read 1 1 0 / read 2 1 0 / read 3 1 0 / read 4 1 0 / alloc 1 2 600 / alloc 2 2 600 / alloc 3 2 600 / "
+        "alloc 4 2 100 / report"),
     "fine granules": (
         ["--policy", "aggressive", "--max-granules", "4"],
-        "new 1 standard / alloc 1 1 10 / sync / new 2 standard / alloc 2 1 2049 / sync / alloc 1 2 9000 / unload 2 / sync / "
-        "alloc 1 2 4000 / report"),
+        "new 1 standard / alloc 1 1 10 / sync / new 2 standard / alloc 2 1 2049 / sync / alloc 1 2 9000 / "
+        "unload 2 / sync / alloc 1 2 4000 / report"),
 }
 
 

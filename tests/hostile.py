@@ -1,4 +1,4 @@
-"""Traces that are made to be slow: each must end within ten processor seconds on one processor, and within a gigabyte."""
+"""Traces that are made to be slow: each must end within ten seconds on one processor, and within a gigabyte."""
 import ctypes
 
 from claims import Test, expect, expect_ended
@@ -44,13 +44,14 @@ def colliding(bench, count):
 
 
 def names_of_one_place(bench):
-    """Block names that the map of names looks for in one place; the last ones come and go, and absent ones are asked for."""
+    """Block names that the map of names looks for in one place; the last come and go, and absent ones are asked for."""
     names = colliding(bench, 33000)
     present, absent = names[:32000], names[32000:]
     lines = ["new 1 standard"] + [f"alloc 1 {name} 2" for name in present]
     while len(lines) < MOST_LINES - 4:
-        at = len(lines) % 1000
-        lines += [f"read 1 {present[-1 - at]} 0", f"free 1 {absent[at]}", f"free 1 {present[-1 - at]}", f"alloc 1 {present[-1 - at]} 2"]
+        place = len(lines) % 1000
+        last, other = present[-1 - place], absent[place]
+        lines += [f"read 1 {last} 0", f"free 1 {other}", f"free 1 {last}", f"alloc 1 {last} 2"]
     answers, figures = answered(bench, (), text_of(lines))
     expect(len(answers) == len(lines), "not each line is answered")
     expect_all(answers[:32001], b"ok")
@@ -100,7 +101,8 @@ def deepest_tree(bench, workers):
     lines = ["new 1 boot"] + [f"alloc 1 {name} {words}" for name, (_, words, _) in enumerate(blocks)]
     placed = bench.run(["--addresses"], text_of(lines), seconds=30)
     wanted = [b"ok"] + [b"at %d" % start for start, _, _ in blocks]
-    expect([answer.reply for answer in answers_of(placed.output)] == wanted, "a block lies elsewhere than the trace is made for")
+    replies = [answer.reply for answer in answers_of(placed.output)]
+    expect(replies == wanted, "a block lies elsewhere than the trace is made for")
     lines += [f"free 1 {name}" for name in sorted(freed, key=lambda name: -weight_of(blocks[name][0]))]
     while len(lines) < MOST_LINES - 3:
         lines += [f"alloc 1 {len(blocks)} 2", f"free 1 {len(blocks)}"]
@@ -142,7 +144,8 @@ def phases_of_one_line(bench, workers):
 
 def one_loader_of_many_chunks(bench):
     """A hidden loader of 99,000 blocks, two a chunk, which all go at once."""
-    lines = ["new 1 hidden"] + [f"alloc 1 {name} 128" for name in range(99000)] + ["report", "unload 1", "purge", "report"]
+    lines = ["new 1 hidden"] + [f"alloc 1 {name} 128" for name in range(99000)]
+    lines += ["report", "unload 1", "purge", "report"]
     answers, figures = answered(bench, (), text_of(lines))
     expect_all(answers, b"ok")
     first, last = reports_of(answers)
@@ -170,7 +173,7 @@ def a_pool_of_small_parts(bench):
 
 
 def a_limit_among_small_parts(bench):
-    """485 granules hold the 31,000 chunks, and 5,120 words more: 20 chunks of 256 words, and nothing that 129 words fit into."""
+    """485 granules hold the 31,000 chunks and 5,120 words more: 20 chunks of 256 words, and no other 129 words."""
     lines = small_parts()
     answers, figures = answered(bench, ["--max-granules", "485"], text_of(lines))
     larger = [answer for answer, line in zip(answers, lines) if line.endswith(" 129")]
