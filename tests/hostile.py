@@ -1,5 +1,6 @@
 """Traces that are made to be slow: each must end within ten seconds on one processor, and within a gigabyte."""
 import ctypes
+import random
 
 from claims import Test, expect, expect_ended
 from outputs import answers_of, expect_sums, reports_of
@@ -113,6 +114,32 @@ def deepest_tree(bench, workers):
     return f"{figures}, {depth_of(blocks)} deep"
 
 
+ORDERS = {
+    "rising": sorted,
+    "falling": lambda names: sorted(names, reverse=True),
+    "mixed": lambda names: random.Random(7).sample(names, len(names)),
+    "inward": lambda names: [name for pair in zip(names, reversed(names)) for name in pair][:len(names)],
+}
+
+
+def free_blocks_in_order(bench, order):
+    """30,000 blocks of rising sizes are freed in an order; then the smallest, one in the middle and the largest go."""
+    sizes = [2 + name // 16 for name in range(30000)]
+    lines = ["new 1 boot"] + [f"alloc 1 {name} {words}" for name, words in enumerate(sizes)]
+    lines += [f"free 1 {name}" for name in ORDERS[order](list(range(30000)))]
+    wanted = (sizes[0], sizes[15000], sizes[-1])
+    while len(lines) < MOST_LINES - 8:
+        lines += [f"alloc 1 {name} {words}" for name, words in enumerate(wanted)]
+        lines += [f"free 1 {name}" for name in range(3)]
+    lines.append("report")
+    answers, figures = answered(bench, (), text_of(lines))
+    expect_all(answers, b"ok")
+    report, = reports_of(answers)
+    expect_sums(report)
+    expect(report.spaces[0].numbers["live"] == 0, report.spaces[0])
+    return figures
+
+
 def all_loader_names(bench, workers):
     """65,536 loaders, each name that there is, falling; blocks for half of them, and all numbers add up."""
     lines = [f"new {name} hidden" for name in reversed(range(65536))]
@@ -203,6 +230,8 @@ def tests():
     yield Test("block names that hash to one place", names_of_one_place)
     for workers in (1, 2):
         yield Test(f"the deepest tree of free blocks, {workers} at work", deepest_tree, (workers,))
+    for order in ORDERS:
+        yield Test(f"free blocks that come in {order} order", free_blocks_in_order, (order,))
     yield Test("one loader of 49,500 chunks", one_loader_of_many_chunks)
     yield Test("a pool of small parts", a_pool_of_small_parts)
     yield Test("a limit among small parts", a_limit_among_small_parts)
