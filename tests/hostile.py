@@ -1,6 +1,7 @@
 """Traces that are made to be slow: each must end within ten seconds on one processor, and within a gigabyte."""
 import ctypes
 import random
+import resource
 
 from claims import Test, expect, expect_ended
 from outputs import answers_of, expect_sums, reports_of
@@ -19,7 +20,7 @@ def text_of(lines):
 def answered(bench, words, text):
     """Runs a trace on one processor within the bounds, and gives its answers and what it took."""
     with OneProcessor():
-        ended = bench.run(words, text, seconds=6 * MOST_SECONDS)
+        ended = bench.run(words, text, limits={resource.RLIMIT_CPU: MOST_SECONDS}, seconds=10 * MOST_SECONDS)
     figures = f"{ended.seconds:.2f} processor seconds, {ended.memory // MEGABYTE} MB"
     expect(ended.status == 0, f"status {ended.status} after {figures}", ended.errors)
     expect_ended(ended, 0)

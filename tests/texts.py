@@ -1,6 +1,7 @@
 """Texts that the program must answer: cut, malformed, too long and endless ones, against a reader of their own."""
 import os
 import random
+import resource
 import threading
 import time
 
@@ -27,8 +28,8 @@ purge
 report
 """
 TEXTS = 2000
-# about four times the longest trace, and the trace in memory
-MOST_MEMORY = 64 * MEGABYTE
+# eight times the longest text
+LIMITS = {resource.RLIMIT_AS: 64 * MEGABYTE}
 PIECES = 8
 WORDS = (*FIELDS, *KINDS)
 NUMBERS = (b"65535", b"65536", b"4294967295", b"4294967296", b"18446744073709551615", b"18446744073709551616",
@@ -177,7 +178,7 @@ def reads_the_longest_text(bench):
                         (b"#" * 8100001, b"metarun: line 1: LineTooLong\n"),
                         (b"purge\n" * 100000 + b"#" * 7500001, b"metarun: line 100001: TooManyLines\n")):
         start = time.monotonic()
-        ended = bench.run((), text, memory=MOST_MEMORY)
+        ended = bench.run((), text, limits=LIMITS)
         expect_soon(start)
         wanted = b"".join(b"%d ok\n" % number for number in range(1, 100001)) if text.startswith(b"purge") else b""
         expect_ended(ended, 1 if fault else 0, fault, b"" if fault else wanted)
@@ -196,7 +197,7 @@ def reads_an_endless_text(bench, piece, fault):
     """A text without end is refused once as much was read as a trace can have."""
     source, pipe = os.pipe()
     start = time.monotonic()
-    process = bench.program.start(devices=(source, None, None), memory=MOST_MEMORY)
+    process = bench.program.start(devices=(source, None, None), limits=LIMITS)
     os.close(source)
     writer = threading.Thread(target=feed, args=(pipe, piece))
     writer.start()
