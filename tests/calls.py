@@ -12,7 +12,7 @@ from workbench import ROOT
 
 CRATE = os.path.join(ROOT, "crates", "refusals")
 TAKING = ("carve", "take", "reserve", "place", "alloc", "pool", "insert", "new_loader", "run", "totals",
-          "parse", "print", "text", "lines", "shared", "meter", "replay")
+          "parse", "print", "text", "lines", "shared", "meter", "replay", "retire")
 QUIET = ("quiet_pool", "quiet_lock", "quiet_blocks", "quiet_arena", "quiet_loader", "quiet_system", "quiet_meter")
 OUTSIDE = b"refused outside a call\n"
 
@@ -42,8 +42,8 @@ class Calls:
     def facts_of(self, output):
         """Reads a row's lines: the word of each, and the fact."""
         lines = [line.split(b" ", 2) for line in output.split(b"\n")[:-1]]
-        expect(all(len(line) == 3 and line[0] == self.row.encode() for line in lines), "another row's line", output)
-        return [(word, fact) for _, word, fact in lines]
+        expect(all(len(line) > 1 and line[0] == self.row.encode() for line in lines), "another row's line", output)
+        return [(line[1], b"".join(line[2:])) for line in lines]
 
 
 def refuses_each_growth(bench, row):
@@ -62,9 +62,11 @@ def refuses_each_growth(bench, row):
             continue
         expect_ended(ended, 0)
         facts = calls.facts_of(ended.output)
-        expect(len(facts) == 5 and facts[1][1].split(b" ")[0] == b"refused", "a refused growth shows nowhere", ended.output)
+        is_told = len(facts) == 5 and facts[1][1].split(b" ")[0] == b"refused"
+        expect(is_told, "a refused growth shows nowhere", ended.output)
         facts[1] = (b"answer", b"refused")
-        wanted = [(b"before", before), (b"answer", b"refused"), (b"after", before), (b"again", answer), (b"last", after)]
+        wanted = [(b"before", before), (b"answer", b"refused"), (b"after", before)]
+        wanted += [(b"again", answer), (b"last", after)]
         expect(facts == wanted, "growth", number, facts, "and not", wanted)
         refused_calls += 1
     expect_ended(ended, 0, b"", output)

@@ -15,6 +15,15 @@ REPORTS = b"new 1 standard\n" + b"".join(b"alloc 1 %d 10\nreport\n" % block for 
 LONG = b"# a long comment\n" * 1500 + TRACE
 FAULTY = b"new 1 app\n"
 PIPE_BYTES = 4096
+# words, text and input of runs that end in each way
+ENDINGS = (
+    ([], TRACE, None),
+    ([], FAULTY, None),
+    (["--granules"], TRACE, None),
+    (["--help"], b"", None),
+    (["--addresses", "--workers", "2"], TRACE, None),
+    ([], TRACE, CLOSED),
+)
 
 
 def whole_of(bench, text):
@@ -163,8 +172,7 @@ def errors_take_nothing(bench):
     source, unread = os.pipe()
     os.close(source)
     for device in (CLOSED, full, unread):
-        for words, text, own in (([], TRACE, None), ([], FAULTY, None), (["--granules"], TRACE, None), (["--help"], b"", None),
-                                 (["--addresses", "--workers", "2"], TRACE, None), ([], TRACE, CLOSED)):
+        for words, text, own in ENDINGS:
             wanted = bench.run(words, text, devices=(own, None, None))
             ended = bench.run(words, text, devices=(own, None, device))
             expect(ended[:2] == wanted[:2], ended, wanted)

@@ -4,6 +4,7 @@ A run that meets a refusal ends with status 3 and nothing on standard output, or
 on lines of new, alloc and calloc alone, and all else is as in a run of the trace without these lines.
 """
 import os
+import resource
 import struct
 import tempfile
 from typing import NamedTuple
@@ -12,44 +13,51 @@ from claims import Test, expect, expect_ended, first_difference
 from examples import FOLDERS, content_of, options_of
 from grammar import commands_of, without
 from outputs import answers_of, expect_sums, of_any_schedule, report_of, reports_of
+from program import MEGABYTE
 
 OUT_OF_MEMORY = b"metarun: out of memory\n"
-WANTING = (OUT_OF_MEMORY, b"metarun: no thread\n")
+NO_THREAD = b"metarun: no thread\n"
+WANTING = (OUT_OF_MEMORY, NO_THREAD)
 MAY_WANT = (b"new", b"alloc", b"calloc")
 MOST_GROWTHS = 3000
+
+FOUR_LOADERS = (
+    "new 1 standard / new 2 boot / new 3 reflection / new 4 hidden / alloc 1 1 4 / alloc 2 1 4 / "
+    "alloc 3 1 4 / alloc 4 1 4 / write 1 1 0 11 / write 2 1 0 22 / write 3 1 0 33 / write 4 1 0 44 / sync / "
+    "read 1 1 0 / read 2 1 0 / read 3 1 0 / read 4 1 0 / alloc 1 2 600 / alloc 2 2 600 / alloc 3 2 600 / "
+    "alloc 4 2 100 / report")
 
 # Where a sync parts the lines of two loaders, no schedule of workers changes what they meet.
 TRACES = {
     "a fresh loader in each space": (
         ["--class-nodes", "1"],
-        "new 1 standard / alloc 1 1 10 / calloc 1 2 10 / sync / new 2 boot / calloc 2 1 4000 / alloc 2 2 9000 / free 1 1 / "
-        "alloc 1 3 4 / sync / write 2 2 8999 7 / read 2 2 8999 / read 1 3 0 / report"),
+        "new 1 standard / alloc 1 1 10 / calloc 1 2 10 / sync / new 2 boot / calloc 2 1 4000 / alloc 2 2 9000 / "
+        "free 1 1 / alloc 1 3 4 / sync / write 2 2 8999 7 / read 2 2 8999 / read 1 3 0 / report"),
     "the granule limit is met": (
         ["--max-granules", "1"],
-        "new 1 standard / alloc 1 1 8192 / sync / new 2 standard / alloc 2 1 1 / sync / free 1 1 / alloc 1 2 100 / sync / "
-        "alloc 2 1 1 / sync / unload 1 / sync / alloc 2 1 1 / alloc 2 2 8000 / report"),
+        "new 1 standard / alloc 1 1 8192 / sync / new 2 standard / alloc 2 1 1 / sync / free 1 1 / "
+        "alloc 1 2 100 / sync / alloc 2 1 1 / sync / unload 1 / sync / alloc 2 1 1 / alloc 2 2 8000 / report"),
     "the node limit is met": (
         ["--nodes", "1"],
-        "new 1 boot / alloc 1 1 1 / sync / new 2 boot / alloc 2 1 1 / sync / new 3 boot / alloc 3 1 1 / sync / unload 1 / "
-        "sync / alloc 3 1 524288 / report"),
+        "new 1 boot / alloc 1 1 1 / sync / new 2 boot / alloc 2 1 1 / sync / new 3 boot / alloc 3 1 1 / sync / "
+        "unload 1 / sync / alloc 3 1 524288 / report"),
     "loaders go and nodes are given back": (
         [],
-        "new 1 boot / new 2 boot / new 3 standard / sync / alloc 1 1 524288 / sync / alloc 2 1 524288 / sync / alloc 3 1 10 / "
-        "sync / unload 1 / unload 2 / sync / purge / sync / report / new 1 hidden / alloc 1 1 26 / sync / unload 3 / unload 1 / "
-        "sync / purge / sync / report"),
+        "new 1 boot / new 2 boot / new 3 standard / sync / alloc 1 1 524288 / sync / alloc 2 1 524288 / sync / "
+        "alloc 3 1 10 / sync / unload 1 / unload 2 / sync / purge / sync / report / new 1 hidden / "
+        "alloc 1 1 26 / sync / unload 3 / unload 1 / sync / purge / sync / report"),
     "free blocks and retired chunks": (
         [],
-        "new 1 standard / alloc 1 1 10 / write 1 1 0 7 / free 1 1 / alloc 1 2 4 / alloc 1 3 5 / read 1 2 0 / sync / "
-        "new 2 standard / alloc 2 1 10 / sync / alloc 1 4 600 / alloc 1 5 2 / free 1 4 / alloc 1 6 300 / alloc 1 7 200 / report"),
+        "new 1 standard / alloc 1 1 10 / write 1 1 0 7 / free 1 1 / alloc 1 2 4 / alloc 1 3 5 / read 1 2 0 / "
+        "sync / new 2 standard / alloc 2 1 10 / sync / alloc 1 4 600 / alloc 1 5 2 / free 1 4 / alloc 1 6 300 / "
+        "alloc 1 7 200 / report"),
     "four loaders move on": (
         ["--policy", "none", "--max-granules", "256"],
-        "new 1 standard / new 2 boot / new 3 reflection / new 4 hidden / alloc 1 1 4 / alloc 2 1 4 / alloc 3 1 4 / alloc 4 1 4 / "
-        "write 1 1 0 11 / write 2 1 0 22 / write 3 1 0 33 / write 4 1 0 44 / sync / read 1 1 0 / read 2 1 0 / read 3 1 0 / "
-        "read 4 1 0 / alloc 1 2 600 / alloc 2 2 600 / alloc 3 2 600 / alloc 4 2 100 / report"),
+        FOUR_LOADERS),
     "fine granules": (
         ["--policy", "aggressive", "--max-granules", "4"],
-        "new 1 standard / alloc 1 1 10 / sync / new 2 standard / alloc 2 1 2049 / sync / alloc 1 2 9000 / unload 2 / sync / "
-        "alloc 1 2 4000 / report"),
+        "new 1 standard / alloc 1 1 10 / sync / new 2 standard / alloc 2 1 2049 / sync / alloc 1 2 9000 / "
+        "unload 2 / sync / alloc 1 2 4000 / report"),
 }
 
 
@@ -161,11 +169,31 @@ def refuses_each_growth(bench, words, text, workers):
     return f"{most} growths, {answered} runs answered with OutOfMemory"
 
 
+def refuses_threads(bench, words, text, workers):
+    """Bounds what may be mapped, from little to much: the stack of a thread is the first thing that can't be had."""
+    refusing = Refusing(bench, [*words, "--workers", str(workers)], text)
+    said = set()
+    for most in range(8, 200, 2):
+        source, pipe = os.pipe()
+        limits = {resource.RLIMIT_AS: most * MEGABYTE}
+        process = bench.program.start(refusing.words, devices=(source, None, None), limits=limits)
+        os.close(source)
+        os.write(pipe, text)
+        os.close(pipe)
+        ended = bench.program.wait(process)
+        expect_refused_well(refusing, ended, 1, workers, 8192)
+        said.add(ended.errors)
+    expect(NO_THREAD in said, "no thread was refused", said)
+
+
 def tests():
     for name, (words, row) in TRACES.items():
         for workers in (1, 2, 4):
             arguments = (words, text_of(row), workers)
             yield Test(f"growths are refused where {name}, {workers} at work", refuses_each_growth, arguments)
+    for workers in (2, 4, 8):
+        arguments = ([], text_of(FOUR_LOADERS), workers)
+        yield Test(f"threads are refused, {workers} at work", refuses_threads, arguments)
     for folder in FOLDERS:
         for name, options in sorted(options_of(folder).items()):
             words = options[:options.index("--workers")] if "--workers" in options else options

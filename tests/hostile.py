@@ -1,5 +1,7 @@
-"""Traces that are made to be slow: each must end within ten processor seconds on one processor, and within a gigabyte."""
+"""Traces that are made to be slow: each must end within ten seconds on one processor, and within a gigabyte."""
 import ctypes
+import random
+import resource
 
 from claims import Test, expect, expect_ended
 from outputs import answers_of, expect_sums, reports_of
@@ -18,7 +20,7 @@ def text_of(lines):
 def answered(bench, words, text):
     """Runs a trace on one processor within the bounds, and gives its answers and what it took."""
     with OneProcessor():
-        ended = bench.run(words, text, seconds=6 * MOST_SECONDS)
+        ended = bench.run(words, text, limits={resource.RLIMIT_CPU: MOST_SECONDS}, seconds=10 * MOST_SECONDS)
     figures = f"{ended.seconds:.2f} processor seconds, {ended.memory // MEGABYTE} MB"
     expect(ended.status == 0, f"status {ended.status} after {figures}", ended.errors)
     expect_ended(ended, 0)
@@ -44,13 +46,14 @@ def colliding(bench, count):
 
 
 def names_of_one_place(bench):
-    """Block names that the map of names looks for in one place; the last ones come and go, and absent ones are asked for."""
+    """Block names that the map of names looks for in one place; the last come and go, and absent ones are asked for."""
     names = colliding(bench, 33000)
     present, absent = names[:32000], names[32000:]
     lines = ["new 1 standard"] + [f"alloc 1 {name} 2" for name in present]
     while len(lines) < MOST_LINES - 4:
-        at = len(lines) % 1000
-        lines += [f"read 1 {present[-1 - at]} 0", f"free 1 {absent[at]}", f"free 1 {present[-1 - at]}", f"alloc 1 {present[-1 - at]} 2"]
+        place = len(lines) % 1000
+        last, other = present[-1 - place], absent[place]
+        lines += [f"read 1 {last} 0", f"free 1 {other}", f"free 1 {last}", f"alloc 1 {last} 2"]
     answers, figures = answered(bench, (), text_of(lines))
     expect(len(answers) == len(lines), "not each line is answered")
     expect_all(answers[:32001], b"ok")
@@ -100,7 +103,8 @@ def deepest_tree(bench, workers):
     lines = ["new 1 boot"] + [f"alloc 1 {name} {words}" for name, (_, words, _) in enumerate(blocks)]
     placed = bench.run(["--addresses"], text_of(lines), seconds=30)
     wanted = [b"ok"] + [b"at %d" % start for start, _, _ in blocks]
-    expect([answer.reply for answer in answers_of(placed.output)] == wanted, "a block lies elsewhere than the trace is made for")
+    replies = [answer.reply for answer in answers_of(placed.output)]
+    expect(replies == wanted, "a block lies elsewhere than the trace is made for")
     lines += [f"free 1 {name}" for name in sorted(freed, key=lambda name: -weight_of(blocks[name][0]))]
     while len(lines) < MOST_LINES - 3:
         lines += [f"alloc 1 {len(blocks)} 2", f"free 1 {len(blocks)}"]
@@ -109,6 +113,32 @@ def deepest_tree(bench, workers):
     expect_all(answers, b"ok")
     expect_sums(reports_of(answers)[0])
     return f"{figures}, {depth_of(blocks)} deep"
+
+
+ORDERS = {
+    "rising": sorted,
+    "falling": lambda names: sorted(names, reverse=True),
+    "mixed": lambda names: random.Random(7).sample(names, len(names)),
+    "inward": lambda names: [name for pair in zip(names, reversed(names)) for name in pair][:len(names)],
+}
+
+
+def free_blocks_in_order(bench, order):
+    """30,000 blocks of rising sizes are freed in an order; then the smallest, one in the middle and the largest go."""
+    sizes = [2 + name // 16 for name in range(30000)]
+    lines = ["new 1 boot"] + [f"alloc 1 {name} {words}" for name, words in enumerate(sizes)]
+    lines += [f"free 1 {name}" for name in ORDERS[order](list(range(30000)))]
+    wanted = (sizes[0], sizes[15000], sizes[-1])
+    while len(lines) < MOST_LINES - 8:
+        lines += [f"alloc 1 {name} {words}" for name, words in enumerate(wanted)]
+        lines += [f"free 1 {name}" for name in range(3)]
+    lines.append("report")
+    answers, figures = answered(bench, (), text_of(lines))
+    expect_all(answers, b"ok")
+    report, = reports_of(answers)
+    expect_sums(report)
+    expect(report.spaces[0].numbers["live"] == 0, report.spaces[0])
+    return figures
 
 
 def all_loader_names(bench, workers):
@@ -142,7 +172,8 @@ def phases_of_one_line(bench, workers):
 
 def one_loader_of_many_chunks(bench):
     """A hidden loader of 99,000 blocks, two a chunk, which all go at once."""
-    lines = ["new 1 hidden"] + [f"alloc 1 {name} 128" for name in range(99000)] + ["report", "unload 1", "purge", "report"]
+    lines = ["new 1 hidden"] + [f"alloc 1 {name} 128" for name in range(99000)]
+    lines += ["report", "unload 1", "purge", "report"]
     answers, figures = answered(bench, (), text_of(lines))
     expect_all(answers, b"ok")
     first, last = reports_of(answers)
@@ -152,18 +183,47 @@ def one_loader_of_many_chunks(bench):
     return figures
 
 
-def a_pool_of_small_parts(bench):
+def small_parts():
     """Every second of 31,000 chunks of 128 words goes; then loaders come and ask for what fits between, or doesn't."""
     lines = [line for name in range(31000) for line in (f"new {name} hidden", f"alloc {name} 1 128")]
     lines += [f"unload {name}" for name in range(0, 31000, 2)]
-    name = 40000
-    while len(lines) < MOST_LINES - 3:
+    for name in range(40000, 40000 + (MOST_LINES - len(lines)) // 2 - 1):
         lines += [f"new {name} hidden", f"alloc {name} 1 {129 if name % 2 else 128}"]
-        name += 1
-    lines.append("report")
-    answers, figures = answered(bench, (), text_of(lines))
+    return lines + ["report"]
+
+
+def a_pool_of_small_parts(bench):
+    """All that come are served."""
+    answers, figures = answered(bench, (), text_of(small_parts()))
     expect_all(answers, b"ok")
     expect_sums(reports_of(answers)[0])
+    return figures
+
+
+def a_limit_among_small_parts(bench):
+    """485 granules hold the 31,000 chunks and 5,120 words more: 20 chunks of 256 words, and no other 129 words."""
+    lines = small_parts()
+    answers, figures = answered(bench, ["--max-granules", "485"], text_of(lines))
+    larger = [answer for answer, line in zip(answers, lines) if line.endswith(" 129")]
+    expect_all(larger[:20], b"ok")
+    expect_all(larger[20:], b"refused CommitLimit")
+    expect_all([answer for answer, line in zip(answers, lines) if not line.endswith(" 129")], b"ok")
+    expect_sums(reports_of(answers)[0])
+    return figures
+
+
+def the_largest_block_comes_and_goes(bench):
+    """A block of a whole root chunk is written at one place and freed, 24,999 times; the next reads 0 there."""
+    lines, index = ["new 1 boot"], 0
+    for number in range(24999):
+        lines += ["alloc 1 1 524288", f"read 1 1 {index}"]
+        index = number * 7919 % 524288
+        lines += [f"write 1 1 {index} 7", "free 1 1"]
+    answers, figures = answered(bench, (), text_of(lines))
+    expect(len(answers) == len(lines), "not each line is answered")
+    expect_all(answers[2::4], b"value 0")
+    for place in (1, 3, 4):
+        expect_all(answers[place::4], b"ok")
     return figures
 
 
@@ -171,8 +231,12 @@ def tests():
     yield Test("block names that hash to one place", names_of_one_place)
     for workers in (1, 2):
         yield Test(f"the deepest tree of free blocks, {workers} at work", deepest_tree, (workers,))
+    for order in ORDERS:
+        yield Test(f"free blocks that come in {order} order", free_blocks_in_order, (order,))
     yield Test("one loader of 49,500 chunks", one_loader_of_many_chunks)
     yield Test("a pool of small parts", a_pool_of_small_parts)
+    yield Test("a limit among small parts", a_limit_among_small_parts)
+    yield Test("the largest block comes and goes", the_largest_block_comes_and_goes)
     for workers in (1, 8):
         yield Test(f"all 65,536 loader names, {workers} at work", all_loader_names, (workers,))
     for workers in (1, 2, 8):

@@ -7,7 +7,7 @@ NAMES = range(1, 9)
 
 
 def text_of(*groups):
-    """A trace of lines: for each pattern that has a place one line a loader, in order of name, and else the line alone."""
+    """A trace of lines: of a pattern that has a place a line for each loader, in order of name, of another itself."""
     lines = []
     for pattern in groups:
         lines += [pattern % name for name in NAMES] if "%" in pattern else [pattern]
@@ -25,7 +25,8 @@ def replies_of(bench, words, text):
     ended = bench.run([*words, "--workers", "8"], text)
     expect_ended(ended, 0)
     answers = answers_of(ended.output)
-    expect([answer.line for answer in answers] == list(range(1, text.count(b"\n") + 1)), "a line is not answered once", ended.output)
+    numbers = [answer.line for answer in answers]
+    expect(numbers == list(range(1, text.count(b"\n") + 1)), "a line is not answered once", ended.output)
     return answers, [answer.reply for answer in answers]
 
 
@@ -80,8 +81,9 @@ def the_granule_serves_again(bench):
         wanted = [(name, "standard", 1, 8192, 8192, 8192) if reply == b"ok" else (name, "standard", 0, 0, 0, 0)
                   for name, reply in zip(NAMES, replies[8:16])]
         expect(first.loaders == wanted, first.loaders)
-        expect(list(first.spaces[0].numbers.values()) == [8, 1, 1048576, 1, 8192, 1, 8192, 8192, 8192, 8192, 0, 0], first)
-        expect(list(last.spaces[0].numbers.values()) == [0, 1, 1048576, 0, 0, 0, 0, 0, 0, 0, 0, 0], last)
+        numbers = [list(report.spaces[0].numbers.values()) for report in (first, last)]
+        expect(numbers[0] == [8, 1, 1048576, 1, 8192, 1, 8192, 8192, 8192, 8192, 0, 0], first)
+        expect(numbers[1] == [0, 1, 1048576, 0, 0, 0, 0, 0, 0, 0, 0, 0], last)
 
 
 def tests():

@@ -3,7 +3,8 @@ from typing import NamedTuple
 
 from claims import expect
 
-LABELS = ("loaders", "nodes", "reserved", "granules", "committed", "chunks", "capacity", "fronts", "used", "live", "free blocks", "waste")
+LABELS = ("loaders", "nodes", "reserved", "granules", "committed", "chunks", "capacity", "fronts", "used", "live",
+          "free blocks", "waste")
 NODE_WORDS = 1048576
 
 

@@ -30,10 +30,11 @@ class Program:
         self.output = os.memfd_create("output")
         self.errors = os.memfd_create("errors")
 
-    def start(self, words=(), given=b"", devices=(None, None, None), environment=None, memory=None):
+    def start(self, words=(), given=b"", devices=(None, None, None), environment=None, limits=None):
         """Starts a run and returns its process. A device is a descriptor, CLOSED, or None for a file in memory.
 
-        Where memory is given, the run gets no more bytes than that, all that it maps counted.
+        The limits are those of the system, each with what it bounds: RLIMIT_AS the bytes that are mapped, RLIMIT_CPU
+        the processor's seconds.
         """
         for file, content in ((self.given, given), (self.output, b""), (self.errors, b"")):
             refill(file, content)
@@ -46,8 +47,8 @@ class Program:
         # python ignores these three, and what is ignored stays so in a child
         defaults = [signal.SIGPIPE, signal.SIGXFSZ, signal.SIGINT]
         process = os.posix_spawn(self.path, [self.path, *words], settings, file_actions=actions, setsigdef=defaults)
-        if memory is not None:
-            resource.prlimit(process, resource.RLIMIT_AS, (memory, memory))
+        for limit, most in (limits or {}).items():
+            resource.prlimit(process, limit, (most, most))
         return process
 
     def wait(self, process, seconds=30):
@@ -63,9 +64,9 @@ class Program:
         taken = used.ru_utime + used.ru_stime
         return Ended(ended, content_of(self.output), content_of(self.errors), taken, 1024 * used.ru_maxrss)
 
-    def run(self, words=(), given=b"", devices=(None, None, None), environment=None, memory=None, seconds=30):
+    def run(self, words=(), given=b"", devices=(None, None, None), environment=None, limits=None, seconds=30):
         """Runs the program over a text."""
-        return self.wait(self.start(words, given, devices, environment, memory), seconds)
+        return self.wait(self.start(words, given, devices, environment, limits), seconds)
 
 
 def refill(file, content):

@@ -143,22 +143,21 @@ int posix_memalign(void **made, size_t alignment, size_t size)
     return 0;
 }
 
-static int has(const char *bytes, size_t count, const char *text)
+/* Follows what is written to descriptor 1, in however many pieces, until it has had the whole text. */
+static void follow(const char *bytes, long count)
 {
-    size_t at, i;
-    for (at = 0; at < count; at++) {
-        for (i = 0; text[i] && at + i < count && bytes[at + i] == text[i]; i++)
-            ;
-        if (!text[i])
-            return 1;
-    }
-    return 0;
+    static size_t matched;
+    long at;
+    for (at = 0; at < count && mark[matched]; at++)
+        matched = bytes[at] == mark[matched] ? matched + 1 : bytes[at] == mark[0];
+    if (!mark[matched])
+        __atomic_store_n(&counts->is_written, 1, __ATOMIC_SEQ_CST);
 }
 
 long write(int descriptor, const void *bytes, size_t count)
 {
     long written = __write(descriptor, bytes, count);
-    if (mark && descriptor == 1 && has(bytes, count, mark))
-        __atomic_store_n(&counts->is_written, 1, __ATOMIC_SEQ_CST);
+    if (mark && descriptor == 1)
+        follow(bytes, written);
     return written;
 }

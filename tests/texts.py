@@ -1,11 +1,12 @@
 """Texts that the program must answer: cut, malformed, too long and endless ones, against a reader of their own."""
 import os
 import random
+import resource
 import threading
 import time
 
 from claims import Test, expect, expect_ended, first_difference
-from grammar import commands_of, fault_of, lines_of
+from grammar import FIELDS, KINDS, commands_of, fault_of, lines_of
 from outputs import answers_of
 from program import MEGABYTE
 
@@ -27,14 +28,16 @@ purge
 report
 """
 TEXTS = 2000
-# about four times the longest trace, and the trace in memory
-MOST_MEMORY = 64 * MEGABYTE
+# eight times the longest text
+LIMITS = {resource.RLIMIT_AS: 64 * MEGABYTE}
 PIECES = 8
-WORDS = (b"new", b"alloc", b"calloc", b"write", b"read", b"free", b"unload", b"purge", b"sync", b"report", b"standard", b"hidden")
-NUMBERS = (b"65535", b"65536", b"4294967295", b"4294967296", b"18446744073709551615", b"18446744073709551616", b"00", b"01", b"-1")
-OF_ALLOCATIONS = {b"ZeroWords", b"TooLarge", b"OutOfMemory", b"ReserveLimit", b"CommitLimit", b"NoLoader", b"BlockExists"}
+WORDS = (*FIELDS, *KINDS)
+NUMBERS = (b"65535", b"65536", b"4294967295", b"4294967296", b"18446744073709551615", b"18446744073709551616",
+           b"00", b"01", b"-1")
+OF_ALLOCATIONS = {b"NoLoader", b"BlockExists", b"ZeroWords", b"TooLarge", b"ReserveLimit", b"CommitLimit"}
+# but for OutOfMemory, since nothing is refused here
 REFUSALS = {
-    b"new": {b"LoaderExists", b"IdsUsedUp", b"OutOfMemory"},
+    b"new": {b"LoaderExists", b"IdsUsedUp"},
     b"alloc": OF_ALLOCATIONS,
     b"calloc": OF_ALLOCATIONS,
     b"write": {b"NoLoader", b"NoBlock", b"OutOfRange"},
@@ -51,7 +54,7 @@ def expect_reply(word, reply):
     """Fails the test where a command is answered by what is no reply to it."""
     kind, _, rest = reply.partition(b" ")
     if kind == b"refused":
-        expect(rest in REFUSALS[word] - {b"OutOfMemory"}, word, "is answered by", reply)
+        expect(rest in REFUSALS[word], word, "is answered by", reply)
     elif word == b"read":
         expect(kind == b"value" and rest.isdigit(), word, "is answered by", reply)
     else:
@@ -175,7 +178,7 @@ def reads_the_longest_text(bench):
                         (b"#" * 8100001, b"metarun: line 1: LineTooLong\n"),
                         (b"purge\n" * 100000 + b"#" * 7500001, b"metarun: line 100001: TooManyLines\n")):
         start = time.monotonic()
-        ended = bench.run((), text, memory=MOST_MEMORY)
+        ended = bench.run((), text, limits=LIMITS)
         expect_soon(start)
         wanted = b"".join(b"%d ok\n" % number for number in range(1, 100001)) if text.startswith(b"purge") else b""
         expect_ended(ended, 1 if fault else 0, fault, b"" if fault else wanted)
@@ -194,7 +197,7 @@ def reads_an_endless_text(bench, piece, fault):
     """A text without end is refused once as much was read as a trace can have."""
     source, pipe = os.pipe()
     start = time.monotonic()
-    process = bench.program.start(devices=(source, None, None), memory=MOST_MEMORY)
+    process = bench.program.start(devices=(source, None, None), limits=LIMITS)
     os.close(source)
     writer = threading.Thread(target=feed, args=(pipe, piece))
     writer.start()
