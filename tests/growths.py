@@ -169,6 +169,20 @@ def refuses_each_growth(bench, words, text, workers):
     return f"{most} growths, {answered} runs answered with OutOfMemory"
 
 
+def refuses_words(bench, words):
+    """Refuses each growth while a command line is read that asks for nothing but a text: it is whole, or status 3."""
+    calm = bench.run(words)
+    refusing = Refusing(bench, words, b"")
+    for rule in ("REFUSE_AT", "REFUSE_FROM"):
+        for number in range(1, MOST_GROWTHS):
+            ended, refused = refusing.run(rule, number)
+            if not refused:
+                break
+            expect(ended[:3] in (calm[:3], (3, b"", OUT_OF_MEMORY)), rule, number, ended)
+        expect(ended[:3] == calm[:3] and number > 1, ended)
+    return f"{number - 1} growths"
+
+
 def refuses_threads(bench, words, text, workers):
     """Bounds what may be mapped, from little to much: the stack of a thread is the first thing that can't be had."""
     refusing = Refusing(bench, [*words, "--workers", str(workers)], text)
@@ -191,6 +205,8 @@ def tests():
         for workers in (1, 2, 4):
             arguments = (words, text_of(row), workers)
             yield Test(f"growths are refused where {name}, {workers} at work", refuses_each_growth, arguments)
+    for words in (["--help"], ["--granules"], ["--workers", "9"], ["--addresses", "--workers", "2"]):
+        yield Test(f"growths are refused where the words are {' '.join(words)}", refuses_words, (words,))
     for workers in (2, 4, 8):
         arguments = ([], text_of(FOUR_LOADERS), workers)
         yield Test(f"threads are refused, {workers} at work", refuses_threads, arguments)
