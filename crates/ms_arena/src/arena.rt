@@ -182,8 +182,7 @@ impl Arena {
         self.kind
     }
 
-    /// Tells the sums over the arena. Takes no memory, and looks at each chunk and each live block
-    /// once.
+    /// Tells the sums over the arena. Takes no memory, and looks at each chunk once.
     pub fn totals(&self) -> ArenaTotals
         ensures sums { AreSums result self.now }
         ensures small { result.capacity < 2 ^ 52 }

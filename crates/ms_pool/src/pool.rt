@@ -179,7 +179,9 @@ impl Pool {
     pub fn committed(&self) -> u64
         ensures count { result ≡ length self.now.committed + length self.now.class_committed }
         ensures sound { IsSoundLedger self.now }
+        ensures tallies { AreTallies self.now.tallies }
     {
+        self.lender.read_tallies();
         self.lender.committed()
     }
 
