@@ -4,12 +4,9 @@ use Rattle.std.proofs.Common.{None, List, [], ◌∷◌, ◌++◌, map, length, 
 use Rattle.std.proofs.Common.{arith, eq-eqb, ne_eqb, take, drop, get_or, slice_get, replicate, vec_len, vec_capacity}
 use Rattle.std.proofs.Common.{Vec, Global, slice_set, append-nil}
 use Rattle.std.specs.Prelude.{◌==◌, IsTrue}
-use Rattle.std.specs.Ordering.{nat_cmp}
 use Rattle.std.specs.List.{All, AllByRecursion, filter}
-use Rattle.std.specs.Map.{keys_of}
-use Rattle.std.specs.BTreeMap.{is_at}
 use Rattle.std.proofs.lemmas.Bool.{eqb-true}
-use Rattle.std.proofs.lemmas.List.{append_assoc, take_more, length-append, length-replicate}
+use Rattle.std.proofs.lemmas.List.{take_more, length-append, length-replicate}
 use Rattle.std.proofs.lemmas.List.Elements.{filter-append, recursion_from_All, All-from_recursion, All-replicate}
 use mathlib.Core.Logic.{dite}
 use native.Mathlib.Decide.{ℕ_discrete, dec_le}
@@ -22,7 +19,6 @@ use Rattle.ms_base.specs.Committed.{is_among}
 use Rattle.ms_base.specs.Names.{AreNamed, named}
 use Rattle.ms_base.specs.Request.{loader_of}
 use Rattle.ms_base.specs.State.{Limits}
-use Rattle.ms_base.proofs.entries.EntryLemmas.{same_name}
 use Rattle.ms_pool.specs.Account.{AccountState}
 use Rattle.ms_pool.specs.Ledger.{Loan, Ledger, Serves, chunks_of, is_owned_by}
 use Rattle.ms_trace.specs.declared.trace.Line.{Line}
@@ -39,8 +35,8 @@ use Rattle.ms_run.specs.declared.share.Task.{Task}
 use Rattle.ms_run.specs.declared.share.Share.{Share}
 use Rattle.ms_run.specs.Manned.{IsManned}
 use Rattle.ms_run.specs.Shares.{Place, IsReady, tasks_of, task_of, tasks_at, AreDealt, AreWithin}
-use Rattle.ms_run.specs.Dealing.{Loaded, AreBeside, AreCrews, IsHanded, AreHanded, AreSeats, IsShareAt, AreSharesFrom}
-use Rattle.ms_run.specs.Dealing.{AreDealtTo, is_placed, TaskLists, AreListed, AreEmpty, AreAdded}
+use Rattle.ms_run.specs.Dealing.{Loaded, AreBeside, AreCrews, IsHanded, AreHanded, AreHandedAt, AreSeats}
+use Rattle.ms_run.specs.Dealing.{IsShareAt, AreSharesFrom, AreDealtTo, TaskLists, AreListed, AreEmpty, AreAdded}
 
 -- The loader of a name went over, or is where it was.
 abbrev pub IsEither : Loaded → Loaded → Loaded → ℕ → Type 0
@@ -48,70 +44,45 @@ IsEither loaders after others name =
     ((named others name ≡ named loaders name) × (named after name ≡ None))
     ⊎ ((named others name ≡ None) × (named after name ≡ named loaders name))
 
--- The loaders of a place, while they go over: those of the names that are left haven't.
-pub record IsHanding (place : Place) (at : ℕ) (loaders after others : Loaded) (names : List ℕ) : Type 0 where
-  pub apart : (name : ℕ) → place (Some name) ≢ at → (named others name ≡ None) × (named after name ≡ named loaders name)
+-- The loaders of some names, while they go over: those of the names that are left haven't.
+pub record IsHanding (names : List ℕ) (loaders after others : Loaded) (left : List ℕ) : Type 0 where
+  pub apart : (name : ℕ) → is_among names name ≡ false
+      → (named others name ≡ None) × (named after name ≡ named loaders name)
   pub each : (name : ℕ) → IsEither loaders after others name
-  pub none : (name : ℕ) → place (Some name) ≡ at → is_among names name ≡ false → named after name ≡ None
-  pub placed : AllByRecursion (λ (name : ℕ). place (Some name) ≡ at) names
-
-or_false_right : (b : Bool) {c : Bool} → (b || c) ≡ false → c ≡ false
-or_false_right true nope = absurd (cc)
-or_false_right false nope = nope
-
-among_rest : (b : Bool) (x name : ℕ) (xs : List ℕ) → is_among (cond b (x ∷ xs) xs) name ≡ false
-    → is_among xs name ≡ false
-among_rest true x name xs nope = or_false_right (x == name) nope
-among_rest false x name xs nope = nope
+  pub none : (name : ℕ) → is_among names name ≡ true → is_among left name ≡ false → named after name ≡ None
+  pub placed : AllByRecursion (λ (name : ℕ). is_among names name ≡ true) left
 
 not_both : (b : Bool) → b ≡ true → b ≡ false → ⊥
 not_both b holds nope = absurd (cc)
 
-among_first : (b : Bool) (x name : ℕ) (xs : List ℕ) → b ≡ true → x ≡ name → is_among (cond b (x ∷ xs) xs) name ≡ false
-    → ⊥
-among_first true x name xs holds same nope =
-    not_both (is_among (x ∷ xs) name) (ap (λ c. c || is_among xs name) (eq-eqb x name same)) nope
-among_first false x name xs holds same nope = absurd (cc)
+or_later : (b c : Bool) → c ≡ true → (b || c) ≡ true
+or_later true c e = refl
+or_later false c e = e
 
-none_there : (place : Place) (at : ℕ) (loaders : Loaded) (name : ℕ) → place (Some name) ≡ at
-    → is_among (filter (is_placed place at) (keys_of loaders)) name ≡ false → named loaders name ≡ None
-none_there place at [] name is nope = refl
-none_there place at (e ∷ es) name is nope =
-    elim (is_at (nat_cmp name) e.0) as (λ b. is_at (nat_cmp name) e.0 ≡ b → cond b (Some e.1) (named es name) ≡ None) [
-      | true ↦ λ here. absurd (among_first (place (Some e.0) == at) e.0 name (filter (is_placed place at) (keys_of es))
-          (eq-eqb (place (Some e.0)) at (ap (λ (n : ℕ). place (Some n)) (same_name name e.0 here) ∙ is))
-          (same_name name e.0 here) nope)
-      | false ↦ λ past. none_there place at es name is
-          (among_rest (place (Some e.0) == at) e.0 name (filter (is_placed place at) (keys_of es)) nope)
-    ] refl
+all_among : (names left : List ℕ) → ((name : ℕ) → is_among left name ≡ true → is_among names name ≡ true)
+    → AllByRecursion (λ (name : ℕ). is_among names name ≡ true) left
+all_among names [] sub = tt
+all_among names (x ∷ xs) sub = (
+  sub x (ap (λ b. b || is_among xs x) (eq-eqb x x refl)),
+  all_among names xs (λ name e. sub name (or_later (x == name) (is_among xs name) e)),
+)
 
-all_placed : (place : Place) (at : ℕ) (names : List ℕ)
-    → AllByRecursion (λ (name : ℕ). place (Some name) ≡ at) (filter (is_placed place at) names)
-all_placed place at [] = tt
-all_placed place at (x ∷ xs) =
-    elim (place (Some x) == at) as (λ b. (place (Some x) == at) ≡ b
-    → AllByRecursion (λ (name : ℕ). place (Some name) ≡ at)
-    (cond b (x ∷ filter (is_placed place at) xs) (filter (is_placed place at) xs))) [
-      | true ↦ λ here. (eqb-true (place (Some x)) at here, all_placed place at xs)
-      | false ↦ λ past. all_placed place at xs
-    ] refl
-
-pub handing_starts : (place : Place) (at : ℕ) (loaders others : Loaded) (names : List ℕ) → others ≡ []
-    → names ≡ filter (is_placed place at) (keys_of loaders)
-    → IsHanding place at loaders loaders others names
-handing_starts place at loaders others names nothing are = rw (nothing, are) (record {
+pub handing_starts : (loaders others : Loaded) (names left : List ℕ) → others ≡ [] → left ≡ names
+    → IsHanding names loaders loaders others left
+handing_starts loaders others names left nothing are = rw (nothing, are) (record {
   apart = λ name differs. (refl, refl);
   each = λ name. inr (refl, refl);
-  none = λ name is nope. none_there place at loaders name is nope;
-  placed = all_placed place at (keys_of loaders);
+  none = λ name is nope. absurd (not_both (is_among names name) is nope);
+  placed = all_among names names (λ name e. e);
 })
 
-pub handing_on : (place : Place) (at : ℕ) (loaders after others after' others' : Loaded) (name : ℕ) (names : List ℕ)
-    → IsHanding place at loaders after others (name ∷ names) → IsHanded name after others after' others'
-    → IsHanding place at loaders after' others' names
-handing_on place at loaders after others after' others' name names its went = record {
+pub handing_on : (all : List ℕ) (loaders after others after' others' : Loaded) (name : ℕ) (names : List ℕ)
+    → IsHanding all loaders after others (name ∷ names) → IsHanded name after others after' others'
+    → IsHanding all loaders after' others' names
+handing_on all loaders after others after' others' name names its went = record {
   apart = λ n differs.
-      let stay = went.stay n (λ same. differs (ap (λ (k : ℕ). place (Some k)) (sym same) ∙ its.placed.0)) in
+      let stay = went.stay n
+      (λ same. not_both (is_among all n) (subst (λ (k : ℕ). is_among all k ≡ true) same its.placed.0) differs) in
       (stay.1 ∙ (its.apart n differs).0, stay.0 ∙ (its.apart n differs).1);
   each = λ n. dite (ℕ_discrete name n) (λ same. subst (IsEither loaders after' others') same here)
       (λ differs. past n differs);
@@ -135,23 +106,15 @@ handing_on place at loaders after others after' others' name names its went = re
         (λ not_yet. inr ((went.stay n differs).1 ∙ not_yet.0, (went.stay n differs).0 ∙ not_yet.1))
         (its.each n)
 
-pub handing_ends : (place : Place) (at : ℕ) (loaders after others : Loaded) → IsHanding place at loaders after others []
-    → AreHanded place at loaders after others
-handing_ends place at loaders after others its = record {
+pub handing_ends : (names : List ℕ) (loaders after others : Loaded) → IsHanding names loaders after others []
+    → AreHanded names loaders after others
+handing_ends names loaders after others its = record {
   here = λ name is. (
     ⊎_elim (λ gone. gone.0) (λ not_yet. not_yet.0 ∙ sym (its.none name is refl) ∙ not_yet.1) (its.each name),
     its.none name is refl,
   );
   apart = its.apart;
 }
-
--- Names that are listed, and those to come.
-pub names_more : (p : ℕ → Bool) (names names' : List ℕ) (name : ℕ) (rest all : List ℕ)
-    → names' ≡ names ++ filter p (name ∷ [])
-    → names ++ filter p (name ∷ rest) ≡ all → names' ++ filter p rest ≡ all
-names_more p names names' name rest all step before =
-    ap (λ (l : List ℕ). l ++ filter p rest) step ∙ append_assoc names (filter p (name ∷ [])) (filter p rest)
-    ∙ ap (λ (l : List ℕ). names ++ l) (sym (filter-append p (name ∷ []) rest)) ∙ before
 
 -- Tasks of one line more.
 task_joined : (line : Line) (step : Option Step) (tasks more : List Task)
@@ -407,7 +370,7 @@ pub dealing_on : (place : Place) (shared : LockState) (count : ℕ) (lines : Lis
     (seat : SeatState) (others : Loaded) (next : SeatState) (rest : List SeatState) (shares shares' : List Share)
     (share : Share) (at : ℕ)
     → IsDealing place shared count lines loaders first left (next ∷ rest) shares → at ≡ length shares + 1
-    → AreCrews shared first' left' seat others → AreHanded place at left left' others
+    → AreCrews shared first' left' seat others → AreHandedAt place at left left' others
     → IsMade place lines at seat others share → shares' ≡ shares ++ share ∷ []
     → IsDealing place shared count lines loaders first' left' rest shares'
 dealing_on place shared count lines loaders first first' left left' seat others next rest shares shares' share at its

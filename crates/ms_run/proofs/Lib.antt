@@ -23,3 +23,4 @@ mod UseLemmas
 mod TakenApartLemmas
 mod MeterSumLemmas
 mod StepUseLemmas
+mod StandByLemmas

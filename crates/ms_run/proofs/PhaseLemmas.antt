@@ -2,7 +2,7 @@
 -- was worked, and how replies and loaders came together again. Used by `run_phase`.
 use Rattle.std.proofs.Common.{◌≡◌, ◌≢◌, ◌<◌, ◌==◌, ℕ, zero, suc, Bool, true, false, cond, Some, None, Option, List, []}
 use Rattle.std.proofs.Common.{◌∷◌}
-use Rattle.std.proofs.Common.{map, length, refl, sym, ap, ◌∙◌, subst, arith, slice_get, get_or, option_map, append-nil}
+use Rattle.std.proofs.Common.{map, length, refl, sym, ap, ◌∙◌, subst, arith, slice_get, get_or, option_map}
 use Rattle.std.proofs.Common.{◌++◌}
 use Rattle.std.specs.List.{All, AllByRecursion, filter}
 use Rattle.std.proofs.lemmas.Bool.{eq-eqb, eqb-true, false_from_ne_true}
@@ -29,6 +29,8 @@ use Rattle.ms_run.specs.Own.{Said, own_said, own_of, own_in, OwnRun, ArePurged}
 use Rattle.ms_run.specs.Manned.{IsManned}
 use Rattle.ms_run.specs.Replay.{AreSaid, IsPhase, GoesOn, runs}
 use Rattle.ms_run.proofs.AloneLemmas.{AddsFirst}
+use Rattle.ms_run.proofs.StandByLemmas.{same_merged}
+use Rattle.ms_run.specs.Shares.{place_for}
 use Rattle.ms_run.proofs.ReplayLemmas.{answers_replay}
 use Rattle.ms_run.specs.declared.share.Task.{Task}
 use Rattle.ms_run.specs.declared.share.Share.{Share}
@@ -293,6 +295,16 @@ abbrev pub Merges : Place → List Share → List Line → List Answer → List 
 Merges place others lines before after =
     (added : List Answer) × (said : List Said) × (after ≡ before ++ added) × AreSaid lines added said
     × AreMerged place others said
+
+pub merges_still : (place : Place) (others : List Share) (lines : List Line) (before after : List Answer)
+    → Merges place others lines before after → Merges (place_for place lines) others lines before after
+merges_still place others lines before after told = (
+  told.0,
+  told.1,
+  told.2,
+  told.3,
+  same_merged place others lines told.0 told.1 told.3 told.4,
+)
 
 pub ended : (place : Place) (shared : LockState) (shares others : List Share) (lines : List Line)
     (before after : List Answer) (loaders : List (ℕ × LoaderView)) (old new : Machine)

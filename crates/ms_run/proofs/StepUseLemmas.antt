@@ -1,6 +1,6 @@
 -- The words in use of a machine over one step: what the loader that the step names got or lost is what
 -- their sum did. For alone.rt.
-use Rattle.std.proofs.Common.{◌≡◌, ◌≢◌, ◌≤◌, ◌<◌, ◌+◌, ◌-◌, ◌%◌, ◌^◌, ℕ, Bool, Some, None, List, [], ◌∷◌, refl, sym, ap}
+use Rattle.std.proofs.Common.{◌≡◌, ◌≢◌, ◌<◌, ◌+◌, ◌-◌, ◌%◌, ◌^◌, ℕ, Bool, Some, List, [], ◌∷◌, refl, sym, ap}
 use Rattle.std.proofs.Common.{◌∙◌, subst, IsTrue, arith}
 use Rattle.std.specs.List.{sum_by}
 use Rattle.std.specs.Map.{values_of}
@@ -12,12 +12,11 @@ use Rattle.ms_base.specs.declared.step.Step.TheVariants.{New, Alloc, Calloc, Wri
 use Rattle.ms_base.specs.declared.step.Reply.{Reply}
 use Rattle.ms_base.specs.declared.step.Reply.TheVariants.{Ok as Done, At, Value, Refused}
 use Rattle.ms_base.specs.Names.{named}
-use Rattle.ms_base.specs.Request.{loader_of}
 use Rattle.ms_base.specs.Spaces.{space_at}
 use Rattle.ms_base.specs.State.{LoaderState, Machine, empty_loader}
 use Rattle.ms_base.specs.Good.{IsGood}
 use Rattle.ms_base.specs.Totals.{used_of}
-use Rattle.ms_base.specs.Transition.{Transition, Serves, with_block, with_freed}
+use Rattle.ms_base.specs.Transition.{Transition, Serves, with_freed}
 use Rattle.ms_base.proofs.entries.LookupLemmas.{named_changed_same, named_new_same}
 use Rattle.ms_loaders.specs.Used.{used_by, used_if}
 use Rattle.ms_loaders.proofs.UsedLemmas.{used_fits}

@@ -1,8 +1,9 @@
 -- Loaders handed on from seat to seat, and the shares that come of it.
-use Rattle.std.specs.Prelude.{◌≡◌, ◌≢◌, ℕ, suc, ◌+◌, ◌<◌, ◌≤◌, ◌==◌, ◌⊎◌, Bool, List, [], ◌∷◌, length, map, replicate}
-use Rattle.std.specs.Prelude.{Some, None, Vec, slice_get, ◌++◌}
+use Rattle.std.specs.Prelude.{◌≡◌, ◌≢◌, ℕ, suc, ◌+◌, ◌<◌, ◌≤◌, ◌==◌, ◌⊎◌, true, false, List, [], ◌∷◌, length, map}
+use Rattle.std.specs.Prelude.{replicate, Some, None, Vec, slice_get, ◌++◌}
 use Rattle.std.specs.List.{All, count_by, filter}
 use Rattle.std.specs.declared.alloc.Global.{Global}
+use Rattle.ms_base.specs.Committed.{is_among}
 use Rattle.ms_base.specs.Names.{AreNamed, named}
 use Rattle.ms_base.specs.Request.{loader_of}
 use Rattle.ms_trace.specs.declared.trace.Line.{Line}
@@ -57,12 +58,15 @@ pub record IsHanded (name : ℕ) (loaders others after others_after : Loaded) : 
   pub stay : (other : ℕ) → name ≢ other
       → (named after other ≡ named loaders other) × (named others_after other ≡ named others other)
 
--- The name is of the place.
-abbrev pub is_placed : Place → ℕ → ℕ → Bool
-is_placed place at name = place (Some name) == at
+-- All loaders of some names went over, to where none was.
+pub record AreHanded (names : List ℕ) (loaders after others : Loaded) : Type 0 where
+  pub here : (name : ℕ) → is_among names name ≡ true
+      → (named others name ≡ named loaders name) × (named after name ≡ None)
+  pub apart : (name : ℕ) → is_among names name ≡ false
+      → (named others name ≡ None) × (named after name ≡ named loaders name)
 
--- All loaders of a place went over, to where none was.
-pub record AreHanded (place : Place) (at : ℕ) (loaders after others : Loaded) : Type 0 where
+-- All loaders of a place did.
+pub record AreHandedAt (place : Place) (at : ℕ) (loaders after others : Loaded) : Type 0 where
   pub here : (name : ℕ) → place (Some name) ≡ at → (named others name ≡ named loaders name) × (named after name ≡ None)
   pub apart : (name : ℕ) → place (Some name) ≢ at → (named others name ≡ None) × (named after name ≡ named loaders name)
 

@@ -1,9 +1,10 @@
 -- A worker's share of a phase, before and after its work.
 use Rattle.std.specs.Prelude.{◌≡◌, ◌≢◌, ℕ, ◌<◌, ◌≤◌, ◌==◌, List, [], ◌∷◌, length, map, Option, Some, None, vec_len}
-use Rattle.std.specs.Prelude.{vec_capacity, slice_get}
+use Rattle.std.specs.Prelude.{vec_capacity, slice_get, cond}
 use Rattle.std.specs.List.{All, filter, zip}
 use Rattle.ms_base.specs.declared.step.Step.{Step}
 use Rattle.ms_base.specs.declared.step.Reply.{Reply}
+use Rattle.ms_base.specs.Committed.{is_among}
 use Rattle.ms_base.specs.Names.{named}
 use Rattle.ms_base.specs.Request.{loader_of}
 use Rattle.ms_base.specs.State.{LoaderState}
@@ -77,6 +78,24 @@ tasks_of (line ∷ lines) = task_of line (step_of line.command) (tasks_of lines)
 
 abbrev pub tasks_at : Place → ℕ → List Line → List Task
 tasks_at place at lines = filter (λ (task : Task). place (loader_of task.step) == at) (tasks_of lines)
+
+-- The loaders that tasks name.
+abbrev pub name_with : Option ℕ → List ℕ → List ℕ
+name_with None names = names
+name_with (Some name) names = name ∷ names
+
+abbrev pub names_in : List Task → List ℕ
+names_in [] = []
+names_in (task ∷ tasks) = name_with (loader_of task.step) (names_in tasks)
+
+-- A loader that is named keeps its place, and any other stands by in the first share.
+abbrev pub placed_by : Place → List ℕ → Place
+placed_by place names None = place None
+placed_by place names (Some name) = cond (is_among names name) (place (Some name)) 0
+
+-- So each loader's place in a phase, by its lines.
+abbrev pub place_for : Place → List Line → Place
+place_for place lines = placed_by place (names_in (tasks_of lines))
 
 -- A loader is in no share but the one that its lines go to.
 abbrev pub AreApart : Place → List Share → Type 0

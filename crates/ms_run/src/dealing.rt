@@ -1,24 +1,28 @@
 //! Dealing a phase's lines and all loaders to shares, a share for each worker that has lines.
 //!
+//!     lines    3  1  4  3       loaders  1 2 3 4 5 6 7
+//!     share 0: 3  1     3       share 0: 1 2 3   5 6 7       2, 5, 6 and 7 stand by
+//!     share 1:       4          share 1:       4
+//!
 //! Kept true: lines and loader of one name are in one share, whose seat serves the loader. The first
-//! share's seat serves all at first, and hands each account on. Each share has a seat of the phase's
-//! meter, with nothing counted yet. Takes memory for seats, lists of tasks and of replies, and places
-//! of loaders; nothing waits.
+//! share's seat serves all at first, and hands on what the others' lines name, so a loader that stands
+//! by stays there. Each share has a seat of the phase's meter, with nothing counted yet. Takes memory
+//! for seats, lists of tasks and of replies, and places of loaders; nothing waits.
 ghost use Rattle.std.specs.Prelude.{◌≡◌, ◌+◌, ◌++◌, ◌∷◌, [], ◌≤◌, map, IfOk, IfErr, OnOk, vec_len, vec_capacity, ◌<◌};
 ghost use Rattle.std.specs.Prelude.{◌≢◌, ℕ, Some, slice_get};
-ghost use Rattle.std.specs.List.{filter};
-ghost use Rattle.std.specs.Map.{keys_of};
 ghost use Rattle.ms_base.specs.Names.{AreNamed};
+ghost use Rattle.ms_base.specs.Request.{loader_of};
 ghost use Rattle.ms_run.specs.Turn.{shares_in, place_in};
 ghost use Rattle.ms_loaders.specs.Used.{used_in};
 ghost use Rattle.ms_run.specs.Metering.{used_over, meter_of};
-ghost use Rattle.ms_run.specs.Shares.{AreDealt, AreSteps, tasks_of};
+ghost use Rattle.ms_run.specs.Shares.{AreDealt, AreSteps, tasks_of, names_in, name_with, place_for};
 ghost use Rattle.ms_run.specs.Dealing.{AreCrews, AreListed, AreEmpty, AreAdded, IsHanded, AreHanded, AreSeats};
-ghost use Rattle.ms_run.specs.Dealing.{AreDealtTo, HaveMeters, MayBeDealt, is_placed};
+ghost use Rattle.ms_run.specs.Dealing.{AreDealtTo, HaveMeters, MayBeDealt};
 
 use crate::fault::RunFault;
 use crate::share::{Share, Task};
 use crate::turn::{Turn, loader_named};
+use ms_base::Step;
 use ms_loaders::Loaders;
 use ms_pool::Pool;
 use ms_shared::{MeterSeat, PoolSeat, SharedPool, UsedMeter};
@@ -44,7 +48,8 @@ pub fn deal(
 ) -> Result<(SharedPool, Vec<Share>, UsedMeter), RunFault>
     requires may { MayBeDealt pool loaders }
     requires steps { AreSteps lines.now }
-    ensures dealt { IfOk result (λ made. AreDealt (place_in turn.now) made.0 made.1.items lines.now loaders) }
+    ensures dealt { IfOk result (λ made. AreDealt (place_for (place_in turn.now) lines.now)
+        made.0 made.1.items lines.now loaders) }
     ensures count { IfOk result (λ made. vec_len made.1 ≡ shares_in turn.now) }
     ensures limits { IfOk result (λ made. made.0.limits ≡ pool.limits) }
     ensures meters { IfOk result (λ made. HaveMeters made.2 (vec_len made.1) made.1.items) }
@@ -78,7 +83,8 @@ fn deal_to(
     requires meters { vec_len meters ≡ vec_len seats }
     requires names { AreNamed loaders }
     ensures dealt { IfOk result (λ shares.
-        AreDealtTo (place_in turn.now) shared.now (vec_len seats) lines.now loaders shares.items) }
+        AreDealtTo (place_for (place_in turn.now) lines.now) shared.now (vec_len seats) lines.now loaders
+        shares.items) }
     ensures meters { IfOk result (λ shares. map meter_of shares.items ≡ meters.items) }
     ensures used { IfOk result (λ shares. used_over shares.items ≡ used_in loaders) }
     ensures wanting { IfErr result (λ fault. fault ≡ RunFault.OutOfMemory) }
@@ -92,8 +98,8 @@ fn deal_to(
         let at = shares.len() + 1;
         let loaders = Loaders::new(alloc);
         let mut crew = Crew { seat, loaders };
-        hand_all(alloc, turn, shared, at, &mut first, &mut crew)?;
         let tasks = take_list(alloc, &mut lists, at);
+        hand_all(alloc, shared, tasks.as_slice(), &mut first, &mut crew)?;
         let meter = meters.remove(0);
         let share = make_share(alloc, turn, at, tasks, crew, meter)?;
         shares.push_reserved(share);
@@ -195,12 +201,11 @@ fn take_list(alloc: Global, lists: &mut Vec<Vec<Task>>, at: usize) -> Vec<Task>
     mem::replace(&mut lists[at], Vec::new(alloc))
 }
 
-/// Hands on all loaders that are of a place, to a crew that has none.
+/// Hands on all loaders that tasks name, to a crew that has none.
 fn hand_all(
     alloc: Global,
-    turn: &Turn,
     shared: &SharedPool,
-    at: usize,
+    tasks: &[Task],
     from: &mut Crew,
     to: &mut Crew,
 ) -> Result<(), RunFault>
@@ -209,45 +214,37 @@ fn hand_all(
     ensures crews { OnOk result
         (AreCrews shared.now from.new.seat from.new.loaders to.new.seat to.new.loaders) }
     ensures handed { OnOk result
-        (AreHanded (place_in turn.now) at from.old.loaders from.new.loaders to.new.loaders) }
+        (AreHanded (names_in tasks.now) from.old.loaders from.new.loaders to.new.loaders) }
     ensures used { OnOk result
         (used_in from.new.loaders + used_in to.new.loaders
         ≡ used_in from.old.loaders + used_in to.old.loaders) }
     ensures wanting { IfErr result (λ fault. fault ≡ RunFault.OutOfMemory) }
 {
-    let names = names_at(alloc, turn, &from.loaders, at)?;
+    let names = list_names(alloc, tasks)?;
     for name in names {
         hand_on(shared, name, from, to)?;
     }
     Ok(())
 }
 
-/// Lists the names of the loaders that are of a place.
-fn names_at(
-    alloc: Global,
-    turn: &Turn,
-    loaders: &Loaders,
-    at: usize,
-) -> Result<Vec<u16>, AllocError>
-    ensures { IfOk result
-        (λ names. names.items ≡ filter (is_placed (place_in turn.now) at) (keys_of loaders.now)) }
+/// Lists the names of the loaders that tasks name, each as often as they do.
+fn list_names(alloc: Global, tasks: &[Task]) -> Result<Vec<u16>, AllocError>
+    ensures { IfOk result (λ names. names.items ≡ names_in tasks.now) }
 {
     let mut names = Vec::new(alloc);
-    for (name, _) in loaders.iter() {
-        add_name(turn, at, *name, &mut names)?;
+    for task in tasks {
+        add_name(task.step, &mut names)?;
     }
     Ok(names)
 }
 
-/// Adds a name, where it is of the place.
-fn add_name(turn: &Turn, at: usize, name: u16, names: &mut Vec<u16>) -> Result<(), AllocError>
-    ensures { OnOk result
-        (names.new.items
-        ≡ names.old.items ++ filter (is_placed (place_in turn.now) at) (name ∷ [])) }
+/// Adds the loader that a step names, where it names one.
+fn add_name(step: Step, names: &mut Vec<u16>) -> Result<(), AllocError>
+    ensures { OnOk result (names.new.items ≡ names.old.items ++ name_with (loader_of step) []) }
 {
-    if turn.place(Some(name)) != at {
+    let Some(name) = loader_named(&step) else {
         return Ok(());
-    }
+    };
     names.push(name)?;
     Ok(())
 }

@@ -3,7 +3,7 @@
 //! Kept true: a share is worked by one thread, in the order of its tasks, and there is room for each
 //! reply before its thread starts; the share's seat of the meter counts what its loaders get and give
 //! back. Takes memory for the threads and their results; waits for the lock, and for the threads to end.
-ghost use Rattle.std.specs.Prelude.{◌≡◌, ◌≤◌, ℕ, IfOk, IfErr, vec_len};
+ghost use Rattle.std.specs.Prelude.{IfOk, IfErr};
 ghost use Rattle.std.specs.List.{All};
 ghost use Rattle.ms_run.specs.Replay.{IsWanting};
 ghost use Rattle.ms_run.specs.Shares.{IsReadyFor, IsWorked, AllWorked};

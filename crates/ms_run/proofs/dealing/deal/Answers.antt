@@ -1,6 +1,7 @@
 use Rattle.std.proofs.Common.{◌≡◌, ◌≤◌, ◌∙◌, sym, subst, vec_len, ℕ}
 use Rattle.ms_run.specs.Turn.{place_in}
-use Rattle.ms_run.specs.Shares.{AreWithin}
+use Rattle.ms_run.specs.Shares.{AreWithin, place_for}
+use Rattle.ms_run.proofs.StandByLemmas.{within_still}
 use Rattle.ms_run.proofs.DealLemmas.{seats_are, seats_count, are_dealt}
 use Rattle.ms_run.proofs.dealing.deal.Goals as goal
 
@@ -16,10 +17,13 @@ returns-clause-dealt c =
     let counted : vec_len c.in-Ok.seats ≡ c.shares-count.result =
     c.in-Ok.seats.ok.0
     ∙ seats_count c.in-Ok.shared c.shares-count.result c.in-Ok.seats.items c.args.pool few c.in-Ok.ensures.seats in
-    are_dealt (place_in c.args.turn.now) c.in-Ok.shared (vec_len c.in-Ok.seats) c.args.lines.now c.args.loaders
+    are_dealt (place_for (place_in c.args.turn.now) c.args.lines.now) c.in-Ok.shared
+    (vec_len c.in-Ok.seats) c.args.lines.now c.args.loaders
     c.in_ok-shares.shares.items c.in_ok-shares.ensures.dealt
-    (subst (AreWithin (place_in c.args.turn.now)) (sym (counted ∙ c.shares-count.ensures.count))
-    c.place.ensures.all_within)
+    (subst (AreWithin (place_for (place_in c.args.turn.now) c.args.lines.now))
+    (sym (counted ∙ c.shares-count.ensures.count))
+    (within_still (place_in c.args.turn.now) c.args.lines.now _ c.shares-count.ensures.turn.some
+    c.place.ensures.all_within))
     (c.in-Ok.ensures.lock ∙ sym counted)
 
 pub returns-clause-count : goal.returns-clause-count

@@ -2,6 +2,8 @@ use Rattle.std.proofs.Common.{◌+◌, ◌∙◌, sym, ap, arith, vec_len, lengt
 use Rattle.ms_shared.specs.SeatView.{SeatState}
 use Rattle.ms_loaders.specs.Used.{used_in}
 use Rattle.ms_run.specs.Turn.{place_in}
+use Rattle.ms_run.specs.Shares.{place_for}
+use Rattle.ms_run.proofs.StandByLemmas.{handed_at, same_tasks}
 use Rattle.ms_run.specs.Dealing.{Loaded}
 use Rattle.ms_run.proofs.DealLemmas.{dealing_starts, dealing_on, dealing_ends, next_free, beside_none, none_left}
 use Rattle.ms_run.proofs.DealLemmas.{left_starts, left_more}
@@ -10,7 +12,8 @@ use Rattle.ms_run.proofs.dealing.deal_to.Goals as goal
 
 pub loop-seat-init : goal.loop-seat-init
 loop-seat-init c = (
-  dealing_starts (place_in c.args.turn.now) c.args.shared.now (vec_len c.args.seats) c.args.lines.now c.args.loaders
+  dealing_starts (place_for (place_in c.args.turn.now) c.args.lines.now) c.args.shared.now
+      (vec_len c.args.seats) c.args.lines.now c.args.loaders
       c.args.seats.items c.remove-seat.result _ _
       c.requires.seats c.requires.names c.remove-seat.ensures.value
       (c.into_iter-seat-iterator.ensures.into_iter_gives.0 ∙ c.remove-seat.ensures.items)
@@ -52,19 +55,26 @@ push_reserved-requires c =
 
 pub loop-seat-preserved : goal.loop-seat-preserved
 loop-seat-preserved c = (
-  dealing_on (place_in c.args.turn.now) c.args.shared.now (vec_len c.args.seats) c.args.lines.now c.args.loaders
+  dealing_on (place_for (place_in c.args.turn.now) c.args.lines.now) c.args.shared.now
+      (vec_len c.args.seats) c.args.lines.now c.args.loaders
       c.loop-seat.first.seat c.hand_all.new.from.seat
       c.loop-seat.first.loaders c.hand_all.new.from.loaders c.hand_all.new.to.seat c.hand_all.new.to.loaders
       c.in-Some.seat _ c.loop-seat.shares.items _ c.in_ok-share.share (c.len-at.result + 1)
       (rw c.in-Some.ensures.steps.0 at c.loop-seat.invariant.0)
       (omega (arith, c.len-at.ensures, c.loop-seat.shares.ok.0))
-      c.in_ok-hand_all.ensures.crews c.in_ok-hand_all.ensures.handed
+      c.in_ok-hand_all.ensures.crews
+      (handed_at (place_in c.args.turn.now) c.args.lines.now (c.len-at.result + 1) c.take_list-tasks.result.items
+      c.loop-seat.first.loaders c.hand_all.new.from.loaders c.hand_all.new.to.loaders (omega arith)
+      (c.loop-seat.invariant.2 (c.len-at.result + 1) c.take_list-tasks.result
+      (inr (omega (arith, c.len-at.ensures))) c.take_list-tasks.ensures.taken)
+      (rw c.as_slice.ensures.value at c.in_ok-hand_all.ensures.handed))
       (record {
         seat_is = c.in_ok-share.ensures.seat;
         loaders_are = c.in_ok-share.ensures.loaders;
         tasks = c.in_ok-share.ensures.tasks
             ∙ c.loop-seat.invariant.2 (c.len-at.result + 1) c.take_list-tasks.result
-            (inr (omega (arith, c.len-at.ensures))) c.take_list-tasks.ensures.taken;
+            (inr (omega (arith, c.len-at.ensures))) c.take_list-tasks.ensures.taken
+            ∙ sym (same_tasks (place_in c.args.turn.now) c.args.lines.now (c.len-at.result + 1));
         room = c.in_ok-share.ensures.room;
         none = c.in_ok-share.ensures.none;
       }) c.push_reserved.ensures.items,
@@ -83,7 +93,8 @@ loop-seat-preserved c = (
 
 pub returns-in-Ok-clause-dealt : goal.returns-in-Ok-clause-dealt
 returns-in-Ok-clause-dealt c =
-    dealing_ends (place_in c.args.turn.now) c.args.shared.now (vec_len c.args.seats) c.args.lines.now c.args.loaders
+    dealing_ends (place_for (place_in c.args.turn.now) c.args.lines.now) c.args.shared.now
+    (vec_len c.args.seats) c.args.lines.now c.args.loaders
     c.loop-seat.first.seat c.loop-seat.first.loaders
     c.loop-seat.seat-iterator.rest.items c.loop-seat.shares.items _ c.in_ok-share-2.share
     (none_left c.loop-seat.seat-iterator.rest.items
@@ -93,7 +104,8 @@ returns-in-Ok-clause-dealt c =
       seat_is = c.in_ok-share-2.ensures.seat;
       loaders_are = c.in_ok-share-2.ensures.loaders;
       tasks = c.in_ok-share-2.ensures.tasks
-          ∙ c.loop-seat.invariant.2 0 c.take_list-tasks-2.result (inl refl) c.take_list-tasks-2.ensures.taken;
+          ∙ c.loop-seat.invariant.2 0 c.take_list-tasks-2.result (inl refl) c.take_list-tasks-2.ensures.taken
+          ∙ sym (same_tasks (place_in c.args.turn.now) c.args.lines.now 0);
       room = c.in_ok-share-2.ensures.room;
       none = c.in_ok-share-2.ensures.none;
     }) c.in-Ok.ensures.items

@@ -1,12 +1,14 @@
 use Rattle.std.proofs.Common.{◌≡◌, ◌≤◌, drop, vec_len, vec_capacity}
 use Rattle.ms_run.specs.Turn.{place_in}
+use Rattle.ms_run.specs.Shares.{place_for}
 use Rattle.ms_run.proofs.DealLemmas.{IsDealing, AreLeft}
 use Rattle.ms_run.proofs.DealtUseLemmas.{IsShared}
 use Rattle.ms_run.proofs.dealing.deal_to.Given as goal
 
 abbrev pub invariant-loop-seat : goal.invariant-loop-seat
 invariant-loop-seat l =
-    IsDealing (place_in l.turn) l.shared (vec_len l.fn.seats) l.lines l.fn.loaders l.first.seat l.first.loaders
+    IsDealing (place_for (place_in l.turn) l.lines) l.shared (vec_len l.fn.seats)
+    l.lines l.fn.loaders l.first.seat l.first.loaders
     l.seat-iterator.rest.items l.shares.items
     × (vec_len l.fn.seats ≤ vec_capacity l.shares)
     × AreLeft (place_in l.turn) l.lines (vec_len l.shares) l.lists.items

@@ -1,12 +1,12 @@
 use Rattle.std.proofs.Common.{◌∙◌, sym, subst, refl}
-use Rattle.ms_run.specs.Turn.{place_in}
+use Rattle.ms_run.specs.Shares.{names_in}
 use Rattle.ms_run.proofs.DealLemmas.{IsHanding, handing_starts, handing_on, handing_ends, none_left}
 use Rattle.ms_run.proofs.dealing.hand_all.Goals as goal
 
 pub loop-name-init : goal.loop-name-init
 loop-name-init c = (
   c.requires.crews,
-  handing_starts (place_in c.args.turn.now) c.args.at c.args.from.now.loaders c.args.to.now.loaders _ c.requires.none
+  handing_starts c.args.from.now.loaders c.args.to.now.loaders (names_in c.args.tasks.now) _ c.requires.none
       (c.into_iter-name-iterator.ensures.into_iter_gives.0 ∙ c.in_ok-names.ensures),
   refl,
 )
@@ -16,11 +16,11 @@ hand_on-requires c = record { crews = c.loop-name.invariant.0 }
 
 pub loop-name-preserved : goal.loop-name-preserved
 loop-name-preserved c =
-    let so_far : IsHanding (place_in c.args.turn.now) c.args.at c.args.from.now.loaders c.loop-name.from.loaders
+    let so_far : IsHanding (names_in c.args.tasks.now) c.args.from.now.loaders c.loop-name.from.loaders
     c.loop-name.to.loaders c.loop-name.name-iterator.rest.items =
     c.loop-name.invariant.1 in (
       c.in_ok-hand_on.ensures.crews,
-      handing_on (place_in c.args.turn.now) c.args.at c.args.from.now.loaders c.loop-name.from.loaders
+      handing_on (names_in c.args.tasks.now) c.args.from.now.loaders c.loop-name.from.loaders
           c.loop-name.to.loaders _ _ c.in-Some.name _
           (rw c.in-Some.ensures.steps.0 at so_far) c.in_ok-hand_on.ensures.handed,
       c.in_ok-hand_on.ensures.used ∙ c.loop-name.invariant.2,
@@ -31,9 +31,9 @@ returns-clause-crews c = c.loop-name.invariant.0
 
 pub returns-clause-handed : goal.returns-clause-handed
 returns-clause-handed c =
-    handing_ends (place_in c.args.turn.now) c.args.at c.args.from.now.loaders c.loop-name.from.loaders
+    handing_ends (names_in c.args.tasks.now) c.args.from.now.loaders c.loop-name.from.loaders
     c.loop-name.to.loaders
-    (subst (IsHanding (place_in c.args.turn.now) c.args.at c.args.from.now.loaders c.loop-name.from.loaders
+    (subst (IsHanding (names_in c.args.tasks.now) c.args.from.now.loaders c.loop-name.from.loaders
     c.loop-name.to.loaders)
     (none_left c.loop-name.name-iterator.rest.items
     (sym c.loop-name.name-iterator.rest.ok.0 ∙ c.in-None.ensures.steps.0)) c.loop-name.invariant.1)

@@ -1,12 +1,12 @@
 use Rattle.std.proofs.Common.{◌≡◌, ◌+◌}
 use Rattle.ms_loaders.specs.Used.{used_in}
-use Rattle.ms_run.specs.Turn.{place_in}
 use Rattle.ms_run.specs.Dealing.{AreCrews}
+use Rattle.ms_run.specs.Shares.{names_in}
 use Rattle.ms_run.proofs.DealLemmas.{IsHanding}
 use Rattle.ms_run.proofs.dealing.hand_all.Given as goal
 
 abbrev pub invariant-loop-name : goal.invariant-loop-name
 invariant-loop-name l =
     AreCrews l.shared l.from.seat l.from.loaders l.to.seat l.to.loaders
-    × IsHanding (place_in l.turn) l.at l.fn.from.loaders l.from.loaders l.to.loaders l.name-iterator.rest.items
+    × IsHanding (names_in l.tasks) l.fn.from.loaders l.from.loaders l.to.loaders l.name-iterator.rest.items
     × (used_in l.from.loaders + used_in l.to.loaders ≡ used_in l.fn.from.loaders + used_in l.fn.to.loaders)

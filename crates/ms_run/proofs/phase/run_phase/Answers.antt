@@ -3,7 +3,10 @@ use Rattle.std.proofs.lemmas.List.{length-map}
 use Rattle.ms_base.specs.State.{Machine}
 use Rattle.ms_run.specs.Metering.{used_words_of, meter_of}
 use Rattle.ms_run.specs.Turn.{place_in}
-use Rattle.ms_run.proofs.PhaseLemmas.{own_seats, all_manned, same_count, all_answered, still_apart, ended, ended_alone}
+use Rattle.ms_run.specs.Shares.{place_for}
+use Rattle.ms_run.proofs.StandByLemmas.{same_tasks}
+use Rattle.ms_run.proofs.PhaseLemmas.{own_seats, all_manned, same_count, all_answered, still_apart, ended}
+use Rattle.ms_run.proofs.PhaseLemmas.{ended_alone, merges_still}
 use Rattle.ms_run.proofs.MeterSumLemmas.{ready_for, own_meters, used_machine, used_after}
 use Rattle.ms_run.proofs.phase.run_phase.Goals as goal
 
@@ -20,7 +23,9 @@ merge-requires-clause-count g c =
 pub merge-requires-clause-answered : goal.merge-requires-clause-answered
 merge-requires-clause-answered g c =
     all_answered (place_in c.activate.new.self) c.in_ok-shared.shares.items c.in_ok-shares.shares.items c.args.lines.now
-    c.in_ok-shared.ensures.dealt.tasks c.in_ok-shares.ensures.worked
+    (λ at share found. c.in_ok-shared.ensures.dealt.tasks at share found
+    ∙ same_tasks (place_in c.activate.new.self) c.args.lines.now at)
+    c.in_ok-shares.ensures.worked
 
 pub gather-requires-clause-stand : goal.gather-requires-clause-stand
 gather-requires-clause-stand g c = record {
@@ -33,8 +38,9 @@ gather-requires-clause-stand g c = record {
 
 pub gather-requires-clause-apart : goal.gather-requires-clause-apart
 gather-requires-clause-apart g c = (
-  place_in c.activate.new.self,
-  still_apart (place_in c.activate.new.self) c.in_ok-shared.shares.items c.in_ok-shares.shares.items c.args.lines.now
+  place_for (place_in c.activate.new.self) c.args.lines.now,
+  still_apart (place_for (place_in c.activate.new.self) c.args.lines.now) c.in_ok-shared.shares.items
+      c.in_ok-shares.shares.items c.args.lines.now
       c.in_ok-shared.ensures.dealt.apart c.in_ok-shared.ensures.dealt.tasks c.in_ok-shares.ensures.worked,
 )
 
@@ -58,11 +64,13 @@ close-requires-clause-count g c =
 
 pub returns-clause-phase : goal.returns-clause-phase
 returns-clause-phase g c =
-    ended (place_in c.activate.new.self) c.in_ok-shared.shared c.in_ok-shared.shares.items c.in_ok-shares.shares.items
+    ended (place_for (place_in c.activate.new.self) c.args.lines.now) c.in_ok-shared.shared
+    c.in_ok-shared.shares.items c.in_ok-shares.shares.items
     c.args.lines.now
     _ _ c.into_parts-pool.result.1 c.args.run.system _
     (ap (λ (m : Machine). m.loaders) (sym c.into_parts-pool.ensures.machine))
-    c.in_ok-shared.ensures.dealt c.in_ok-shares.ensures.worked c.in_ok-merge.ensures
+    c.in_ok-shared.ensures.dealt c.in_ok-shares.ensures.worked
+    (merges_still (place_in c.activate.new.self) _ c.args.lines.now _ _ c.in_ok-merge.ensures)
     c.in_ok-system.ensures.gathered c.in_ok-system.ensures.good c.in_ok-system.ensures.limits
     (c.in_ok-shared.ensures.limits ∙ ap (λ (m : Machine). m.limits) c.into_parts-pool.ensures.machine)
 

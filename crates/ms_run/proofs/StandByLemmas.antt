@@ -1,0 +1,179 @@
+-- Loaders that stand by: which names a share's tasks have, and that places which differ only for other
+-- names deal and merge alike. For dealing.rt and phase.rt.
+use Rattle.std.proofs.Common.{◌≡◌, ◌≢◌, ◌≤◌, ◌<◌, ◌+◌, ℕ, Bool, true, false, cond, ◌||◌, ◌&&◌, Option, Some}
+use Rattle.std.proofs.Common.{None, List, [], ◌∷◌, ◌++◌, length, refl, sym, ap, ◌∙◌, subst, arith, eq-eqb, ne_eqb}
+use Rattle.std.proofs.Common.{take, get_or}
+use Rattle.std.specs.Prelude.{◌==◌}
+use Rattle.std.specs.List.{AllByRecursion, filter}
+use Rattle.std.proofs.lemmas.Bool.{eqb-true}
+use Rattle.std.proofs.lemmas.List.{take_more}
+use Rattle.ms_base.specs.declared.step.Step.{Step}
+use Rattle.ms_base.specs.Committed.{is_among}
+use Rattle.ms_base.specs.Request.{loader_of}
+use Rattle.ms_trace.specs.declared.trace.Line.{Line}
+use Rattle.ms_loaders.specs.declared.replies.Answer.{Answer}
+use Rattle.ms_run.specs.declared.share.Task.{Task}
+use Rattle.ms_run.specs.declared.share.Share.{Share}
+use Rattle.ms_run.specs.Own.{Said}
+use Rattle.ms_run.specs.Replay.{AreSaid}
+use Rattle.ms_run.specs.Shares.{Place, AreWithin, AreMerged, names_in, name_with, placed_by, place_for, task_of}
+use Rattle.ms_run.specs.Shares.{tasks_of, tasks_at}
+use Rattle.ms_run.specs.Dealing.{Loaded, AreHanded, AreHandedAt}
+
+-- The names of some tasks, and of one more.
+name_joined : (o : Option ℕ) (names more : List ℕ) → name_with o (names ++ more) ≡ name_with o names ++ more
+name_joined None names more = refl
+name_joined (Some name) names more = refl
+
+names_joined : (tasks : List Task) (task : Task)
+    → names_in (tasks ++ task ∷ []) ≡ names_in tasks ++ name_with (loader_of task.step) []
+names_joined [] task = refl
+names_joined (x ∷ tasks) task =
+    ap (name_with (loader_of x.step)) (names_joined tasks task)
+    ∙ name_joined (loader_of x.step) (names_in tasks) (name_with (loader_of task.step) [])
+
+pub names_more : (tasks : List Task) (i : ℕ) (d : Task) (names new : List ℕ) → i < length tasks
+    → names ≡ names_in (take i tasks) → new ≡ names ++ name_with (loader_of (get_or tasks i d).step) []
+    → new ≡ names_in (take (i + 1) tasks)
+names_more tasks i d names new within before added =
+    added ∙ ap (λ (l : List ℕ). l ++ name_with (loader_of (get_or tasks i d).step) []) before
+    ∙ sym (names_joined (take i tasks) (get_or tasks i d)) ∙ ap names_in (sym (take_more tasks i d within))
+
+-- A name is of the tasks that go to a place, where it is of the tasks and goes there.
+or_more : (b c d p : Bool) → c ≡ (d && p) → (b ≡ true → p ≡ true) → (b || c) ≡ ((b || d) && p)
+or_more true c d true same goes = refl
+or_more true c d false same goes = absurd (let no : false ≡ true = goes refl in cc)
+or_more false c d p same goes = same
+
+or_less : (b c d p : Bool) → c ≡ (d && p) → (b ≡ true → p ≡ false) → c ≡ ((b || d) && p)
+or_less true c true true same stays = absurd (let no : true ≡ false = stays refl in cc)
+or_less true c false true same stays = absurd (let no : true ≡ false = stays refl in cc)
+or_less true c true false same stays = same
+or_less true c false false same stays = same
+or_less false c d p same stays = same
+
+abbrev at_place : Place → ℕ → List Task → List Task
+at_place place at xs = filter (λ (task : Task). place (loader_of task.step) == at) xs
+
+pub among_at : (place : Place) (at : ℕ) (xs : List Task) (name : ℕ)
+    → is_among (names_in (at_place place at xs)) name ≡ (is_among (names_in xs) name && (place (Some name) == at))
+among_at place at [] name = refl
+among_at place at (x ∷ xs) name =
+    by_name (loader_of x.step) refl (place (loader_of x.step) == at) refl (among_at place at xs name)
+  where
+    by_name : (o : Option ℕ) → loader_of x.step ≡ o → (b : Bool) → (place (loader_of x.step) == at) ≡ b
+        → is_among (names_in (at_place place at xs)) name
+        ≡ (is_among (names_in xs) name && (place (Some name) == at))
+        → is_among (names_in (cond b (x ∷ at_place place at xs) (at_place place at xs))) name
+        ≡ (is_among (name_with (loader_of x.step) (names_in xs)) name && (place (Some name) == at))
+    by_name None is true goes rest = rw is rest
+    by_name None is false stays rest = rw is rest
+    by_name (Some n) is true goes rest = rw is (or_more (n == name) _ _ _ rest
+        (λ e. ap (λ (k : ℕ). place (Some k) == at) (sym (eqb-true n name e)) ∙ (rw is at goes)))
+    by_name (Some n) is false stays rest = rw is (or_less (n == name) _ _ _ rest
+        (λ e. ap (λ (k : ℕ). place (Some k) == at) (sym (eqb-true n name e)) ∙ (rw is at stays)))
+
+-- What went over by the names of a share's tasks went over by its place.
+both : (c p : Bool) → c ≡ true → p ≡ true → (c && p) ≡ true
+both true true is goes = refl
+both true false is goes = absurd (cc)
+both false p is goes = absurd (cc)
+
+not_both : (c p : Bool) → (c ≡ true → p ≡ false) → (c && p) ≡ false
+not_both true p not = not refl
+not_both false p not = refl
+
+goes_there : (c : Bool) (p at : ℕ) → 1 ≤ at → cond c p 0 ≡ at → (c && (p == at)) ≡ true
+goes_there true p at some is = both true (p == at) refl (eq-eqb p at is)
+goes_there false p at some is = absurd (omega (arith, some, is))
+
+stays_away : (c : Bool) (p at : ℕ) → cond c p 0 ≢ at → (c && (p == at)) ≡ false
+stays_away true p at differs = not_both true (p == at) (λ e. ne_eqb p at differs)
+stays_away false p at differs = refl
+
+pub handed_at : (place : Place) (lines : List Line) (at : ℕ) (tasks : List Task) (left left' others : Loaded) → 1 ≤ at
+    → tasks ≡ tasks_at place at lines → AreHanded (names_in tasks) left left' others
+    → AreHandedAt (place_for place lines) at left left' others
+handed_at place lines at tasks left left' others some are its = record {
+  here = λ name is. its.here name (among name ∙ goes_there (is_among all name) (place (Some name)) at some is);
+  apart = λ name differs. its.apart name
+      (among name ∙ stays_away (is_among all name) (place (Some name)) at differs);
+}
+  where
+    all : List ℕ
+    all = names_in (tasks_of lines)
+
+    among : (name : ℕ) → is_among (names_in tasks) name ≡ (is_among all name && (place (Some name) == at))
+    among name = ap (λ (l : List Task). is_among (names_in l) name) are ∙ among_at place at (tasks_of lines) name
+
+-- Filters by tests that agree on the elements.
+alike : {X : Type 0} (p q : X → Bool) (xs : List X) → AllByRecursion (λ x. p x ≡ q x) xs → filter p xs ≡ filter q xs
+alike p q [] same = refl
+alike {X} p q (x ∷ xs) same =
+    ap (λ b. cond b (x ∷ filter p xs) (filter p xs)) same.0
+    ∙ ap (λ (l : List X). cond (q x) (x ∷ l) l) (alike p q xs same.1)
+
+-- A place that is kept for the names of a list.
+abbrev IsIn : List ℕ → List ℕ → Type 0
+IsIn names all = (name : ℕ) → is_among names name ≡ true → is_among all name ≡ true
+
+first_in : (o : Option ℕ) (names all : List ℕ) → IsIn (name_with o names) all → IsIn names all
+first_in None names all sub = sub
+first_in (Some n) names all sub = λ name e. sub name (later (n == name) (is_among names name) e)
+  where
+    later : (b c : Bool) → c ≡ true → (b || c) ≡ true
+    later true c e = refl
+    later false c e = e
+
+kept_place : (place : Place) (o : Option ℕ) (names all : List ℕ) → IsIn (name_with o names) all
+    → placed_by place all o ≡ place o
+kept_place place None names all sub = refl
+kept_place place (Some n) names all sub =
+    ap (λ c. cond c (place (Some n)) 0) (sub n (ap (λ b. b || is_among names n) (eq-eqb n n refl)))
+
+tasks_alike : (place : Place) (all : List ℕ) (at : ℕ) (xs : List Task) → IsIn (names_in xs) all
+    → AllByRecursion (λ (task : Task). (placed_by place all (loader_of task.step) == at)
+    ≡ (place (loader_of task.step) == at)) xs
+tasks_alike place all at [] sub = tt
+tasks_alike place all at (x ∷ xs) sub = (
+  ap (λ (n : ℕ). n == at) (kept_place place (loader_of x.step) (names_in xs) all sub),
+  tasks_alike place all at xs (first_in (loader_of x.step) (names_in xs) all sub),
+)
+
+-- The lines go to the same shares.
+pub same_tasks : (place : Place) (lines : List Line) (at : ℕ)
+    → tasks_at (place_for place lines) at lines ≡ tasks_at place at lines
+same_tasks place lines at =
+    alike (λ (task : Task). place_for place lines (loader_of task.step) == at)
+    (λ (task : Task). place (loader_of task.step) == at) (tasks_of lines)
+    (tasks_alike place (names_in (tasks_of lines)) at (tasks_of lines) (λ name e. e))
+
+said_alike : (place : Place) (all : List ℕ) (at : ℕ) (lines : List Line) (answers : List Answer) (said : List Said)
+    → AreSaid lines answers said → IsIn (names_in (tasks_of lines)) all
+    → AllByRecursion (λ (s : Said). (placed_by place all (loader_of s.0) == at) ≡ (place (loader_of s.0) == at)) said
+said_alike place all at [] [] [] told sub = tt
+said_alike place all at (line ∷ lines) (answer ∷ answers) (s ∷ said) told sub =
+    let mine : IsIn (name_with (loader_of s.0) (names_in (tasks_of lines))) all =
+    subst (λ (o : Option Step). IsIn (names_in (task_of line o (tasks_of lines))) all) told.0 sub in (
+      ap (λ (n : ℕ). n == at) (kept_place place (loader_of s.0) (names_in (tasks_of lines)) all mine),
+      said_alike place all at lines answers said told.4 (first_in (loader_of s.0) (names_in (tasks_of lines)) all mine),
+    )
+said_alike place all at _ _ _ told sub = absurd told
+
+-- And so do the replies.
+pub same_merged : (place : Place) (others : List Share) (lines : List Line) (answers : List Answer) (said : List Said)
+    → AreSaid lines answers said → AreMerged place others said → AreMerged (place_for place lines) others said
+same_merged place others lines answers said told merged = λ at share found.
+    alike (λ (s : Said). place_for place lines (loader_of s.0) == at) (λ (s : Said). place (loader_of s.0) == at) said
+    (said_alike place (names_in (tasks_of lines)) at lines answers said told (λ name e. e))
+    ∙ merged at share found
+
+-- All go to one of the shares still.
+pub within_still : (place : Place) (lines : List Line) (count : ℕ) → 1 ≤ count → AreWithin place count
+    → AreWithin (place_for place lines) count
+within_still place lines count some within None = within None
+within_still place lines count some within (Some name) =
+    elim (is_among (names_in (tasks_of lines)) name) as (λ c. cond c (place (Some name)) 0 < count) [
+      | true ↦ within (Some name)
+      | false ↦ omega (arith, some)
+    ]
