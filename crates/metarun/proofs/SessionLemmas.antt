@@ -1,5 +1,5 @@
 -- The text that the answers of a run make. Used by `answer_to` of `session`.
-use Rattle.std.proofs.Common.{◌≡◌, ℕ, Bool, List, [], ◌∷◌, Option, Some, None, refl, ap}
+use Rattle.std.proofs.Common.{◌≡◌, ℕ, Bool, List, [], ◌∷◌, Option, Some, None, refl, ap, Box, Global}
 use Rattle.ms_base.specs.State.{Machine}
 use Rattle.ms_trace.specs.declared.trace.Command.{Command}
 use Rattle.ms_trace.specs.declared.trace.Command.TheVariants.{Step as Asks, Sync, Report}
@@ -12,7 +12,7 @@ use Rattle.ms_run.specs.Replay.{Reports, Answers}
 use Rattle.metarun.specs.Session.{report_of, Outputs}
 
 -- The text after an answer is the report that the command asks for.
-after_answer : (command : Command) (m : Machine) (report : Option Totals) → Reports command m report
+after_answer : (command : Command) (m : Machine) (report : Option (Box Totals Global)) → Reports command m report
     → report_after report ≡ report_of command m
 after_answer (Asks step) m report none = ap report_after none
 after_answer Sync m report none = ap report_after none

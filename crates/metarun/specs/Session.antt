@@ -1,5 +1,6 @@
 -- What a session writes for a trace (this project's choice).
-use Rattle.std.specs.Prelude.{◌≡◌, ℕ, Bool, List, [], ◌∷◌, ◌++◌}
+use Rattle.std.specs.Prelude.{◌≡◌, ◌⊎◌, ℕ, Bool, List, [], ◌∷◌, ◌++◌, Option, IfSome, take}
+use Rattle.std.specs.Io.KnownBytes.{Appends, Keeps}
 use Rattle.ms_base.specs.declared.step.Reply.{Reply}
 use Rattle.ms_base.specs.declared.settings.Settings.{Settings}
 use Rattle.ms_base.specs.State.{Machine, empty_machine, limits_of}
@@ -15,6 +16,7 @@ use Rattle.ms_loaders.specs.declared.replies.Answer.{Answer}
 use Rattle.ms_report.specs.Sections.{report_text}
 use Rattle.ms_report.specs.ReplyLines.{answers_text}
 use Rattle.ms_run.specs.Replay.{Advances, IsReplay}
+use Rattle.metarun.specs.declared.options.Options.{Options}
 
 -- What follows the reply to a command: the report of the machine where one is asked for.
 abbrev pub report_of : Command → Machine → List ℕ
@@ -42,3 +44,9 @@ pub record IsOutput (addresses : Bool) (settings : Settings) (text output : List
   pub output_is : output ≡ answers_text addresses answers
   pub run : settings.workers ≡ 1
       → (last : Machine) × Outputs addresses (empty_machine (limits_of settings)) trace.lines output last
+
+-- What a session leaves on an output where a device fails: the output as it was, or with the
+-- beginning of what it writes for the text.
+abbrev pub IsBrokenOff : Options → Option (List ℕ) → Option (List ℕ) → Option (List ℕ) → Type 0
+IsBrokenOff options remaining old new = Keeps old new ⊎ IfSome remaining (λ text. (written : List ℕ) × (count : ℕ)
+    × IsOutput options.addresses options.settings text written × Appends old new (take count written))

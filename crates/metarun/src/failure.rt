@@ -6,6 +6,7 @@ use crate::devices::ReadFault;
 use ms_run::RunFault;
 use ms_trace::{ParseFault, TraceFault};
 use std::alloc::AllocError;
+use std::io::Write;
 use thiserror::Error;
 
 /// Why a session ends without an answer to each line. Its text is the line on standard error.
@@ -42,6 +43,15 @@ impl Failure {
             Failure::Unsettled { .. } => 4,
             Failure::Input | Failure::Output => 5,
         }
+    }
+
+    /// Writes its line on `errors`, and tells the exit status. Whether the line comes out changes
+    /// no status.
+    pub fn tell<E: Write>(&self, errors: &mut E) -> u8
+        ensures { result ≡ status_of self.now }
+    {
+        let _ = writeln!(errors, "{self}");
+        self.status()
     }
 }
 

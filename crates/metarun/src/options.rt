@@ -36,8 +36,8 @@ impl Options {
 /// Why a command line gives no options.
 #[derive(Debug, Drop)]
 pub enum Refused {
-    /// Help was asked for; this is its text, for standard output.
-    Help(String),
+    /// Help or the version was asked for; this is its text, for standard output.
+    Told(String),
     /// The line is refused; this text says why, for standard error.
     Usage(String),
     /// Addresses are asked for of more than one worker.
@@ -47,10 +47,10 @@ pub enum Refused {
 }
 
 /// Reads a command line, whose first word is the program's name. Granules count 8192 words each,
-/// 2048 under policy aggressive; nodes count 1048576 words each. `Help` comes where the first of
-/// the faults is a use of `--help`, `Usage` for an unknown or repeated option, a missing value, or
-/// one out of its range, `Addresses` where blocks' addresses are asked for of more than one worker,
-/// since a schedule decides them. Takes memory. This project's choice.
+/// 2048 under policy aggressive; nodes count 1048576 words each. `Told` comes where the first of
+/// the faults is a use of `--help` or of `--version`, `Usage` for an unknown or repeated option, a
+/// missing value, or one out of its range, `Addresses` where blocks' addresses are asked for of more
+/// than one worker, since a schedule decides them. Takes memory. This project's choice.
 pub fn options_of<'a, S: AsStr>(alloc: Global, words: &'a [S]) -> Result<Options, Refused>
     ensures allowed { IfOk result IsAllowed }
     ensures default { length words.entry.now ≤ 1 → IsOkAnd result IsDefault }
@@ -75,7 +75,7 @@ fn reason_of(alloc: Global, error: &clap::Error) -> Refused {
     };
     match error.kind() {
         ErrorKind::OutOfMemory => Refused::OutOfMemory,
-        ErrorKind::DisplayHelp => Refused::Help(text),
+        ErrorKind::DisplayHelp | ErrorKind::DisplayVersion => Refused::Told(text),
         _ => Refused::Usage(text),
     }
 }
@@ -152,6 +152,9 @@ fn policy_named(word: &str) -> Policy
     }
 }
 
+/// The version, and the toolchain that all is proved with.
+const VERSION: &str = "1.0.0 (proved with rattle-kit-13b logic dac8208d650f15bf)";
+
 /// The first words of the help.
 const ABOUT: &str = "Runs a trace of class loader operations over an elastic metaspace.
 
@@ -162,7 +165,7 @@ for each operation: its line number, and 'ok', 'at A', 'value V' or 'refused NAM
 
 /// The last words of the help.
 const AFTER: &str = "Exit status:
-  0  each line is answered, refused ones included; or this help
+  0  each line is answered, refused ones included; or this help, or the version
   1  the trace has a fault, which is told on standard error
   2  the command line is refused; nothing was read
   3  memory or a thread is wanting in the run itself
@@ -186,6 +189,7 @@ fn command<'a>(alloc: Global) -> Result<Command<'a>, AllocError> {
         .help("What becomes of freed memory [default: balanced]");
     Command::new(alloc, "metarun")
         .bin_name("metarun")?
+        .version(VERSION)
         .about(ABOUT)
         .after_help(AFTER)
         .arg(workers(alloc))?

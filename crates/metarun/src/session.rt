@@ -4,7 +4,7 @@ ghost use Rattle.std.specs.Io.KnownBytes.{Appends, Keeps};
 ghost use Rattle.ms_trace.specs.declared.fault.FaultKind.{FaultKind};
 ghost use Rattle.ms_trace.specs.Faults.{HasFault};
 ghost use Rattle.metarun.specs.Failure.{Blames, IsSettled};
-ghost use Rattle.metarun.specs.Session.{IsOutput};
+ghost use Rattle.metarun.specs.Session.{IsOutput, IsBrokenOff};
 
 use crate::devices::{read_text, write_text};
 use crate::failure::Failure;
@@ -20,9 +20,9 @@ use std::thread::Threads;
 /// Reads a trace, runs it, and writes the answer to each of its lines; answers the exit status.
 ///
 /// 0: each line is answered. 1: the trace has a fault, told on `errors`; 3: memory or a thread was
-/// wanting; in both cases nothing was written to `output`. 5: a device failed. Nothing runs before
-/// the whole trace is read. With two workers or more it waits for their threads. This project's
-/// choice.
+/// wanting; in both cases nothing was written to `output`. 5: a device failed, and no more than a
+/// beginning of the answer was written. Nothing runs before the whole trace is read. With two
+/// workers or more it waits for their threads. This project's choice.
 pub fn session<T: Threads + Wait + Sync, R: Read, W: Write, E: Write>(
     rt: &T,
     alloc: Global,
@@ -38,18 +38,18 @@ pub fn session<T: Threads + Wait + Sync, R: Read, W: Write, E: Write>(
         × (kind : FaultKind) × HasFault bytes line kind) }
     ensures untouched { (result ≡ 1) ⊎ (result ≡ 3)
         → Keeps (W.contents output.old) (W.contents output.new) }
+    ensures failed { result ≡ 5
+        → IsBrokenOff options.now (R.remaining input.old)
+        (W.contents output.old) (W.contents output.new) }
     ensures statuses { (result ≡ 0) ⊎ (result ≡ 1) ⊎ (result ≡ 3) ⊎ (result ≡ 5) }
 {
-    let failure = match answer_to(rt, alloc, options, input) {
+    match answer_to(rt, alloc, options, input) {
         Ok(text) => match write_text(output, text.as_bytes()) {
-            Ok(()) => return 0,
-            Err(_) => Failure::Output,
+            Ok(()) => 0,
+            Err(_) => Failure::Output.tell(errors),
         },
-        Err(failure) => failure,
-    };
-    // Whether the line comes out changes no status.
-    let _ = writeln!(errors, "{failure}");
-    failure.status()
+        Err(failure) => failure.tell(errors),
+    }
 }
 
 /// Reads a trace, runs it, and gives the text that answers it.

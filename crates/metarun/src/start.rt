@@ -20,10 +20,10 @@ use std::thread::Threads;
 /// Reads a command line, whose first word is the program's name, and runs what it asks for;
 /// answers the exit status.
 ///
-/// 0: each line of the trace is answered, or the help was written. 2: the command line is refused,
-/// told on `errors`, and nothing was read or written to `output`. The other statuses are those of
-/// a session; 3 and 5 also come where help lacks memory or could not be written. This project's
-/// choice.
+/// 0: each line of the trace is answered, or the help or the version was written. 2: the command
+/// line is refused, told on `errors`, and nothing was read or written to `output`. The other
+/// statuses are those of a session; 3 and 5 also come where help lacks memory or could not be
+/// written. This project's choice.
 pub fn start<T: Threads + Wait + Sync, S: AsStr, R: Read, W: Write, E: Write>(
     rt: &T,
     alloc: Global,
@@ -51,30 +51,29 @@ pub fn start<T: Threads + Wait + Sync, S: AsStr, R: Read, W: Write, E: Write>(
 /// The line on standard error where addresses are asked for of several workers.
 const ADDRESSES_ALONE: &str = "metarun: --addresses needs --workers 1\n";
 
-/// Tells why there are no options: help on `output`, all else on `errors`; answers the exit status.
+/// Tells why there are no options: help and version on `output`, all else on `errors`; answers the
+/// exit status.
 fn tell<W: Write, E: Write>(refused: Refused, output: &mut W, errors: &mut E) -> u8
     ensures no_fault { result ≢ 1 }
     ensures untouched { result ≡ 2 → Keeps (W.contents output.old) (W.contents output.new) }
     ensures statuses { result ≤ 5 }
 {
-    let failure = match refused {
-        Refused::Help(text) => match write_text(output, text.as_bytes()) {
-            Ok(()) => return 0,
-            Err(_) => Failure::Output,
+    match refused {
+        Refused::Told(text) => match write_text(output, text.as_bytes()) {
+            Ok(()) => 0,
+            Err(_) => Failure::Output.tell(errors),
         },
         Refused::Usage(text) => {
             // Whether the text comes out changes no status.
             let _ = write_text(errors, text.as_bytes());
-            return 2;
+            2
         }
         Refused::Addresses => {
             let _ = write_text(errors, ADDRESSES_ALONE.as_bytes());
-            return 2;
+            2
         }
-        Refused::OutOfMemory => Failure::OutOfMemory,
-    };
-    let _ = writeln!(errors, "{failure}");
-    failure.status()
+        Refused::OutOfMemory => Failure::OutOfMemory.tell(errors),
+    }
 }
 
 #[cfg(test)]

@@ -1,6 +1,9 @@
 mod RowLemmas
+mod CountLemmas
+mod PutLemmas
 mod ChunkLemmas
 mod AwaitLemmas
 mod BookLemmas
 mod AllocLemmas
 mod ArenaLemmas
+mod PagesLemmas

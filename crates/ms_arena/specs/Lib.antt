@@ -3,3 +3,4 @@ pub mod Alloc
 pub mod ArenaSums
 pub mod Rows
 pub mod Books
+pub mod Pages

@@ -14,7 +14,7 @@
 //! and on `rows` for live blocks. Only `place` and `alloc` take memory; `alloc` waits as its source
 //! does. After HotSpot's metaspaceArena.cpp; best fit and live blocks are this project's choice.
 ghost use Rattle.std.specs.Prelude.{◌≡◌, ◌≢◌, ◌↔◌, ℕ, ◌+◌, ◌<◌, ◌≤◌, ◌^◌, None, Err, IfOk, OnOk, IfErr, OnErr, IfSome};
-ghost use Rattle.std.specs.Prelude.{IfNone, [], List, length, replicate, true, false};
+ghost use Rattle.std.specs.Prelude.{IfNone, [], List, length, true, false};
 ghost use Rattle.ms_base.specs.Level.{size_of};
 ghost use Rattle.ms_base.specs.Live.{block_words};
 ghost use Rattle.ms_base.specs.Names.{named};
@@ -31,7 +31,7 @@ ghost use Rattle.ms_arena.specs.Books.{AsksFor, ForAllLive, HasLooked, MayLook, 
 use crate::books::Books;
 use crate::rows::Rows;
 use crate::totals::{ArenaTotals, sums_of};
-use ms_base::{Block, Chunk, Kind, ROOT_WORDS, Refusal, Words, level_for};
+use ms_base::{Block, Chunk, Kind, ROOT_WORDS, Refusal, level_for};
 use ms_pool::{Account, ChunkSource};
 use std::alloc::Global;
 use std::marker::Model;
@@ -84,13 +84,13 @@ impl Arena {
         ensures unchanged { OnErr result (self.new ≡ self.old) }
     {
         let n = asked(words)?;
-        let contents = made_room(&mut self.books, &mut self.live, self.alloc, n)?;
+        made_room(&mut self.books, &mut self.live, self.alloc, n)?;
         match self.books.place(n) {
             None => Ok(None),
             Some(start) => {
                 // That the account's chunks are chunks of its space is learnt here.
                 let _ = self.books.account();
-                self.live.insert(start, contents);
+                self.live.insert(start, n);
                 Ok(Some(Block { start, words: n }))
             }
         }
@@ -111,11 +111,11 @@ impl Arena {
         ensures unchanged { OnErr result (self.new ≡ self.old) }
     {
         let n = asked(words)?;
-        let contents = made_room(&mut self.books, &mut self.live, self.alloc, n)?;
+        made_room(&mut self.books, &mut self.live, self.alloc, n)?;
         let start = start_of(&mut self.books, source, self.kind, n)?;
         // That the account's chunks are chunks of its space is learnt here.
         let _ = self.books.account();
-        self.live.insert(start, contents);
+        self.live.insert(start, n);
         Ok(Block { start, words: n })
     }
 
@@ -182,8 +182,7 @@ impl Arena {
         self.kind
     }
 
-    /// Tells the sums over the arena. Takes no memory, and looks at each chunk and each live block
-    /// once.
+    /// Tells the sums over the arena. Takes no memory, and looks at each chunk once.
     pub fn totals(&self) -> ArenaTotals
         ensures sums { AreSums result self.now }
         ensures small { result.capacity < 2 ^ 52 }
@@ -222,23 +221,18 @@ fn asked(words: u64) -> Result<u64, Refusal>
 /// Makes all room that a block of n words may need: for its words, its row, a top, and for free
 /// blocks, as many as live blocks and two more: its own when it is freed, and the rest of a chunk
 /// that retires.
-fn made_room(books: &mut Books, live: &mut Rows, alloc: Global, n: u64) -> Result<Words, Refusal>
-    ensures contents { IfOk result (λ contents. contents ≡ replicate n 0) }
+fn made_room(books: &mut Books, live: &mut Rows, alloc: Global, n: u64) -> Result<(), Refusal>
     ensures room { OnOk result (length live.new.blocks + 2 ≤ books.new.room) }
     ensures places { OnOk result (0 < books.new.places) }
-    ensures row { OnOk result (0 < live.new.room) }
+    ensures row { OnOk result (n ≤ live.new.room) }
     ensures more { books.old.room ≤ books.new.room }
     ensures books { books.new ≡ record books.old { room = books.new.room; places = books.new.places } }
     ensures blocks { live.new.blocks ≡ live.old.blocks }
     ensures refused { IfErr result (λ refusal. refusal ≡ Refusal.OutOfMemory) }
 {
     books.make_room(live.len() + 2)?;
-    match live.reserve() {
-        Ok(()) => {}
-        Err(_) => return Err(Refusal::OutOfMemory),
-    }
-    match Words::zeros(alloc, n as usize) {
-        Ok(contents) => Ok(contents),
+    match live.reserve(alloc, n) {
+        Ok(()) => Ok(()),
         Err(_) => Err(Refusal::OutOfMemory),
     }
 }

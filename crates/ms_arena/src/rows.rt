@@ -1,44 +1,71 @@
-//! The live blocks of one arena: a hash map from where each block starts to the words that it has.
+//! The live blocks of one arena: a hash map from where each block starts to where its words are.
 //!
-//!     start            512         0         12
-//!     rows         |  words  |  words  |  words  |  room  |
+//!     starts        512         0         12         520
+//!     rows      |  live   |  live   |   free   |  live  |  room  |
+//!                    \__________\________ \         /
+//!     words     | row 0's | row 512's | row 12's | row 520's |  not handed out  |
+//!               0                                            top
 //!
-//! Starts and sizes are in words of 8 bytes; the rows lie in no order. A row is found, added and taken
-//! out in about the same time, however many blocks are live.
+//! Starts and sizes are in words of 8 bytes; the rows lie in no order. A row is found and added in
+//! about the same time, however many blocks are live.
+//! Each row has words of its own, and keeps them when its block is freed: a block that starts there
+//! again has them, and what it leaves of them becomes a free row, as the arena's free block does.
+//! Kept true: the words of any two rows lie apart, and below the top.
 //! Only `reserve` takes memory: a row is inserted in room that was made before, so that nothing fails
-//! once a source has lent a chunk.
+//! once a source has lent a chunk. Stands on `pages` for the words.
 //! HotSpot's arenas know no live blocks; that this one does is this project's choice.
-ghost use Rattle.std.specs.Prelude.{◌≡◌, ℕ, ◌^◌, ◌<◌, IfOk, OnOk, OnErr, IfErr, IfSome, IfNone, length, List, [], None};
+ghost use Rattle.std.specs.Prelude.{◌≡◌, ℕ, ◌+◌, ◌*◌, ◌^◌, ◌<◌, ◌≤◌, IfOk, OnOk, OnErr, IfErr, IfSome, IfNone, length, List};
+ghost use Rattle.std.specs.Prelude.{[], Some, None, true, false, nat_eq, replicate};
 ghost use Rattle.std.specs.List.{sum_by};
+ghost use Rattle.std.specs.Map.{lookup};
 ghost use Rattle.ms_base.specs.Names.{named, with_new, without};
-ghost use Rattle.ms_base.specs.Hashed.{by_name};
-ghost use Rattle.ms_arena.specs.Rows.{HasRow, LacksRow, ReadsRow, WritesRow, RowRefused};
+ghost use Rattle.std.specs.HashMap.{spare};
+ghost use Rattle.ms_arena.specs.Rows.{HasRow, LacksRow, ReadsRow, WritesRow, RowRefused, IsLiveRow, IsFreeRow, Puts};
+ghost use Rattle.ms_arena.specs.Rows.{KeepsRest, LieApart, live_of, row_at};
 
-use ms_base::{Block, Refusal, Words};
+use crate::pages::Pages;
+use ms_base::{Block, Refusal};
 use std::alloc::{AllocError, Global};
 use std::collections::HashMap;
 use std::marker::Model;
 
+/// A block that is live, or was.
+#[derive(Clone, Copy, Drop)]
+pub struct Row {
+    /// Where its words begin in the list of words.
+    at: usize,
+    /// How many words it has.
+    words: u64,
+    /// Whether it is live.
+    live: bool,
+}
+
 /// The live blocks of one arena, and room for more of them. A start is a word number.
 #[derive(Drop)]
 pub struct Rows {
-    /// The words of each live block, by its start.
-    rows: HashMap<u64, Words>,
-    /// How many rows more may be inserted before `reserve` is asked again: 0 or 1.
-    room: usize,
+    /// The rows, by their starts.
+    rows: HashMap<u64, Row>,
+    /// The words of the rows.
+    words: Pages,
+    /// How many words were handed out to rows.
+    top: usize,
+    /// How many words a block may have that is inserted before `reserve` is asked again.
+    room: u64,
+    /// How many rows are live.
+    count: usize,
+    /// How many words the live rows have together, modulo 2^64.
+    total: u64,
 }
 
 impl Model for Rows {
-    ghost use Rattle.std.specs.Prelude.{◌≤◌};
     ghost use Rattle.std.specs.HashMap.{spare};
-    ghost use Rattle.ms_base.specs.Hashed.{by_name};
-    ghost use Rattle.ms_arena.specs.Rows.{LiveRows};
+    ghost use Rattle.ms_arena.specs.Rows.{LiveRows, AreRows, live_of};
 
     ghost Value = { LiveRows };
 
-    ghost view = { λ r. record { blocks = by_name r.rows.entries; room = r.room } };
+    ghost view = { λ r. record { blocks = live_of r.words r.rows.entries; room = r.room } };
 
-    ghost invariant = { λ r. r.room ≤ spare r.rows };
+    ghost invariant = { λ r. AreRows r.rows.entries r.words r.top r.room r.count r.total (spare r.rows) };
 }
 
 impl Rows {
@@ -48,7 +75,11 @@ impl Rows {
     {
         Rows {
             rows: HashMap::new(alloc),
+            words: Pages::new(alloc),
+            top: 0,
             room: 0,
+            count: 0,
+            total: 0,
         }
     }
 
@@ -57,16 +88,23 @@ impl Rows {
         ensures count { result ≡ length self.now.blocks }
         ensures small { result < 2 ^ 63 }
     {
-        self.rows.len()
+        // That rows are fewer than 2^63 is learnt here.
+        let _ = self.rows.len();
+        self.count
     }
 
-    /// Makes room for one more block; the blocks stay.
-    pub fn reserve(&mut self) -> Result<(), AllocError>
-        ensures room { OnOk result (0 < self.new.room) }
+    /// Makes room for one more block, of so many words; the blocks stay.
+    pub fn reserve(&mut self, alloc: Global, words: u64) -> Result<(), AllocError>
+        ensures room { OnOk result (words ≤ self.new.room) }
         ensures blocks { self.new.blocks ≡ self.old.blocks }
     {
-        self.rows.reserve(1)?;
-        self.room = 1;
+        let Some(total) = self.top.checked_add(words as usize) else {
+            return Err(AllocError);
+        };
+        // For its row, and for that of what it leaves.
+        self.rows.reserve(2)?;
+        self.words.reserve(alloc, total)?;
+        self.room = words;
         Ok(())
     }
 
@@ -75,10 +113,7 @@ impl Rows {
         requires { sum_by (λ (block : ℕ × List ℕ). length block.1) self.now.blocks < 2 ^ 64 }
         ensures { result ≡ sum_by (λ (block : ℕ × List ℕ). length block.1) self.now.blocks }
     {
-        self.rows
-            .values()
-            .map(|contents| contents.len() as u64)
-            .sum()
+        self.total
     }
 
     /// Reads a word of a block.
@@ -86,13 +121,13 @@ impl Rows {
         ensures value { IfOk result (λ value. ReadsRow self.now.blocks block index value) }
         ensures refused { IfErr result (λ refusal. RowRefused self.now.blocks block index refusal) }
     {
-        let Some(contents) = find(&self.rows, block) else {
+        let Some(at) = find(&self.rows, block) else {
             return Err(Refusal::NotLive);
         };
         if index >= block.words {
             return Err(Refusal::OutOfRange { words: block.words });
         }
-        Ok(contents.get(index as usize))
+        Ok(self.words.read(at + index as usize))
     }
 
     /// Writes a word of a block.
@@ -102,32 +137,33 @@ impl Rows {
         ensures refused { IfErr result (λ refusal. RowRefused self.old.blocks block index refusal) }
         ensures unchanged { OnErr result (self.new ≡ self.old) }
     {
-        let Some(contents) = self.rows.get_mut(&block.start) else {
+        let Some(at) = find(&self.rows, block) else {
             return Err(Refusal::NotLive);
         };
-        if contents.len() as u64 != block.words {
-            return Err(Refusal::NotLive);
-        }
         if index >= block.words {
             return Err(Refusal::OutOfRange { words: block.words });
         }
-        contents.set(index as usize, value);
+        self.words.write(at + index as usize, value);
         Ok(())
     }
 
-    /// Adds a block, where none starts there, in room that there is. Takes no memory.
-    pub fn insert(&mut self, start: u64, contents: Words)
-        requires room { 0 < self.old.room }
+    /// Adds a block of n words, each 0, where none starts there, in room that there is. Takes no
+    /// memory.
+    pub fn insert(&mut self, start: u64, n: u64)
+        requires some { 0 < n }
+        requires room { n ≤ self.old.room }
         requires other { named self.old.blocks start ≡ None }
-        ensures { self.new.blocks ≡ with_new self.old.blocks start contents }
+        ensures { self.new.blocks ≡ with_new self.old.blocks start (replicate n 0) }
     {
-        match self.rows.insert(start, contents) {
-            Ok(_) => self.room -= 1,
-            Err(_) => unreachable!(),
-        }
+        // That rows are fewer than 2^63 is learnt here.
+        let _ = self.rows.len();
+        enter(&mut self.rows, &mut self.words, &mut self.top, start, n);
+        self.count += 1;
+        self.total = self.total.wrapping_add(n);
+        self.room = 0;
     }
 
-    /// Takes a block out, and drops its words. Refused with `NotLive` where it is not live.
+    /// Takes a block out. Refused with `NotLive` where it is not live.
     pub fn remove(&mut self, block: Block) -> Result<(), Refusal>
         ensures removed { OnOk result (self.new.blocks ≡ without self.old.blocks block.start) }
         ensures live { OnOk result ((contents : List ℕ) × HasRow self.old.blocks block contents) }
@@ -135,21 +171,117 @@ impl Rows {
         ensures not_live { OnErr result (LacksRow self.old.blocks block) }
         ensures unchanged { OnErr result (self.new ≡ self.old) }
     {
-        if find(&self.rows, block).is_none() {
+        let Some(at) = find(&self.rows, block) else {
             return Err(Refusal::NotLive);
-        }
-        let _ = self.rows.remove(&block.start);
+        };
+        let row = Row {
+            at,
+            words: block.words,
+            live: false,
+        };
+        put(&mut self.rows, block.start, row);
+        self.count -= 1;
+        self.total = self.total.wrapping_sub(block.words);
+        self.room = 0;
         Ok(())
     }
 }
 
-/// Finds the words of a block: those at its start, where they are as many as it has.
-fn find(rows: &HashMap<u64, Words>, block: Block) -> Option<&Words>
-    ensures found { IfSome result (λ contents. HasRow (by_name rows.now.entries) block contents.now) }
-    ensures none { IfNone result (LacksRow (by_name rows.now.entries) block) }
+/// Finds where the words of a live block begin.
+fn find(rows: &HashMap<u64, Row>, block: Block) -> Option<usize>
+    ensures found { IfSome result (λ at. IsLiveRow rows.now.entries block at) }
+    ensures none { IfNone result ((at : ℕ) → IsLiveRow rows.now.entries block at → ⊥) }
 {
-    match rows.get(&block.start) {
-        Some(contents) if contents.len() as u64 == block.words => Some(contents),
-        _ => None,
+    let Some(row) = rows.get(&block.start) else {
+        return None;
+    };
+    if !row.live {
+        return None;
+    }
+    if row.words != block.words {
+        return None;
+    }
+    Some(row.at)
+}
+
+/// Enters a row of n words at a start, with the words of the free row there where they are enough,
+/// else with words that were not handed out; they are made 0.
+fn enter(rows: &mut HashMap<u64, Row>, words: &mut Pages, top: &mut usize, start: u64, n: u64)
+    requires spare { 2 ≤ spare rows.old }
+    requires apart { LieApart rows.old.entries top.old }
+    requires room { top.old + n ≤ 512 * words.old.room }
+    requires fits { top.old + n < 2 ^ 64 }
+    requires other { named (live_of words.old rows.old.entries) start ≡ None }
+    ensures blocks { live_of words.new rows.new.entries
+        ≡ with_new (live_of words.old rows.old.entries) start (replicate n 0) }
+    ensures apart { LieApart rows.new.entries top.new }
+    ensures room { top.new ≤ 512 * words.new.room }
+    ensures fits { top.new < 2 ^ 64 }
+{
+    let Some(free) = free_row(rows, start, n) else {
+        let at = *top;
+        *top += n as usize;
+        words.clear(at, *top);
+        let row = Row {
+            at,
+            words: n,
+            live: true,
+        };
+        put(rows, start, row);
+        return;
+    };
+    let at = free.at;
+    let end = at + n as usize;
+    words.clear(at, end);
+    let row = Row {
+        at,
+        words: n,
+        live: true,
+    };
+    put(rows, start, row);
+    let rest = Row {
+        at: end,
+        words: free.words - n,
+        live: false,
+    };
+    keep_rest(rows, start.wrapping_add(n), rest);
+}
+
+/// Finds the free row at a start, where it has n words or more.
+fn free_row(rows: &HashMap<u64, Row>, start: u64, n: u64) -> Option<Row>
+    ensures { IfSome result (λ row. IsFreeRow rows.now.entries start n row) }
+{
+    let Some(row) = rows.get(&start) else {
+        return None;
+    };
+    if row.live || row.words < n {
+        return None;
+    }
+    Some(*row)
+}
+
+/// Keeps a row of two words or more for the block that starts there next, where none is kept.
+fn keep_rest(rows: &mut HashMap<u64, Row>, start: u64, rest: Row)
+    requires { 0 < spare rows.old }
+    ensures { KeepsRest rows.old.entries start rest rows.new.entries }
+{
+    if rest.words < 2 {
+        return;
+    }
+    if rows.contains_key(&start) {
+        return;
+    }
+    put(rows, start, rest);
+}
+
+/// Puts a row at a start, in room that there is where none is there.
+fn put(rows: &mut HashMap<u64, Row>, start: u64, row: Row)
+    requires { row_at rows.old.entries start ≡ None → 0 < spare rows.old }
+    ensures put { Puts rows.old.entries start row rows.new.entries }
+    ensures spare { spare rows.old ≤ spare rows.new + 1 }
+{
+    match rows.insert(start, row) {
+        Ok(_) => {}
+        Err(_) => unreachable!(),
     }
 }

@@ -1,7 +1,7 @@
 -- Blocks in the order of best fit: where a block goes, and which one fits first, in a list that is
 -- joined of a tree's left side, its block in the middle, and its right side. Used by the tree's functions.
 use Rattle.std.proofs.Common.{◌≡◌, ◌≢◌, ℕ, ◌<◌, ◌≤◌, true, false, List, [], ◌∷◌, ◌++◌, Option, Some, None, refl, ap}
-use Rattle.std.proofs.Common.{sym, ◌∙◌, append_assoc, arith}
+use Rattle.std.proofs.Common.{sym, ◌∙◌, arith}
 use Rattle.std.specs.Prelude.{nat_le, if◌then◌else◌}
 use Rattle.std.specs.List.{AllByRecursion}
 use Rattle.std.proofs.lemmas.Bool.Decides.{nat_tests}
@@ -140,25 +140,6 @@ without_fit-none (other ∷ blocks) words e =
       | true ↦ λ e. absurd (cc)
       | false ↦ λ e. ap (λ rest. other ∷ rest) (without_fit-none blocks words e)
     ] e
-
--- A tree cut at a block: on the right or on the left side.
-pub cut_right : (left right below above : List Block) (middle block : Block) → IsRanked (left ++ middle ∷ right)
-    → ranks_before middle block ≡ true
-    → (IsRanked right → with_ranked right block ≡ below ++ block ∷ above)
-    → with_ranked (left ++ middle ∷ right) block ≡ (left ++ middle ∷ below) ++ block ∷ above
-cut_right left right below above middle block ranked before e =
-    with_ranked-right left right middle block ranked before
-    ∙ ap (λ blocks. left ++ middle ∷ blocks) (e (ranked_right left right middle ranked))
-    ∙ sym (append_assoc left (middle ∷ below) (block ∷ above))
-
-pub cut_left : (left right below above : List Block) (middle block : Block) → IsRanked (left ++ middle ∷ right)
-    → ranks_before middle block ≡ false
-    → (IsRanked left → with_ranked left block ≡ below ++ block ∷ above)
-    → with_ranked (left ++ middle ∷ right) block ≡ below ++ block ∷ (above ++ middle ∷ right)
-cut_left left right below above middle block ranked behind e =
-    with_ranked-left left right middle block behind
-    ∙ ap (λ blocks. blocks ++ middle ∷ right) (e (ranked_left left right middle ranked))
-    ∙ append_assoc below (block ∷ above) (middle ∷ right)
 
 -- A block inserted on the right or on the left side.
 pub insert_right : (left right grown : List Block) (middle block : Block) → IsRanked (left ++ middle ∷ right)

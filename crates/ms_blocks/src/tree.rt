@@ -4,17 +4,15 @@
 //!                /    \            everything to the right behind it
 //!            left      right
 //!
-//! A fork's block has a weight drawn from its start, and no fork below weighs more: the tree is the
-//! one that its blocks, added from the heaviest on, would make without any balancing. So its depth
-//! is about twice the logarithm of its blocks in base 2 for starts as they come. Nothing that is
-//! proved rests on the weights. Recursion goes as deep as the tree: only blocks whose weights fall
-//! as their ranks rise make it deep.
+//! Kept level, after Adelson-Velsky and Landis: the sides of a fork differ in height by one at
+//! most, so that a tree of n blocks is at most about 1.44 times the logarithm of n in base 2 high,
+//! whatever blocks come and go. Nothing that is proved rests on the heights.
 //! Forks come from outside and go back whole. Each operation says which list of blocks the tree
 //! holds then, from left to right.
-ghost use Rattle.std.specs.Prelude.{◌≡◌, ◌<◌, ◌∷◌, ◌++◌};
+ghost use Rattle.std.specs.Prelude.{◌≡◌, ◌∷◌, ◌++◌, []};
 ghost use Rattle.std.specs.Option.{option_map};
 ghost use Rattle.ms_blocks.specs.Rank.{IsRanked, ranks_before, with_ranked, first_fit, without_fit};
-ghost use Rattle.ms_blocks.specs.Tree.{blocks_of};
+ghost use Rattle.ms_blocks.specs.Tree.{blocks_of, blocks_at, left_of, TakesTop, TakesFirst};
 
 use ms_base::Block;
 use std::alloc::Allocator;
@@ -35,6 +33,8 @@ pub struct Fork<A: Allocator> {
     left: Tree<A>,
     pub block: Block,
     right: Tree<A>,
+    /// How many forks stand one above the other here, 1 at least in a tree.
+    height: u8,
 }
 
 impl<A: Allocator> Fork<A> {
@@ -44,6 +44,7 @@ impl<A: Allocator> Fork<A> {
             left: Tree::Empty,
             block: Block { start: 0, words: 0 },
             right: Tree::Empty,
+            height: 0,
         }
     }
 }
@@ -53,114 +54,218 @@ pub fn insert<A: Allocator>(tree: &mut Tree<A>, spare: Box<Fork<A>, A>)
     ensures { IsRanked (blocks_of tree.old) →
         blocks_of tree.new ≡ with_ranked (blocks_of tree.old) spare.value.block }
 {
-    *tree = with_fork(mem::replace(tree, Tree::Empty), spare);
+    match tree {
+        Tree::Empty => *tree = alone(spare),
+        Tree::Forked(fork) => {
+            if ranks_first(&fork.block, &spare.block) {
+                insert(&mut fork.right, spare);
+                level(tree);
+            } else {
+                insert(&mut fork.left, spare);
+                level(tree);
+            }
+        }
+    }
 }
 
-/// Takes the first block of a ranked tree that has so many words, with its fork.
+/// Takes the first block of a ranked tree that has so many words, with its fork: the fork on the
+/// way that fits, and has nothing to its left that does.
 pub fn take_fit<A: Allocator>(tree: &mut Tree<A>, words: u64) -> Option<Box<Fork<A>, A>>
     ensures found { IsRanked (blocks_of tree.old) →
         first_fit (blocks_of tree.old) words ≡ option_map (λ fork. fork.value.block) result }
     ensures left { IsRanked (blocks_of tree.old) →
         blocks_of tree.new ≡ without_fit (blocks_of tree.old) words }
 {
-    let (rest, found) = without_fork(mem::replace(tree, Tree::Empty), words);
-    *tree = rest;
-    found
-}
-
-/// The tree with a fork more: it goes on top of the first tree on its way that weighs less.
-fn with_fork<A: Allocator>(tree: Tree<A>, mut spare: Box<Fork<A>, A>) -> Tree<A>
-    ensures { IsRanked (blocks_of tree) →
-        blocks_of result ≡ with_ranked (blocks_of tree) spare.value.block }
-{
     match tree {
-        Tree::Forked(mut fork) if weight(&fork) >= weight(&spare) => {
-            if ranks_first(&fork.block, &spare.block) {
-                fork.right = with_fork(mem::replace(&mut fork.right, Tree::Empty), spare);
-                Tree::Forked(fork)
-            } else {
-                fork.left = with_fork(mem::replace(&mut fork.left, Tree::Empty), spare);
-                Tree::Forked(fork)
+        Tree::Empty => None,
+        Tree::Forked(fork) => {
+            if fork.block.words < words {
+                let found = take_fit(&mut fork.right, words);
+                level(tree);
+                return found;
+            }
+            match take_fit(&mut fork.left, words) {
+                Some(found) => {
+                    level(tree);
+                    Some(found)
+                }
+                None => take_top(tree),
             }
         }
-        tree => {
-            let (left, right) = cut(tree, &spare.block);
-            spare.left = left;
-            spare.right = right;
-            Tree::Forked(spare)
-        }
     }
 }
 
-/// The tree without its first fit, and that one's fork: the fork on the way that fits, and has
-/// nothing to its left that does.
-fn without_fork<A: Allocator>(tree: Tree<A>, words: u64) -> (Tree<A>, Option<Box<Fork<A>, A>>)
-    ensures found { IsRanked (blocks_of tree) →
-        first_fit (blocks_of tree) words ≡ option_map (λ fork. fork.value.block) result.1 }
-    ensures left { IsRanked (blocks_of tree) →
-        blocks_of result.0 ≡ without_fit (blocks_of tree) words }
+/// Takes the fork on top, and joins the trees below it. Out of line, so that what it keeps for
+/// itself isn't kept at each turn of `take_fit`.
+#[inline(never)]
+fn take_top<A: Allocator>(tree: &mut Tree<A>) -> Option<Box<Fork<A>, A>>
+    ensures { TakesTop tree.old (blocks_of tree.new) (option_map (λ fork. fork.value.block) result) }
 {
-    let Tree::Forked(mut fork) = tree else {
-        return (Tree::Empty, None);
-    };
-    if fork.block.words < words {
-        let (right, found) = without_fork(mem::replace(&mut fork.right, Tree::Empty), words);
-        fork.right = right;
-        return (Tree::Forked(fork), found);
-    }
-    let (left, found) = without_fork(mem::replace(&mut fork.left, Tree::Empty), words);
-    match found {
-        Some(found) => {
-            fork.left = left;
-            (Tree::Forked(fork), Some(found))
-        }
-        None => {
-            let right = mem::replace(&mut fork.right, Tree::Empty);
-            (join(left, right), Some(fork))
-        }
-    }
-}
-
-/// Cuts a ranked tree in two: the blocks that rank before the one at hand, and the others.
-fn cut<A: Allocator>(tree: Tree<A>, at: &Block) -> (Tree<A>, Tree<A>)
-    ensures { IsRanked (blocks_of tree) →
-        with_ranked (blocks_of tree) at.now ≡ blocks_of result.0 ++ at.now ∷ blocks_of result.1 }
-{
-    match tree {
-        Tree::Empty => (Tree::Empty, Tree::Empty),
+    match mem::replace(tree, Tree::Empty) {
+        Tree::Empty => None,
         Tree::Forked(mut fork) => {
-            if ranks_first(&fork.block, at) {
-                let (before, behind) = cut(mem::replace(&mut fork.right, Tree::Empty), at);
-                fork.right = before;
-                (Tree::Forked(fork), behind)
-            } else {
-                let (before, behind) = cut(mem::replace(&mut fork.left, Tree::Empty), at);
-                fork.left = behind;
-                (before, Tree::Forked(fork))
-            }
+            let left = mem::replace(&mut fork.left, Tree::Empty);
+            let right = mem::replace(&mut fork.right, Tree::Empty);
+            *tree = join(left, right);
+            Some(fork)
         }
     }
 }
 
-/// Joins two trees, the blocks of the first before those of the second.
-fn join<A: Allocator>(before: Tree<A>, behind: Tree<A>) -> Tree<A>
+/// Joins two trees, the blocks of the first before those of the second: under the second's first
+/// fork.
+fn join<A: Allocator>(before: Tree<A>, mut behind: Tree<A>) -> Tree<A>
     ensures { blocks_of result ≡ blocks_of before ++ blocks_of behind }
 {
-    match (before, behind) {
-        (Tree::Empty, behind) => behind,
-        (before, Tree::Empty) => before,
-        (Tree::Forked(mut low), Tree::Forked(mut high)) => {
-            if weight(&low) >= weight(&high) {
-                let rest = mem::replace(&mut low.right, Tree::Empty);
-                low.right = join(rest, Tree::Forked(high));
-                Tree::Forked(low)
-            } else {
-                let rest = mem::replace(&mut high.left, Tree::Empty);
-                high.left = join(Tree::Forked(low), rest);
-                Tree::Forked(high)
-            }
+    match take_first(&mut behind) {
+        None => before,
+        Some(mut fork) => {
+            fork.left = before;
+            fork.right = behind;
+            leveled(fork)
         }
     }
+}
+
+/// Takes the first fork of a tree.
+fn take_first<A: Allocator>(tree: &mut Tree<A>) -> Option<Box<Fork<A>, A>>
+    ensures { TakesFirst (blocks_of tree.old) (option_map (λ fork. fork.value.block) result)
+        (blocks_of tree.new) }
+{
+    match tree {
+        Tree::Empty => None,
+        Tree::Forked(fork) => match take_first(&mut fork.left) {
+            Some(found) => {
+                level(tree);
+                Some(found)
+            }
+            None => take_lowest(tree),
+        },
+    }
+}
+
+/// Takes the fork on top, where there is none to its left.
+fn take_lowest<A: Allocator>(tree: &mut Tree<A>) -> Option<Box<Fork<A>, A>>
+    requires { left_of tree.old ≡ [] }
+    ensures { TakesFirst (blocks_of tree.old) (option_map (λ fork. fork.value.block) result)
+        (blocks_of tree.new) }
+{
+    match mem::replace(tree, Tree::Empty) {
+        Tree::Empty => None,
+        Tree::Forked(mut fork) => {
+            *tree = mem::replace(&mut fork.right, Tree::Empty);
+            Some(fork)
+        }
+    }
+}
+
+/// Makes a tree of a fork that was in none.
+fn alone<A: Allocator>(mut spare: Box<Fork<A>, A>) -> Tree<A>
+    ensures { blocks_of result ≡ spare.value.block ∷ [] }
+{
+    spare.left = Tree::Empty;
+    spare.right = Tree::Empty;
+    spare.height = 1;
+    Tree::Forked(spare)
+}
+
+/// Levels a tree on top, whose sides are level.
+fn level<A: Allocator>(tree: &mut Tree<A>)
+    ensures { blocks_of tree.new ≡ blocks_of tree.old }
+{
+    if let Tree::Forked(fork) = mem::replace(tree, Tree::Empty) {
+        *tree = leveled(fork);
+    }
+}
+
+/// Levels a fork whose sides are level: where one is higher by two, what stands on its top goes up.
+fn leveled<A: Allocator>(mut fork: Box<Fork<A>, A>) -> Tree<A>
+    ensures { blocks_of result ≡ blocks_at fork.value }
+{
+    let left = height_of(&fork.left);
+    let right = height_of(&fork.right);
+    if left > right.saturating_add(1) {
+        fork.left = leaning_left(mem::replace(&mut fork.left, Tree::Empty));
+        Tree::Forked(left_up(fork))
+    } else if right > left.saturating_add(1) {
+        fork.right = leaning_right(mem::replace(&mut fork.right, Tree::Empty));
+        Tree::Forked(right_up(fork))
+    } else {
+        fork.height = left.max(right).saturating_add(1);
+        Tree::Forked(fork)
+    }
+}
+
+/// Turns a tree whose right side is the higher one, so that its left side isn't the lower one.
+fn leaning_left<A: Allocator>(tree: Tree<A>) -> Tree<A>
+    ensures { blocks_of result ≡ blocks_of tree }
+{
+    match tree {
+        Tree::Forked(fork) if height_of(&fork.right) > height_of(&fork.left) => {
+            Tree::Forked(right_up(fork))
+        }
+        tree => tree,
+    }
+}
+
+/// Turns a tree whose left side is the higher one, so that its right side isn't the lower one.
+fn leaning_right<A: Allocator>(tree: Tree<A>) -> Tree<A>
+    ensures { blocks_of result ≡ blocks_of tree }
+{
+    match tree {
+        Tree::Forked(fork) if height_of(&fork.left) > height_of(&fork.right) => {
+            Tree::Forked(left_up(fork))
+        }
+        tree => tree,
+    }
+}
+
+/// Puts the fork on top of the left side on top of all.
+fn left_up<A: Allocator>(mut fork: Box<Fork<A>, A>) -> Box<Fork<A>, A>
+    ensures { blocks_at result.value ≡ blocks_at fork.value }
+{
+    match mem::replace(&mut fork.left, Tree::Empty) {
+        Tree::Empty => fork,
+        Tree::Forked(mut low) => {
+            fork.left = mem::replace(&mut low.right, Tree::Empty);
+            tell_height(&mut fork);
+            low.right = Tree::Forked(fork);
+            tell_height(&mut low);
+            low
+        }
+    }
+}
+
+/// Puts the fork on top of the right side on top of all.
+fn right_up<A: Allocator>(mut fork: Box<Fork<A>, A>) -> Box<Fork<A>, A>
+    ensures { blocks_at result.value ≡ blocks_at fork.value }
+{
+    match mem::replace(&mut fork.right, Tree::Empty) {
+        Tree::Empty => fork,
+        Tree::Forked(mut high) => {
+            fork.right = mem::replace(&mut high.left, Tree::Empty);
+            tell_height(&mut fork);
+            high.left = Tree::Forked(fork);
+            tell_height(&mut high);
+            high
+        }
+    }
+}
+
+/// Tells how high a tree is.
+fn height_of<A: Allocator>(tree: &Tree<A>) -> u8 {
+    match tree {
+        Tree::Empty => 0,
+        Tree::Forked(fork) => fork.height,
+    }
+}
+
+/// Tells anew how high a fork is.
+fn tell_height<A: Allocator>(fork: &mut Fork<A>)
+    ensures { blocks_at fork.new ≡ blocks_at fork.old }
+{
+    let sides = height_of(&fork.left).max(height_of(&fork.right));
+    fork.height = sides.saturating_add(1);
 }
 
 /// Tells whether the first block ranks before the second.
@@ -168,11 +273,4 @@ fn ranks_first(one: &Block, other: &Block) -> bool
     ensures { result ≡ ranks_before one.now other.now }
 {
     one.words < other.words || (one.words == other.words && one.start < other.start)
-}
-
-/// Draws a weight from the block's start. Two rounds of multiplying, since after one of them
-/// starts at even distances have weights that rise or fall in long runs.
-fn weight<A: Allocator>(fork: &Fork<A>) -> u64 {
-    let spread = fork.block.start.wrapping_mul(0x9e37_79b9_7f4a_7c15);
-    (spread ^ (spread >> 32)).wrapping_mul(0xd6e8_feb8_6659_fd93)
 }

@@ -10,8 +10,8 @@ pub struct Answer {
     pub line: u32,
     /// What the command was answered with.
     pub reply: Reply,
-    /// The totals, where the command asked for a report.
-    pub report: Option<Totals>,
+    /// The totals, where the command asked for a report; in a box, since few answers have them.
+    pub report: Option<Box<Totals>>,
 }
 
 /// The answers to a trace, one for each command line, in order of line. This project's choice.

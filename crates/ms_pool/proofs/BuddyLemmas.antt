@@ -23,7 +23,7 @@ use Rattle.ms_buddy.specs.declared.node.Leaf.{Leaf}
 use Rattle.ms_buddy.specs.declared.node.Leaf.TheVariants.{Free, Lent}
 use Rattle.ms_buddy.specs.Leaves.{span_of as leaf_span}
 use Rattle.ms_buddy.proofs.TreeHalvesLemmas.{size_of-halves, size_of-some}
-use Rattle.ms_pool.proofs.WalkedLemmas.{covers_both, free_is_clear}
+use Rattle.ms_pool.proofs.CoveringLemmas.{covers_both, free_is_clear}
 
 -- A part of the list is the first that covers its own first word.
 later_parts : (low high : ℕ) (buddy : Span) (parts : List Span) → Rises low high parts

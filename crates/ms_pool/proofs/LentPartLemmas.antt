@@ -25,6 +25,7 @@ use Rattle.ms_commit.proofs.ModelLemmas.{is_among-meeting}
 use Rattle.ms_commit.proofs.RangeLemmas.{is_among-range}
 use Rattle.ms_buddy.specs.Leaves.{LentLeaf, AreLeaves}
 use Rattle.ms_pool.specs.declared.lender.Lender.{Lender}
+use Rattle.ms_pool.specs.declared.lent.Lent.{Lent}
 use Rattle.ms_pool.specs.Ledger.{Ledger, Loan, state_in, with_lent, with_loan, IsSoundLedger}
 use Rattle.ms_pool.specs.Keeping.{IsKept, IsOpen, IsRunOf, ledger_of, with_reserved, loans_from}
 use Rattle.ms_pool.specs.Searching.{lacking}
@@ -256,6 +257,16 @@ kept_where_shown lender nodes trees ledger kept count leaves sound_nodes shows s
   granule = ap (λ (limits : NodeLimits). limits.granule) shows.limits ∙ kept.granule;
   nodes = sound_nodes;
   sound = subst IsSoundLedger (sym shows.after) sound;
+}
+
+-- What is counted is no part of what is kept.
+pub kept_however_counted : (lender : Lender) (lent : Lent) → IsKept lender → IsKept (record lender { lent = lent })
+kept_however_counted lender lent kept = record {
+  trees = kept.trees;
+  leaves = kept.leaves;
+  granule = kept.granule;
+  nodes = kept.nodes;
+  sound = kept.sound;
 }
 
 -- The slot of a chunk is reserved and its front committed: the ledger has the chunk lent.

@@ -9,10 +9,11 @@ pub mod BySizeLemmas
 pub mod EmptyPoolLemmas
 pub mod SlotLoopLemmas
 pub mod SkipLemmas
-pub mod WalkedLemmas
+pub mod CoveringLemmas
 pub mod PoolCountLemmas
 pub mod FreeCountLemmas
 pub mod LentCountLemmas
+pub mod CountedLemmas
 pub mod CommittedCountLemmas
 pub mod PoolSumsLemmas
 pub mod LackLemmas

@@ -1,7 +1,7 @@
 -- Whether a chunk may become its parent, by the tree of its root: no other root has a part that
 -- starts where its buddy does.
 use Rattle.std.proofs.Common.{◌≡◌, ◌<◌, ◌≤◌, ℕ, ◌+◌, ◌-◌, ◌*◌, ◌/◌, ◌%◌, ◌^◌, mul_assoc, Bool, true, false, ◌&&◌, ◌||◌}
-use Rattle.std.proofs.Common.{List, [], ◌∷◌, get_or, map, refl, sym, ap, ap₂, ◌∙◌, arith, eq-eqb, eqb-true, ltb-true}
+use Rattle.std.proofs.Common.{List, [], ◌∷◌, length, get_or, map, refl, sym, ap, ap₂, subst, ◌∙◌, arith, eq-eqb, eqb-true, ltb-true}
 use Rattle.std.proofs.Common.{inl, inr}
 use Rattle.std.specs.Prelude.{◌==◌, ◌⊎◌, nat_lt}
 use Rattle.std.specs.List.{AllByRecursion, flat_map, list_any}
@@ -21,7 +21,7 @@ use Rattle.ms_base.specs.PoolSteps.{is_free, may_become_parent}
 use Rattle.ms_base.proofs.free.FreeLemmas.{IsFreeWithin, listed_are_free}
 use Rattle.ms_base.proofs.free.MovedLemmas.{raised_part}
 use Rattle.ms_base.proofs.free.PartLemmas.{size_by_level}
-use Rattle.ms_commit.specs.Nodes.{slots_of}
+use Rattle.ms_commit.specs.Nodes.{NodesState, slots_of}
 use Rattle.ms_buddy.specs.Leaves.{LentLeaf, AreLeaves, can_enlarge, free_of, is_same, span_at}
 use Rattle.ms_buddy.proofs.TreeHalvesLemmas.{size_of-some}
 use Rattle.ms_pool.specs.declared.lender.Lender.{Lender}
@@ -29,11 +29,23 @@ use Rattle.ms_pool.specs.Ledger.{held_in, state_in}
 use Rattle.ms_pool.specs.Keeping.{IsKept, ledger_of}
 use Rattle.ms_pool.specs.Releasing.{is_lent_in}
 use Rattle.ms_pool.proofs.BuddyLemmas.{buddy_within, lent_place}
-use Rattle.ms_pool.proofs.FreeRootLemmas.{at_tree, free_in_root}
-use Rattle.ms_pool.proofs.LentCountLemmas.{root_is_in, root_within}
+use Rattle.ms_pool.proofs.FreeRootLemmas.{IsRootIn, at_tree, free_in_root}
 use Rattle.ms_pool.proofs.OpenLemmas.{IsSlotThere, open_is_low, open_is_of_space}
 use Rattle.ms_pool.proofs.ReleasedTreeLemmas.{leaf_there}
-use Rattle.ms_pool.proofs.SlotLoopLemmas.{end_slot, first_slot}
+use Rattle.ms_pool.proofs.SlotLoopLemmas.{end_slot, first_slot, root_in}
+
+-- A root of the space, among the trees.
+root_within : (space : Space) (lender : Lender) (root : ℕ) → IsKept lender → root < 2 * end_slot space lender.nodes
+    → root < length lender.trees.items
+root_within NonClass lender root kept h = omega (arith, kept.trees, h)
+root_within Class lender root kept h = omega (arith, kept.trees, h)
+
+root_is_in : (space : Space) (nodes : NodesState) (root : ℕ) → 2 * first_slot space ≤ root
+    → root < 2 * end_slot space nodes → IsRootIn space root
+root_is_in space nodes root low high =
+    let whole : 2 * (root / 2) + root % 2 ≡ root = omega arith in
+    subst (IsRootIn space) whole
+    (root_in space nodes (root / 2) (root % 2) (omega arith) (omega (arith, low)) (omega (arith, high)))
 
 -- The part of that place.
 abbrev at_place : ℕ → ℕ → Span → Bool

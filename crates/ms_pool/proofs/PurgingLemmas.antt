@@ -256,6 +256,7 @@ no_more_slots old mid at_ before =
 -- The slots below one were looked at, and nothing but the nodes has changed.
 pub record IsPurgedTo (old mid : Lender) (at_ : ℕ) : Type 0 where
   pub trees : mid.trees.items ≡ old.trees.items
+  pub lent : mid.lent ≡ old.lent
   pub limits : mid.nodes.limits ≡ old.nodes.limits
   pub policy : mid.policy ≡ old.policy
   pub purged : ledger_of mid ≡ purged_to at_ (ledger_of old)
@@ -263,7 +264,13 @@ pub record IsPurgedTo (old mid : Lender) (at_ : ℕ) : Type 0 where
 pub passes : (old mid : Lender) (at_ : ℕ) → IsPurgedTo old mid at_ → ledger_of mid ≡ purged_to (at_ + 1) (ledger_of old)
     → IsPurgedTo old mid (at_ + 1)
 passes old mid at_ before purged =
-    record { trees = before.trees; limits = before.limits; policy = before.policy; purged = purged }
+    record {
+      trees = before.trees;
+      lent = before.lent;
+      limits = before.limits;
+      policy = before.policy;
+      purged = purged;
+    }
 
 pub drops_next : (old mid new : Lender) (at_ : ℕ) → IsKept old → IsPurgedTo old mid at_ → at_ < 64
     → new ≡ record mid { nodes = without_slot mid.nodes at_ }
@@ -271,6 +278,7 @@ pub drops_next : (old mid new : Lender) (at_ : ℕ) → IsKept old → IsPurgedT
 drops_next old mid new at_ kept before low is none =
     subst (λ (l : Lender). IsPurgedTo old l (at_ + 1)) (sym is) (record {
       trees = before.trees;
+      lent = before.lent;
       limits = before.limits;
       policy = before.policy;
       purged = drops (ledger_of old) mid at_ kept.sound low

@@ -18,7 +18,8 @@ use Rattle.ms_pool.proofs.GrowingLemmas.{FitsThere, IsOwn, WellReached, fits_the
 use Rattle.ms_pool.proofs.GrowingLemmas.{well_reached, within_space}
 use Rattle.ms_pool.proofs.ReachLemmas.{grown_within, grown_stays}
 use Rattle.ms_pool.proofs.ledger.GreaterLemmas.{IsGreater, grown_is_greater}
-use Rattle.ms_pool.proofs.ledger.GrowLemmas.{GrownWell, grown_well, own_is_held, with_greater}
+use Rattle.ms_pool.proofs.ledger.GrowLemmas.{GrownThere, GrownWell, grown_there, grown_well, own_is_held}
+use Rattle.ms_pool.proofs.ledger.GrowLemmas.{with_greater}
 use Rattle.ms_pool.proofs.ledger.LoanAtLemmas.{contains_at}
 use Rattle.ms_pool.specs.Lending.{Grows, span_of}
 use Rattle.ms_pool.specs.Calls.{GrewFrom, Grew}
@@ -142,3 +143,13 @@ pub grew_there : (lender : Lender) (account : AccountState) (start place : ℕ) 
     → Grew (ledger_of lender) account start total may_enlarge answer new
 grew_there lender account start place chunk total may_enlarge answer new at_ after =
     record { place = place; chunk = chunk; found = at_.found; starts = at_.starts; after = after }
+
+-- What is held then.
+pub grown_where_found : (lender : Lender) (account : AccountState) (start place : ℕ) (chunk greater : Chunk)
+    (total : ℕ) (may_enlarge : Bool)
+    → IsKept lender → IsFoundAt lender account start place chunk
+    → GrowsThere lender account place chunk greater total may_enlarge
+    → GrownThere (ledger_of lender) account chunk greater
+grown_where_found lender account start place chunk greater total may_enlarge kept at_ grows =
+    grown_there (ledger_of lender) account chunk greater kept.sound at_.served at_.chunks
+    (contains_at account.chunks place chunk at_.found) grows.may.start

@@ -1,12 +1,13 @@
--- What was counted so far of chunks and of free parts, in one walk over them.
-use Rattle.std.specs.Prelude.{◌≡◌, ℕ, ◌+◌, ◌<◌, ◌^◌, ◌==◌, cond, List, [], ◌∷◌, get_or, length}
+-- What is counted of chunks, as they come and go, and of free parts, in one walk over them.
+use Rattle.std.specs.Prelude.{◌≡◌, ℕ, ◌+◌, ◌<◌, ◌≤◌, ◌^◌, ◌==◌, cond, List, get_or, length}
 use Rattle.std.specs.List.{sum_by, count_by}
 use Rattle.ms_base.specs.declared.span.Chunk.{Chunk}
 use Rattle.ms_base.specs.declared.span.Span.{Span}
 use Rattle.ms_base.specs.Level.{size_of}
-use Rattle.ms_buddy.specs.declared.node.Leaf.{Leaf}
-use Rattle.ms_buddy.specs.declared.node.Leaf.TheVariants.{Free, Lent}
-use Rattle.ms_pool.specs.declared.counting.Counted.{Counted}
+use Rattle.ms_base.specs.declared.kind.Space.{Space}
+use Rattle.ms_base.specs.Spaces.{by_space, other_space}
+use Rattle.ms_pool.specs.declared.lent.Counted.{Counted}
+use Rattle.ms_pool.specs.declared.lent.Lent.{Lent}
 
 -- A sum over chunks, and what a chunk adds: one to its level, its words, those of its front. These
 -- words stand for long ones: a proof looks into them where it has to.
@@ -34,18 +35,48 @@ pub record AreRaised (old : List ℕ) (more : ℕ → ℕ) (new : List ℕ) : Ty
   pub full : length new ≡ length old
   pub counts : (level : ℕ) → level < 13 → get_or new level 0 ≡ get_or old level 0 + more level
 
--- So it is for all that is counted of chunks.
-pub record HasRoomFor (counted : Counted) (chunks : List Chunk) : Type 0 where
-  pub lent : HasRoom counted.lent (λ level. total (one_of level) chunks)
-  pub capacity : counted.capacity + total words_in chunks < 2 ^ 64
-  pub fronts : counted.fronts + total front_in chunks < 2 ^ 64
+-- What is counted of chunks: how many of each level, their words, and those of their fronts.
+pub record AreCounted (chunks : List Chunk) (counted : Counted) : Type 0 where
+  pub full : length counted.lent ≡ 13
+  pub lent : (level : ℕ) → level < 13 → get_or counted.lent level 0 ≡ total (one_of level) chunks
+  pub capacity : counted.capacity ≡ total words_in chunks
+  pub fronts : counted.fronts ≡ total front_in chunks
 
-pub record Counts (old : Counted) (chunks : List Chunk) (new : Counted) : Type 0 where
-  pub lent : AreRaised old.lent (λ level. total (one_of level) chunks) new.lent
-  pub capacity : new.capacity ≡ old.capacity + total words_in chunks
-  pub fronts : new.fronts ≡ old.fronts + total front_in chunks
+-- A chunk more can be counted; a chunk less, and so many less.
+pub record HasRoomFor (counted : Counted) (chunk : Chunk) : Type 0 where
+  pub lent : get_or counted.lent chunk.level 0 + 1 < 2 ^ 32
+  pub capacity : counted.capacity + size_of chunk.level < 2 ^ 64
+  pub fronts : counted.fronts + chunk.front < 2 ^ 64
 
--- The chunks of a leaf: none where it is free.
-abbrev pub chunks_at : Span → Leaf → List Chunk
-chunks_at part Free = []
-chunks_at part (Lent owner front) = record { start = part.start; level = part.level; front = front } ∷ []
+pub record HasLeast (counted : Counted) (chunk : Chunk) : Type 0 where
+  pub lent : 1 ≤ get_or counted.lent chunk.level 0
+  pub capacity : size_of chunk.level ≤ counted.capacity
+  pub fronts : chunk.front ≤ counted.fronts
+
+pub record HaveLeast (counted : Counted) (chunks : List Chunk) : Type 0 where
+  pub lent : (level : ℕ) → level < 13 → total (one_of level) chunks ≤ get_or counted.lent level 0
+  pub capacity : total words_in chunks ≤ counted.capacity
+  pub fronts : total front_in chunks ≤ counted.fronts
+
+-- Chunks that were counted go, and others come.
+pub record Moves (old : Counted) (gone come : List Chunk) (new : Counted) : Type 0 where
+  pub full : length new.lent ≡ length old.lent
+  pub lent : (level : ℕ) → level < 13
+      → get_or new.lent level 0 + total (one_of level) gone ≡ get_or old.lent level 0 + total (one_of level) come
+  pub capacity : new.capacity + total words_in gone ≡ old.capacity + total words_in come
+  pub fronts : new.fronts + total front_in gone ≡ old.fronts + total front_in come
+
+-- What was counted in a space, and what there is once something else is.
+abbrev pub counted_in : Space → Lent → Counted
+counted_in space lent = by_space space lent.space lent.class_space
+
+abbrev pub with_counted : Space → Counted → Lent → Lent
+with_counted space counted lent = record lent {
+  space = by_space space counted lent.space;
+  class_space = by_space space lent.class_space counted;
+}
+
+-- In a space chunks go and others come, and those of the other space stay.
+pub record MovesIn (space : Space) (old : Lent) (gone come : List Chunk) (new : Lent) : Type 0 where
+  pub own : Moves (counted_in space old) gone come (counted_in space new)
+  pub other : counted_in (other_space space) new ≡ counted_in (other_space space) old

@@ -10,7 +10,8 @@ use Rattle.ms_base.specs.Spaces.{first_class_slot}
 use Rattle.ms_base.specs.Pick.{lowest_unreserved}
 use Rattle.ms_commit.specs.Nodes.{NodesState, AreSound, all_slots, granules_in, slots_of, with_slot}
 use Rattle.ms_buddy.specs.Leaves.{LentLeaf, AreLeaves}
-use Rattle.ms_pool.specs.Ledger.{Loan, Ledger, IsSoundLedger}
+use Rattle.ms_pool.specs.Counting.{AreCounted, counted_in}
+use Rattle.ms_pool.specs.Ledger.{Loan, Ledger, IsSoundLedger, held_in}
 use Rattle.ms_pool.specs.declared.lender.Lender.{Lender}
 
 -- A lent leaf of the root of that number, as a loan.
@@ -58,6 +59,15 @@ pub record IsKept (lender : Lender) : Type 0 where
   pub granule : lender.nodes.limits.granule ≡ granule_of lender.policy
   pub nodes : AreSound lender.nodes
   pub sound : IsSoundLedger (ledger_of lender)
+
+-- The chunks that are lent in each space are counted.
+abbrev pub IsCounted : Lender → Type 0
+IsCounted lender = (space : Space) → AreCounted (held_in space (ledger_of lender)) (counted_in space lender.lent)
+
+-- What is true of every pool's lender.
+pub record IsReady (lender : Lender) : Type 0 where
+  pub kept : IsKept lender
+  pub counted : IsCounted lender
 
 -- So many words from the start on lie in the space.
 abbrev pub IsRunOf : Space → ℕ → ℕ → Type 0

@@ -1,35 +1,22 @@
-//! The sums over a space, counted in one walk over its roots.
-//!
-//! A root that isn't reserved has no lent leaf, so its walk is one step.
-ghost use Rattle.std.specs.Prelude.{◌≡◌, ◌+◌, ◌-◌, ◌*◌, ◌<◌, ◌≤◌, ◌^◌, ◌==◌, cond, [], get_or, length, map};
+//! The sums over a space: what `lent` has counted, and the free parts, in one walk over the roots
+//! that are reserved.
+ghost use Rattle.std.specs.Prelude.{◌≡◌, ◌+◌, ◌<◌, ◌≤◌, ◌^◌, ◌==◌, cond, [], get_or, length};
 ghost use Rattle.ms_base.specs.Part.{is_reserved};
 ghost use Rattle.ms_base.specs.FreeParts.{free_in_slot};
 ghost use Rattle.ms_base.specs.Spaces.{by_space, first_class_slot};
-ghost use Rattle.ms_base.specs.Totals.{capacity_of, free_by_level, fronts_of, lent_by_level, pool_sums};
+ghost use Rattle.ms_base.specs.Totals.{free_by_level, pool_sums};
 ghost use Rattle.ms_commit.specs.Nodes.{all_slots, granules_in};
-ghost use Rattle.ms_buddy.specs.Leaves.{AreLeaves, chunk_of, free_of};
+ghost use Rattle.ms_buddy.specs.Leaves.{free_of};
 ghost use Rattle.ms_pool.specs.Ledger.{held_in, opened_in, state_in};
-ghost use Rattle.ms_pool.specs.Keeping.{IsKept, ledger_of};
+ghost use Rattle.ms_pool.specs.Keeping.{IsCounted, IsKept, ledger_of};
 ghost use Rattle.ms_pool.specs.Calls.{sums_in};
 ghost use Rattle.ms_pool.specs.Tallies.{AreTallies};
-ghost use Rattle.ms_pool.specs.Counting.{AreRaised, Counts, HasRoom, HasRoomFor, chunks_at, parts_of};
+ghost use Rattle.ms_pool.specs.Counting.{AreRaised, HasRoom, parts_of};
 
 use crate::lender::Lender;
+use crate::lent::one_more;
 use crate::totals::{LEVELS, PoolTotals};
-use ms_base::{Level, NODE_WORDS, ROOT_WORDS, SLOTS, Space, Span, granule};
-use ms_buddy::Leaf;
-
-/// What was counted of chunks that are lent: how many of each level, their words, and those of
-/// their fronts.
-#[derive(Clone, Copy)]
-pub(crate) struct Counted {
-    /// Chunks by level.
-    pub(crate) lent: [u32; LEVELS],
-    /// Their words.
-    pub(crate) capacity: u64,
-    /// The words of their fronts.
-    pub(crate) fronts: u64,
-}
+use ms_base::{Level, NODE_WORDS, SLOTS, Space, granule};
 
 /// What was counted of parts that are free: how many of each level.
 #[derive(Clone, Copy)]
@@ -41,7 +28,8 @@ pub(crate) struct FreeCounted {
 impl Lender {
     /// Tells the sums over a space.
     pub(crate) fn totals(&self, space: Space) -> PoolTotals
-        requires { IsKept self.now }
+        requires kept { IsKept self.now }
+        requires counted { IsCounted self.now }
         ensures { sums_in result
             ≡ pool_sums (state_in space (ledger_of self.now)) (opened_in (ledger_of self.now) space) }
     {
@@ -50,7 +38,7 @@ impl Lender {
             Space::Class => (self.nodes.class_slots(), self.class_opened),
         };
         let granules = self.committed_in(space);
-        let counted = self.lent_in(space);
+        let counted = self.lent.counted(space);
         let lent = counted.lent;
         let free_counted = self.free_in(space);
         let free = free_counted.free;
@@ -140,52 +128,6 @@ impl Lender {
         }
         counted
     }
-
-    /// Counts the chunks that are lent in a space.
-    fn lent_in(&self, space: Space) -> Counted
-        requires { IsKept self.now }
-        ensures lent { result.lent ≡ lent_by_level (state_in space (ledger_of self.now)) }
-        ensures capacity { result.capacity ≡ capacity_of (held_in space (ledger_of self.now)) }
-        ensures fronts { result.fronts ≡ fronts_of (held_in space (ledger_of self.now)) }
-    {
-        let (first, end) = self.slots_of(space);
-        let mut counted = Counted {
-            lent: [0; LEVELS],
-            capacity: 0,
-            fronts: 0,
-        };
-        for root in 2 * first as usize..2 * end as usize {
-            counted = self.lent_in_root(root, counted);
-        }
-        counted
-    }
-
-    /// Counts the lent leaves of a root, beside those before.
-    fn lent_in_root(&self, root: usize, before: Counted) -> Counted
-        requires there { root < length self.now.trees.items }
-        requires leaves { AreLeaves (get_or self.now.trees.items root []) }
-        requires room { HasRoomFor before (map chunk_of (get_or self.now.trees.items root [])) }
-        ensures { Counts before (map chunk_of (get_or self.now.trees.items root [])) result }
-    {
-        let mut counted = before;
-        let mut at = 0;
-        while at < ROOT_WORDS {
-            let (span, leaf) = self.trees.tree(root).leaf_at(at);
-            at = span.start + span.level.words();
-            counted = with_leaf(counted, span, leaf);
-        }
-        counted
-    }
-}
-
-/// Counts one more of a level.
-fn one_more(counts: [u32; LEVELS], level: Level) -> [u32; LEVELS]
-    requires { get_or counts level 0 + 1 < 2 ^ 32 }
-    ensures { AreRaised counts (λ other. cond (level == other) 1 0) result }
-{
-    let mut raised = counts;
-    raised[level.number() as usize] += 1;
-    raised
 }
 
 /// Counts a free part of a level.
@@ -197,21 +139,4 @@ fn with_part(counted: FreeCounted, level: Level) -> FreeCounted
     let _ = level.number();
     let free = one_more(counted.free, level);
     FreeCounted { free }
-}
-
-/// Counts a leaf, where it is lent.
-fn with_leaf(counted: Counted, span: Span, leaf: Leaf) -> Counted
-    requires { HasRoomFor counted (chunks_at span leaf) }
-    ensures { Counts counted (chunks_at span leaf) result }
-{
-    // That a level is at most 12 is learnt here.
-    let _ = span.level.number();
-    match leaf {
-        Leaf::Free => counted,
-        Leaf::Lent { front, .. } => Counted {
-            lent: one_more(counted.lent, span.level),
-            capacity: counted.capacity + span.level.words(),
-            fronts: counted.fronts + front,
-        },
-    }
 }

@@ -7,9 +7,10 @@
 //!     slot         0               1          ..   63         64
 //!
 //! Kept true: there are as many trees as roots may be reserved, the leaves of each are lent in
-//! reserved slots, and the committed granules are those that a front of a lent leaf meets. What
-//! callers see is a `Ledger`, `specs/Keeping.antt`. The trees' places are made once, so a node that
-//! is reserved takes no memory.
+//! reserved slots, the committed granules are those that a front of a lent leaf meets, and the
+//! lent chunks of each space are counted (`lent`). What callers see is a `Ledger`,
+//! `specs/Keeping.antt`. The trees' places are made once, so a node that is reserved takes no
+//! memory.
 ghost use Rattle.std.specs.Prelude.{◌≡◌, ◌+◌, ◌*◌, ◌<◌, ◌≤◌, ◌^◌, IfOk, [], length, not, replicate};
 ghost use Rattle.std.specs.List.{All};
 ghost use Rattle.ms_base.specs.declared.kind.Space.TheVariants.{NonClass};
@@ -19,9 +20,10 @@ ghost use Rattle.ms_base.specs.State.{limits_of};
 ghost use Rattle.ms_buddy.specs.Leaves.{AreLeaves};
 ghost use Rattle.ms_pool.specs.Ledger.{empty_ledger, held_in, with_opened};
 ghost use Rattle.ms_pool.specs.Calls.{new_account, Opened, OpenedBoth, Purged};
-ghost use Rattle.ms_pool.specs.Keeping.{IsKept, ledger_of};
+ghost use Rattle.ms_pool.specs.Keeping.{IsCounted, IsKept, ledger_of};
 
 use crate::account::Account;
+use crate::lent::Lent;
 use crate::trees::Trees;
 use ms_base::{Policy, Refusal, SLOTS, Settings, Space, granule};
 use ms_commit::Nodes;
@@ -51,6 +53,8 @@ pub(crate) struct Lender {
     pub(crate) nodes: Nodes,
     /// Two trees for each slot that may be reserved: 128 to 160.
     pub(crate) trees: Trees,
+    /// What is lent in each space, counted.
+    pub(crate) lent: Lent,
     /// By what rule granules are committed and given back.
     pub(crate) policy: Policy,
     /// The last owner number that was given out; 0 where none was.
@@ -68,6 +72,7 @@ impl Lender {
     pub(crate) fn new(alloc: Global, settings: Settings) -> Result<Lender, AllocError>
         ensures empty { IfOk result (λ lender. ledger_of lender ≡ empty_ledger (limits_of settings)) }
         ensures kept { IfOk result IsKept }
+        ensures counted { IfOk result IsCounted }
     {
         let trees = Trees::whole(alloc, 2 * (SLOTS + settings.class_nodes) as usize)?;
         Ok(Lender {
@@ -79,6 +84,7 @@ impl Lender {
                 settings.class_nodes,
             ),
             trees,
+            lent: Lent::none(),
             policy: settings.policy,
             given: 0,
             opened: 0,
@@ -95,9 +101,11 @@ impl Lender {
 
     /// Opens an account in a space.
     pub(crate) fn open(&mut self, space: Space) -> Result<Account, Refusal>
-        requires { IsKept self.old }
+        requires kept { IsKept self.old }
+        requires counted { IsCounted self.old }
         ensures opened { Opened (ledger_of self.old) space result (ledger_of self.new) }
         ensures kept { IsKept self.new }
+        ensures counted { IsCounted self.new }
     {
         if self.given == u32::MAX {
             self.counts.open_ids = self.counts.open_ids.wrapping_add(1);
@@ -108,9 +116,11 @@ impl Lender {
 
     /// Opens an account in each space; the first is not the class space's.
     pub(crate) fn open_both(&mut self) -> Result<(Account, Account), Refusal>
-        requires { IsKept self.old }
+        requires kept { IsKept self.old }
+        requires counted { IsCounted self.old }
         ensures opened { OpenedBoth (ledger_of self.old) result (ledger_of self.new) }
         ensures kept { IsKept self.new }
+        ensures counted { IsCounted self.new }
     {
         if self.given >= u32::MAX - 1 {
             self.counts.open_ids = self.counts.open_ids.wrapping_add(1);
@@ -124,10 +134,12 @@ impl Lender {
     /// Opens an account in a space, where an owner number is left.
     fn next_account(&mut self, space: Space) -> Account
         requires kept { IsKept self.old }
+        requires counted { IsCounted self.old }
         requires left { self.old.given + 1 < 2 ^ 32 }
         ensures account { result ≡ new_account (self.old.given + 1) space }
         ensures opened { ledger_of self.new ≡ with_opened (ledger_of self.old) space }
         ensures kept { IsKept self.new }
+        ensures counted { IsCounted self.new }
     {
         self.given += 1;
         match space {
@@ -152,9 +164,11 @@ impl Lender {
 
     /// Unreserves each node below the class space's whose roots are whole, and counts them.
     pub(crate) fn purge(&mut self) -> u32
-        requires { IsKept self.old }
+        requires kept { IsKept self.old }
+        requires counted { IsCounted self.old }
         ensures purged { Purged (ledger_of self.old) result (ledger_of self.new) }
         ensures kept { IsKept self.new }
+        ensures counted { IsCounted self.new }
     {
         let before = self.nodes.reserved();
         for slot in 0..SLOTS {

@@ -18,7 +18,7 @@ ghost use Rattle.ms_pool.specs.Lending.{Adds, Grows, MayTake, span_of};
 ghost use Rattle.ms_pool.specs.Source.{ServesBoth};
 ghost use Rattle.ms_pool.specs.Ledger.{Serves, opened_in, state_in, with_lent, with_grown};
 ghost use Rattle.ms_pool.specs.Calls.{Closed, ClosedBoth, Grew, Took};
-ghost use Rattle.ms_pool.specs.Keeping.{IsKept, IsOpen, IsRunOf, ledger_of, with_reserved};
+ghost use Rattle.ms_pool.specs.Keeping.{IsCounted, IsKept, IsOpen, IsRunOf, ledger_of, with_reserved};
 ghost use Rattle.ms_pool.specs.Placing.{IsLentThere, MayBeLent, MayBeReplaced};
 ghost use Rattle.ms_pool.specs.Searching.{least_granule, is_full, lacking, part_picked};
 
@@ -41,9 +41,11 @@ impl Lender {
         words: u64,
     ) -> Result<Span, Refusal>
         requires kept { IsKept self.old }
+        requires counted { IsCounted self.old }
         requires served { Serves (ledger_of self.old) account.old }
         requires asks { MayTake wanted most words }
         ensures kept { IsKept self.new }
+        ensures counted { IsCounted self.new }
         ensures added { IfOk result
             (λ span. Adds self.old.policy wanted most words account.old span account.new) }
         ensures unchanged { OnErr result (account.new ≡ account.old) }
@@ -188,17 +190,20 @@ impl Lender {
     /// front; `false` where memory is wanting.
     fn lend(&mut self, space: Space, owner: u32, chunk: &Chunk) -> bool
         requires kept { IsKept self.old }
+        requires counted { IsCounted self.old }
         requires may { MayBeLent self.old space owner chunk.now }
         ensures lent { IsTrue result
             → ledger_of self.new ≡ with_lent (ledger_of self.old) space owner chunk.now }
         ensures unchanged { IsFalse result → ledger_of self.new ≡ ledger_of self.old }
         ensures kept { IsKept self.new }
+        ensures counted { IsCounted self.new }
     {
         if !carve(&mut self.trees, self.alloc, owner, chunk) {
             return false;
         }
         reserve(&mut self.nodes, (chunk.start / NODE_WORDS) as u32);
         commit(&mut self.nodes, granule(self.policy), chunk);
+        self.lent.add(space, chunk);
         true
     }
 
@@ -211,9 +216,11 @@ impl Lender {
         may_enlarge: bool,
     ) -> Result<Span, Refusal>
         requires kept { IsKept self.old }
+        requires counted { IsCounted self.old }
         requires served { Serves (ledger_of self.old) account.old }
         requires held { IsTrue (has_chunk_at account.old.chunks start) }
         ensures kept { IsKept self.new }
+        ensures counted { IsCounted self.new }
         ensures grown { IfOk result
             (λ span. Grows self.old.policy start total may_enlarge account.old span account.new) }
         ensures unchanged { OnErr result (account.new ≡ account.old) }
@@ -234,6 +241,7 @@ impl Lender {
             return Err(refusal);
         }
         self.replace(space, &chunk, &greater);
+        self.lent.replace(space, &chunk, &greater);
         let span = span_of(&greater);
         account.chunks[place] = greater;
         Ok(span)
@@ -276,6 +284,7 @@ impl Lender {
         requires may { MayBeReplaced self.old space chunk.now greater.now }
         ensures grown { ledger_of self.new ≡ with_grown (ledger_of self.old) greater.now }
         ensures kept { IsKept self.new }
+        ensures lent { self.new.lent ≡ self.old.lent }
     {
         raise(&mut self.trees, chunk, greater);
         commit(&mut self.nodes, granule(self.policy), greater);
@@ -285,13 +294,16 @@ impl Lender {
     pub(crate) fn close(&mut self, account: &Account)
         requires kept { IsKept self.old }
         requires served { Serves (ledger_of self.old) account.now }
-        requires counted { 0 < opened_in (ledger_of self.old) account.now.space }
+        requires opened { 0 < opened_in (ledger_of self.old) account.now.space }
+        requires counted { IsCounted self.old }
         ensures closed { Closed (ledger_of self.old) account.now (ledger_of self.new) }
         ensures kept { IsKept self.new }
+        ensures counted { IsCounted self.new }
     {
         for place in 0..account.held() {
             self.release(account.chunk(place));
         }
+        self.lent.take_out(account);
         match account.space() {
             Space::NonClass => self.opened -= 1,
             Space::Class => self.class_opened -= 1,
@@ -302,10 +314,12 @@ impl Lender {
     pub(crate) fn close_both(&mut self, account: &Account, class_account: &Account)
         requires kept { IsKept self.old }
         requires both { ServesBoth Serves (ledger_of self.old) account.now class_account.now }
-        requires counted { 0 < (ledger_of self.old).opened }
-        requires class_counted { 0 < (ledger_of self.old).class_opened }
+        requires opened { 0 < (ledger_of self.old).opened }
+        requires class_opened { 0 < (ledger_of self.old).class_opened }
+        requires counted { IsCounted self.old }
         ensures closed { ClosedBoth (ledger_of self.old) account.now class_account.now (ledger_of self.new) }
         ensures kept { IsKept self.new }
+        ensures counted { IsCounted self.new }
     {
         // What holds of the chunks of every account is learnt here.
         let _ = account.held();
@@ -320,6 +334,7 @@ impl Lender {
         requires lent { IsTrue (is_lent_in (ledger_of self.old).loans chunk) }
         ensures released { ledger_of self.new ≡ with_released (ledger_of self.old) chunk }
         ensures kept { IsKept self.new }
+        ensures lent { self.new.lent ≡ self.old.lent }
     {
         let root = chunk.start / ROOT_WORDS;
         let part = put_back(&mut self.trees, &chunk);

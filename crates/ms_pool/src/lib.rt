@@ -10,6 +10,7 @@ mod account;
 mod counting;
 mod lender;
 mod lending;
+mod lent;
 mod pool;
 mod search;
 mod source;

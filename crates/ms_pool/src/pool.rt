@@ -33,11 +33,11 @@ impl Model for Pool {
 
     ghost Value = { Ledger };
 
-    ghost use Rattle.ms_pool.specs.Keeping.{IsKept, ledger_of};
+    ghost use Rattle.ms_pool.specs.Keeping.{IsReady, ledger_of};
 
     ghost view = { λ pool. ledger_of pool.lender };
 
-    ghost invariant = { λ pool. IsKept pool.lender };
+    ghost invariant = { λ pool. IsReady pool.lender };
 }
 
 impl Pool {
@@ -179,7 +179,9 @@ impl Pool {
     pub fn committed(&self) -> u64
         ensures count { result ≡ length self.now.committed + length self.now.class_committed }
         ensures sound { IsSoundLedger self.now }
+        ensures tallies { AreTallies self.now.tallies }
     {
+        self.lender.read_tallies();
         self.lender.committed()
     }
 

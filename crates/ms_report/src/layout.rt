@@ -16,6 +16,9 @@ use std::alloc::AllocError;
 /// The places of a label, and of the number beside it.
 const COLUMN: usize = 12;
 
+/// The spaces of an empty column.
+const SPACES: &str = "            ";
+
 /// A column of a table: its heading, and its places.
 pub type Column = (&'static str, usize);
 
@@ -35,13 +38,16 @@ pub fn push_number(text: &mut String, number: u64) -> Result<(), AllocError>
     Ok(())
 }
 
-/// Appends so many spaces.
+/// Appends so many spaces, a column of them in one go.
 fn push_spaces(text: &mut String, count: usize) -> Result<(), AllocError>
     ensures { OnOk result (string_bytes text.new ≡ string_bytes text.old ++ replicate count 32) }
 {
-    for _written in 0..count {
-        text.push(' ')?;
+    let mut left = count;
+    while left > COLUMN {
+        text.push_str(SPACES)?;
+        left -= COLUMN;
     }
+    text.push_str(&SPACES[..left])?;
     Ok(())
 }
 

@@ -6,7 +6,7 @@
 //!
 //! Kept true: a line is the bytes that `ms_base/specs/ReplyText.antt` gives. `lines` takes memory
 //! for the text alone.
-ghost use Rattle.std.specs.Prelude.{◌≡◌, ◌++◌, IfOk, OnOk, OnErr, string_bytes, codes};
+ghost use Rattle.std.specs.Prelude.{◌≡◌, ◌++◌, IfOk, OnOk, OnErr, string_bytes, codes, decimal};
 ghost use Rattle.ms_base.specs.ReplyText.{name_of, reply_text, reply_line};
 ghost use Rattle.ms_report.specs.ReplyLines.{report_after, answer_text, answers_text};
 
@@ -54,33 +54,40 @@ fn push_reply_line(
         ≡ string_bytes text.old ++ reply_line addresses number reply) }
 {
     push_number(text, number)?;
-    text.push_str(" ")?;
-    push_reply(text, addresses, reply)?;
-    text.push_str("\n")?;
-    Ok(())
+    push_reply(text, addresses, reply)
 }
 
-/// Appends a reply's text.
+/// Appends a space, a reply's text, and the line's end.
 fn push_reply(text: &mut String, addresses: bool, reply: Reply) -> Result<(), AllocError>
     ensures { OnOk result (string_bytes text.new
-        ≡ string_bytes text.old ++ reply_text addresses reply) }
+        ≡ string_bytes text.old ++ codes " " ++ reply_text addresses reply ++ codes "\n") }
 {
     match reply {
-        Reply::At(start) if addresses => {
-            text.push_str("at ")?;
-            push_number(text, start)?;
-        }
-        Reply::Ok | Reply::At(_) => text.push_str("ok")?,
-        Reply::Value(value) => {
-            text.push_str("value ")?;
-            push_number(text, value)?;
-        }
-        Reply::Refused(refusal) => {
-            text.push_str("refused ")?;
-            text.push_str(name(refusal))?;
-        }
+        Reply::At(start) if addresses => push_numbered(text, " at ", start),
+        Reply::Ok | Reply::At(_) => text.push_str(" ok\n"),
+        Reply::Value(value) => push_numbered(text, " value ", value),
+        Reply::Refused(refusal) => push_refusal(text, refusal),
     }
-    Ok(())
+}
+
+/// Appends a word, a number, and the line's end.
+fn push_numbered(text: &mut String, word: &str, number: u64) -> Result<(), AllocError>
+    ensures { OnOk result (string_bytes text.new
+        ≡ string_bytes text.old ++ word.now ++ decimal number ++ codes "\n") }
+{
+    text.push_str(word)?;
+    push_number(text, number)?;
+    text.push_str("\n")
+}
+
+/// Appends the name of a refusal, and the line's end.
+fn push_refusal(text: &mut String, refusal: Refusal) -> Result<(), AllocError>
+    ensures { OnOk result (string_bytes text.new
+        ≡ string_bytes text.old ++ codes " refused " ++ name_of refusal ++ codes "\n") }
+{
+    text.push_str(" refused ")?;
+    text.push_str(name(refusal))?;
+    text.push_str("\n")
 }
 
 /// Tells the name of a refusal, without its numbers.

@@ -524,7 +524,7 @@ fn a_report_follows_its_ok(rt: HostRuntime) -> Result<(), Fail> {
     answers.push(Answer {
         line: 3,
         reply: Reply::Ok,
-        report: Some(of_one_block(rt.alloc())?),
+        report: Some(Box::new(rt.alloc(), of_one_block(rt.alloc())?)?),
     })?;
     answers.push(Answer {
         line: 4,

@@ -22,3 +22,4 @@ mod MeterMoveLemmas
 mod UseLemmas
 mod TakenApartLemmas
 mod MeterSumLemmas
+mod StepUseLemmas

@@ -380,45 +380,50 @@ transition_own old new step Done was told = served_own old new step Done was tol
 transition_own old new step (At start) was told = served_own old new step (At start) was told.1 told.0
 transition_own old new step (Value value) was told = served_own old new step (Value value) was told.1 told.0
 
--- Another name has what it had.
+-- Another name has the loader that it had.
 abbrev pub LeavesOthers : Machine → Step → Machine → Type 0
-LeavesOthers old step new = (name : ℕ) → loader_of step ≢ Some name → own_in new.loaders name ≡ own_in old.loaders name
+LeavesOthers old step new = (name : ℕ) → loader_of step ≢ Some name → named new.loaders name ≡ named old.loaders name
 
 differs : (mine name : ℕ) → Some mine ≢ Some name → mine ≡ name → ⊥
 differs mine name other e = other (ap (λ (n : ℕ). Some n) e)
 
-served_others : (old new : Machine) (step : Step) (reply : Reply) → Serves old step reply new
+pub served_others : (old new : Machine) (step : Step) (reply : Reply) → Serves old step reply new
     → LeavesOthers old step new
 served_others old new (New mine kind) Done made = λ name other.
-    ap (λ (m : Machine). own_in m.loaders name) made.after
-    ∙ ap own_of (named_new_other old.loaders mine (empty_loader kind) name (differs mine name other))
+    ap (λ (m : Machine). named m.loaders name) made.after
+    ∙ named_new_other old.loaders mine (empty_loader kind) name (differs mine name other)
 served_others old new (Alloc mine block words) (At start) made = λ name other.
-    ap (λ (m : Machine). own_in m.loaders name) made.after
-    ∙ ap own_of (named_changed_other old.loaders mine _ name (differs mine name other))
+    ap (λ (m : Machine). named m.loaders name) made.after
+    ∙ named_changed_other old.loaders mine _ name (differs mine name other)
 served_others old new (Calloc mine block words) (At start) made = λ name other.
-    ap (λ (m : Machine). own_in m.loaders name) made.after
-    ∙ ap own_of (named_changed_other old.loaders mine _ name (differs mine name other))
+    ap (λ (m : Machine). named m.loaders name) made.after
+    ∙ named_changed_other old.loaders mine _ name (differs mine name other)
 served_others old new (Write mine block index value) Done made = λ name other.
-    ap (λ (m : Machine). own_in m.loaders name) made.after
-    ∙ ap own_of (named_changed_other old.loaders mine _ name (differs mine name other))
+    ap (λ (m : Machine). named m.loaders name) made.after
+    ∙ named_changed_other old.loaders mine _ name (differs mine name other)
 served_others old new (Read mine block index) (Value value) made =
-    λ name other. ap (λ (m : Machine). own_in m.loaders name) made.after
+    λ name other. ap (λ (m : Machine). named m.loaders name) made.after
 served_others old new (Free mine block) Done made = λ name other.
-    ap (λ (m : Machine). own_in m.loaders name) made.after
-    ∙ ap own_of (named_changed_other old.loaders mine _ name (differs mine name other))
+    ap (λ (m : Machine). named m.loaders name) made.after
+    ∙ named_changed_other old.loaders mine _ name (differs mine name other)
 served_others old new (Unload mine) Done made = λ name other.
-    ap (λ (m : Machine). own_in m.loaders name) made.after
-    ∙ ap own_of (named_without_other old.loaders mine name (differs mine name other))
-served_others old new Purge Done made = λ name other. ap (λ (m : Machine). own_in m.loaders name) made
+    ap (λ (m : Machine). named m.loaders name) made.after
+    ∙ named_without_other old.loaders mine name (differs mine name other)
+served_others old new Purge Done made = λ name other. ap (λ (m : Machine). named m.loaders name) made
 served_others old new _ _ made = absurd made
 
-pub transition_others : (old new : Machine) (step : Step) (reply : Reply) → Transition old step reply new
+transition_leaves : (old new : Machine) (step : Step) (reply : Reply) → Transition old step reply new
     → LeavesOthers old step new
-transition_others old new step (Refused refusal) told =
-    λ name other. ap (λ (l : List (ℕ × LoaderState)). own_in l name) (refused_leaves old new step refusal told.1)
-transition_others old new step Done told = served_others old new step Done told.0
-transition_others old new step (At start) told = served_others old new step (At start) told.0
-transition_others old new step (Value value) told = served_others old new step (Value value) told.0
+transition_leaves old new step (Refused refusal) told =
+    λ name other. ap (λ (l : List (ℕ × LoaderState)). named l name) (refused_leaves old new step refusal told.1)
+transition_leaves old new step Done told = served_others old new step Done told.0
+transition_leaves old new step (At start) told = served_others old new step (At start) told.0
+transition_leaves old new step (Value value) told = served_others old new step (Value value) told.0
+
+-- So its own requests know of it what they knew.
+pub transition_others : (old new : Machine) (step : Step) (reply : Reply) → Transition old step reply new
+    → (name : ℕ) → loader_of step ≢ Some name → own_in new.loaders name ≡ own_in old.loaders name
+transition_others old new step reply told name other = ap own_of (transition_leaves old new step reply told name other)
 
 -- The limits stay.
 served_limits : (old new : Machine) (step : Step) (reply : Reply) → Serves old step reply new → new.limits ≡ old.limits

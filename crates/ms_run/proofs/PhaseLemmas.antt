@@ -27,7 +27,9 @@ use Rattle.ms_loaders.specs.System.{states_of}
 use Rattle.ms_shared.specs.SeatView.{LockState}
 use Rattle.ms_run.specs.Own.{Said, own_said, own_of, own_in, OwnRun, ArePurged}
 use Rattle.ms_run.specs.Manned.{IsManned}
-use Rattle.ms_run.specs.Replay.{AreSaid, IsPhase}
+use Rattle.ms_run.specs.Replay.{AreSaid, IsPhase, GoesOn, runs}
+use Rattle.ms_run.proofs.AloneLemmas.{AddsFirst}
+use Rattle.ms_run.proofs.ReplayLemmas.{answers_replay}
 use Rattle.ms_run.specs.declared.share.Task.{Task}
 use Rattle.ms_run.specs.declared.share.Share.{Share}
 use Rattle.ms_run.specs.Shares.{said_in, IsReady, IsWorked, AllWorked, Place, tasks_of, AreApart, HaveTasks, AreDealt}
@@ -261,29 +263,30 @@ phase_of place shared shares others lines added said loaders old new old_is deal
         (λ s e. eq-eqb _ _ (ap (λ (step : Step). place (loader_of step)) e)) said
         (subst (AllByRecursion IsDoneIfPurge) (sym whole) its))
 
--- Without lines a phase changes nothing.
-pub empty_phase : (state : Machine) → IsGood state → IsPhase state [] [] state
-empty_phase state good = record {
-  said = [];
-  said_are = tt;
-  own = λ name. ([], refl);
-  purges = All-from_recursion IsDoneIfPurge [] tt;
-  good = good;
-  limits = refl;
-}
-
-no_lines : (lines : List Line) → (length lines == 0) ≡ true → lines ≡ []
-no_lines [] none = refl
-no_lines (line ∷ lines) none = absurd (omega (arith, eqb-true _ _ none))
-
 -- What has been answered, with the answers of a phase.
 abbrev pub Adds : List Line → List Answer → List Answer → Machine → Machine → Type 0
-Adds lines before after old new = (added : List Answer) × (after ≡ before ++ added) × IsPhase old lines added new
+Adds lines before after old new = (added : List Answer) × (after ≡ before ++ added) × GoesOn old lines added new
 
-pub ended_empty : (lines : List Line) (answers : List Answer) (state : Machine) → (length lines == 0) ≡ true
-    → IsGood state → Adds lines answers answers state state
-ended_empty lines answers state none good =
-    ([], sym (append-nil answers), rw (no_lines lines none) (empty_phase state good))
+-- A phase comes after what there was before it.
+goes_on : (lines : List Line) (added : List Answer) (old new : Machine) → IsPhase old lines added new
+    → GoesOn old lines added new
+goes_on lines added old new phase = record {
+  replays = λ first before said so_far. runs before lines said added old new so_far phase;
+  good = phase.good;
+}
+
+-- So do lines that one worker answers.
+pub ended_alone : (lines : List Line) (before after : List Answer) (old new : Machine) → IsGood old → IsGood new
+    → AddsFirst old lines before after new → Adds lines before after old new
+ended_alone lines before after old new was good told = (
+  told.0,
+  told.1,
+  record {
+    replays = λ first earlier said so_far.
+        answers_replay first old new earlier lines said told.0 so_far was told.2;
+    good = good;
+  },
+)
 
 -- What merging adds.
 abbrev pub Merges : Place → List Share → List Line → List Answer → List Answer → Type 0
@@ -300,6 +303,7 @@ pub ended : (place : Place) (shared : LockState) (shares others : List Share) (l
 ended place shared shares others lines before after loaders old new old_is dealt all merges gathered good limits same = (
   merges.0,
   merges.2,
-  phase_of place shared shares others lines merges.0 merges.1 loaders old new old_is dealt all merges.3 merges.4
-      (gathered place (still_apart place shares others lines dealt.apart dealt.tasks all)) good (limits ∙ same),
+  goes_on lines merges.0 old new
+      (phase_of place shared shares others lines merges.0 merges.1 loaders old new old_is dealt all merges.3 merges.4
+      (gathered place (still_apart place shares others lines dealt.apart dealt.tasks all)) good (limits ∙ same)),
 )

@@ -2,7 +2,7 @@
 -- `replaying`.
 use Rattle.std.proofs.Common.{◌≡◌, ◌≢◌, ◌≤◌, ◌<◌, ◌+◌, ℕ, Bool, true, false, cond, Option, Some, None, List, [], ◌∷◌}
 use Rattle.std.proofs.Common.{◌++◌, length, take, drop, ◌-◌, get_or, slice_get, refl, sym, ap, ◌∙◌, subst, append_assoc}
-use Rattle.std.proofs.Common.{arith}
+use Rattle.std.proofs.Common.{arith, Box, Global}
 use Rattle.std.specs.Prelude.{◌==◌, ◌&&◌, ◌||◌}
 use Rattle.std.specs.List.{All, filter, flat_map}
 use Rattle.std.specs.List.Sorted.{IsStrictlyIncreasing}
@@ -41,14 +41,15 @@ use Rattle.ms_loaders.specs.declared.totals.Totals.{Totals}
 use Rattle.ms_loaders.specs.declared.replies.Answer.{Answer}
 use Rattle.ms_run.specs.Own.{Said, own_said, own_in, OwnRun}
 use Rattle.ms_run.specs.Metering.{used_words_of}
-use Rattle.ms_run.specs.Replay.{Advances, Reports, Answers, IsPhase, IsEnd, IsReplay, Replays, starts, runs, ends}
+use Rattle.ms_run.specs.Replay.{Advances, Reports, Answers, IsPhase, IsEnd, GoesOn, IsReplay, Replays, starts}
+use Rattle.ms_run.specs.Replay.{runs, ends}
 use Rattle.ms_run.specs.Shares.{AreSteps}
 use Rattle.ms_run.proofs.OwnStepLemmas.{IsOwn, transition_own, transition_others, transition_limits, transition_good}
 use Rattle.ms_run.proofs.OwnStepLemmas.{purge_done}
 
 -- Where a step is asked there is no report.
-none_reported : (command : Command) (asked : Step) (m : Machine) (report : Option Totals) → step_of command ≡ Some asked
-    → Reports command m report → report ≡ None
+none_reported : (command : Command) (asked : Step) (m : Machine) (report : Option (Box Totals Global))
+    → step_of command ≡ Some asked → Reports command m report → report ≡ None
 none_reported (Asks step) asked m report asks told = told
 none_reported Sync asked m report asks told = told
 none_reported Report asked m report asks told = absurd (cc)
@@ -269,10 +270,10 @@ stops_next lines at count line stops more =
     subst (λ (l : Line). step_of l.command ≡ None) (get_or-drop at lines count line)
     (left (get_or (drop at lines) count line) found)
 
--- A phase more.
+-- Some lines more.
 abbrev pub AddsPhase : Machine → List Line → List Answer → List Answer → Machine → Type 0
 AddsPhase state lines answers whole after =
-    (added : List Answer) × (whole ≡ answers ++ added) × IsPhase state lines added after
+    (added : List Answer) × (whole ≡ answers ++ added) × GoesOn state lines added after
 
 pub phases_more : (first state after : Machine) (lines : List Line) (at count : ℕ) (answers whole : List Answer)
     → PhasesFirst first lines at answers state
@@ -285,7 +286,7 @@ phases_more first state after lines at count answers whole so_far within more =
     let phase = rw same at more.2 in (
       omega (arith, fits, so_far.0),
       rw (more.1, take-add at count lines)
-          (runs (take at lines) (take count (drop at lines)) answers more.0 state after so_far.1 phase),
+          (phase.replays first (take at lines) answers so_far.1),
       more.2.good,
     )
 

@@ -1,9 +1,10 @@
 -- The words in use of loaders of which one changes: what it gained or lost is what their sum did. For
--- metering.rt.
+-- metering.rt, and for alone.rt by StepUseLemmas.
 use Rattle.std.proofs.Common.{◌≡◌, ◌≢◌, ◌+◌, ℕ, Bool, true, false, cond, Option, Some, None, List, [], ◌∷◌, refl, sym}
 use Rattle.std.proofs.Common.{ap, ◌∙◌, inl, inr, subst, option_map, arith}
 use Rattle.std.specs.Ordering.{nat_cmp}
 use Rattle.std.specs.BTreeMap.{is_at}
+use Rattle.std.specs.List.{sum_by}
 use Rattle.std.specs.Map.{values_of}
 use Rattle.std.proofs.lemmas.Bool.{cases_eq}
 use Rattle.std.proofs.lemmas.List.Sums.{sum_by-cons}
@@ -18,33 +19,58 @@ use Rattle.ms_base.proofs.entries.LookupLemmas.{named_without_other}
 use Rattle.ms_base.proofs.events.SeenEntryLemmas.{named_without_same, same_entries}
 use Rattle.ms_loaders.specs.Loader.{LoaderView}
 use Rattle.ms_loaders.specs.System.{states_of}
-use Rattle.ms_loaders.specs.Used.{used_by, used_at, used_in}
+use Rattle.ms_loaders.specs.Used.{used_at, used_in}
 use Rattle.ms_run.specs.Own.{own_of, own_in}
 use Rattle.ms_run.proofs.TouchLemmas.{named_states}
 use Rattle.ms_loaders.proofs.UnloadLemmas.{state_of}
 
-abbrev use_of : LoaderView → ℕ
-use_of loader = used_by loader.state
-
 some_same : {a b : ℕ} → Some a ≡ Some b → a ≡ b
 some_same e = cc
 
--- The sum without one loader.
-used_apart : (loaders : List (ℕ × LoaderView)) (name : ℕ)
-    → used_in loaders ≡ used_at (named loaders name) + used_in (without loaders name)
-used_apart [] name = refl
-used_apart (e ∷ es) name =
-    elim (is_at (nat_cmp name) e.0) as (λ b. used_in (e ∷ es)
-    ≡ used_at (cond b (Some e.1) (named es name)) + used_in (cond b es (e ∷ without es name))) [
-      | true ↦ sum_by-cons use_of e.1 (values_of es)
+-- The sum of the entries' amounts without one.
+amounts_apart : {X : Type 0} (amount : Option X → ℕ) (es : List (ℕ × X)) (name : ℕ) → amount None ≡ 0
+    → sum_by (λ x. amount (Some x)) (values_of es)
+    ≡ amount (named es name) + sum_by (λ x. amount (Some x)) (values_of (without es name))
+amounts_apart amount [] name none = omega (arith, none)
+amounts_apart {X} amount (e ∷ es) name none =
+    elim (is_at (nat_cmp name) e.0) as (λ b. sum_by (λ x. amount (Some x)) (values_of (e ∷ es))
+    ≡ amount (cond b (Some e.1) (named es name))
+    + sum_by (λ x. amount (Some x)) (values_of (cond b es (e ∷ without es name)))) [
+      | true ↦ sum_by-cons (λ (x : X). amount (Some x)) e.1 (values_of es)
       | false ↦
           omega (
             arith,
-            used_apart es name,
-            sum_by-cons use_of e.1 (values_of es),
-            sum_by-cons use_of e.1 (values_of (without es name)),
+            amounts_apart amount es name none,
+            sum_by-cons (λ (x : X). amount (Some x)) e.1 (values_of es),
+            sum_by-cons (λ (x : X). amount (Some x)) e.1 (values_of (without es name)),
           )
     ]
+
+-- One entry changes, comes or goes.
+pub amounts_moved : {X : Type 0} (amount : Option X → ℕ) (old new : List (ℕ × X)) (name : ℕ) → amount None ≡ 0
+    → AreNamed old → AreNamed new
+    → ((other : ℕ) → (name ≡ other → ⊥) → named new other ≡ named old other)
+    → sum_by (λ x. amount (Some x)) (values_of new) + amount (named old name)
+    ≡ sum_by (λ x. amount (Some x)) (values_of old) + amount (named new name)
+amounts_moved {X} amount old new name none rises rises_too others =
+    omega (
+      arith,
+      amounts_apart amount old name none,
+      amounts_apart amount new name none,
+      ap (λ (es : List (ℕ × X)). sum_by (λ x. amount (Some x)) (values_of es)) rest,
+    )
+  where
+    same : (other : ℕ) → named (without new name) other ≡ named (without old name) other
+    same other = elim (cases_eq name other) [
+      | inl is ↦ subst (λ (n : ℕ). named (without new name) n ≡ named (without old name) n) is
+          (named_without_same new name rises_too ∙ sym (named_without_same old name rises))
+      | inr differs ↦ named_without_other new name other differs ∙ others other differs
+          ∙ sym (named_without_other old name other differs)
+    ]
+
+    rest : without new name ≡ without old name
+    rest = same_entries (without new name) (without old name) (rises_without new name rises_too)
+        (rises_without old name rises) same
 
 -- The loader that a step names changes, comes or goes.
 pub used_moved : (old new : List (ℕ × LoaderView)) (at : Option ℕ) (name : ℕ) → at ≡ Some name → AreNamed old
@@ -52,20 +78,8 @@ pub used_moved : (old new : List (ℕ × LoaderView)) (at : Option ℕ) (name : 
     → ((other : ℕ) → at ≢ Some other → named new other ≡ named old other)
     → used_in new + used_at (named old name) ≡ used_in old + used_at (named new name)
 used_moved old new at name names rises rises_too others =
-    omega (arith, used_apart old name, used_apart new name, ap used_in rest)
-  where
-    same : (other : ℕ) → named (without new name) other ≡ named (without old name) other
-    same other = elim (cases_eq name other) [
-      | inl is ↦ subst (λ (n : ℕ). named (without new name) n ≡ named (without old name) n) is
-          (named_without_same new name rises_too ∙ sym (named_without_same old name rises))
-      | inr differs ↦ named_without_other new name other differs
-          ∙ others other (λ e. differs (some_same (sym names ∙ e)))
-          ∙ sym (named_without_other old name other differs)
-    ]
-
-    rest : without new name ≡ without old name
-    rest = same_entries (without new name) (without old name) (rises_without new name rises_too)
-        (rises_without old name rises) same
+    amounts_moved used_at old new name refl rises rises_too
+    (λ other differs. others other (λ e. differs (some_same (sym names ∙ e))))
 
 -- The loader that a step names, if it names one, has in use what it had.
 pub used_stays : (old new : List (ℕ × LoaderView)) (at : Option ℕ) → AreNamed old → AreNamed new

@@ -8,3 +8,4 @@ pub mod Dealing
 pub mod Metering
 pub mod Answering
 pub mod Moved
+pub mod Counting

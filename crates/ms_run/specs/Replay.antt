@@ -1,5 +1,6 @@
 -- What a replay answers, whatever the number of workers and their order (this project's choice).
-use Rattle.std.specs.Prelude.{◌≡◌, ℕ, ⊤, List, [], ◌∷◌, ◌++◌, Option, Some, None}
+use Rattle.std.specs.Prelude.{◌≡◌, ℕ, ⊤, List, [], ◌∷◌, ◌++◌, Option, Some, None, Box}
+use Rattle.std.specs.declared.alloc.Global.{Global}
 use Rattle.ms_base.specs.declared.step.Step.{Step}
 use Rattle.ms_base.specs.declared.step.Reply.{Reply}
 use Rattle.ms_base.specs.declared.step.Reply.TheVariants.{Ok as Done}
@@ -25,11 +26,11 @@ Advances (Some asked) old reply new = Transition old asked reply new
 Advances None old reply new = (reply ≡ Done) × (new ≡ old)
 
 -- Where a report is asked for, the totals are those of the machine; elsewhere there are none.
-abbrev pub Reports : Command → Machine → Option Totals → Type 0
+abbrev pub Reports : Command → Machine → Option (Box Totals Global) → Type 0
 Reports (Asks step) m report = report ≡ None
 Reports Sync m report = report ≡ None
 Reports Report m None = ⊥
-Reports Report m (Some totals) = sums_in totals ≡ sums_of m
+Reports Report m (Some totals) = sums_in totals.value ≡ sums_of m
 
 -- The answers to the lines of a trace, of which one follows the other: the machine runs from old to
 -- new, and each line has one.
@@ -78,6 +79,12 @@ pub data Replays (first : Machine) : List Line → List Answer → Machine → T
   ends : (lines : List Line) (answers : List Answer) (state : Machine) (line : Line) (answer : Answer)
       → Replays first lines answers state → IsEnd state line answer
       → Replays first (lines ++ line ∷ []) (answers ++ answer ∷ []) state
+
+-- From a state on that was reached, the lines are answered phase by phase, up to a good one.
+pub record GoesOn (old : Machine) (lines : List Line) (answers : List Answer) (new : Machine) : Type 0 where
+  pub replays : (first : Machine) (before : List Line) (said : List Answer) → Replays first before said old
+      → Replays first (before ++ lines) (said ++ answers) new
+  pub good : IsGood new
 
 -- A whole trace is, from a machine on that has nothing.
 pub record IsReplay (limits : Limits) (lines : List Line) (answers : List Answer) : Type 0 where

@@ -13,7 +13,7 @@ ghost use Rattle.ms_run.specs.Metering.{used_words_of};
 use ms_base::Reply;
 use ms_loaders::{Answer, SpaceTotals, System, Totals};
 use ms_trace::{Command, Line};
-use std::alloc::AllocError;
+use std::alloc::{AllocError, Global};
 
 /// Answers a line that asks no step: a report with the totals as they are. The words in use, of both
 /// spaces, are taken from a count of them where there is one.
@@ -29,7 +29,7 @@ pub fn answer_between(
         × (answers.new.items ≡ answers.old.items ++ added ∷ [])
         × IsEnd system.now line.now added) }
 {
-    let report = report_for(system, used, line.command)?;
+    let report = report_for(*answers.allocator(), system, used, line.command)?;
     answers.push(Answer {
         line: line.number,
         reply: Reply::Ok,
@@ -38,17 +38,18 @@ pub fn answer_between(
     Ok(())
 }
 
-/// Gathers the totals where a command asks for them.
+/// Gathers the totals where a command asks for them, and boxes them.
 fn report_for(
+    alloc: Global,
     system: &System,
     used: Option<u64>,
     command: Command,
-) -> Result<Option<Totals>, AllocError>
+) -> Result<Option<Box<Totals>>, AllocError>
     requires { IfSome used (λ words. words ≡ used_words_of system.now) }
     ensures { IfOk result (λ report. Reports command system.now report) }
 {
     match command {
-        Command::Report => Ok(Some(totals_of(system, used)?)),
+        Command::Report => Ok(Some(Box::new(alloc, totals_of(system, used)?)?)),
         Command::Step(_) | Command::Sync => Ok(None),
     }
 }

@@ -1,20 +1,22 @@
-//! One phase of two workers or more: dealt, worked, merged and gathered.
+//! One phase of two workers or more: dealt, worked, merged and gathered. A phase of which one worker has
+//! all lines is answered by the caller, over the system as it is.
 //!
 //!     System ── deal ──> shares ── work_all ──> shares ── gather ──> System
 //!                                                   └──── merge ───> answers
 //!
 //! Kept true: the system is good before and after, and nothing of it is lost between; the phase's
-//! meter moved as its words in use did. Takes memory; waits for the lock and for threads. A phase
-//! without lines changes nothing.
+//! meter moved as its words in use did. Takes memory; waits for the lock and for threads where two
+//! workers have lines.
 ghost use Rattle.std.specs.Prelude.{◌≡◌, ◌++◌, ℕ, List, IsOk, IfOk, IfErr, vec_len};
 ghost use Rattle.std.specs.List.{All};
 ghost use Rattle.ms_base.specs.Good.{IsGood};
 ghost use Rattle.ms_loaders.specs.declared.replies.Answer.{Answer as AnswerOf};
-ghost use Rattle.ms_run.specs.Replay.{IsPhase, IsWanting};
+ghost use Rattle.ms_run.specs.Replay.{GoesOn, IsWanting};
 ghost use Rattle.ms_shared.specs.MeterRule.{MeterSeatState};
 ghost use Rattle.ms_run.specs.Shares.{AreSteps};
 ghost use Rattle.ms_run.specs.Metering.{used_words_of, amount_of};
 
+use crate::alone::{Metered, answer_lines};
 use crate::dealing::deal;
 use crate::fault::RunFault;
 use crate::gate::Gate;
@@ -22,21 +24,12 @@ use crate::gathering::{fault_of, gather};
 use crate::merging::merge;
 use crate::turn::Turn;
 use crate::working::work_all;
-use ms_loaders::{Answer, System};
+use ms_loaders::Answer;
 use ms_shared::{MeterSeat, UsedMeter};
 use ms_trace::Line;
 use std::alloc::Global;
 use std::sync::Wait;
 use std::thread::Threads;
-
-/// A system, and the words that it has in use, as the meters of all phases so far counted them.
-#[derive(Drop)]
-pub struct Metered {
-    /// The system.
-    pub system: System,
-    /// The words in use, in both spaces: the sum of all tops.
-    pub used: u64,
-}
 
 /// Runs a phase, and appends the answers to its lines.
 pub fn run_phase<R: Threads + Wait + Sync, G: Gate + Sync>(
@@ -53,14 +46,16 @@ pub fn run_phase<R: Threads + Wait + Sync, G: Gate + Sync>(
     requires steps { AreSteps lines.now }
     ensures phase { IfOk result (λ after. (added : List AnswerOf)
         × (answers.new.items ≡ answers.old.items ++ added)
-        × IsPhase run.system lines.now added after.system) }
+        × GoesOn run.system lines.now added after.system) }
     ensures used { IfOk result (λ after. after.used ≡ used_words_of after.system) }
     ensures wanting { IfErr result IsWanting }
 {
-    if lines.is_empty() {
+    turn.activate(lines);
+    if turn.shares() == 1 {
+        let mut run = run;
+        answer_lines(gate, turn.worker(0), true, lines, &mut run, answers)?;
         return Ok(run);
     }
-    turn.activate(lines);
     let Metered { system, used } = run;
     let (pool, loaders) = system.into_parts();
     let (shared, shares, meter) = deal(alloc, turn, lines, pool, loaders)?;

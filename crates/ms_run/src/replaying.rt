@@ -12,11 +12,11 @@ ghost use Rattle.ms_trace.specs.Steps.{step_of};
 ghost use Rattle.ms_run.specs.Replay.{IsReplay, Answers, IsWanting};
 ghost use Rattle.ms_run.specs.Shares.{AreSteps};
 
-use crate::alone::answer_all;
+use crate::alone::{Metered, answer_all};
 use crate::between::answer_between;
 use crate::fault::RunFault;
 use crate::gate::Gate;
-use crate::phase::{Metered, run_phase};
+use crate::phase::run_phase;
 use crate::turn::Turn;
 use ms_base::Settings;
 use ms_loaders::{Replies, System};

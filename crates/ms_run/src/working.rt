@@ -1,4 +1,4 @@
-//! The work on the shares of a phase, each in a thread of its own, or an only one by the caller.
+//! The work on the shares of a phase, each in a thread of its own.
 //!
 //! Kept true: a share is worked by one thread, in the order of its tasks, and there is room for each
 //! reply before its thread starts; the share's seat of the meter counts what its loaders get and give
@@ -29,9 +29,8 @@ impl Promise<Share> for WorkOf {
     ghost kept_by = { λ work done. IsWorked work.0.value done };
 }
 
-/// Works all shares: an only one by the caller itself, more by a thread each. An error means that
-/// memory or a thread was wanting; then what was worked is lost. So many words were in use before, of
-/// which the gate is told. Takes memory.
+/// Works all shares, each by a thread. An error means that memory or a thread was wanting; then what
+/// was worked is lost. So many words were in use before, of which the gate is told. Takes memory.
 pub fn work_all<R: Threads + Wait + Sync, G: Gate + Sync>(
     rt: &R,
     alloc: Global,
@@ -45,9 +44,6 @@ pub fn work_all<R: Threads + Wait + Sync, G: Gate + Sync>(
     ensures worked { IfOk result (λ done. AllWorked shares.items done.items) }
     ensures wanting { IfErr result IsWanting }
 {
-    if shares.len() == 1 {
-        return Ok(work_alone(rt, alloc, shared, meter, before, gate, shares));
-    }
     thread::scope(
         thread::scope_env(),
         rt,
@@ -77,26 +73,6 @@ pub fn work_all<R: Threads + Wait + Sync, G: Gate + Sync>(
             }
         },
     )
-}
-
-/// Works the only share, in no other thread.
-fn work_alone<R: Wait, G: Gate>(
-    rt: &R,
-    alloc: Global,
-    shared: &SharedPool,
-    meter: &UsedMeter,
-    before: u64,
-    gate: &G,
-    mut shares: Vec<Share>,
-) -> Vec<Share>
-    requires one { vec_len shares ≡ 1 }
-    requires ready { All (IsReadyFor shared.now meter.now) shares.items }
-    ensures { AllWorked shares.items result.items }
-{
-    if let Some(share) = shares.pop() {
-        shares.push_reserved(work(rt, alloc, shared, meter, before, gate, share));
-    }
-    shares
 }
 
 /// Works a share.

@@ -23,7 +23,7 @@ use crate::lock_rule::{
 };
 use crate::seat::PoolSeat;
 use atomic_table::{Refused, Seat, Table};
-use ms_base::{Refusal, Space};
+use ms_base::Refusal;
 use ms_pool::{Account, Pool};
 use std::alloc::Global;
 use std::marker::{Brand, Model};
@@ -81,7 +81,7 @@ impl SharedPool {
             return Err((Refusal::OutOfMemory, pool));
         };
         // What holds of every pool's tallies is learnt here.
-        let _ = pool.all_totals(Space::NonClass);
+        let _ = pool.committed();
         let key = LockKey {
             made: seats,
             pool: Snapshot::of(&pool),

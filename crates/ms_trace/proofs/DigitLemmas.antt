@@ -76,7 +76,7 @@ decimal_has_no_space n small =
     (digits_have_no_space (decimal n) (digits_decimal own n small))
 
 -- A byte that is no digit makes a field no number.
-digit_at_all : (bytes : List ℕ) (i : ℕ) → all_ascii_digits bytes ≡ true → i < length bytes
+pub digit_at_all : (bytes : List ℕ) (i : ℕ) → all_ascii_digits bytes ≡ true → i < length bytes
     → is_ascii_digit (get_or bytes i 0) ≡ true
 digit_at_all [] i e inside = absurd (omega arith)
 digit_at_all (first ∷ rest) zero e inside = (and_parts _ _ e).0

@@ -1,5 +1,6 @@
 pub mod GrammarExamples
 pub mod DigitLemmas
+pub mod NumberLemmas
 pub mod CutLemmas
 pub mod FieldLemmas
 pub mod CommandLemmas
@@ -7,3 +8,4 @@ pub mod SpellingLemmas
 pub mod TraceLemmas
 pub mod ReadingLemmas
 pub mod PrintingLemmas
+pub mod KeepingLemmas

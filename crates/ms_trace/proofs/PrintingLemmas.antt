@@ -59,7 +59,7 @@ kind_is_clean Hidden = refl
 both_clean : (one other : List ℕ) → is_clean one ≡ true → is_clean other ≡ true → is_clean (one ++ other) ≡ true
 both_clean one other e f = list_all-append _ one other ∙ and_from _ _ e f
 
-spelling_is_clean : (command : Command) → IsValid command → is_clean (spelling_of command) ≡ true
+pub spelling_is_clean : (command : Command) → IsValid command → is_clean (spelling_of command) ≡ true
 spelling_is_clean (Asks (New loader kind)) h =
     both_clean (decimal loader) (32 ∷ kind_word kind) (loader_is_clean loader h) (kind_is_clean kind)
 spelling_is_clean (Asks (Alloc loader block words)) (l, b, w) =
@@ -86,7 +86,7 @@ spelling_is_clean Report h = refl
 some_part : (text : List ℕ) → 0 < length (slice_split (λ byte. eqb byte 10) text)
 some_part text = omega (arith, length-slice_split (λ byte. eqb byte 10) text)
 
-lines_of-line : (line text : List ℕ) → is_clean line ≡ true → lines_of (line ++ 10 ∷ text) ≡ line ∷ lines_of text
+pub lines_of-line : (line text : List ℕ) → is_clean line ≡ true → lines_of (line ++ 10 ∷ text) ≡ line ∷ lines_of text
 lines_of-line line text clean =
     ap without_empty_end (slice_split_at (λ byte. eqb byte 10) line 10 text
     (All-from_recursion (λ byte. eqb byte 10 ≡ false) line (clean_parts line clean)) refl)

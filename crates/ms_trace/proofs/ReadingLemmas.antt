@@ -11,7 +11,7 @@ use Rattle.ms_trace.specs.declared.trace.Line.{Line}
 use Rattle.ms_trace.specs.Cutting.{parts_after, parts_of}
 use Rattle.ms_trace.specs.Grammar.{lines_of, without_empty_end, most_lines}
 use Rattle.ms_trace.specs.Faults.{fault_of, HasFault, BlamesText}
-use Rattle.ms_trace.specs.Keeping.{Keeps, BlamesLine}
+use Rattle.ms_trace.specs.Keeping.{Keeps, KeepsFirst, BlamesFirst}
 use Rattle.ms_trace.specs.Spelling.{ReadsFrom}
 use Rattle.ms_trace.proofs.SpellingLemmas.{IsAllowed, allowed_from_no_fault}
 use Rattle.ms_trace.proofs.TraceLemmas.{Says, faultless_from_reads}
@@ -76,16 +76,17 @@ pub record IsRead (text rest : List ℕ) (number : ℕ) (trace : List Line) : Ty
   pub reads : ReadsFrom 1 before trace
 
 -- One line more.
-pub line_more : (text rest after line : List ℕ) (number : ℕ) (trace new : List Line) → IsRead text rest number trace
-    → lines_of rest ≡ line ∷ lines_of after →
-    Keeps (number + 1) line trace new → IsRead text after (number + 1) new
-line_more text rest after line number trace new read cut keeps =
+pub line_more : (text rest after : List ℕ) (number : ℕ) (trace new : List Line) → IsRead text rest number trace
+    → KeepsFirst (number + 1) rest after trace new → IsRead text after (number + 1) new
+line_more text rest after number trace new read first =
+    let line : List ℕ = first.line in
+    let keeps : Keeps (number + 1) line trace new = first.keeps in
     let allowed : IsAllowed (number + 1) line = allowed_from_no_fault (number + 1) line keeps.faultless in
     let place : 1 + length read.before ≡ number + 1 = omega (arith, read.number_is) in
     let last : ReadsFrom (number + 1) (line ∷ []) keeps.said = ([], allowed.few, allowed.short, keeps.says, refl) in
     record {
       before = read.before ++ line ∷ [];
-      lines_are = read.lines_are ∙ ap (λ lines. read.before ++ lines) cut
+      lines_are = read.lines_are ∙ ap (λ lines. read.before ++ lines) first.cut
           ∙ sym (append_assoc read.before (line ∷ []) (lines_of after));
       number_is = simp length-append (omega (arith, read.number_is));
       reads = rw keeps.new_is (reads_push 1 read.before line trace keeps.said read.reads (rw place last));
@@ -97,25 +98,25 @@ pub kept_number : (number : ℕ) (line : List ℕ) (trace new : List Line) → K
 kept_number number line trace new keeps = (allowed_from_no_fault number line keeps.faultless).few
 
 -- A line with a fault is the first one.
-fault_here : (text rest after line : List ℕ) (number : ℕ) (trace : List Line) (kind : FaultKind)
-    → IsRead text rest number trace → lines_of rest ≡ line ∷ lines_of after →
+fault_here : (text rest line : List ℕ) (after : List (List ℕ)) (number : ℕ) (trace : List Line) (kind : FaultKind)
+    → IsRead text rest number trace → lines_of rest ≡ line ∷ after →
     fault_of (number + 1) line ≡ Some kind → HasFault text (number + 1) kind
-fault_here text rest after line number trace kind read cut e = record {
+fault_here text rest line after number trace kind read cut e = record {
   before = read.before;
   line = line;
-  after = lines_of after;
+  after = after;
   lines_are = read.lines_are ∙ ap (λ lines. read.before ++ lines) cut;
   faultless = faultless_from_reads 1 read.before trace read.reads;
   number_is = ap (λ n. n + 1) read.number_is;
   kind_is = e;
 }
 
-pub blames_text : (text rest after line : List ℕ) (number : ℕ) (trace : List Line) (fault : ParseFault)
-    → IsRead text rest number trace → lines_of rest ≡ line ∷ lines_of after →
-    BlamesLine (number + 1) line fault → BlamesText text fault
-blames_text text rest after line number trace (Trace fault) read cut (at, kind) =
-    rw at (fault_here text rest after line number trace fault.kind read cut kind)
-blames_text text rest after line number trace OutOfMemory read cut blames = tt
+pub blames_text : (text rest : List ℕ) (number : ℕ) (trace : List Line) (fault : ParseFault)
+    → IsRead text rest number trace → BlamesFirst (number + 1) rest fault → BlamesText text fault
+blames_text text rest number trace (Trace fault) read first =
+    rw first.blames.0
+    (fault_here text rest first.line first.after number trace fault.kind read first.cut first.blames.1)
+blames_text text rest number trace OutOfMemory read first = tt
 
 -- Where nothing is left, the text was read.
 pub all_read : (text rest : List ℕ) (number : ℕ) (trace : List Line) → IsRead text rest number trace → length rest ≡ 0

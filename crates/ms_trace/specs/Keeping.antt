@@ -1,20 +1,25 @@
 -- What reading a command line answers, what it does to the lines kept so far, and what it blames.
-use Rattle.std.specs.Prelude.{◌≡◌, ℕ, ◌⊎◌, List, [], ◌++◌, Some, None, Result, IfOk, IsTrue, ⊤}
+use Rattle.std.specs.Prelude.{◌≡◌, ℕ, ◌⊎◌, List, [], ◌∷◌, ◌++◌, ◌<◌, length, Some, None, Result, IfOk, IsTrue, ⊤}
 use Rattle.std.specs.Result.{result_err}
 use Rattle.ms_trace.specs.declared.fault.FaultKind.{FaultKind}
 use Rattle.ms_trace.specs.declared.fault.ParseFault.{ParseFault}
 use Rattle.ms_trace.specs.declared.fault.ParseFault.TheVariants.{Trace, OutOfMemory}
 use Rattle.ms_trace.specs.declared.trace.Command.{Command}
 use Rattle.ms_trace.specs.declared.trace.Line.{Line}
-use Rattle.ms_trace.specs.Grammar.{is_silent}
+use Rattle.ms_trace.specs.Grammar.{is_silent, lines_of}
 use Rattle.ms_trace.specs.Faults.{command_fault, fault_of}
-use Rattle.ms_trace.specs.Spelling.{Gives, IsValid, command_fields}
+use Rattle.ms_trace.specs.Spelling.{Gives, IsValid, command_fields, spelling_of}
 
 -- The command that has these fields, with numbers within their bounds, or the fault of the fields.
 pub record IsReadFrom (fields : List (List ℕ)) (result : Result Command FaultKind) : Type 0 where
   pub fault : result_err result ≡ command_fault fields
   pub spelled : IfOk result (λ command. command_fields command ≡ fields)
   pub valid : IfOk result IsValid
+
+-- A text begins with the line of a valid command.
+pub record BeginsWith (text : List ℕ) (command : Command) (rest : List ℕ) : Type 0 where
+  pub spelled : text ≡ spelling_of command ++ 10 ∷ rest
+  pub valid : IsValid command
 
 -- A line without a fault is kept: what it says, nothing or one command, follows the lines so far.
 pub record Keeps (number : ℕ) (line : List ℕ) (old new : List Line) : Type 0 where
@@ -23,7 +28,25 @@ pub record Keeps (number : ℕ) (line : List ℕ) (old new : List Line) : Type 0
   pub says : (IsTrue (is_silent line) × (said ≡ [])) ⊎ Gives number line said []
   pub new_is : new ≡ old ++ said
 
+-- A command is added under the number of its line.
+abbrev pub Adds : ℕ → Command → List Line → List Line → Type 0
+Adds number command old new = new ≡ old ++ record { number = number; command = command } ∷ []
+
+-- The first line of a text is kept, and what stands after it is left.
+pub record KeepsFirst (number : ℕ) (text rest : List ℕ) (old new : List Line) : Type 0 where
+  pub line : List ℕ
+  pub cut : lines_of text ≡ line ∷ lines_of rest
+  pub keeps : Keeps number line old new
+  pub shorter : length rest < length text
+
 -- What is blamed is the line's fault, or want of memory.
 abbrev pub BlamesLine : ℕ → List ℕ → ParseFault → Type 0
 BlamesLine number line (Trace fault) = (fault.line ≡ number) × (fault_of number line ≡ Some fault.kind)
 BlamesLine number line OutOfMemory = ⊤
+
+-- What is blamed is the fault of the first line of a text, or want of memory.
+pub record BlamesFirst (number : ℕ) (text : List ℕ) (fault : ParseFault) : Type 0 where
+  pub line : List ℕ
+  pub after : List (List ℕ)
+  pub cut : lines_of text ≡ line ∷ after
+  pub blames : BlamesLine number line fault

@@ -15,8 +15,10 @@ mod cutting;
 mod fault;
 mod fields;
 pub mod laws;
+mod numbers;
 mod printing;
 mod reading;
+mod spellings;
 mod trace;
 
 pub use fault::{FaultKind, ParseFault, TraceFault};

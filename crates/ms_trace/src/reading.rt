@@ -1,15 +1,16 @@
 //! Reading a text as a trace, line by line. What is left of the text shrinks by a line a turn, and
 //! what was read stands in `lines`: the lines cut off so far read as those.
-ghost use Rattle.std.specs.Prelude.{IfOk, IfErr, IsTrue, OnOk};
+ghost use Rattle.std.specs.Prelude.{◌≡◌, ◌<◌, length, IfOk, IfErr, IsTrue, OnOk};
 ghost use Rattle.ms_trace.specs.Faults.{BlamesText};
 ghost use Rattle.ms_trace.specs.Grammar.{lines_of};
-ghost use Rattle.ms_trace.specs.Keeping.{Keeps, BlamesLine};
+ghost use Rattle.ms_trace.specs.Keeping.{Adds, Keeps, KeepsFirst, BlamesFirst, BlamesLine};
 ghost use Rattle.ms_trace.specs.Spelling.{ReadsAs, ReadsFrom, rises_above};
 
 use crate::commands::read_line;
 use crate::cutting::cut_line;
 use crate::fault::{ParseFault, TraceFault};
-use crate::trace::{Line, Lines, Trace};
+use crate::spellings::command_before;
+use crate::trace::{Command, Line, Lines, MOST_LINES, Trace};
 use std::alloc::{Allocator, Global};
 
 /// Reads a text as a trace. The fault is that of the first faulty line, by its first failing
@@ -39,11 +40,32 @@ pub(crate) fn read_lines<A: Allocator>(alloc: A, text: &[u8]) -> Result<Vec<Line
     let mut number: u32 = 0;
     while !rest.is_empty() {
         number += 1;
-        let (line, after) = cut_line(rest);
-        keep(&mut lines, number, line)?;
-        rest = after.unwrap_or(b"".as_slice());
+        rest = keep_first(&mut lines, number, rest)?;
     }
     Ok(lines)
+}
+
+/// Keeps the command of a text's first line, which has that number, if it gives one, and answers
+/// what stands after that line. Most lines are spelled as `spellings` reads them; any other is cut
+/// off and judged.
+fn keep_first<'a, A: Allocator>(
+    lines: &mut Vec<Line, A>,
+    number: u32,
+    text: &'a [u8],
+) -> Result<&'a [u8], ParseFault>
+    requires { 0 < length text.now }
+    ensures kept { IfOk result (λ rest. KeepsFirst number text.now rest.now lines.old.items lines.new.items) }
+    ensures fault { IfErr result (λ fault. BlamesFirst number text.now fault) }
+{
+    if number <= MOST_LINES
+        && let Some((command, rest)) = command_before(text)
+    {
+        add(lines, number, command)?;
+        return Ok(rest);
+    }
+    let (line, after) = cut_line(text);
+    keep(lines, number, line)?;
+    Ok(after.unwrap_or(b"".as_slice()))
 }
 
 /// Reads the line of that number, and keeps its command, if it gives one.
@@ -54,9 +76,22 @@ fn keep<A: Allocator>(lines: &mut Vec<Line, A>, number: u32, line: &[u8]) -> Res
     match read_line(number, line) {
         Err(kind) => Err(ParseFault::Trace(TraceFault { line: number, kind })),
         Ok(None) => Ok(()),
-        Ok(Some(command)) => match lines.push(Line { number, command }) {
-            Ok(()) => Ok(()),
-            Err(_) => Err(ParseFault::OutOfMemory),
-        },
+        Ok(Some(command)) => add(lines, number, command),
+    }
+}
+
+/// Adds a command under the number of its line.
+#[inline(always)]
+fn add<A: Allocator>(
+    lines: &mut Vec<Line, A>,
+    number: u32,
+    command: Command,
+) -> Result<(), ParseFault>
+    ensures added { OnOk result (Adds number command lines.old.items lines.new.items) }
+    ensures fault { IfErr result (λ fault. fault ≡ ParseFault.OutOfMemory) }
+{
+    match lines.push(Line { number, command }) {
+        Ok(()) => Ok(()),
+        Err(_) => Err(ParseFault::OutOfMemory),
     }
 }

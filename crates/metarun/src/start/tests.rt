@@ -1,9 +1,7 @@
 //! What no clause says: that a command line is accepted where memory is ample, the texts of
-//! refusals and of the help, that nothing is read before the line is judged, and each status of
-//! the program.
+//! refusals, of the help and of the version, that nothing is read before the line is judged, and
+//! each status of the program.
 ghost use Rattle.std.specs.Prelude.{◌≡◌, ◌*◌, ◌≤◌};
-
-mod examples;
 
 use super::*;
 use crate::options::Options;
@@ -229,6 +227,7 @@ fn help_goes_to_standard_output(rt: HostRuntime) -> Result<(), Fail> {
             "--class-nodes <N>",
             "0 to 16 [default: 0]",
             "--help",
+            "--version",
             "Exit status:",
             "Example:",
         ] {
@@ -236,6 +235,23 @@ fn help_goes_to_standard_output(rt: HostRuntime) -> Result<(), Fail> {
         }
     }
     Ok(())
+}
+
+#[test]
+fn the_version_goes_to_standard_output(rt: HostRuntime) {
+    for word in ["-V", "--version"] {
+        let words = ["metarun", word];
+        let mut input = Untouchable { touched: false };
+        let mut out = Vec::new(rt.alloc());
+        let mut err = Vec::new(rt.alloc());
+        let status = start(&rt, rt.alloc(), &words, &mut input, &mut out, &mut err);
+        let text =
+            b"metarun 1.0.0 (proved with rattle-kit-13b logic dac8208d650f15bf)\n".as_slice();
+        assert_eq!(rt; out.as_slice(), text);
+        assert_eq!(rt; status, 0);
+        assert!(rt; err.is_empty());
+        assert!(rt; !input.touched);
+    }
 }
 
 /// Takes nothing.
@@ -253,13 +269,15 @@ impl Write for Full {
 }
 
 #[test]
-fn help_that_fails_is_told(rt: HostRuntime) {
-    let mut input = Untouchable { touched: false };
-    let mut err = Vec::new(rt.alloc());
-    let words = ["metarun", "--help"];
-    let status = start(&rt, rt.alloc(), &words, &mut input, &mut Full, &mut err);
-    assert_eq!(rt; status, 5);
-    assert_eq!(rt; err.as_slice(), b"metarun: output failed\n".as_slice());
+fn help_and_version_that_fail_are_told(rt: HostRuntime) {
+    for word in ["--help", "--version"] {
+        let mut input = Untouchable { touched: false };
+        let mut err = Vec::new(rt.alloc());
+        let words = ["metarun", word];
+        let status = start(&rt, rt.alloc(), &words, &mut input, &mut Full, &mut err);
+        assert_eq!(rt; status, 5);
+        assert_eq!(rt; err.as_slice(), b"metarun: output failed\n".as_slice());
+    }
 }
 
 #[test]

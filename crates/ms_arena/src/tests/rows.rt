@@ -1,8 +1,9 @@
-//! That a block is found among the rows, and what a refused growth leaves at run time.
-ghost use Rattle.std.specs.Prelude.{◌≡◌, ◌<◌, replicate};
+//! That a block is found among the rows, that a block has words of its own wherever it lies, and what
+//! a refused growth leaves at run time.
+ghost use Rattle.std.specs.Prelude.{◌≡◌, ◌<◌, ◌≤◌};
 
 use crate::rows::Rows;
-use ms_base::{Block, Refusal, Words};
+use ms_base::{Block, Refusal};
 use std::alloc::Global;
 use std::process::Abort;
 
@@ -10,34 +11,24 @@ fn block(start: u64, words: u64) -> Block {
     Block { start, words }
 }
 
-/// Makes words, again where a growth is refused.
-fn zeros_at_last(rt: &impl Abort, alloc: Global, words: usize) -> Words
-    ensures { result ≡ replicate words 0 }
-{
-    match Words::zeros(alloc, words) {
-        Ok(contents) => contents,
-        Err(_) => Words::zeros(alloc, words).expect(rt, "words"),
-    }
-}
-
 /// Makes room for a row, again where a growth is refused, which leaves the rows as they were.
-fn reserve_at_last(rt: &impl Abort, rows: &mut Rows)
-    ensures room { 0 < rows.new.room }
+fn reserve_at_last(rt: &impl Abort, alloc: Global, rows: &mut Rows, words: u64)
+    ensures room { words ≤ rows.new.room }
     ensures blocks { rows.new.blocks ≡ rows.old.blocks }
 {
-    match rows.reserve() {
+    match rows.reserve(alloc, words) {
         Ok(()) => {}
-        Err(_) => rows.reserve().expect(rt, "room"),
+        Err(_) => rows.reserve(alloc, words).expect(rt, "room"),
     }
 }
 
 #[test]
 fn a_row_is_read_and_written_till_it_goes(rt: HostRuntime) {
     let mut rows = Rows::new(rt.alloc());
-    reserve_at_last(&rt, &mut rows);
-    let contents = zeros_at_last(&rt, rt.alloc(), 4);
-    rows.insert(12, contents);
+    reserve_at_last(&rt, rt.alloc(), &mut rows, 4);
+    rows.insert(12, 4);
     assert_eq!(rt; rows.len(), 1);
+    assert_eq!(rt; rows.words(), 4);
     assert_eq!(rt; rows.read(block(12, 4), 3), Ok(0));
     assert_eq!(rt; rows.write(block(12, 4), 3, 7), Ok(()));
     assert_eq!(rt; rows.read(block(12, 4), 3), Ok(7));

@@ -61,7 +61,12 @@ fn a_retired_chunk_leaves_a_free_block(rt: HostRuntime) {
     expect_replies(&rt, &mut system, &rows);
     assert_eq!(&rt; system.used(), 532);
     // The two words between the retired chunk's top and its end.
-    expect_replies(&rt, &mut system, &[allocated(1, 4, 2, 510)]);
+    let rows = [
+        allocated(1, 4, 2, 510),
+        written(1, 4, 1, 8),
+        read(1, 4, 1, Reply::Value(8)),
+    ];
+    expect_replies(&rt, &mut system, &rows);
     assert_eq!(&rt; system.used(), 532);
 }
 
@@ -124,6 +129,20 @@ fn a_freed_block_is_used_again_and_reads_zero(rt: HostRuntime) {
     expect_replies(&rt, &mut system, &rows);
     // The tenth word is waste.
     assert_eq!(&rt; system.used(), 10);
+}
+
+#[test]
+fn a_shorter_block_in_a_former_ones_place_reads_zero(rt: HostRuntime) {
+    let mut system = system_of(&rt, Settings::DEFAULT);
+    let rows = [
+        made(1, Kind::Standard),
+        allocated(1, 1, 200, 0),
+        written(1, 1, 150, 9),
+        freed(1, 1),
+        allocated(1, 2, 160, 0),
+        read(1, 2, 150, Reply::Value(0)),
+    ];
+    expect_replies(&rt, &mut system, &rows);
 }
 
 #[test]

@@ -106,6 +106,33 @@ grown_elsewhere old account was is sound served chunks has same =
     ∙ sym (ap (chunks_in there) at.loan.is
     ∙ chunks_in-there there at.loan.before (record { owner = account.owner; chunk = was }) at.loan.after at.there)
 
+-- What is held once a chunk of an account has grown: the greater one in its place.
+pub record GrownThere (old : Ledger) (account : AccountState) (was is : Chunk) : Type 0 where
+  pub before : List Chunk
+  pub after : List Chunk
+  pub held : chunks_in account.space old.loans ≡ before ++ was ∷ after
+  pub grown : chunks_in account.space (replaced is old.loans) ≡ before ++ is ∷ after
+  pub elsewhere : chunks_in (other_space account.space) (replaced is old.loans)
+      ≡ chunks_in (other_space account.space) old.loans
+
+pub grown_there : (old : Ledger) (account : AccountState) (was is : Chunk) → IsSoundLedger old → Serves old account
+    → AreChunks account.space account.chunks → Contains account.chunks was → is.start ≡ was.start
+    → GrownThere old account was is
+grown_there old account was is sound served chunks has same = record {
+  before = chunks_in account.space at.loan.before;
+  after = chunks_in account.space at.loan.after;
+  held = ap (chunks_in account.space) at.loan.is
+      ∙ chunks_in-here account.space at.loan.before (record { owner = account.owner; chunk = was }) at.loan.after
+      at.here;
+  grown = ap (chunks_in account.space) (new_at old account.space account.owner was is at sound same)
+      ∙ chunks_in-here account.space at.loan.before (record { owner = account.owner; chunk = is }) at.loan.after
+      (ap (is_in account.space) same ∙ at.here);
+  elsewhere = grown_elsewhere old account was is sound served chunks has same;
+}
+  where
+    at : GrowsAt old account.space account.owner was
+    at = grown_at old account was served chunks has
+
 pub grown_is_sound : (old : Ledger) (account : AccountState) (was is : Chunk) → IsSoundLedger old → Serves old account
     → AreChunks account.space account.chunks → Contains account.chunks was
     → IsGreater (state_in account.space old) was is

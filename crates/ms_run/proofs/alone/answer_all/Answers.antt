@@ -1,11 +1,20 @@
-use Rattle.std.proofs.Common.{refl}
-use Rattle.ms_run.proofs.AloneLemmas.{answers_next}
+use Rattle.std.proofs.Common.{sym, subst, arith}
+use Rattle.ms_base.specs.State.{limits_of}
+use Rattle.ms_base.specs.Good.{IsGood}
+use Rattle.ms_run.proofs.AloneLemmas.{answers_all}
+use Rattle.ms_run.proofs.ReplayLemmas.{good_when_empty, used_none}
 use Rattle.ms_run.proofs.alone.answer_all.Goals as goal
 
-pub loop-line-init : goal.loop-line-init
-loop-line-init g c = rw c.in_ok-answers.ensures.items (refl, c.in_ok-system.ensures)
+pub answer_lines-requires : goal.answer_lines-requires
+answer_lines-requires g c = record {
+  good = subst IsGood (sym c.in_ok-system.ensures)
+      (good_when_empty (limits_of c.args.settings) (omega (arith, c.args.settings.class_nodes_few)));
+  used = λ looks. used_none c.in_ok-system.system c.args.settings c.in_ok-system.ensures;
+}
 
-pub loop-line-preserved : goal.loop-line-preserved
-loop-line-preserved g c =
-    answers_next _ _ _ c.args.lines.now c.loop-line.line-index _ _ _ c.loop-line.invariant c.loop-line-test.true
-    c.in_ok-answer_line.ensures
+pub returns : goal.returns
+returns g c = (
+  c.answer_lines.new.run.system,
+  answers_all _ _ _ c.args.lines.now _ _ c.in_ok-system.ensures c.in_ok-answers.ensures.items
+      c.in_ok-answer_lines.ensures.answers,
+)

@@ -3,14 +3,14 @@ use Rattle.std.proofs.lemmas.List.{length-map}
 use Rattle.ms_base.specs.State.{Machine}
 use Rattle.ms_run.specs.Metering.{used_words_of, meter_of}
 use Rattle.ms_run.specs.Turn.{place_in}
-use Rattle.ms_run.proofs.PhaseLemmas.{ended_empty, own_seats, all_manned, same_count, all_answered, still_apart, ended}
+use Rattle.ms_run.proofs.PhaseLemmas.{own_seats, all_manned, same_count, all_answered, still_apart, ended, ended_alone}
 use Rattle.ms_run.proofs.MeterSumLemmas.{ready_for, own_meters, used_machine, used_after}
 use Rattle.ms_run.proofs.phase.run_phase.Goals as goal
 
-pub returns-then-is_empty-clause-phase : goal.returns-then-is_empty-clause-phase
-returns-then-is_empty-clause-phase g c =
-    ended_empty c.args.lines.now c.args.answers.now.items c.args.run.system
-    (sym c.is_empty.ensures ∙ c.if-is_empty.true) c.requires.good
+pub returns-then-shares-eq1-clause-phase : goal.returns-then-shares-eq1-clause-phase
+returns-then-shares-eq1-clause-phase g c =
+    ended_alone c.args.lines.now c.args.answers.now.items _ c.args.run.system _ c.requires.good
+    c.in_ok-answer_lines.ensures.counted.good c.in_ok-answer_lines.ensures.answers
 
 pub merge-requires-clause-count : goal.merge-requires-clause-count
 merge-requires-clause-count g c =

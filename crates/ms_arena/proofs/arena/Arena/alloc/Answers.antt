@@ -1,4 +1,4 @@
-use Rattle.std.proofs.Common.{arith, ℕ, List, sym, ap, ◌∙◌}
+use Rattle.std.proofs.Common.{arith, ℕ, List, refl, sym, ap, replicate, ◌∙◌}
 use Rattle.ms_base.specs.Names.{named}
 use Rattle.ms_arena.specs.Arena.{ArenaView}
 use Rattle.ms_arena.proofs.ArenaLemmas.{Settles, settles}
@@ -9,13 +9,13 @@ use Rattle.ms_arena.proofs.arena.Arena.alloc.Goals.{After-account}
 -- The block is live at the start that was found.
 settled : (g : Over) (c : After-account g)
     → Settles c.start_of.new.books c.self.inside.kind c.made_room.new.live.blocks c.in_ok-start.start
-    c.in_ok-contents.contents
+    (replicate c.in_ok-n.n 0)
 settled g c =
     settles c.self.inside.kind c.self.inside.books c.made_room.new.books c.start_of.new.books c.self.inside.live.blocks
-    c.made_room.new.live.blocks c.in_ok-start.start c.in_ok-n.n c.in_ok-contents.contents _
-    c.self.invariant c.in_ok-contents.ensures.books c.in_ok-contents.ensures.blocks
-    c.in_ok-start.ensures.looked.leaves.awaits c.in_ok-contents.ensures.contents c.account.ensures.chunks
-    (omega (arith, c.in_ok-contents.ensures.room, c.in_ok-start.ensures.looked.leaves.room))
+    c.made_room.new.live.blocks c.in_ok-start.start c.in_ok-n.n (replicate c.in_ok-n.n 0) _
+    c.self.invariant c.in_ok-made_room.ensures.books c.in_ok-made_room.ensures.blocks
+    c.in_ok-start.ensures.looked.leaves.awaits refl c.account.ensures.chunks
+    (omega (arith, c.in_ok-made_room.ensures.room, c.in_ok-start.ensures.looked.leaves.room))
 
 pub insert-requires-clause-other : goal.insert-requires-clause-other
 insert-requires-clause-other g c =
@@ -29,5 +29,5 @@ invariant_of-self-2 g c =
 pub returns-clause-fresh : goal.returns-clause-fresh
 returns-clause-fresh g c =
     ap (λ (arena : ArenaView). named arena.live c.in_ok-start.start) (sym c.self.view_is)
-    ∙ ap (λ (live : List (ℕ × List ℕ)). named live c.in_ok-start.start) (sym c.in_ok-contents.ensures.blocks)
+    ∙ ap (λ (live : List (ℕ × List ℕ)). named live c.in_ok-start.start) (sym c.in_ok-made_room.ensures.blocks)
     ∙ (settled g (goal.at.returns-clause-fresh g c).After-account).other

@@ -1,48 +1,34 @@
-use Rattle.std.proofs.Common.{refl, sym, subst, ◌∙◌, arith}
-use Rattle.ms_base.specs.Hashed.{by_name}
-use Rattle.ms_arena.specs.Rows.{LiveRows, LacksRow, WritesRow, IsPastRow}
-use Rattle.ms_arena.proofs.RowLemmas.{has_row, lacks_other, lacks_all, written_row, written_back}
+use Rattle.std.proofs.Common.{sym, subst, ◌∙◌, arith}
+use Rattle.ms_arena.specs.Rows.{LiveRows, LacksRow, WritesRow, IsPastRow, live_of}
+use Rattle.ms_arena.proofs.RowLemmas.{has_row, lacks_row, wrote}
+use Rattle.ms_arena.proofs.PutLemmas.{kept_written}
 use Rattle.ms_arena.proofs.rows.Rows.write.Goals as goal
+use Rattle.ms_arena.proofs.rows.Rows.write.Goals.{After-write}
 
 pub returns-in_default-clause-refused : goal.returns-in_default-clause-refused
 returns-in_default-clause-refused c =
     subst (λ (rows : LiveRows). LacksRow rows.blocks c.args.block) c.self.view_is
-    (lacks_all c.self.inside.rows.entries c.args.block (sym c.in_default.ensures.value))
-
-pub returns-then-len-block-clause-refused : goal.returns-then-len-block-clause-refused
-returns-then-len-block-clause-refused c =
-    subst (λ (rows : LiveRows). LacksRow rows.blocks c.args.block) c.self.view_is
-    (lacks_other c.self.inside.rows.entries c.args.block c.in-Some.contents.now (sym c.in-Some.ensures.value)
-    (λ same. c.if-len-block.true (c.len.ensures ∙ same)))
-
-pub returns-then-len-block-clause-unchanged : goal.returns-then-len-block-clause-unchanged
-returns-then-len-block-clause-unchanged c =
-    written_back c.self.inside.rows.entries (c.get_mut.follows.lender c.in-Some.contents.now).entries c.args.block.start
-    c.self.inside.room c.in-Some.contents.now c.args.self.now (sym c.in-Some.ensures.value)
-    (c.get_mut.follows.holds c.in-Some.contents.now).0 c.self.view_is
+    (lacks_row c.self.inside.words c.self.inside.rows.entries c.args.block c.in_default.ensures.none)
 
 pub returns-then-index-block-clause-refused : goal.returns-then-index-block-clause-refused
 returns-then-index-block-clause-refused c =
     subst (λ (rows : LiveRows). IsPastRow rows.blocks c.args.block c.args.index c.args.block.words) c.self.view_is
-    (record {
-      contents = c.in-Some.contents.now;
-      row = has_row c.self.inside.rows.entries c.args.block c.in-Some.contents.now (sym c.in-Some.ensures.value)
-          (sym c.len.ensures ∙ c.if-len-block.false);
-      words_are = sym c.if-len-block.false ∙ c.len.ensures;
-      past = c.if-index-block.true;
-    })
+    (let row = has_row c.self.inside.words c.self.inside.rows.entries c.args.block c.in-Some.at c.in-Some.ensures.found in
+    record { contents = _; row = row; words_are = row.words; past = c.if-index-block.true })
 
-pub returns-then-index-block-clause-unchanged : goal.returns-then-index-block-clause-unchanged
-returns-then-index-block-clause-unchanged c =
-    written_back c.self.inside.rows.entries (c.get_mut.follows.lender c.in-Some.contents.now).entries c.args.block.start
-    c.self.inside.room c.in-Some.contents.now c.args.self.now (sym c.in-Some.ensures.value)
-    (c.get_mut.follows.holds c.in-Some.contents.now).0 c.self.view_is
+writes : (c : After-write) → WritesRow (live_of c.self.inside.words c.self.inside.rows.entries) c.args.block c.args.index
+    c.args.value (live_of c.write.new.self c.self.inside.rows.entries)
+writes c =
+    wrote c.self.inside.words c.write.new.self c.self.inside.rows.entries c.self.inside.top c.args.block c.in-Some.at
+    c.args.index c.args.value c.self.invariant.apart c.in-Some.ensures.found (omega (arith, c.if-index-block.false))
+    c.write.ensures.written c.write.ensures.others
+
+pub invariant_of-self : goal.invariant_of-self
+invariant_of-self c =
+    kept_written c.self.inside.words c.write.new.self c.self.inside.rows.entries _ _ _ _ _ c.args.block c.args.index
+    c.args.value c.self.invariant c.write.ensures.room (writes c)
 
 pub returns-clause-written : goal.returns-clause-written
 returns-clause-written c =
     subst (λ (rows : LiveRows). WritesRow rows.blocks c.args.block c.args.index c.args.value
-    (by_name (c.get_mut.follows.lender c.set.new.self).entries)) c.self.view_is
-    (written_row c.self.inside.rows.entries (c.get_mut.follows.lender c.set.new.self).entries
-    c.args.block c.in-Some.contents.now c.set.new.self c.args.index c.args.value (sym c.in-Some.ensures.value)
-    (sym c.len.ensures ∙ c.if-len-block.false) (omega (arith, c.if-index-block.false)) c.set.ensures
-    ((c.get_mut.follows.holds c.set.new.self).3 (rw (← c.in-Some.ensures.value) refl)).0)
+    (live_of c.write.new.self c.self.inside.rows.entries)) c.self.view_is (writes c)

@@ -1,15 +1,18 @@
-use Rattle.std.proofs.Common.{sym, ap, ◌∙◌, arith}
+use Rattle.std.proofs.Common.{[], refl, sym, ap, subst, ◌∙◌, arith}
 use Rattle.ms_base.specs.declared.kind.Space.TheVariants.{NonClass, Class}
+use Rattle.ms_pool.specs.declared.lent.Lent.{Lent}
+use Rattle.ms_pool.specs.Counting.{HaveLeast, MovesIn, counted_in}
 use Rattle.ms_pool.specs.Ledger.{Ledger}
 use Rattle.ms_pool.specs.Releasing.{is_lent_in}
 use Rattle.ms_pool.specs.Keeping.{ledger_of}
 use Rattle.ms_pool.proofs.ClosingLemmas.{lent_still}
+use Rattle.ms_pool.proofs.CountedLemmas.{closed_is_counted, least_of_own}
 use Rattle.ms_pool.proofs.ClosedStepLemmas.{at_first, at_last, one_more}
 use Rattle.ms_pool.proofs.lender.Lender.close.Goals as goal
 
 pub loop-place-init : goal.loop-place-init
 loop-place-init c =
-    record { kept = c.requires.kept; closed = at_first (ledger_of c.args.self.now) c.requires.kept.sound }
+    record { kept = c.requires.kept; lent = refl; closed = at_first (ledger_of c.args.self.now) c.requires.kept.sound }
 
 pub release-requires-clause-lent : goal.release-requires-clause-lent
 release-requires-clause-lent c =
@@ -20,6 +23,7 @@ release-requires-clause-lent c =
 pub loop-place-preserved : goal.loop-place-preserved
 loop-place-preserved c = record {
   kept = c.release.ensures.kept;
+  lent = c.release.ensures.lent ∙ c.loop-place.invariant.lent;
   closed = one_more (ledger_of c.args.self.now) (ledger_of c.loop-place.self) (ledger_of c.release.new.self)
       c.args.account.now.chunks c.loop-place.place c.chunk.result
       c.requires.kept.sound c.loop-place.invariant.closed c.chunk.ensures c.release.ensures.released;
@@ -38,3 +42,26 @@ returns-in-Class-clause-closed c =
     c.requires.kept.sound c.requires.served
     (sym c.space.ensures ∙ c.in-Class.is) (omega (arith, c.held-place-end.ensures.count, c.loop-place-test.false))
     c.loop-place.invariant.closed
+
+pub take_out-requires : goal.take_out-requires
+take_out-requires c =
+    subst (λ (lent : Lent). HaveLeast (counted_in c.args.account.now.space lent) c.args.account.now.chunks)
+    (sym c.loop-place.invariant.lent)
+    (least_of_own c.args.account.now c.args.self.now.lent (ledger_of c.args.self.now) c.requires.counted
+    c.requires.served c.held-place-end.ensures.chunks)
+
+pub returns-in-NonClass-clause-counted : goal.returns-in-NonClass-clause-counted
+returns-in-NonClass-clause-counted c =
+    closed_is_counted c.args.account.now c.args.self.now.lent c.take_out.new.self (ledger_of c.args.self.now) _
+    c.requires.counted
+    (subst (λ (lent : Lent). MovesIn c.args.account.now.space lent c.args.account.now.chunks [] c.take_out.new.self)
+    c.loop-place.invariant.lent c.take_out.ensures)
+    (returns-in-NonClass-clause-closed c) c.requires.served c.held-place-end.ensures.chunks
+
+pub returns-in-Class-clause-counted : goal.returns-in-Class-clause-counted
+returns-in-Class-clause-counted c =
+    closed_is_counted c.args.account.now c.args.self.now.lent c.take_out.new.self (ledger_of c.args.self.now) _
+    c.requires.counted
+    (subst (λ (lent : Lent). MovesIn c.args.account.now.space lent c.args.account.now.chunks [] c.take_out.new.self)
+    c.loop-place.invariant.lent c.take_out.ensures)
+    (returns-in-Class-clause-closed c) c.requires.served c.held-place-end.ensures.chunks

@@ -7,5 +7,6 @@ use Rattle.ms_pool.proofs.lender.Lender.close.Given as goal
 abbrev pub invariant-loop-place : goal.invariant-loop-place
 invariant-loop-place l = record {
   kept : IsKept l.self;
+  lent : l.self.lent ≡ l.fn.self.lent;
   closed : ledger_of l.self ≡ without_chunks (take l.place l.account.chunks) (ledger_of l.fn.self);
 }

@@ -1,10 +1,14 @@
-use Rattle.std.proofs.Common.{refl, sym, ◌∙◌}
+use Rattle.std.proofs.Common.{[], ◌∷◌, refl, sym, subst, ◌∙◌, arith}
+use Rattle.ms_pool.specs.declared.lent.Lent.{Lent}
+use Rattle.ms_pool.specs.Counting.{HasLeast, HasRoomFor, MovesIn, counted_in}
 use Rattle.ms_pool.specs.Ledger.{state_in}
 use Rattle.ms_pool.specs.Keeping.{ledger_of}
+use Rattle.ms_pool.proofs.CountedLemmas.{grown_is_counted, least_there, room_there}
+use Rattle.ms_pool.proofs.LentPartLemmas.{kept_however_counted}
 use Rattle.ms_pool.proofs.GrowingLemmas.{past_space, stays_as_it_was}
 use Rattle.ms_pool.proofs.ReachLemmas.{grown_no_room, grown_stays}
 use Rattle.ms_pool.proofs.ReplacingLemmas.{found_there, grew_there, grows_there, reached_there, rises_there}
-use Rattle.ms_pool.proofs.ReplacingLemmas.{stays_there}
+use Rattle.ms_pool.proofs.ReplacingLemmas.{grown_where_found, stays_there}
 use Rattle.ms_pool.proofs.lender.Lender.grow.Goals as goal
 
 pub returns-then-total-chunk-clause-grown : goal.returns-then-total-chunk-clause-grown
@@ -121,3 +125,41 @@ returns-clause-grew c =
     c.if-total-chunk.false (sym c.reaching.ensures ∙ c.in-Some.is) c.in_default-commit_limit.ensures.within in
     rw (← c.account.view_is) (grew_there c.args.self.now _ _ _ _ c.args.total c.args.may_enlarge _ _ at_
     (c.in-Some.greater, grows.answered, c.span_of-span.ensures, c.replace.ensures.grown))
+
+pub replace-requires-2 : goal.replace-requires-2
+replace-requires-2 c =
+    let at_ =
+    found_there c.args.self.now _ _ c.args.start _ c.index.result.now _ c.requires.kept c.account.view_is
+    c.requires.served c.account.invariant c.deref.ensures.value c.place_of-place.ensures.there
+    c.place_of-place.ensures.starts c.index.ensures in
+    let grows =
+    grows_there c.args.self.now _ _ _ _ c.in-Some.greater c.args.total c.args.may_enlarge c.requires.kept at_
+    c.if-total-chunk.false (sym c.reaching.ensures ∙ c.in-Some.is) c.in_default-commit_limit.ensures.within in
+    let space = c.account.inside.space in
+    record {
+      least = subst (λ (lent : Lent). HasLeast (counted_in space lent) c.index.result.now) (sym c.replace.ensures.lent)
+          (least_there _ c.index.result.now c.in-Some.greater c.args.self.now.lent (ledger_of c.args.self.now)
+          c.requires.counted (omega (arith, at_.own.placed.0))
+          (grown_where_found c.args.self.now _ _ _ _ _ _ _ c.requires.kept at_ grows));
+      room = subst (λ (lent : Lent). HasRoomFor (counted_in space lent) c.in-Some.greater) (sym c.replace.ensures.lent)
+          (room_there space c.args.self.now c.in-Some.greater c.requires.kept c.requires.counted grows.may.placed
+          grows.may.within);
+    }
+
+pub returns-clause-kept : goal.returns-clause-kept
+returns-clause-kept c = kept_however_counted c.replace.new.self c.replace-2.new.self c.replace.ensures.kept
+
+pub returns-clause-counted : goal.returns-clause-counted
+returns-clause-counted c =
+    let at_ =
+    found_there c.args.self.now _ _ c.args.start _ c.index.result.now _ c.requires.kept c.account.view_is
+    c.requires.served c.account.invariant c.deref.ensures.value c.place_of-place.ensures.there
+    c.place_of-place.ensures.starts c.index.ensures in
+    let grows =
+    grows_there c.args.self.now _ _ _ _ c.in-Some.greater c.args.total c.args.may_enlarge c.requires.kept at_
+    c.if-total-chunk.false (sym c.reaching.ensures ∙ c.in-Some.is) c.in_default-commit_limit.ensures.within in
+    grown_is_counted _ c.index.result.now c.in-Some.greater c.args.self.now.lent c.replace-2.new.self
+    (ledger_of c.args.self.now) _ c.requires.counted
+    (subst (λ (lent : Lent). MovesIn c.account.inside.space lent (c.index.result.now ∷ []) (c.in-Some.greater ∷ [])
+    c.replace-2.new.self) c.replace.ensures.lent c.replace-2.ensures) c.replace.ensures.grown
+    (grown_where_found c.args.self.now _ _ _ _ _ _ _ c.requires.kept at_ grows)

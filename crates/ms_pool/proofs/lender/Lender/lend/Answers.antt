@@ -1,7 +1,10 @@
 use Rattle.std.proofs.Common.{refl, arith}
 use Rattle.ms_base.specs.Part.{slot_of}
+use Rattle.ms_pool.specs.Keeping.{ledger_of}
+use Rattle.ms_pool.proofs.CountedLemmas.{counted_on, lent_is_counted, room_there, run_starts_in}
 use Rattle.ms_pool.proofs.OpenLemmas.{open_is_low, open_where_fresh}
-use Rattle.ms_pool.proofs.LentPartLemmas.{front_is_low, front_is_reserved, front_within, kept_where_shown, lent_shows}
+use Rattle.ms_pool.proofs.LentPartLemmas.{front_is_low, front_is_reserved, front_within, kept_however_counted, kept_where_shown}
+use Rattle.ms_pool.proofs.LentPartLemmas.{lent_shows}
 use Rattle.ms_pool.proofs.lender.Lender.lend.Goals as goal
 
 pub carve-requires-clause-may : goal.carve-requires-clause-may
@@ -61,9 +64,27 @@ returns-clause-lent c = λ _.
 
 pub returns-clause-kept : goal.returns-clause-kept
 returns-clause-kept c =
-    kept_where_shown c.args.self.now c.commit.new.nodes c.carve.new.trees _ c.requires.kept c.if-not-carve.ensures.count
-    c.if-not-carve.ensures.leaves c.commit.ensures.sound
+    kept_however_counted (record c.args.self.now { nodes = c.commit.new.nodes; trees = c.carve.new.trees })
+    c.add.new.self
+    (kept_where_shown c.args.self.now c.commit.new.nodes c.carve.new.trees _ c.requires.kept
+    c.if-not-carve.ensures.count c.if-not-carve.ensures.leaves c.commit.ensures.sound
     (lent_shows c.args.space c.args.self.now c.args.owner c.args.chunk.now c.reserve.new.nodes c.commit.new.nodes
     c.carve.new.trees.items c.granule.result c.requires.kept c.requires.may c.reserve.ensures.reserved
     c.reserve.ensures.sound c.granule.ensures c.commit.ensures.committed c.commit.ensures.sound
-    (c.if-not-carve.ensures.lent refl)) c.requires.may.sound
+    (c.if-not-carve.ensures.lent refl)) c.requires.may.sound)
+
+pub returns-then-not-carve-clause-counted : goal.returns-then-not-carve-clause-counted
+returns-then-not-carve-clause-counted c =
+    counted_on c.args.self.now (record c.args.self.now { trees = c.carve.new.trees })
+    (c.if-not-carve.ensures.unchanged refl) refl c.requires.counted
+
+pub add-requires : goal.add-requires
+add-requires c =
+    room_there c.args.space c.args.self.now c.args.chunk.now c.requires.kept c.requires.counted c.requires.may.placed
+    c.requires.may.within
+
+pub returns-clause-counted : goal.returns-clause-counted
+returns-clause-counted c =
+    lent_is_counted c.args.space c.args.owner c.args.chunk.now c.args.self.now.lent c.add.new.self
+    (ledger_of c.args.self.now) _ c.requires.counted c.add.ensures (returns-clause-lent c refl)
+    (run_starts_in c.args.space c.args.chunk.now.start c.args.chunk.now.front c.requires.may.some c.requires.may.inside)

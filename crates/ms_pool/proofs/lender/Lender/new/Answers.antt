@@ -6,7 +6,8 @@ use Rattle.ms_base.specs.State.{limits_of}
 use Rattle.ms_buddy.specs.Leaves.{AreLeaves}
 use Rattle.ms_commit.specs.Nodes.{NodesState, AreSound, no_nodes}
 use Rattle.ms_commit.proofs.ModelLemmas.{granule_is_size}
-use Rattle.ms_pool.specs.Ledger.{IsSoundLedger}
+use Rattle.ms_pool.specs.Counting.{AreCounted, counted_in}
+use Rattle.ms_pool.specs.Ledger.{Ledger, IsSoundLedger, held_in}
 use Rattle.ms_pool.proofs.EmptyPoolLemmas.{empty_is_sound, none_are_sound, starts_empty}
 use Rattle.ms_pool.proofs.lender.Lender.new.Goals as goal
 
@@ -46,3 +47,8 @@ returns-clause-kept c =
           (sym (starts_empty s c.new.result c.in_ok-trees.trees.items (2 * (64 + s.class_nodes)) whole fresh))
           (empty_is_sound (limits_of s) s.nodes_some s.nodes_few s.class_nodes_few);
     }
+
+pub returns-clause-counted : goal.returns-clause-counted
+returns-clause-counted c = λ space.
+    subst (λ (ledger : Ledger). AreCounted (held_in space ledger) (counted_in space c.none.result))
+    (sym (returns-clause-empty c)) (c.none.ensures space)

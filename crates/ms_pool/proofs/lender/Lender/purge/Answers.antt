@@ -7,6 +7,7 @@ use Rattle.ms_commit.proofs.NodesLemmas.{reserved_low}
 use Rattle.ms_pool.specs.declared.lender.Lender.{Lender}
 use Rattle.ms_pool.specs.Ledger.{held_in}
 use Rattle.ms_pool.specs.Keeping.{ledger_of}
+use Rattle.ms_pool.proofs.CountedLemmas.{counted_on}
 use Rattle.ms_pool.proofs.ReleasedChunkLemmas.{not_true}
 use Rattle.ms_pool.proofs.PurgingLemmas.{IsPurgedTo, drops_next, kept_once_purged, no_more_slots, passes}
 use Rattle.ms_pool.proofs.PurgingLemmas.{purged_at_first, purged_at_last, skips_held, skips_unreserved}
@@ -19,9 +20,10 @@ pub loop-slot-init : goal.loop-slot-init
 loop-slot-init c =
     record {
       trees = refl;
+      lent = refl;
       limits = refl;
       policy = refl;
-      purged = purged_at_first (ledger_of c.args.self.now) c.requires.sound;
+      purged = purged_at_first (ledger_of c.args.self.now) c.requires.kept.sound;
     }
 
 pub loop-slot-preserved : goal.loop-slot-preserved
@@ -31,7 +33,7 @@ loop-slot-preserved c =
     let slot = c.loop-slot.slot in
     let before = c.loop-slot.invariant in
     elim c.if-is_reserved.branch [
-      | then-is_reserved+then-is_whole w ↦ drops_next old mid _ slot c.requires before c.loop-slot-test.true
+      | then-is_reserved+then-is_whole w ↦ drops_next old mid _ slot c.requires.kept before c.loop-slot-test.true
           (w.self-is ∙ ap (λ (n : NodesState). record mid { nodes = n }) w.unreserve.ensures)
           (not_true (has_chunk_in (held_in NonClass (ledger_of mid)) slot)
           (sym w.is_whole.ensures ∙ w.if-is_whole.true))
@@ -60,11 +62,16 @@ returns-clause-purged c =
     no_more_slots (ledger_of c.args.self.now) (ledger_of c.loop-slot.self) c.loop-slot.slot
     c.loop-slot.invariant.purged in (
       omega (arith, fewer, c.reserved.ensures.count, c.reserved-before.ensures.count),
-      purged_at_last (ledger_of c.args.self.now) (ledger_of c.loop-slot.self) c.loop-slot.slot c.requires.sound
+      purged_at_last (ledger_of c.args.self.now) (ledger_of c.loop-slot.self) c.loop-slot.slot c.requires.kept.sound
           (omega (arith, c.loop-slot-test.false, c.loop-slot.auto.slot-end)) c.loop-slot.invariant.purged,
     )
 
 pub returns-clause-kept : goal.returns-clause-kept
 returns-clause-kept c =
-    kept_once_purged c.args.self.now c.loop-slot.self c.loop-slot.slot c.requires c.loop-slot.invariant
+    kept_once_purged c.args.self.now c.loop-slot.self c.loop-slot.slot c.requires.kept c.loop-slot.invariant
     (omega (arith, c.loop-slot-test.false, c.loop-slot.auto.slot-end)) c.reserved.ensures.sound
+
+pub returns-clause-counted : goal.returns-clause-counted
+returns-clause-counted c =
+    counted_on c.args.self.now c.loop-slot.self c.loop-slot.invariant.trees c.loop-slot.invariant.lent
+    c.requires.counted

@@ -71,7 +71,7 @@ pub lend-requires : goal.lend-requires
 lend-requires c =
     let at_ = goal.at.lend-requires c in let well =
     takes at_.In_default-commit_limit (picked at_.After-chunk_at-chunk) in
-    record { kept = c.requires.kept; may = well.may }
+    record { kept = c.requires.kept; counted = c.requires.counted; may = well.may }
 
 pub returns-then-not-lend-clause-took : goal.returns-then-not-lend-clause-took
 returns-then-not-lend-clause-took c =

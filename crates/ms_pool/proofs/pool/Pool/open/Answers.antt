@@ -5,5 +5,5 @@ use Rattle.ms_pool.proofs.pool.Pool.open.Goals as goal
 pub returns-clause-served : goal.returns-clause-served
 returns-clause-served c =
     opened_is_served (ledger_of c.self.inside.lender) c.args.space c.open.result (ledger_of c.open.new.self)
-    c.self.invariant.sound
+    c.self.invariant.kept.sound
     c.open.ensures.opened

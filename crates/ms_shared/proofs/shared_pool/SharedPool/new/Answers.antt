@@ -16,7 +16,7 @@ new-requires c =
     (opening (0 ∷ []) l (first_view c.args.seats c.of.result.value))) (sym slots)
     (subst (λ (p : Ledger). IsLocked c.args.seats p.limits
     (opening (0 ∷ []) (Some c.args.pool ∷ []) (first_view c.args.seats p))) (sym c.of.ensures)
-    (begins c.args.seats c.args.pool (omega arith) c.all_totals.ensures.tallies))
+    (begins c.args.seats c.args.pool (omega arith) c.committed.ensures.tallies))
 
 pub loop-init : goal.loop-init
 loop-init c =

@@ -1,0 +1,12 @@
+use Rattle.std.proofs.Common.{◌≡◌, ◌<◌, length, sym, subst, arith}
+use Rattle.ms_arena.specs.Pages.{PagesView, page_at}
+use Rattle.ms_arena.proofs.PagesLemmas.{has_room}
+use Rattle.ms_arena.proofs.pages.Pages.append.Goals as goal
+
+pub unreachable-requires : goal.unreachable-requires
+unreachable-requires c =
+    let room = has_room _ _ _ c.args.number c.self.invariant
+    (subst (λ (words : PagesView). c.args.number < length words.pages) (sym c.self.view_is) c.requires.there)
+    (subst (λ (words : PagesView). (page_at words.pages c.args.number).place ≡ 0) (sym c.self.view_is)
+    c.requires.placeless) in
+    omega (arith, room, c.in-Err.ensures.full, c.len-len.ensures, c.self.inside.store.ok.0)

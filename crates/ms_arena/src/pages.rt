@@ -1,0 +1,270 @@
+//! A list of words of which most are 0: the words of one arena's blocks.
+//!
+//!     words    0        512       1024      1536            512 * room
+//!              | page 0  | page 1  | page 2  |        ..        |
+//!     pages      place 2   no place  place 1   (none further on)
+//!     store    | page 2  | page 0  |        room        |
+//!
+//! A page comes into the store when a word of it is first written, and its other words are made 0
+//! then. So a page that was never written takes no memory but its room, which nothing touches. A page
+//! that is cleared as a whole keeps its place and is only marked: it is zeroed when it is next written.
+//! Kept true: the store has the pages with a place and no others, each at its own.
+//! Only `reserve` takes memory. HotSpot's arenas are memory themselves; this list stands for it.
+ghost use Rattle.std.specs.Prelude.{◌≡◌, ◌≢◌, ℕ, ◌+◌, ◌-◌, ◌*◌, ◌/◌, ◌^◌, ◌<◌, ◌≤◌, OnOk, OnErr, length};
+ghost use Rattle.std.specs.Prelude.{true, false, IsTrue, slice_index, vec_capacity};
+ghost use Rattle.ms_arena.specs.Pages.{word_at, page_at, Clears};
+
+use std::alloc::{AllocError, Global};
+use std::marker::Model;
+
+/// The words of a page.
+const PAGE: usize = 512;
+
+/// A page of the list.
+#[derive(Clone, Copy)]
+pub struct Page {
+    /// Which page of the store it is, counted from 1; 0 where it has no place.
+    place: usize,
+    /// Whether it was written since it was last cleared; else its words are 0.
+    written: bool,
+}
+
+/// A list of words, of which most are 0.
+#[derive(Drop)]
+pub struct Pages {
+    /// The pages by their number; those further on have no place.
+    pages: Vec<Page>,
+    /// The words of the pages that have a place.
+    store: Vec<u64>,
+    /// How many pages there is room for.
+    room: usize,
+}
+
+impl Model for Pages {
+    ghost use Rattle.std.specs.Prelude.{vec_capacity};
+    ghost use Rattle.ms_arena.specs.Pages.{PagesView, ArePages};
+
+    ghost Value = { PagesView };
+
+    ghost view = { λ p. record { pages = p.pages.items; store = p.store.items; room = p.room } };
+
+    ghost invariant = { λ p. ArePages
+        (record { pages = p.pages.items; store = p.store.items; room = p.room })
+        (vec_capacity p.pages) (vec_capacity p.store) };
+}
+
+impl Pages {
+    /// Makes a list with no room. Takes no memory yet.
+    pub fn new(alloc: Global) -> Pages
+        ensures room { result.room ≡ 0 }
+    {
+        Pages {
+            pages: Vec::new(alloc),
+            store: Vec::new(alloc),
+            room: 0,
+        }
+    }
+
+    /// Makes room for so many words; the words stay.
+    pub fn reserve(&mut self, alloc: Global, words: usize) -> Result<(), AllocError>
+        ensures room { OnOk result (words ≤ 512 * self.new.room) }
+        ensures more { self.old.room ≤ self.new.room }
+        ensures words { (at : ℕ) → word_at self.new at ≡ word_at self.old at }
+        ensures unchanged { OnErr result (self.new ≡ self.old) }
+    {
+        let pages = words.div_ceil(PAGE);
+        if pages <= self.room {
+            return Ok(());
+        }
+        self.grow(alloc, pages.max(self.room.saturating_mul(2)))
+    }
+
+    /// Makes room for so many pages. What was written is copied, and no room that was not.
+    fn grow(&mut self, alloc: Global, room: usize) -> Result<(), AllocError>
+        requires { self.old.room ≤ room }
+        ensures room { OnOk result (self.new.room ≡ room) }
+        ensures words { (at : ℕ) → word_at self.new at ≡ word_at self.old at }
+        ensures unchanged { OnErr result (self.new ≡ self.old) }
+    {
+        let Some(words) = room.checked_mul(PAGE) else {
+            return Err(AllocError);
+        };
+        let mut pages = Vec::with_capacity(alloc, room)?;
+        pages.extend_from_slice(self.pages.as_slice())?;
+        let mut store = Vec::with_capacity(alloc, words)?;
+        store.extend_from_slice(self.store.as_slice())?;
+        self.pages = pages;
+        self.store = store;
+        self.room = room;
+        Ok(())
+    }
+
+    /// Reads a word.
+    pub fn read(&self, at: usize) -> u64
+        ensures { result ≡ word_at self.now at }
+    {
+        let number = at / PAGE;
+        if !self.is_written(number) {
+            return 0;
+        }
+        self.store[base_of(self.pages[number]) + at % PAGE]
+    }
+
+    /// Writes a word; the others stay.
+    pub fn write(&mut self, at: usize, value: u64)
+        requires within { at < 512 * self.old.room }
+        ensures written { word_at self.new at ≡ value }
+        ensures others { (other : ℕ) → other ≢ at → word_at self.new other ≡ word_at self.old other }
+        ensures room { self.new.room ≡ self.old.room }
+    {
+        let number = at / PAGE;
+        self.touch(number);
+        let base = base_of(self.pages[number]);
+        self.store[base + at % PAGE] = value;
+    }
+
+    /// Clears the words from one on up to an end.
+    pub fn clear(&mut self, from: usize, end: usize)
+        requires { from ≤ end }
+        ensures { Clears self.old from end self.new }
+    {
+        for number in from / PAGE..self.pages.len().min(end.div_ceil(PAGE)) {
+            self.clear_in(number, from, end);
+        }
+    }
+
+    /// Tells whether a page was written since it was last cleared.
+    fn is_written(&self, number: usize) -> bool
+        ensures written { result ≡ (page_at self.now.pages number).written }
+        ensures there { IsTrue result → number < length self.now.pages }
+    {
+        number < self.pages.len() && self.pages[number].written
+    }
+
+    /// Makes a page ready to be written, where it isn't; the words stay.
+    fn touch(&mut self, number: usize)
+        requires { number < self.old.room }
+        ensures written { (page_at self.new.pages number).written ≡ true }
+        ensures words { (at : ℕ) → word_at self.new at ≡ word_at self.old at }
+        ensures room { self.new.room ≡ self.old.room }
+    {
+        if self.is_written(number) {
+            return;
+        }
+        if number >= self.pages.len() {
+            self.lengthen(number);
+        }
+        if self.pages[number].place == 0 {
+            self.append(number);
+        } else {
+            self.renew(number);
+        }
+    }
+
+    /// Lengthens the table up to a page.
+    fn lengthen(&mut self, number: usize)
+        requires within { number < self.old.room }
+        requires past { length self.old.pages ≤ number }
+        ensures there { number < length self.new.pages }
+        ensures pages { (other : ℕ) → page_at self.new.pages other ≡ page_at self.old.pages other }
+        ensures store { self.new.store ≡ self.old.store }
+        ensures room { self.new.room ≡ self.old.room }
+    {
+        let page = Page {
+            place: 0,
+            written: false,
+        };
+        match self.pages.resize(number + 1, page) {
+            Ok(()) => {}
+            Err(_) => unreachable!(),
+        }
+    }
+
+    /// Gives a page its place, whose words are 0.
+    fn append(&mut self, number: usize)
+        requires there { number < length self.old.pages }
+        requires placeless { (page_at self.old.pages number).place ≡ 0 }
+        ensures written { (page_at self.new.pages number).written ≡ true }
+        ensures words { (at : ℕ) → word_at self.new at ≡ word_at self.old at }
+        ensures room { self.new.room ≡ self.old.room }
+    {
+        let len = self.store.len();
+        match self.store.resize(len + PAGE, 0) {
+            Ok(()) => {}
+            Err(_) => unreachable!(),
+        }
+        self.pages[number] = Page {
+            place: len / PAGE + 1,
+            written: true,
+        };
+    }
+
+    /// Zeroes the words of a page that was cleared.
+    fn renew(&mut self, number: usize)
+        requires there { number < length self.old.pages }
+        requires placed { 0 < (page_at self.old.pages number).place }
+        requires unwritten { (page_at self.old.pages number).written ≡ false }
+        ensures written { (page_at self.new.pages number).written ≡ true }
+        ensures words { (at : ℕ) → word_at self.new at ≡ word_at self.old at }
+        ensures room { self.new.room ≡ self.old.room }
+    {
+        let page = self.pages[number];
+        let base = base_of(page);
+        wipe(&mut self.store, base, base + PAGE);
+        self.pages[number] = Page {
+            place: page.place,
+            written: true,
+        };
+    }
+    /// Clears the words of a page that lie between two.
+    fn clear_in(&mut self, number: usize, from: usize, end: usize)
+        requires there { number < length self.old.pages }
+        requires order { from ≤ end }
+        requires from { from < 512 * number + 512 }
+        requires end { 512 * number < end }
+        ensures zero { (at : ℕ) → at / 512 ≡ number → from ≤ at → at < end → word_at self.new at ≡ 0 }
+        ensures others { (at : ℕ) → at / 512 ≢ number → word_at self.new at ≡ word_at self.old at }
+        ensures before { (at : ℕ) → at < from → word_at self.new at ≡ word_at self.old at }
+        ensures after { (at : ℕ) → end ≤ at → word_at self.new at ≡ word_at self.old at }
+        ensures pages { length self.new.pages ≡ length self.old.pages }
+        ensures room { self.new.room ≡ self.old.room }
+    {
+        let page = self.pages[number];
+        if !page.written {
+            return;
+        }
+        let first = from.saturating_sub(PAGE * number);
+        let last = (end - PAGE * number).min(PAGE);
+        if first == 0 && last == PAGE {
+            self.pages[number] = Page {
+                place: page.place,
+                written: false,
+            };
+        } else {
+            let base = base_of(page);
+            wipe(&mut self.store, base + first, base + last);
+        }
+    }
+}
+
+/// Tells where the words of a page begin in the store.
+fn base_of(page: Page) -> usize
+    requires placed { 0 < page.place }
+    requires fits { 512 * page.place < 2 ^ 64 }
+    ensures { result ≡ 512 * (page.place - 1) }
+{
+    PAGE * (page.place - 1)
+}
+
+/// Makes the words of the store from one up to an end 0.
+fn wipe(store: &mut Vec<u64>, from: usize, end: usize)
+    requires order { from ≤ end }
+    requires within { end ≤ length store.old.items }
+    ensures zero { (k : ℕ) → from ≤ k → k < end → slice_index store.new.items k ≡ 0 }
+    ensures before { (k : ℕ) → k < from → slice_index store.new.items k ≡ slice_index store.old.items k }
+    ensures after { (k : ℕ) → end ≤ k → slice_index store.new.items k ≡ slice_index store.old.items k }
+    ensures stays { length store.new.items ≡ length store.old.items }
+    ensures capacity { vec_capacity store.new ≡ vec_capacity store.old }
+{
+    store[from..end].fill(0);
+}

@@ -1,0 +1,65 @@
+-- The first line of a text: where it spells a valid command, and where it was cut off.
+use Rattle.std.proofs.Common.{◌≡◌, ℕ, inr, ◌<◌, ◌≤◌, List, [], ◌∷◌, ◌++◌, length, length-append, refl, arith}
+use Rattle.std.proofs.Common.{Option, Some, None, IfSome, unwrap_or}
+use Rattle.std.specs.Borrow.{Bor}
+use Rattle.ms_trace.specs.declared.fault.ParseFault.{ParseFault}
+use Rattle.ms_trace.specs.declared.fault.ParseFault.TheVariants.{OutOfMemory}
+use Rattle.ms_trace.specs.declared.trace.Command.{Command}
+use Rattle.ms_trace.specs.declared.trace.Line.{Line}
+use Rattle.ms_trace.specs.Grammar.{lines_of, most_lines}
+use Rattle.ms_trace.specs.Keeping.{Adds, BeginsWith, BlamesFirst, KeepsFirst}
+use Rattle.ms_trace.specs.Spelling.{spelling_of}
+use Rattle.ms_trace.proofs.PrintingLemmas.{lines_of-line, spelling_is_clean}
+use Rattle.ms_trace.proofs.ReadingLemmas.{text_after}
+use Rattle.ms_trace.proofs.SpellingLemmas.{no_fault_from_allowed, spelling_is_short}
+
+-- It is cut off at its newline.
+spelled_cut : (text rest : List ℕ) (command : Command) → BeginsWith text command rest
+    → lines_of text ≡ spelling_of command ∷ lines_of rest
+spelled_cut text rest command begins =
+    rw begins.spelled (lines_of-line (spelling_of command) rest (spelling_is_clean command begins.valid))
+
+-- It is kept by adding that command under its number.
+pub spelled_first : (number : ℕ) (text rest : List ℕ) (command : Command) (old new : List Line) → number ≤ most_lines
+    → BeginsWith text command rest → Adds number command old new → KeepsFirst number text rest old new
+spelled_first number text rest command old new few begins added =
+    let line : List ℕ = spelling_of command in
+    let shorter : length rest < length (line ++ 10 ∷ rest) = simp length-append (omega arith) in
+    record {
+      line = line;
+      cut = spelled_cut text rest command begins;
+      keeps = record {
+        said = record { number = number; command = command } ∷ [];
+        faultless = no_fault_from_allowed number line (record {
+          few = few;
+          short = spelling_is_short command begins.valid;
+          says = inr (record { command = command; valid = begins.valid; spelled = refl });
+        });
+        says = inr (record { command = command; valid = begins.valid; spelled = refl; trace_is = refl });
+        new_is = added;
+      };
+      shorter = rw begins.spelled shorter;
+    }
+
+-- Only want of memory can be blamed there.
+pub spelled_blames : (number : ℕ) (text rest : List ℕ) (command : Command) (fault : ParseFault)
+    → BeginsWith text command rest → fault ≡ OutOfMemory → BlamesFirst number text fault
+spelled_blames number text rest command fault begins e =
+    rw e (record {
+      line = spelling_of command;
+      after = lines_of rest;
+      cut = spelled_cut text rest command begins;
+      blames = tt;
+    })
+
+-- What stands after the first line that was cut off.
+pub rest_is : (after : Option (Bor (List ℕ))) (empty : Bor (List ℕ)) → empty.now ≡ []
+    → (unwrap_or after empty).now ≡ text_after after
+rest_is None empty e = e
+rest_is (Some rest) empty e = refl
+
+-- It is shorter than the text.
+pub shorter_after : (text : List ℕ) (after : Option (Bor (List ℕ))) → 0 < length text
+    → IfSome after (λ rest. length rest.now < length text) → length (text_after after) < length text
+shorter_after text None some shorter = some
+shorter_after text (Some rest) some shorter = shorter
