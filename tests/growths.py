@@ -33,6 +33,11 @@ TRACES = {
         ["--class-nodes", "1"],
         "new 1 standard / alloc 1 1 10 / calloc 1 2 10 / sync / new 2 boot / calloc 2 1 4000 / alloc 2 2 9000 / "
         "free 1 1 / alloc 1 3 4 / sync / write 2 2 8999 7 / read 2 2 8999 / read 1 3 0 / report"),
+    "two loaders work side by side in each space": (
+        ["--class-nodes", "1"],
+        "new 1 standard / new 2 boot / alloc 1 1 10 / calloc 2 1 4000 / calloc 1 2 10 / alloc 2 2 9000 / sync / "
+        "free 1 1 / alloc 1 3 4 / write 2 2 8999 7 / read 1 3 0 / sync / read 2 2 8999 / new 3 hidden / "
+        "alloc 3 1 100 / unload 1 / calloc 3 2 100 / report / alloc 2 3 600000 / unload 3 / report"),
     "the granule limit is met": (
         ["--max-granules", "1"],
         "new 1 standard / alloc 1 1 8192 / sync / new 2 standard / alloc 2 1 1 / sync / free 1 1 / "

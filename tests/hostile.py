@@ -63,7 +63,7 @@ def names_of_one_place(bench):
 
 
 def weight_of(start):
-    """The weight of a free block, as the tree of free blocks draws it from the block's start."""
+    """A weight drawn from a block's start, as a tree of free blocks may draw it that is balanced by weights."""
     spread = start * 0x9e3779b97f4a7c15 % WORD
     return (spread ^ spread >> 32) * 0xd6e8feb86659fd93 % WORD
 
@@ -88,7 +88,7 @@ def blocks_by_weight(count, most):
 
 
 def depth_of(blocks):
-    """Counts the forks on the way to the smallest of the blocks: those that outweigh all that rank before them."""
+    """Counts the forks on the way to the smallest of the blocks by weights: those that outweigh all ranked before."""
     depth, heaviest = 0, -1
     for _, start in sorted((words, start) for start, words, is_freed in blocks if is_freed):
         if weight_of(start) > heaviest:
@@ -97,7 +97,7 @@ def depth_of(blocks):
 
 
 def deepest_tree(bench, workers):
-    """Free blocks whose weights rise with their sizes: the tree of them is nearly a list, and each line walks it."""
+    """Free blocks whose weights rise with their sizes: a tree balanced by these would be a list."""
     blocks = blocks_by_weight(15500, 8300)
     freed = [name for name, (_, _, is_freed) in enumerate(blocks) if is_freed]
     lines = ["new 1 boot"] + [f"alloc 1 {name} {words}" for name, (_, words, _) in enumerate(blocks)]
@@ -112,7 +112,7 @@ def deepest_tree(bench, workers):
     answers, figures = answered(bench, ["--workers", str(workers)], text_of(lines))
     expect_all(answers, b"ok")
     expect_sums(reports_of(answers)[0])
-    return f"{figures}, {depth_of(blocks)} deep"
+    return f"{figures}, {depth_of(blocks)} deep by weights"
 
 
 ORDERS = {
@@ -227,6 +227,21 @@ def the_largest_block_comes_and_goes(bench):
     return figures
 
 
+def phases_of_two_lines(bench, workers):
+    """30,000 phases in each of which two workers have a line, while 1,000 loaders stand by."""
+    lines = [f"new {name} standard" for name in range(1000)] + [f"alloc {name} 1 2" for name in range(1000)] + ["sync"]
+    for number in range(30000):
+        lines += [f"write {number % 1000} 1 0 {number}", f"read {(number + 1) % 1000} 1 0", "sync"]
+    lines.append("report")
+    answers, figures = answered(bench, ["--workers", str(workers)], text_of(lines))
+    expect(len(answers) == len(lines), "not each line is answered")
+    for number, answer in enumerate(answers[2002:-1:3]):
+        expect(answer.reply == b"value %d" % max(number + 1 - 1000, 0), "a word is read otherwise", number, answer)
+    expect_all(answers[2001:-1:3] + answers[2003:-1:3], b"ok")
+    expect_sums(reports_of(answers)[0])
+    return figures
+
+
 def tests():
     yield Test("block names that hash to one place", names_of_one_place)
     for workers in (1, 2):
@@ -241,3 +256,5 @@ def tests():
         yield Test(f"all 65,536 loader names, {workers} at work", all_loader_names, (workers,))
     for workers in (1, 2, 8):
         yield Test(f"45,000 phases of one line, {workers} at work", phases_of_one_line, (workers,))
+    for workers in (1, 2, 8):
+        yield Test(f"30,000 phases of two lines, {workers} at work", phases_of_two_lines, (workers,))
