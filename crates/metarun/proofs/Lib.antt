@@ -4,3 +4,4 @@ pub mod LengthLemmas
 pub mod InputLemmas
 pub mod FaultLemmas
 pub mod OptionLemmas
+pub mod CommandLineLemmas

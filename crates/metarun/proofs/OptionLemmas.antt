@@ -1,6 +1,7 @@
--- What a number option reads of its text, and what a session with default options answers. Used by
--- `number_given` of `options` and by `start`.
-use Rattle.std.proofs.Common.{◌≡◌, ◌<◌, ◌^◌, ℕ, List, Option, Some, None, Result, Ok, Err, refl, ap}
+-- What a number option reads of its text, what a policy is by its word, and what a session with
+-- default options answers. Used by `number_given` and `policy_in` of `options` and by `start`.
+use Rattle.std.proofs.Common.{◌≡◌, ◌<◌, ◌^◌, ℕ, List, [], Option, Some, None, Result, Ok, Err, refl, ap, sym, ◌∙◌}
+use Rattle.std.specs.Prelude.{codes, unwrap_or}
 use Rattle.std.specs.Result.{result_ok}
 use Rattle.std.specs.Fmt.{decimal}
 use Rattle.std.specs.Str.Parse.{ParsesUnsigned}
@@ -8,8 +9,11 @@ use Rattle.std.proofs.lemmas.Fmt.{parse-decimal}
 use Rattle.std.specs.Prelude.{IfSome}
 use Rattle.std.specs.Io.KnownBytes.{Appends}
 use Rattle.clap.specs.Matches.{ReadsOne}
+use Rattle.clap.specs.Words.{Row, Text, first_of, one_of}
+use Rattle.ms_base.specs.declared.policy.Policy.{Policy}
+use Rattle.ms_base.specs.declared.policy.Policy.TheVariants.{Balanced, Aggressive, None as NonePolicy}
 use Rattle.metarun.specs.declared.options.Options.{Options}
-use Rattle.metarun.specs.Asked.{IsDefault}
+use Rattle.metarun.specs.Asked.{IsDefault, ReadsNumber, ReadsPolicy}
 use Rattle.metarun.specs.Session.{IsOutput}
 
 -- The digits of a number are read as that number.
@@ -25,6 +29,34 @@ decimal_is_read E gives number None small parses reads =
     ap (λ (parsed : Result ℕ E). result_ok parsed)
     (parse-decimal 64 number (decimal number) (Err reads.0) small small refl
     (parses (decimal number) (Err reads.0) reads.1))
+
+-- A number and a policy that were not given.
+pub number_unasked : (rows : List Row) (id : Text) (least most default number : ℕ) → one_of id rows ≡ None
+    → number ≡ default → ReadsNumber rows id least most default number
+number_unasked rows id least most default number none is = record {
+  absent = λ _. is;
+  given = λ asked text low high. let both : None ≡ Some (decimal asked) = sym none ∙ text in absurd (cc);
+}
+
+pub policy_unasked : (rows : List Row) (chosen : Policy) → first_of (codes "policy") rows ≡ None
+    → chosen ≡ Balanced → ReadsPolicy rows chosen
+policy_unasked rows chosen none is = record {
+  absent = λ _. is;
+  balanced = λ _. is;
+  aggressive = λ text. let both : None ≡ Some (codes "aggressive") = sym none ∙ text in absurd (cc);
+  none = λ text. let both : None ≡ Some (codes "none") = sym none ∙ text in absurd (cc);
+}
+
+-- A policy that was given by its word.
+pub policy_given : (rows : List Row) (word : List ℕ) (chosen : Policy) → first_of (codes "policy") rows ≡ Some word
+    → (word ≡ codes "balanced" → chosen ≡ Balanced) → (word ≡ codes "aggressive" → chosen ≡ Aggressive)
+    → (word ≡ codes "none" → chosen ≡ NonePolicy) → ReadsPolicy rows chosen
+policy_given rows word chosen found balanced aggressive none = record {
+  absent = λ empty. let both : None ≡ Some word = sym empty ∙ found in absurd (cc);
+  balanced = λ text. balanced (ap (λ (given : Option (List ℕ)). unwrap_or given []) (sym found ∙ text));
+  aggressive = λ text. aggressive (ap (λ (given : Option (List ℕ)). unwrap_or given []) (sym found ∙ text));
+  none = λ text. none (ap (λ (given : Option (List ℕ)). unwrap_or given []) (sym found ∙ text));
+}
 
 -- The options are the default ones.
 pub answered_by_default : (remaining old new : Option (List ℕ)) (options : Options) → IsDefault options

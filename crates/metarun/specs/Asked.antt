@@ -1,11 +1,13 @@
 -- What a command line may ask for (this project's choice).
-use Rattle.std.specs.Prelude.{◌≡◌, ◌≤◌, ℕ, List, true, false, Some, None, codes}
+use Rattle.std.specs.Prelude.{◌≡◌, ◌≤◌, ℕ, Bool, List, true, false, Some, None, codes, ⊤}
 use Rattle.std.specs.Fmt.{decimal}
-use Rattle.clap.specs.declared.parser.matches.Found.{Found}
-use Rattle.clap.specs.Matches.{first_value, one_text}
+use Rattle.clap.specs.Words.{App, Row, Text, first_of, matches_of, one_of}
 use Rattle.ms_base.specs.declared.policy.Policy.{Policy}
 use Rattle.ms_base.specs.declared.policy.Policy.TheVariants as policy
+use Rattle.metarun.specs.CommandLine.{IsCommandLine}
 use Rattle.metarun.specs.declared.options.Options.{Options}
+use Rattle.metarun.specs.declared.options.Refused.{Refused}
+use Rattle.metarun.specs.declared.options.Refused.TheVariants.{Told}
 
 -- The numbers lie in their ranges, and only one worker tells addresses.
 pub record IsAllowed (options : Options) : Type 0 where
@@ -29,23 +31,40 @@ pub record IsDefault (options : Options) : Type 0 where
 
 -- A number is the one given to an option where that lies in its range, and the default where none
 -- was.
-pub record ReadsNumber (found : Found) (id : List ℕ) (least most default number : ℕ) : Type 0 where
-  pub absent : one_text found id ≡ None → number ≡ default
-  pub given : (asked : ℕ) → one_text found id ≡ Some (decimal asked) → least ≤ asked → asked ≤ most → number ≡ asked
+pub record ReadsNumber (rows : List Row) (id : Text) (least most default number : ℕ) : Type 0 where
+  pub absent : one_of id rows ≡ None → number ≡ default
+  pub given : (asked : ℕ) → one_of id rows ≡ Some (decimal asked) → least ≤ asked → asked ≤ most → number ≡ asked
+
+-- A flag is on where it was given, and off where it was not.
+pub record ReadsFlag (rows : List Row) (id : Text) (on : Bool) : Type 0 where
+  pub absent : one_of id rows ≡ None → on ≡ false
+  pub unused : one_of id rows ≡ Some (codes "false") → on ≡ false
+  pub used : one_of id rows ≡ Some (codes "true") → on ≡ true
 
 -- A policy is the one whose word was given, balanced where none was.
-pub record ReadsPolicy (found : Found) (chosen : Policy) : Type 0 where
-  pub absent : first_value found (codes "policy") ≡ None → chosen ≡ policy.Balanced
-  pub balanced : first_value found (codes "policy") ≡ Some (codes "balanced") → chosen ≡ policy.Balanced
-  pub aggressive : first_value found (codes "policy") ≡ Some (codes "aggressive") → chosen ≡ policy.Aggressive
-  pub none : first_value found (codes "policy") ≡ Some (codes "none") → chosen ≡ policy.None
+pub record ReadsPolicy (rows : List Row) (chosen : Policy) : Type 0 where
+  pub absent : first_of (codes "policy") rows ≡ None → chosen ≡ policy.Balanced
+  pub balanced : first_of (codes "policy") rows ≡ Some (codes "balanced") → chosen ≡ policy.Balanced
+  pub aggressive : first_of (codes "policy") rows ≡ Some (codes "aggressive") → chosen ≡ policy.Aggressive
+  pub none : first_of (codes "policy") rows ≡ Some (codes "none") → chosen ≡ policy.None
 
--- The options are those that the words of the command line give.
-pub record AreRead (found : Found) (options : Options) : Type 0 where
-  pub workers : ReadsNumber found (codes "workers") 1 8 1 options.settings.workers
-  pub nodes : ReadsNumber found (codes "nodes") 1 64 64 options.settings.nodes
-  pub max_granules : ReadsNumber found (codes "max-granules") 1 40960 8192 options.settings.max_granules
-  pub class_nodes : ReadsNumber found (codes "class-nodes") 0 16 0 options.settings.class_nodes
-  pub policy : ReadsPolicy found options.settings.policy
-  pub unasked : one_text found (codes "addresses") ≡ None → options.addresses ≡ false
-  pub addresses : one_text found (codes "addresses") ≡ Some (codes "true") → options.addresses ≡ true
+-- The options are those that the rows give, in which `clap` has what it found for each option.
+pub record AreRead (rows : List Row) (options : Options) : Type 0 where
+  pub workers : ReadsNumber rows (codes "workers") 1 8 1 options.settings.workers
+  pub nodes : ReadsNumber rows (codes "nodes") 1 64 64 options.settings.nodes
+  pub max_granules : ReadsNumber rows (codes "max-granules") 1 40960 8192 options.settings.max_granules
+  pub class_nodes : ReadsNumber rows (codes "class-nodes") 0 16 0 options.settings.class_nodes
+  pub policy : ReadsPolicy rows options.settings.policy
+  pub addresses : ReadsFlag rows (codes "addresses") options.addresses
+
+-- The options are allowed, and are those that the words of a command line ask for.
+pub record AreAsked (words : List Text) (options : Options) : Type 0 where
+  pub app : App
+  pub line : IsCommandLine app
+  pub read : AreRead (matches_of app words) options
+  pub allowed : IsAllowed options
+
+-- What `metarun` has for standard output in place of a run.
+abbrev pub IsTold : Refused → Type 0
+IsTold (Told text) = ⊤
+IsTold _ = ⊥

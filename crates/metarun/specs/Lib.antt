@@ -1,3 +1,5 @@
 pub mod Failure
 pub mod Session
 pub mod Asked
+pub mod CommandLine
+pub mod Start

@@ -6,10 +6,12 @@
 //! for is the default. `clap` reads the words and writes the texts of refusals and of the help.
 //! Only `options_of` takes memory.
 ghost use Rattle.std.specs.Prelude.{◌≡◌, ◌≢◌, ◌≤◌, ◌<◌, ◌^◌, ℕ, IfOk, IfErr, IsOkAnd, None, Some, codes, decimal};
-ghost use Rattle.std.specs.Prelude.{length};
-ghost use Rattle.clap.specs.Words.{found_of};
-ghost use Rattle.clap.specs.Matches.{one_text};
-ghost use Rattle.metarun.specs.Asked.{IsAllowed, IsDefault, ReadsNumber, ReadsPolicy, AreRead};
+ghost use Rattle.std.specs.Prelude.{length, map, false};
+ghost use Rattle.clap.specs.Words.{app_of, found_of, kind_of, one_of, rows_of, rule_of};
+ghost use Rattle.metarun.specs.Asked.{IsAllowed, IsDefault, IsTold, AreRead, AreAsked};
+ghost use Rattle.metarun.specs.Asked.{ReadsFlag, ReadsNumber, ReadsPolicy};
+ghost use Rattle.metarun.specs.CommandLine.{IsCommandLine, IsShown, AskToBeTold, IsPolicyRule};
+ghost use Rattle.metarun.specs.CommandLine.{number_rule, addresses_rule};
 
 use clap::error::ErrorKind;
 use clap::{Arg, ArgAction, ArgMatches, Command, value_parser};
@@ -49,11 +51,14 @@ pub enum Refused {
 /// Reads a command line, whose first word is the program's name. Granules count 8192 words each,
 /// 2048 under policy aggressive; nodes count 1048576 words each. `Told` comes where the first of
 /// the faults is a use of `--help` or of `--version`, `Usage` for an unknown or repeated option, a
-/// missing value, or one out of its range, `Addresses` where blocks' addresses are asked for of more
-/// than one worker, since a schedule decides them. Takes memory. This project's choice.
+/// missing value, or one out of its range, `Addresses` where blocks' addresses are asked for of
+/// more than one worker, since a schedule decides them. Takes memory. This project's choice.
 pub fn options_of<'a, S: AsStr>(alloc: Global, words: &'a [S]) -> Result<Options, Refused>
     ensures allowed { IfOk result IsAllowed }
     ensures default { length words.entry.now ≤ 1 → IsOkAnd result IsDefault }
+    ensures asked { IfOk result (AreAsked (map S.text words.entry.now)) }
+    ensures told { IfErr result (λ refused.
+        IsTold refused → AskToBeTold (map S.text words.entry.now)) }
 {
     if words.len() <= 1 {
         return Ok(Options::DEFAULT);
@@ -69,7 +74,9 @@ pub fn options_of<'a, S: AsStr>(alloc: Global, words: &'a [S]) -> Result<Options
 }
 
 /// Tells what an error of the command line makes of it.
-fn reason_of(alloc: Global, error: &clap::Error) -> Refused {
+fn reason_of(alloc: Global, error: &clap::Error) -> Refused
+    ensures { IsTold result → IsShown (kind_of error.now) }
+{
     let Ok(text) = format!(in alloc; "{error}") else {
         return Refused::OutOfMemory;
     };
@@ -83,13 +90,13 @@ fn reason_of(alloc: Global, error: &clap::Error) -> Refused {
 /// Collects what was chosen. Only one worker may tell addresses.
 fn chosen(matches: &ArgMatches) -> Result<Options, Refused>
     ensures allowed { IfOk result IsAllowed }
-    ensures read { IfOk result (AreRead (found_of matches.now)) }
+    ensures read { IfOk result (AreRead (rows_of (found_of matches.now))) }
     ensures refused { IfErr result (λ refused. refused ≡ Refused.Addresses) }
     ensures many { IfErr result
-        (λ refused. one_text (found_of matches.now) (codes "addresses") ≢ None) }
+        (λ refused. one_of (codes "addresses") (rows_of (found_of matches.now)) ≢ None) }
 {
     let workers = number_in(matches, "workers", 1, 8, 1) as u32;
-    let addresses = matches.get_flag("addresses");
+    let addresses = flag_in(matches, "addresses");
     if addresses && workers > 1 {
         return Err(Refused::Addresses);
     }
@@ -112,7 +119,7 @@ fn number_in(matches: &ArgMatches, id: &str, least: u64, most: u64, default: u64
     requires high { default ≤ most }
     ensures least { least ≤ result }
     ensures most { result ≤ most }
-    ensures read { ReadsNumber (found_of matches.now) id.now least most default result }
+    ensures read { ReadsNumber (rows_of (found_of matches.now)) id.now least most default result }
 {
     match number_given(matches, id) {
         Some(number) if least <= number && number <= most => number,
@@ -122,16 +129,24 @@ fn number_in(matches: &ArgMatches, id: &str, least: u64, most: u64, default: u64
 
 /// Tells the number that was given, where there is one.
 fn number_given(matches: &ArgMatches, id: &str) -> Option<u64>
-    ensures absent { one_text (found_of matches.now) id.now ≡ None → result ≡ None }
+    ensures absent { one_of id.now (rows_of (found_of matches.now)) ≡ None → result ≡ None }
     ensures given { (number : ℕ) → number < 2 ^ 64
-        → one_text (found_of matches.now) id.now ≡ Some (decimal number) → result ≡ Some number }
+        → one_of id.now (rows_of (found_of matches.now)) ≡ Some (decimal number)
+        → result ≡ Some number }
 {
     matches.get_one::<u64>(id)
 }
 
+/// Tells whether a flag was given.
+fn flag_in(matches: &ArgMatches, id: &str) -> bool
+    ensures { ReadsFlag (rows_of (found_of matches.now)) id.now result }
+{
+    matches.get_flag(id)
+}
+
 /// Tells the policy that was given, or the default.
 fn policy_in(matches: &ArgMatches) -> Policy
-    ensures { ReadsPolicy (found_of matches.now) result }
+    ensures { ReadsPolicy (rows_of (found_of matches.now)) result }
 {
     match matches.get_str("policy") {
         Some(word) => policy_named(word),
@@ -176,17 +191,9 @@ Example:
   printf 'new 1 standard\\nalloc 1 1 10\\nreport\\n' | metarun --addresses";
 
 /// Describes the command line.
-fn command<'a>(alloc: Global) -> Result<Command<'a>, AllocError> {
-    let addresses = Arg::new(alloc, "addresses")
-        .long("addresses")
-        .action(ArgAction::SetTrue)
-        .help("Tell where each block starts, as a word number; needs --workers 1 [default: no]");
-    let policies = ["balanced", "aggressive", "none"].as_slice();
-    let policy = Arg::new(alloc, "policy")
-        .long("policy")
-        .value_name("P")
-        .value_parser(policies)
-        .help("What becomes of freed memory [default: balanced]");
+fn command<'a>(alloc: Global) -> Result<Command<'a>, AllocError>
+    ensures { IfOk result (λ command. IsCommandLine (app_of command)) }
+{
     Command::new(alloc, "metarun")
         .bin_name("metarun")?
         .version(VERSION)
@@ -195,13 +202,16 @@ fn command<'a>(alloc: Global) -> Result<Command<'a>, AllocError> {
         .arg(workers(alloc))?
         .arg(granules(alloc))?
         .arg(nodes(alloc))?
-        .arg(addresses)?
-        .arg(policy)?
+        .arg(addresses(alloc))?
+        .arg(policy(alloc))?
         .arg(class_nodes(alloc))
 }
 
 /// Describes `--workers`.
-fn workers<'a>(alloc: Global) -> Arg<'a> {
+fn workers<'a>(alloc: Global) -> Arg<'a>
+    ensures rule { rule_of result ≡ number_rule (codes "workers") 1 8 }
+    ensures own { result.global ≡ false }
+{
     Arg::new(alloc, "workers")
         .long("workers")
         .value_name("N")
@@ -210,7 +220,10 @@ fn workers<'a>(alloc: Global) -> Arg<'a> {
 }
 
 /// Describes `--max-granules`.
-fn granules<'a>(alloc: Global) -> Arg<'a> {
+fn granules<'a>(alloc: Global) -> Arg<'a>
+    ensures rule { rule_of result ≡ number_rule (codes "max-granules") 1 40960 }
+    ensures own { result.global ≡ false }
+{
     Arg::new(alloc, "max-granules")
         .long("max-granules")
         .value_name("N")
@@ -221,7 +234,10 @@ fn granules<'a>(alloc: Global) -> Arg<'a> {
 }
 
 /// Describes `--nodes`.
-fn nodes<'a>(alloc: Global) -> Arg<'a> {
+fn nodes<'a>(alloc: Global) -> Arg<'a>
+    ensures rule { rule_of result ≡ number_rule (codes "nodes") 1 64 }
+    ensures own { result.global ≡ false }
+{
     Arg::new(alloc, "nodes")
         .long("nodes")
         .value_name("N")
@@ -229,8 +245,35 @@ fn nodes<'a>(alloc: Global) -> Arg<'a> {
         .help("Reserve at most N nodes of 1048576 words: 1 to 64 [default: 64]")
 }
 
+/// Describes `--addresses`.
+fn addresses<'a>(alloc: Global) -> Arg<'a>
+    ensures rule { rule_of result ≡ addresses_rule }
+    ensures own { result.global ≡ false }
+{
+    Arg::new(alloc, "addresses")
+        .long("addresses")
+        .action(ArgAction::SetTrue)
+        .help("Tell where each block starts, as a word number; needs --workers 1 [default: no]")
+}
+
+/// Describes `--policy`.
+fn policy<'a>(alloc: Global) -> Arg<'a>
+    ensures rule { IsPolicyRule (rule_of result) }
+    ensures own { result.global ≡ false }
+{
+    let policies = ["balanced", "aggressive", "none"].as_slice();
+    Arg::new(alloc, "policy")
+        .long("policy")
+        .value_name("P")
+        .value_parser(policies)
+        .help("What becomes of freed memory [default: balanced]")
+}
+
 /// Describes `--class-nodes`.
-fn class_nodes<'a>(alloc: Global) -> Arg<'a> {
+fn class_nodes<'a>(alloc: Global) -> Arg<'a>
+    ensures rule { rule_of result ≡ number_rule (codes "class-nodes") 0 16 }
+    ensures own { result.global ≡ false }
+{
     Arg::new(alloc, "class-nodes")
         .long("class-nodes")
         .value_name("N")

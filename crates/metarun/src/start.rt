@@ -1,11 +1,13 @@
 //! The program as a call: the command line is judged, then the trace is read, run and answered.
-ghost use Rattle.std.specs.Prelude.{◌≡◌, ◌≢◌, ◌*◌, ◌≤◌, ℕ, List, IfSome, length};
+ghost use Rattle.std.specs.Prelude.{◌≡◌, ◌≢◌, ◌*◌, ◌≤◌, ◌⊎◌, ℕ, List, IfSome, length, map};
 ghost use Rattle.std.specs.Io.KnownBytes.{Appends, Keeps};
 ghost use Rattle.ms_trace.specs.declared.fault.FaultKind.{FaultKind};
 ghost use Rattle.ms_trace.specs.Faults.{HasFault};
-ghost use Rattle.metarun.specs.Asked.{IsDefault};
+ghost use Rattle.metarun.specs.Asked.{IsDefault, IsTold};
+ghost use Rattle.metarun.specs.CommandLine.{AskToBeTold};
 ghost use Rattle.metarun.specs.declared.options.Options.{Options};
 ghost use Rattle.metarun.specs.Session.{IsOutput};
+ghost use Rattle.metarun.specs.Start.{IsObeyed, IsStopped};
 
 use crate::devices::write_text;
 use crate::failure::Failure;
@@ -36,8 +38,16 @@ pub fn start<T: Threads + Wait + Sync, S: AsStr, R: Read, W: Write, E: Write>(
         (λ bytes. (options : Options) × (written : List ℕ) × IsDefault options
         × IsOutput options.addresses options.settings bytes written
         × Appends (W.contents output.old) (W.contents output.new) written) }
+    ensures obeyed { result ≡ 0
+        → (AskToBeTold (map S.text words.now) × (R.remaining input.new ≡ R.remaining input.old))
+        ⊎ IsObeyed (map S.text words.now) (R.remaining input.old)
+        (W.contents output.old) (W.contents output.new) }
     ensures faulty { result ≡ 1 → IfSome (R.remaining input.old) (λ bytes. (line : ℕ)
         × (kind : FaultKind) × HasFault bytes line kind) }
+    ensures failed { result ≡ 5
+        → (AskToBeTold (map S.text words.now) × (R.remaining input.new ≡ R.remaining input.old))
+        ⊎ IsStopped (map S.text words.now) (R.remaining input.old)
+        (W.contents output.old) (W.contents output.new) }
     ensures unread { result ≡ 2 → R.remaining input.new ≡ R.remaining input.old }
     ensures untouched { result ≡ 2 → Keeps (W.contents output.old) (W.contents output.new) }
     ensures statuses { result ≤ 5 }
@@ -54,6 +64,7 @@ const ADDRESSES_ALONE: &str = "metarun: --addresses needs --workers 1\n";
 /// Tells why there are no options: help and version on `output`, all else on `errors`; answers the
 /// exit status.
 fn tell<W: Write, E: Write>(refused: Refused, output: &mut W, errors: &mut E) -> u8
+    ensures told { (result ≡ 0) ⊎ (result ≡ 5) → IsTold refused }
     ensures no_fault { result ≢ 1 }
     ensures untouched { result ≡ 2 → Keeps (W.contents output.old) (W.contents output.new) }
     ensures statuses { result ≤ 5 }

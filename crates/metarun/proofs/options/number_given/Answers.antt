@@ -1,10 +1,18 @@
+use Rattle.std.proofs.Common.{◌∙◌}
 use Rattle.std.specs.Fmt.{decimal}
 use Rattle.std.specs.Str.Parse.{ParsesUnsigned, ExplainsUnsignedError, HasUnsignedDigitsIfOk}
+use Rattle.clap.specs.Words.{found_of}
+use Rattle.clap.proofs.WalkLemmas.{one_text-rows}
 use Rattle.metarun.proofs.OptionLemmas.{decimal_is_read}
 use Rattle.metarun.proofs.options.number_given.Goals as goal
+
+pub returns-clause-absent : goal.returns-clause-absent
+returns-clause-absent c = λ none.
+    c.get_one.ensures.none (one_text-rows (found_of c.args.matches.now) c.args.id.now ∙ none)
 
 pub returns-clause-given : goal.returns-clause-given
 returns-clause-given c = λ number small text.
     decimal_is_read _ (λ bs r. ParsesUnsigned 64 10 bs r × ExplainsUnsignedError 10 bs r × HasUnsignedDigitsIfOk bs r)
     number
-    c.get_one.result small (λ digits parsed gives. gives.0) (c.get_one.ensures.value (decimal number) text)
+    c.get_one.result small (λ digits parsed gives. gives.0) (c.get_one.ensures.value (decimal number)
+    (one_text-rows (found_of c.args.matches.now) c.args.id.now ∙ text))

@@ -1,0 +1,103 @@
+-- The command line is one of which `clap` says what it finds and what it refuses; and what it finds
+-- where there is no option. Used by `options_of`.
+use Rattle.std.proofs.Common.{◌≡◌, ◌≤◌, ◌⊎◌, List, [], ◌∷◌, Some, None, true, refl, sym, ap, ◌∙◌, arith, inl, inr}
+use Rattle.std.proofs.Common.{codes, length, subst, Result, Ok, Err}
+use Rattle.std.specs.Prelude.{IfOk, map}
+use Rattle.std.specs.Borrow.{Bor}
+use Rattle.clap.specs.Words.{App, Row, Text, IsAmong, fault_of, first_of, is_simple, is_simple_and_free, matches_of}
+use Rattle.clap.specs.Words.{one_of}
+use Rattle.clap.specs.declared.error.kind.ErrorKind.{ErrorKind}
+use Rattle.clap.specs.declared.error.kind.ErrorKind.TheVariants.{DisplayHelp, DisplayVersion, OutOfMemory}
+use Rattle.metarun.proofs.OptionLemmas.{number_unasked, policy_unasked}
+use Rattle.clap.proofs.OnLiterals.{clap_on_literals}
+use Rattle.metarun.specs.declared.options.Options.{Options}
+use Rattle.metarun.specs.declared.options.Refused.{Refused}
+use Rattle.metarun.specs.Asked.{AreAsked, AreRead, IsAllowed, IsDefault}
+use Rattle.metarun.specs.CommandLine.{AskToBeTold, IsCommandLine, IsShown, Policies, line_with, policy_rule}
+
+line_is_simple : (policies : Policies) → is_simple (line_with (policy_rule policies)) ≡ true
+unfolding clap_on_literals
+line_is_simple policies = refl
+
+line_is_free : (policies : Policies) → is_simple_and_free (line_with (policy_rule policies)) ≡ true
+unfolding clap_on_literals
+line_is_free policies = refl
+
+is_line : (app : App) (line : IsCommandLine app) → app ≡ line_with (policy_rule line.policy_is.policies)
+is_line app line = line.is ∙ ap line_with line.policy_is.is
+
+-- Its matches are known, and so are its faults.
+pub is_matched : (app : App) → IsCommandLine app → is_simple app ≡ true
+is_matched app line = ap is_simple (is_line app line) ∙ line_is_simple line.policy_is.policies
+
+pub is_judged : (app : App) → IsCommandLine app → is_simple_and_free app ≡ true
+is_judged app line = ap is_simple_and_free (is_line app line) ∙ line_is_free line.policy_is.policies
+
+-- A kind that is for standard output is no want of memory, so it is the first fault.
+pub first_is_shown : (words : List Text) (app : App) (kind : ErrorKind) → IsCommandLine app → IsShown kind
+    → (kind ≡ OutOfMemory) ⊎ IsAmong kind (fault_of app words) → AskToBeTold words
+first_is_shown words app kind line (inl help) (inl memory) =
+    let both : DisplayHelp ≡ OutOfMemory = sym help ∙ memory in absurd (cc)
+first_is_shown words app kind line (inr version) (inl memory) =
+    let both : DisplayVersion ≡ OutOfMemory = sym version ∙ memory in absurd (cc)
+first_is_shown words app kind line shown (inr first) =
+    record { app = app; line = line; kind = kind; shown = shown; first = first }
+
+-- What is found without an option: that addresses are not asked for.
+found_nowhere : {X : Type 0} (policies : Policies) (text : X → Text) (words : List X) → length words ≤ 1
+    → (one_of (codes "workers") (matches_of (line_with (policy_rule policies)) (map text words)) ≡ None)
+    × (one_of (codes "nodes") (matches_of (line_with (policy_rule policies)) (map text words)) ≡ None)
+    × (one_of (codes "max-granules") (matches_of (line_with (policy_rule policies)) (map text words)) ≡ None)
+    × (one_of (codes "class-nodes") (matches_of (line_with (policy_rule policies)) (map text words)) ≡ None)
+    × (first_of (codes "policy") (matches_of (line_with (policy_rule policies)) (map text words)) ≡ None)
+    × (one_of (codes "addresses") (matches_of (line_with (policy_rule policies)) (map text words))
+    ≡ Some (codes "false"))
+unfolding clap_on_literals
+found_nowhere policies text [] few = (refl, refl, refl, refl, refl, refl)
+found_nowhere policies text (name ∷ []) few = (refl, refl, refl, refl, refl, refl)
+found_nowhere policies text (name ∷ word ∷ words) few = absurd (omega (arith, few))
+
+-- A value that is kept somewhere.
+abbrev somewhere : {X : Type 0} → X → Bor X
+somewhere value = record { ref_ptr = (0, 0); now = value }
+
+-- So the default options are those that no option asks for.
+pub default_is_asked : {X : Type 0} (text : X → Text) (words : List X) (options : Options) → length words ≤ 1
+    → IsDefault options → IsAllowed options → AreAsked (map text words) options
+default_is_asked text words options few default allowed =
+    let policies = somewhere (map somewhere (codes "balanced" ∷ codes "aggressive" ∷ codes "none" ∷ [])) in
+    let rows = matches_of (line_with (policy_rule policies)) (map text words) in
+    let found = found_nowhere policies text words few in
+    record {
+      app = line_with (policy_rule policies);
+      line = record {
+        policy = policy_rule policies;
+        policy_is = record { policies = policies; words = refl; is = refl };
+        is = refl;
+      };
+      allowed = allowed;
+      read = record {
+        workers = number_unasked rows (codes "workers") 1 8 1 _ found.0 default.workers;
+        nodes = number_unasked rows (codes "nodes") 1 64 64 _ found.1 default.nodes;
+        max_granules = number_unasked rows (codes "max-granules") 1 40960 8192 _ found.2 default.max_granules;
+        class_nodes = number_unasked rows (codes "class-nodes") 0 16 0 _ found.3 default.class_nodes;
+        policy = policy_unasked rows _ found.4 default.policy;
+        addresses = record {
+          absent = λ _. default.addresses;
+          unused = λ _. default.addresses;
+          used = λ used. let both : Some (codes "false") ≡ Some (codes "true") = sym found.5 ∙ used in absurd (cc);
+        };
+      };
+    }
+
+-- What was chosen from the matches is what the words ask for.
+pub chosen_is_asked : (app : App) (words : List Text) (rows : List Row) (chosen : Result Options Refused)
+    → IsCommandLine app → rows ≡ matches_of app words → IfOk chosen IsAllowed → IfOk chosen (AreRead rows)
+    → IfOk chosen (AreAsked words)
+chosen_is_asked app words rows (Ok options) line same allowed read = record {
+  app = app;
+  line = line;
+  read = subst (λ (found : List Row). AreRead found options) same read;
+  allowed = allowed;
+}
+chosen_is_asked app words rows (Err refused) line same allowed read = tt
