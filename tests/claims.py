@@ -14,6 +14,10 @@ class Wrong(Exception):
     """The program did what it must not do."""
 
 
+class Skipped(Exception):
+    """The test needs a tool that isn't here; its text names the tool."""
+
+
 def expect(holds, *facts):
     """Fails the test where the claim doesn't hold, with the facts that show it."""
     if not holds:

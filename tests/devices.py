@@ -15,6 +15,8 @@ REPORTS = b"new 1 standard\n" + b"".join(b"alloc 1 %d 10\nreport\n" % block for 
 LONG = b"# a long comment\n" * 1500 + TRACE
 FAULTY = b"new 1 app\n"
 PIPE_BYTES = 4096
+# words that ask for a text alone
+TEXTS = ("--help", "--version")
 # words, text and input of runs that end in each way
 ENDINGS = (
     ([], TRACE, None),
@@ -34,13 +36,14 @@ def whole_of(bench, text):
 
 
 def input_is_no_text(bench):
-    """The input is closed, a directory, or open for writing alone; help and a refused line read nothing."""
+    """The input is closed, a directory, or open for writing alone; help, version and a refused line read nothing."""
     folder = os.open("/", os.O_RDONLY)
     null = os.open("/dev/null", os.O_WRONLY)
     for device in (CLOSED, folder, null):
         expect_ended(bench.run(devices=(device, None, None)), 5, INPUT_FAILED, b"")
-        ended = bench.run(["--help"], devices=(device, None, None))
-        expect(ended.status == 0 and ended.output and not ended.errors, ended)
+        for word in TEXTS:
+            ended = bench.run([word], devices=(device, None, None))
+            expect(ended.status == 0 and ended.output and not ended.errors, ended)
         ended = bench.run(["--granules"], devices=(device, None, None))
         expect(ended.status == 2 and ended.errors and not ended.output, ended)
     os.close(folder)
@@ -93,7 +96,8 @@ def output_takes_nothing(bench):
     for device in (CLOSED, full, null, unread):
         devices = (None, device, None)
         expect_ended(bench.run((), TRACE, devices=devices), 5, OUTPUT_FAILED)
-        expect_ended(bench.run(["--help"], TRACE, devices=devices), 5, OUTPUT_FAILED)
+        for word in TEXTS:
+            expect_ended(bench.run([word], TRACE, devices=devices), 5, OUTPUT_FAILED)
         expect_ended(bench.run((), b"# nothing is answered\n", devices=devices), 0)
         expect_ended(bench.run((), FAULTY, devices=devices), 1, fault_of(FAULTY))
     for device in (full, null, unread):

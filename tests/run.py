@@ -1,7 +1,8 @@
 """Runs the system tests over a built program: python3 tests/run.py PROGRAM [WORD..]
 
-Each test says its name and time as it ends, and the last line is 'N passed, M failed'. With words, those tests alone
-whose names have one of them. As many tests run side by side as there are processors.
+Each test says its name and time as it ends, and the last line is 'N passed, M failed'; where a tool is missing that
+isn't asked of each machine, also ', K skipped', and the tests that need it. With words, those tests alone whose names
+have one of them. As many tests run side by side as there are processors.
 """
 import concurrent.futures
 import importlib
@@ -15,9 +16,10 @@ import traceback
 sys.dont_write_bytecode = True
 
 from workbench import Workbench, build
-from claims import Wrong
+from claims import Skipped, Wrong
 
-SUBJECTS = ("hostile", "growths", "limits", "devices", "texts", "examples", "calls")
+SUBJECTS = ("hostile", "growths", "limits", "devices", "texts", "examples", "scripts", "calls")
+PASSED, FAILED, SKIPPED = "ok", "FAILED", "skipped"
 bench = None
 
 
@@ -28,16 +30,18 @@ def prepare(program, room):
 
 
 def outcome(subject, number):
-    """Runs a test in a process of the pool: whether it passed, its seconds, and what it says."""
+    """Runs a test in a process of the pool: what became of it, its seconds, and what it says."""
     test = list(importlib.import_module(subject).tests())[number]
     start = time.monotonic()
     try:
-        said, passed = test.function(bench, *test.arguments), True
+        said, became = test.function(bench, *test.arguments), PASSED
+    except Skipped as tool:
+        said, became = f"needs {tool}", SKIPPED
     except Wrong as wrong:
-        said, passed = str(wrong), False
+        said, became = str(wrong), FAILED
     except Exception:
-        said, passed = traceback.format_exc(), False
-    return passed, time.monotonic() - start, said
+        said, became = traceback.format_exc(), FAILED
+    return became, time.monotonic() - start, said
 
 
 def chosen(words):
@@ -49,20 +53,20 @@ def chosen(words):
 
 
 def run_all(program, words, room):
-    """Runs the tests side by side, and tells how many passed and failed."""
+    """Runs the tests side by side, and lists the names of those that passed, failed and were skipped."""
     processors = len(os.sched_getaffinity(0))
-    counts = {True: 0, False: 0}
+    names = {PASSED: [], FAILED: [], SKIPPED: []}
     pool = concurrent.futures.ProcessPoolExecutor(
         processors, multiprocessing.get_context("spawn"), initializer=prepare, initargs=(program, room))
     with pool:
         running = {pool.submit(outcome, subject, number): name for subject, number, name in chosen(words)}
         for done in concurrent.futures.as_completed(running):
             error = done.exception()
-            passed, seconds, said = (False, 0, repr(error)) if error else done.result()
-            counts[passed] += 1
+            became, seconds, said = (FAILED, 0, repr(error)) if error else done.result()
+            names[became].append(running[done])
             about = f": {said}" if said else ""
-            print(f"{'ok' if passed else 'FAILED'}: {running[done]} ({seconds:.2f} s){about}", flush=True)
-    return counts[True], counts[False]
+            print(f"{became}: {running[done]} ({seconds:.2f} s){about}", flush=True)
+    return names
 
 
 def main(words):
@@ -71,9 +75,10 @@ def main(words):
     program = os.path.abspath(words[0])
     with tempfile.TemporaryDirectory(prefix="metarun-tests-") as room:
         build(room)
-        passed, failed = run_all(program, words[1:], room)
-    print(f"{passed} passed, {failed} failed")
-    sys.exit(failed > 0 or passed == 0)
+        names = run_all(program, words[1:], room)
+    skipped = f", {len(names[SKIPPED])} skipped: {'; '.join(names[SKIPPED])}" if names[SKIPPED] else ""
+    print(f"{len(names[PASSED])} passed, {len(names[FAILED])} failed{skipped}")
+    sys.exit(names[FAILED] != [] or names[PASSED] == [])
 
 
 if __name__ == "__main__":
