@@ -226,8 +226,8 @@ impl System {
     }
 
     /// Tells all sums over the system, and a row for each loader in order of name. Takes memory for
-    /// the rows, and fails only where that is refused; looks at each node, chunk and live block, and
-    /// at no word of them.
+    /// the rows, and fails only where that is refused; looks at each node, loader and chunk, and at
+    /// no block.
     pub fn totals(&self) -> Result<Totals, AllocError>
         ensures { IfOk result (λ totals. sums_in totals ≡ sums_of self.now) }
     {
