@@ -14,11 +14,21 @@ use Rattle.ms_commit.specs.NumberSet.{with_range, without_range}
 use Rattle.ms_commit.proofs.SetLemmas.{is_among-with_range, is_among-without_range}
 use Rattle.ms_buddy.specs.Leaves.{LentLeaf, free_of, has_level, is_of}
 use Rattle.ms_buddy.proofs.FreeLeafLemmas.{free_of-none}
-use Rattle.ms_pool.specs.Trees.{IsIndex, place_in}
+use Rattle.ms_pool.specs.Trees.{IsIndex, Tells, place_in}
 
 -- A bit is told anew.
-abbrev pub Tells : List ℕ → List ℕ → ℕ → Bool → Type 0
-Tells old new place set = (number : ℕ) → is_among new number ≡ cond (number == place) set (is_among old number)
+here_is : (number place : ℕ) (a b : Bool) → number ≡ place → cond (number == place) a b ≡ a
+here_is number place a b e = grind (arith, nat_tests)
+
+other_is : (number place : ℕ) (a b : Bool) → (number ≡ place → ⊥) → cond (number == place) a b ≡ b
+other_is number place a b h = grind (arith, nat_tests)
+
+pub tells_already : (members : List ℕ) (place : ℕ) (set : Bool) → is_among members place ≡ set
+    → Tells members members place set
+tells_already members place set e number = elim (cases_eq number place) [
+  | inl same ↦ ap (is_among members) same ∙ e ∙ sym (here_is number place set (is_among members number) same)
+  | inr other ↦ sym (other_is number place set (is_among members number) other)
+]
 
 pub tells_set : (old new : List ℕ) (place : ℕ) → new ≡ with_range old place 1 → Tells old new place true
 tells_set old new place e number =
@@ -37,12 +47,6 @@ tells_clear old new place e number =
     either : (b : Bool) → (not (nat_le place number && nat_lt number (place + 1)) && b) ≡ cond (number == place) false b
     either true = grind (arith, nat_tests)
     either false = grind (arith, nat_tests)
-
-here_is : (number place : ℕ) (a b : Bool) → number ≡ place → cond (number == place) a b ≡ a
-here_is number place a b e = grind (arith, nat_tests)
-
-other_is : (number place : ℕ) (a b : Bool) → (number ≡ place → ⊥) → cond (number == place) a b ≡ b
-other_is number place a b h = grind (arith, nat_tests)
 
 -- The bits of a root below a level are told.
 pub record AreTold (old new : List ℕ) (root levels below : ℕ) : Type 0 where

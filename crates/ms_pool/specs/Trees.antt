@@ -1,5 +1,5 @@
 -- The trees of the roots that may be reserved, and which of them have a free leaf of a level.
-use Rattle.std.specs.Prelude.{◌≡◌, ℕ, ◌+◌, ◌*◌, ◌<◌, ◌≤◌, Bool, List, [], length, get_or}
+use Rattle.std.specs.Prelude.{◌≡◌, ℕ, ◌+◌, ◌*◌, ◌<◌, ◌≤◌, ◌==◌, Bool, cond, List, [], length, get_or}
 use Rattle.std.specs.List.{list_any}
 use Rattle.ms_base.specs.Committed.{is_among}
 use Rattle.ms_buddy.specs.Leaves.{LentLeaf, free_of, is_of}
@@ -19,6 +19,10 @@ row_bits = 192
 -- The number in the index that stands for a level and a root: each level has a row.
 abbrev pub place_in : ℕ → ℕ → ℕ
 place_in level root = row_bits * level + root
+
+-- A bit of the index is told, and the others stay.
+abbrev pub Tells : List ℕ → List ℕ → ℕ → Bool → Type 0
+Tells old new place set = (number : ℕ) → is_among new number ≡ cond (number == place) set (is_among old number)
 
 -- The index has exactly the levels and roots where the tree has a free leaf.
 pub record IsIndex (numbers : List ℕ) (trees : List (List LentLeaf)) : Type 0 where

@@ -8,9 +8,9 @@
 //!
 //! Kept true: the bit of a level and a root is set exactly where the root's tree has a free leaf of
 //! that level. A root that isn't reserved is whole, so at level 0 it has its bit, and whoever asks
-//! looks whether its slot is reserved. Each change of a tree tells the 13 bits of its root anew. The
-//! places of trees and index are made once.
-ghost use Rattle.std.specs.Prelude.{◌≡◌, ℕ, ◌+◌, ◌-◌, ◌*◌, ◌/◌, ◌%◌, ◌<◌, ◌≤◌, false, [], get_or, length, replicate};
+//! looks whether its slot is reserved. Each change of a tree tells the 13 bits of its root anew, those
+//! that differ. The places of trees and index are made once.
+ghost use Rattle.std.specs.Prelude.{◌≡◌, ℕ, ◌+◌, ◌-◌, ◌*◌, ◌/◌, ◌%◌, ◌<◌, ◌≤◌, true, false, [], get_or, length, replicate};
 ghost use Rattle.std.specs.Prelude.{IfOk, IfSome, IfNone, IsTrue, IsFalse, Some};
 ghost use Rattle.std.specs.List.{All, find};
 ghost use Rattle.ms_base.specs.Committed.{is_among};
@@ -21,7 +21,7 @@ ghost use Rattle.ms_pool.specs.Keeping.{loans_from};
 ghost use Rattle.ms_pool.specs.Ledger.{with_loan};
 ghost use Rattle.ms_pool.specs.Placing.{MayBeCarved, MayBeRaised};
 ghost use Rattle.ms_pool.specs.Releasing.{TakesBack, is_lent_in, without_loan};
-ghost use Rattle.ms_pool.specs.Trees.{has_free, place_in, row_bits};
+ghost use Rattle.ms_pool.specs.Trees.{Tells, has_free, place_in, row_bits};
 
 use crate::totals::LEVELS;
 use ms_base::{Chunk, Level, ROOT_WORDS, Span};
@@ -151,11 +151,33 @@ fn note(roots: &mut Mask<39>, root: usize, levels: u16)
     for level in 0..LEVELS {
         let place = ROW_BITS * level + root;
         if levels >> level & 1 == 1 {
-            roots.insert_range(place, 1);
+            set_bit(roots, place);
         } else {
-            roots.remove_range(place, 1);
+            clear_bit(roots, place);
         }
     }
+}
+
+/// Sets a bit of the index, where it isn't set.
+fn set_bit(roots: &mut Mask<39>, place: usize)
+    requires { place < 2496 }
+    ensures { Tells roots.old roots.new place true }
+{
+    if roots.contains(place) {
+        return;
+    }
+    roots.insert_range(place, 1);
+}
+
+/// Clears a bit of the index, where it is set.
+fn clear_bit(roots: &mut Mask<39>, place: usize)
+    requires { place < 2496 }
+    ensures { Tells roots.old roots.new place false }
+{
+    if !roots.contains(place) {
+        return;
+    }
+    roots.remove_range(place, 1);
 }
 
 /// Lends the chunk's part in the tree of its root; `false` where memory is wanting.
