@@ -1,6 +1,7 @@
 -- How many blocks there are, and words in them, once one is new, written or gone; and that there are no
 -- more live blocks than rows. `PutLemmas` and the functions of `rows` use these.
-use Rattle.std.proofs.Common.{◌≡◌, ℕ, ◌+◌, ◌≤◌, true, false, cond, Some, None, List, [], ◌∷◌, ◌++◌, length, refl, ap, ◌∙◌}
+use Rattle.std.proofs.Common.{◌≡◌, ℕ, ◌+◌, ◌≤◌, true, false, cond, Some}
+use Rattle.std.proofs.Common.{None, List, [], ◌∷◌, length, refl, ap, ◌∙◌}
 use Rattle.std.proofs.Common.{arith}
 use Rattle.std.specs.List.{sum_by}
 use Rattle.std.specs.Ordering.{nat_cmp}

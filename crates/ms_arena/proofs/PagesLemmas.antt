@@ -1,7 +1,8 @@
 -- Pages at places of their own: what is written in one leaves the words of the others, and where a page
 -- has no place there is room for one more. The functions of `pages` use these.
 use Rattle.std.proofs.Common.{◌≡◌, ◌≢◌, ℕ, ◌+◌, ◌-◌, ◌*◌, ◌/◌, ◌%◌, ◌<◌, ◌≤◌, Bool, true, false, cond, List, [], ◌∷◌}
-use Rattle.std.proofs.Common.{◌++◌, length, take, drop, get_or, refl, sym, ap, ◌∙◌, inl, inr, arith, rules, get_or-set_other}
+use Rattle.std.proofs.Common.{◌++◌, length, get_or, refl, sym}
+use Rattle.std.proofs.Common.{ap, ◌∙◌, inl, inr, arith, get_or-set_other}
 use Rattle.std.proofs.Common.{get_or-set_same, not, replicate, subst, zero, suc}
 use Rattle.std.specs.Prelude.{nat_lt, slice_set}
 use Rattle.std.specs.List.{count_by}
@@ -116,7 +117,7 @@ outside words pages_capacity store_capacity store number low high are some from 
         (omega arith) placed some from end past less in
         apart (are.own (at / 512) number placed same) (omega (arith, same, past)) (omega (arith, same, less))
 
--- A page that was written is in the table, and the store has its words.
+-- A page that was written is in the table, where it was read.
 written_there : (pages : List Page) (number : ℕ) → (page_at pages number).written ≡ true → number < length pages
 written_there pages number written = elim (cases_lt number (length pages)) [
   | inl less ↦ less
@@ -124,10 +125,6 @@ written_there pages number written = elim (cases_lt number (length pages)) [
       let none = ap (λ (page : Page). page.written) (get_or_past pages number no_page past) in
       absurd (false≢true (sym none ∙ written))
 ]
-
-stored : (words : PagesView) (pages_capacity store_capacity number : ℕ) → ArePages words pages_capacity store_capacity
-    → 0 < (page_at words.pages number).place → base_of (page_at words.pages number) + 512 ≤ length words.store
-stored words pages_capacity store_capacity number are some = omega (arith, are.stored, are.below number, some)
 
 page_is : (pages : List Page) (number : ℕ) (page : Page) → number < length pages → page ≡ get_or pages number page
     → page_at pages number ≡ page
@@ -169,7 +166,8 @@ pub part_leaves : (words was : PagesView) (pages_capacity store_capacity number 
     → word_at (record words { store = store }) at ≡ word_at was at
 part_leaves words was pages_capacity store_capacity number base first last page store are same there page_found written
     base_is short before after at apart =
-    outside words pages_capacity store_capacity store number (base + first) (base + last) are some (omega (arith, place))
+    outside words pages_capacity store_capacity store number (base + first) (base + last) are some
+    (omega (arith, place))
     (omega (arith, place, short)) before after at
     (λ here low high. apart here (omega (arith, place, low)) (omega (arith, place, high)))
     ∙ ap (λ (words : PagesView). word_at words at) same
@@ -196,7 +194,8 @@ pub renewed : (words was : PagesView) (pages_capacity store_capacity number base
       pages = slice_set words.pages number (record { place = page.place; written = true });
       store = store;
     }) at ≡ word_at was at
-renewed words was pages_capacity store_capacity number base page store are same there some clear page_found base_is zeros
+renewed words was pages_capacity store_capacity number base page store are same there some clear page_found base_is
+    zeros
     before after at =
     elim (cases_eq (at / 512) number) [
       | inl here ↦ ap (λ (page : Page). word_in store page (at % 512)) (fresh_here here)
@@ -204,7 +203,8 @@ renewed words was pages_capacity store_capacity number base page store are same 
           ∙ sym (ap (λ (number : ℕ). word_in words.store (page_at words.pages number) (at % 512)) here
           ∙ ap (λ b. cond b (get_or words.store (base_of (page_at words.pages number) + at % 512) 0) 0) clear_here)
       | inr differ ↦ ap (λ (page : Page). word_in store page (at % 512)) (as_it_was differ)
-          ∙ outside words pages_capacity store_capacity store number base (base + 512) are some_here (omega (arith, place))
+          ∙ outside words pages_capacity store_capacity store number base (base + 512) are some_here
+          (omega (arith, place))
           (omega (arith, place)) before after at (λ here low high. differ here)
     ]
     ∙ ap (λ (words : PagesView). word_at words at) same

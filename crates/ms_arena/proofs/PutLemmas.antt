@@ -73,14 +73,16 @@ pub entered : (words new : PagesView) (old rows : List (ℕ × Row)) (start n at
     → AreApart (record { at = at; words = n; live = true }) second)
     → live_of new rows ≡ with_new (live_of words old) start (replicate n 0)
 entered words new old rows start n at clears puts clear =
-    live_is new rows (with_new blocks start (replicate n 0)) (rises_with_new blocks start (replicate n 0) (rises_live words old))
+    live_is new rows (with_new blocks start (replicate n 0))
+    (rises_with_new blocks start (replicate n 0) (rises_live words old))
     (λ other. elim (cases_eq start other) [
       | inl same ↦ ap (shown new) (put_here old rows start row puts other same)
           ∙ ap (λ (contents : List ℕ). Some contents) (contents_zero new row clears.zero)
           ∙ sym (named_new_same blocks start (replicate n 0))
           ∙ ap (named (with_new blocks start (replicate n 0))) same
       | inr differ ↦ ap (shown new) (put_other old rows start row puts other differ)
-          ∙ shown_stays words new (row_at old other) (λ second found k low high. elim (clear other second differ found) [
+          ∙ shown_stays words new (row_at old other)
+          (λ second found k low high. elim (clear other second differ found) [
             | inl before ↦ clears.after k (omega (arith, before, low))
             | inr after ↦ clears.before k (omega (arith, after, high))
           ])
@@ -115,7 +117,8 @@ freed words old rows start n at puts =
 -- What is left of a free row is kept where no row is: no block is new.
 pub rest_shown : (words : PagesView) (old rows : List (ℕ × Row)) (start : ℕ) (row : Row) → row.live ≡ false
     → KeepsRest old start row rows → live_of words rows ≡ live_of words old
-rest_shown words old rows start row free (inl same) = same_live words words old rows (λ other. ap (shown words) (same other))
+rest_shown words old rows start row free (inl same) =
+    same_live words words old rows (λ other. ap (shown words) (same other))
 rest_shown words old rows start row free (inr put) =
     same_live words words old rows (λ other. elim (cases_eq start other) [
       | inl same ↦ ap (shown words) (put_here old rows start row put.1 other same)
@@ -138,7 +141,8 @@ pub kept_reordered : (words new : PagesView) (old rows : List (ℕ × Row)) (top
     → (0 < more → 2 ≤ left) → AreRows rows new top more count total left
 kept_reordered words new old rows top room count total spare more left are same stay enough fits places = record {
   counted = are.counted ∙ ap (λ (blocks : List (ℕ × List ℕ)). length blocks) (sym live);
-  summed = are.summed ∙ ap (λ (blocks : List (ℕ × List ℕ)). sum_by (λ (block : ℕ × List ℕ). length block.1) blocks % 2 ^ 64)
+  summed = are.summed ∙ ap
+      (λ (blocks : List (ℕ × List ℕ)). sum_by (λ (block : ℕ × List ℕ). length block.1) blocks % 2 ^ 64)
       (sym live);
   apart = record {
     below = λ start row found. are.apart.below start row (sym (same start) ∙ found);
@@ -180,7 +184,8 @@ pub kept_less : (words : PagesView) (old rows : List (ℕ × Row)) (top room cou
     → Puts old start (record { at = at; words = n; live = false }) rows
     → AreRows rows words top 0 (count - 1) ((total + (2 ^ 64 - n)) % 2 ^ 64) left
 kept_less words old rows top room count total spare left start n at are found puts =
-    let less = one_less (live_of words old) start (contents_of words row) (named_live words old start ∙ ap (shown words) found) in
+    let less = one_less (live_of words old) start (contents_of words row)
+    (named_live words old start ∙ ap (shown words) found) in
     let long = length-map-range_with_len (λ (index : ℕ). word_at words (at + index)) 0 n in
     let live = freed words old rows start n at puts in record {
       counted = omega (arith, are.counted, less.0, ap (λ (blocks : List (ℕ × List ℕ)). length blocks) live);

@@ -1,11 +1,9 @@
 -- What lies at a block's start, as the live blocks by name say it: a row that is read, written, put or
 -- freed. The functions of `rows` use these.
 use Rattle.std.proofs.Common.{◌≡◌, ◌≢◌, ℕ, ◌+◌, ◌<◌, ◌≤◌, Bool, true, false, cond, Option, Some, None, List, [], ◌∷◌}
-use Rattle.std.proofs.Common.{◌++◌, length, map, replicate, set, get_or, refl, sym, ap, ◌∙◌, inl, inr, arith}
+use Rattle.std.proofs.Common.{length, replicate, set, get_or, refl, sym, ap, ◌∙◌, inl, inr, arith}
 use Rattle.std.proofs.Common.{get_or-set_same, get_or-set_other}
 use Rattle.std.specs.Prelude.{nat_eq, slice_get, slice_set}
-use Rattle.std.specs.List.{range_with_len}
-use Rattle.std.specs.Map.{lookup}
 use Rattle.std.proofs.lemmas.Bool.{cases_eq, eq-eqb, ne_eqb}
 use Rattle.std.proofs.lemmas.List.{length-set, length-replicate, get_or-replicate}
 use Rattle.std.proofs.lemmas.Option.{slice_get-get_or}
@@ -19,8 +17,8 @@ use Rattle.ms_base.proofs.entries.LookupLemmas.{named_changed_other, named_witho
 use Rattle.ms_base.proofs.entries.NameLemmas.{rises_with_new}
 use Rattle.ms_base.proofs.events.SeenEntryLemmas.{same_entries, named_without_same}
 use Rattle.ms_arena.specs.declared.rows.Row.{Row}
-use Rattle.ms_arena.specs.Pages.{PagesView, Clears, word_at}
-use Rattle.ms_arena.specs.Rows.{HasRow, LacksRow, WritesRow, IsLiveRow, Puts, KeepsRest, AreApart, LieApart}
+use Rattle.ms_arena.specs.Pages.{PagesView, word_at}
+use Rattle.ms_arena.specs.Rows.{HasRow, LacksRow, WritesRow, IsLiveRow, LieApart}
 use Rattle.ms_arena.specs.Rows.{contents_of, live_of, row_at}
 
 -- What the live blocks show of what lies at a start.
@@ -71,7 +69,8 @@ named_live words (e ∷ es) start = elim (cases_eq e.0 start) [
 pub live_is : (words : PagesView) (rows : List (ℕ × Row)) (blocks : List (ℕ × List ℕ)) → AreNamed blocks
     → ((start : ℕ) → shown words (row_at rows start) ≡ named blocks start) → live_of words rows ≡ blocks
 live_is words rows blocks rises same =
-    same_entries (live_of words rows) blocks (rises_live words rows) rises (λ start. named_live words rows start ∙ same start)
+    same_entries (live_of words rows) blocks (rises_live words rows) rises
+    (λ start. named_live words rows start ∙ same start)
 
 pub same_live : (words new : PagesView) (old rows : List (ℕ × Row))
     → ((start : ℕ) → shown new (row_at rows start) ≡ shown words (row_at old start))
@@ -86,7 +85,8 @@ pub contents_stay : (words new : PagesView) (row : Row)
 contents_stay words new row same =
     sym (fill_by_all (λ index. word_at new (row.at + index)) (contents_of words row) row.words 0
     (length-map-range_with_len (λ (index : ℕ). word_at words (row.at + index)) 0 row.words)
-    (λ k less. get_or-map-range_with_len (λ (index : ℕ). word_at words (row.at + index)) 0 row.words k k 0 less (omega arith)
+    (λ k less. get_or-map-range_with_len (λ (index : ℕ). word_at words (row.at + index)) 0 row.words k k 0 less
+    (omega arith)
     ∙ sym (same (row.at + k) (omega arith) (omega (arith, less)))))
 
 pub contents_zero : (words : PagesView) (row : Row)
@@ -109,7 +109,8 @@ contents_set words new row index value within written others =
           ∙ get_or-set_same old index value 0 (omega (arith, long, within)) ∙ sym written
           ∙ ap (λ (k : ℕ). word_at new (row.at + k)) (sym same)
       | inr differ ↦ get_or-set_other old index k value 0 differ
-          ∙ get_or-map-range_with_len (λ (index : ℕ). word_at words (row.at + index)) 0 row.words k k 0 less (omega arith)
+          ∙ get_or-map-range_with_len (λ (index : ℕ). word_at words (row.at + index)) 0 row.words k k 0 less
+          (omega arith)
           ∙ sym (others (row.at + k) (λ same. differ (omega (arith, same))))
     ]))
   where
@@ -152,7 +153,8 @@ live_shown words (Some row) n contents is long =
         let words_are : row.words ≡ n =
         sym (length-map-range_with_len (λ (index : ℕ). word_at words (row.at + index)) 0 row.words)
         ∙ ap (λ (words : List ℕ). length words) same ∙ sym long in
-        ap (λ (words : ℕ). let made : Row = record { at = row.at; words = words; live = row.live } in Some made) words_are
+        ap (λ (words : ℕ). let made : Row = record { at = row.at; words = words; live = row.live } in Some made)
+        words_are
         ∙ ap (λ (live : Bool). let made : Row = record { at = row.at; words = n; live = live } in Some made) live
 
 pub lacks_row : (words : PagesView) (rows : List (ℕ × Row)) (block : Block)
@@ -164,7 +166,8 @@ lacks_row words rows block none = λ contents has.
 
 -- A word that is read.
 pub word_read : (words : PagesView) (at n index : ℕ) → index < n
-    → slice_get (contents_of words (record { at = at; words = n; live = true })) index ≡ Some (word_at words (at + index))
+    → slice_get (contents_of words (record { at = at; words = n; live = true })) index
+    ≡ Some (word_at words (at + index))
 word_read words at n index within =
     slice_get-get_or contents index 0 (omega (arith, within, long))
     ∙ ap (λ (word : ℕ). Some word)

@@ -1,5 +1,5 @@
 -- The live blocks of an arena, which words of them are read and written, and the rows that stand for them.
-use Rattle.std.specs.Prelude.{◌≡◌, ◌≢◌, ℕ, ◌+◌, ◌*◌, ◌%◌, ◌^◌, ◌<◌, ◌≤◌, Bool, true, false, cond, nat_eq, List, []}
+use Rattle.std.specs.Prelude.{◌≡◌, ◌≢◌, ℕ, ◌+◌, ◌*◌, ◌%◌, ◌^◌, ◌<◌, ◌≤◌, true, false, cond, nat_eq, List, []}
 use Rattle.std.specs.Prelude.{◌∷◌, ◌⊎◌, length, map, slice_get, slice_set, Option, Some, None}
 use Rattle.std.specs.List.{range_with_len, sum_by}
 use Rattle.std.specs.Map.{lookup}

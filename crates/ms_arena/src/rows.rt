@@ -15,9 +15,8 @@
 //! once a source has lent a chunk. Stands on `pages` for the words.
 //! HotSpot's arenas know no live blocks; that this one does is this project's choice.
 ghost use Rattle.std.specs.Prelude.{◌≡◌, ℕ, ◌+◌, ◌*◌, ◌^◌, ◌<◌, ◌≤◌, IfOk, OnOk, OnErr, IfErr, IfSome, IfNone, length, List};
-ghost use Rattle.std.specs.Prelude.{[], Some, None, true, false, nat_eq, replicate};
+ghost use Rattle.std.specs.Prelude.{[], Some, None, true, false, replicate};
 ghost use Rattle.std.specs.List.{sum_by};
-ghost use Rattle.std.specs.Map.{lookup};
 ghost use Rattle.ms_base.specs.Names.{named, with_new, without};
 ghost use Rattle.std.specs.HashMap.{spare};
 ghost use Rattle.ms_arena.specs.Rows.{HasRow, LacksRow, ReadsRow, WritesRow, RowRefused, IsLiveRow, IsFreeRow, Puts};

@@ -1,6 +1,6 @@
 //! That a block is found among the rows, that a block has words of its own wherever it lies, and what
 //! a refused growth leaves at run time.
-ghost use Rattle.std.specs.Prelude.{◌≡◌, ◌<◌, ◌≤◌};
+ghost use Rattle.std.specs.Prelude.{◌≡◌, ◌≤◌};
 
 use crate::rows::Rows;
 use ms_base::{Block, Refusal};

@@ -1,4 +1,5 @@
-use Rattle.std.proofs.Common.{◌≡◌, ◌<◌, ◌≤◌, ◌-◌, ◌+◌, ◌++◌, ◌∙◌, ℕ, List, length, replicate, sym, subst, ap, arith, take_all}
+use Rattle.std.proofs.Common.{◌≡◌, ◌<◌, ◌≤◌, ◌-◌, ◌+◌, ◌++◌, ◌∙◌, ℕ}
+use Rattle.std.proofs.Common.{List, length, replicate, sym, subst, ap, arith, take_all}
 use Rattle.std.specs.Prelude.{vec_len}
 use Rattle.ms_arena.specs.declared.pages.Page.{Page}
 use Rattle.ms_arena.specs.Pages.{PagesView, no_page}

@@ -11,7 +11,8 @@ returns-in_default-clause-refused c =
 pub returns-then-index-block-clause-refused : goal.returns-then-index-block-clause-refused
 returns-then-index-block-clause-refused c =
     subst (λ (rows : LiveRows). IsPastRow rows.blocks c.args.block c.args.index c.args.block.words) c.self.view_is
-    (let row = has_row c.self.inside.words c.self.inside.rows.entries c.args.block c.in-Some.at c.in-Some.ensures.found in
+    (let row = has_row c.self.inside.words c.self.inside.rows.entries c.args.block c.in-Some.at
+    c.in-Some.ensures.found in
     record { contents = _; row = row; words_are = row.words; past = c.if-index-block.true })
 
 pub returns-clause-value : goal.returns-clause-value

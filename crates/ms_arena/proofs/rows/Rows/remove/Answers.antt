@@ -1,4 +1,4 @@
-use Rattle.std.proofs.Common.{true, arith, ap, sym, subst, ◌∙◌}
+use Rattle.std.proofs.Common.{true, arith, ap, subst, ◌∙◌}
 use Rattle.ms_base.specs.Names.{without}
 use Rattle.ms_arena.specs.Rows.{LiveRows, LacksRow, HasRow, contents_of}
 use Rattle.ms_arena.proofs.RowLemmas.{has_row, lacks_row}
@@ -13,7 +13,8 @@ returns-in_default-clause-not_live c =
 
 pub overflow_sub-self : goal.overflow_sub-self
 overflow_sub-self c =
-    let row = has_row c.self.inside.words c.self.inside.rows.entries c.args.block c.in-Some.at c.in-Some.ensures.found in
+    let row = has_row c.self.inside.words c.self.inside.rows.entries c.args.block c.in-Some.at c.in-Some.ensures.found
+    in
     let less = one_less _ c.args.block.start _ row.found in
     omega (arith, less.0, c.self.invariant.counted)
 
@@ -33,6 +34,7 @@ pub returns-clause-live : goal.returns-clause-live
 returns-clause-live c = (
   _,
   subst (λ (rows : LiveRows). HasRow rows.blocks c.args.block
-      (contents_of c.self.inside.words (record { at = c.in-Some.at; words = c.args.block.words; live = true }))) c.self.view_is
+      (contents_of c.self.inside.words (record { at = c.in-Some.at; words = c.args.block.words; live = true })))
+      c.self.view_is
       (has_row c.self.inside.words c.self.inside.rows.entries c.args.block c.in-Some.at c.in-Some.ensures.found),
 )

@@ -21,7 +21,8 @@ invariant_of-self-2 c =
     kept_reordered c.self.inside.words c.reserve-2.new.self c.self.inside.rows.entries c.reserve.new.self.entries
     c.self.inside.top c.self.inside.room _ _ _ c.args.words _ c.self.invariant c.in_ok-reserve.ensures.entries.2
     c.in_ok-reserve-2.ensures.words
-    (omega (arith, c.in-Some.ensures, c.in_ok-reserve-2.ensures.room)) (omega (arith, c.in-Some.ensures)) (λ some. omega (arith, c.in_ok-reserve.ensures.ok))
+    (omega (arith, c.in-Some.ensures, c.in_ok-reserve-2.ensures.room)) (omega (arith, c.in-Some.ensures))
+    (λ some. omega (arith, c.in_ok-reserve.ensures.ok))
 
 pub returns-clause-blocks : goal.returns-clause-blocks
 returns-clause-blocks c =

@@ -1,4 +1,4 @@
-use Rattle.std.proofs.Common.{sym, subst, ◌∙◌, arith}
+use Rattle.std.proofs.Common.{subst, arith}
 use Rattle.ms_arena.specs.Rows.{LiveRows, LacksRow, WritesRow, IsPastRow, live_of}
 use Rattle.ms_arena.proofs.RowLemmas.{has_row, lacks_row, wrote}
 use Rattle.ms_arena.proofs.PutLemmas.{kept_written}
@@ -13,10 +13,12 @@ returns-in_default-clause-refused c =
 pub returns-then-index-block-clause-refused : goal.returns-then-index-block-clause-refused
 returns-then-index-block-clause-refused c =
     subst (λ (rows : LiveRows). IsPastRow rows.blocks c.args.block c.args.index c.args.block.words) c.self.view_is
-    (let row = has_row c.self.inside.words c.self.inside.rows.entries c.args.block c.in-Some.at c.in-Some.ensures.found in
+    (let row = has_row c.self.inside.words c.self.inside.rows.entries c.args.block c.in-Some.at
+    c.in-Some.ensures.found in
     record { contents = _; row = row; words_are = row.words; past = c.if-index-block.true })
 
-writes : (c : After-write) → WritesRow (live_of c.self.inside.words c.self.inside.rows.entries) c.args.block c.args.index
+writes : (c : After-write)
+    → WritesRow (live_of c.self.inside.words c.self.inside.rows.entries) c.args.block c.args.index
     c.args.value (live_of c.write.new.self c.self.inside.rows.entries)
 writes c =
     wrote c.self.inside.words c.write.new.self c.self.inside.rows.entries c.self.inside.top c.args.block c.in-Some.at
