@@ -18,7 +18,8 @@ sys.dont_write_bytecode = True
 from workbench import Workbench, build
 from claims import Skipped, Wrong
 
-SUBJECTS = ("hostile", "growths", "limits", "devices", "texts", "examples", "scripts", "calls")
+SUBJECTS = ("hostile", "growths", "limits", "devices", "texts", "examples", "rows", "schedules",
+            "scripts", "calls")
 PASSED, FAILED, SKIPPED = "ok", "FAILED", "skipped"
 bench = None
 

@@ -2,16 +2,14 @@
 //! the growth tables put them, and that a step which is refused for want of memory is answered the
 //! second time as if it had not been asked: `rt try --test --fail-alloc N` refuses the Nth growth.
 //!
-//! `calls` has the system's own calls, `loaders` those of a loader and of loaders, `rows` traces
-//! that were worked by hand, `settling` parts that become a system again, `spaces` the class space,
-//! the policies and the limits. Each expected value was worked out apart from this crate.
+//! `calls` has the system's own calls, `loaders` those of a loader and of loaders, `settling` parts
+//! that become a system again. Each expected value was worked out apart from this crate; traces that
+//! were worked by hand are rows of the system tests.
 ghost use Rattle.std.specs.Prelude.{◌≤◌};
 
 mod calls;
 mod loaders;
-mod rows;
 mod settling;
-mod spaces;
 
 use crate::{Reply, Step, System};
 use ms_base::{Kind, Policy, Refusal, Settings};
@@ -80,16 +78,8 @@ fn allocated(loader: u16, block: u32, words: u64, start: u64) -> (Step, Reply) {
     (alloc(loader, block, words), Reply::At(start))
 }
 
-fn not_allocated(loader: u16, block: u32, words: u64, refusal: Refusal) -> (Step, Reply) {
-    (alloc(loader, block, words), Reply::Refused(refusal))
-}
-
 fn class_allocated(loader: u16, block: u32, words: u64, start: u64) -> (Step, Reply) {
     (calloc(loader, block, words), Reply::At(start))
-}
-
-fn not_class_allocated(loader: u16, block: u32, words: u64, refusal: Refusal) -> (Step, Reply) {
-    (calloc(loader, block, words), Reply::Refused(refusal))
 }
 
 fn written(loader: u16, block: u32, index: u64, value: u64) -> (Step, Reply) {
@@ -109,12 +99,4 @@ fn read(loader: u16, block: u32, index: u64, reply: Reply) -> (Step, Reply) {
         index,
     };
     (step, reply)
-}
-
-fn freed(loader: u16, block: u32) -> (Step, Reply) {
-    (Step::Free { loader, block }, Reply::Ok)
-}
-
-fn unloaded(loader: u16) -> (Step, Reply) {
-    (Step::Unload { loader }, Reply::Ok)
 }

@@ -83,26 +83,6 @@ fn a_new_system_has_only_its_class_space(rt: HostRuntime) {
     assert_eq!(rt; totals.rows.len(), 0);
 }
 
-#[test]
-fn one_block_of_ten_words_is_told(rt: HostRuntime) {
-    let system = after(&rt, 0, &[made(1, Kind::Standard), alloc(1, 1, 10)]);
-    let totals = system.totals().expect(&rt, "totals");
-    assert_eq!(rt; totals.loaders, 1);
-    let held = [0, 0, 0, 0, 0, 0, 0, 0, 0, 0, 1, 0, 0];
-    let free = [1, 1, 1, 1, 1, 1, 1, 1, 1, 1, 1, 0, 0];
-    assert_eq!(rt; totals.space, one_node(1, 512, 10, 10, held, free));
-    assert_eq!(rt; totals.class_space, UNUSED);
-    let row = LoaderRow {
-        name: 1,
-        kind: Kind::Standard,
-        chunks: 1,
-        capacity: 512,
-        used: 10,
-        live: 10,
-    };
-    assert_eq!(rt; totals.rows.as_slice(), [row].as_slice());
-}
-
 // Of a free block of ten words one is left over by a block of nine: it is waste.
 #[test]
 fn both_spaces_and_two_loaders_are_told(rt: HostRuntime) {

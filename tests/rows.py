@@ -1,0 +1,77 @@
+"""Rows worked by hand: a command on the left, and on the right what it is answered.
+
+In a file of rows/ a line without indent is a test's name; the indented lines below it are its commands in their order.
+Two spaces or more stand before the answer. Behind `report` stand the numbers that the report must have, by their
+labels, with `class` before those of the class space. A line `with ..` has options, and `#` begins a remark. Where the
+options ask for workers, the answers are the same for each number of them.
+"""
+import os
+import re
+
+from claims import Test, expect, expect_ended
+from outputs import answers_of, expect_sums, report_of
+from workbench import FOLDER
+
+ROWS = os.path.join(FOLDER, "rows")
+CELLS = re.compile(r"  +")
+
+
+def rows_of(file):
+    """The tests of a file: of each its name, its options, and its lines as commands with answers."""
+    tests = []
+    with open(os.path.join(ROWS, file), encoding="ascii") as lines:
+        for line in lines:
+            text = line.strip()
+            if not text or text.startswith("#"):
+                continue
+            if not line.startswith(" "):
+                tests.append((text, [], []))
+            elif text.startswith("with "):
+                tests[-1][1].extend(text.split()[1:])
+            else:
+                tests[-1][2].append(tuple(CELLS.split(text)))
+    return tests
+
+
+def expect_numbers(report, told):
+    """Fails the test where the report lacks a number of those told, as in `nodes 1, class used 10`."""
+    for fact in told.split(", "):
+        label, _, number = fact.rpartition(" ")
+        of_class = label.startswith("class ")
+        numbers = report.spaces[1 if of_class else 0].numbers
+        found = numbers[label.removeprefix("class ")]
+        expect(found == int(number), label, "is", found, "and not", number)
+
+
+def is_answered_so(bench, options, rows):
+    """Each command is answered as its row says, at each number of workers where the options ask for them."""
+    if "--workers" not in options:
+        run_is_answered_so(bench, ["--addresses", *options], rows)
+        return
+    place = options.index("--workers") + 1
+    for number in ("1", "2", "4", "8"):
+        run_is_answered_so(bench, [*options[:place], number, *options[place + 1:]], rows)
+
+
+def run_is_answered_so(bench, options, rows):
+    """Runs the commands with the options, and compares each answer."""
+    text = "".join(f"{command}\n" for command, _ in rows).encode()
+    ended = bench.run(options, text)
+    expect_ended(ended, 0)
+    answers = answers_of(ended.output)
+    expect(len(answers) == len(rows), "so many lines are answered:", len(answers))
+    granule = 2048 if "aggressive" in options else 8192
+    for number, (answer, (command, wanted)) in enumerate(zip(answers, rows), 1):
+        is_report = command == "report"
+        reply = "ok" if is_report else wanted
+        expect((answer.line, answer.reply) == (number, reply.encode()), command, "is answered", answer, "and not", wanted)
+        if is_report:
+            report = report_of(answer.report)
+            expect_sums(report, granule)
+            expect_numbers(report, wanted)
+
+
+def tests():
+    for file in sorted(os.listdir(ROWS)):
+        for name, options, rows in rows_of(file):
+            yield Test(name, is_answered_so, (options, rows))
