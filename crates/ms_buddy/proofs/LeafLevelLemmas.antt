@@ -172,3 +172,18 @@ pub told_bits : {A : Type 0} (level wanted bits : ℕ) (half next : Node A) {ask
     → has_level (levels_of level half) wanted ≡ told
 told_bits level wanted bits half next read are is e =
     ap (λ n. has_level n wanted) (sym (are ∙ ap (levels_of level) read)) ∙ sym is ∙ e
+
+-- A node with no bit has no free leaf.
+no_part : (parts : List Span) → ((wanted : ℕ) → list_any (is_of wanted) parts ≡ false) → parts ≡ []
+no_part [] none = refl
+no_part (part ∷ parts) none = absurd (itself part.level (list_any (is_of part.level) parts) (none part.level))
+  where
+    itself : (a : ℕ) (b : Bool) → ((a == a) || b) ≡ false → ⊥
+    itself a b e = grind (arith, nat_tests)
+
+pub none_left : {A : Type 0} (level start levels : ℕ) (node : Node A) → IsTree level node → levels_of level node ≡ levels
+    → levels ≡ 0 → free_in level start node ≡ []
+none_left level start levels node tree e none =
+    no_part (free_in level start node)
+    (λ wanted. sym (levels_are_those level start wanted node tree) ∙ ap (λ bits. has_level bits wanted) (e ∙ none)
+    ∙ ap (λ bit. bit == 1) (bit_at-zero wanted))
