@@ -1,6 +1,6 @@
 -- The levels that a split keeps are those of the free leaves below it, and what a walk for a free
 -- leaf of a level skips has none.
-use Rattle.std.proofs.Common.{◌≡◌, ◌<◌, ◌≤◌, ℕ, ◌+◌, ◌^◌, Bool, true, false, cond, ◌&&◌, ◌||◌, List, [], ◌∷◌, Option}
+use Rattle.std.proofs.Common.{◌≡◌, ◌<◌, ◌≤◌, ℕ, ◌+◌, ◌^◌, Bool, true, false, cond, ◌&&◌, ◌||◌, List, [], ◌∷◌, ◌++◌, Option}
 use Rattle.std.proofs.Common.{Some, None, refl, sym, ap, ◌∙◌, inl, inr, arith, max, bit_or}
 use Rattle.std.specs.Prelude.{◌==◌, nat_le}
 use Rattle.std.specs.Int.{bit_at}
@@ -138,3 +138,52 @@ find-from_start level (part ∷ parts) =
   where
     any_start : (c : Bool) (a : ℕ) → (c && nat_le 0 a) ≡ c
     any_start c a = grind (arith, nat_tests)
+
+-- Where the lower half has a leaf of the level, the lowest is that one's.
+any_first : (wanted : ℕ) (xs ys : List Span) → list_any (is_of wanted) xs ≡ true
+    → find (is_of_from wanted 0) (xs ++ ys) ≡ find (is_of_from wanted 0) xs
+any_first wanted [] ys e = absurd (cc)
+any_first wanted (part ∷ xs) ys e = elim (part.level == wanted) as (λ b.
+    (b || list_any (is_of wanted) xs) ≡ true
+    → cond (b && nat_le 0 part.start) (Some part) (find (is_of_from wanted 0) (xs ++ ys))
+    ≡ cond (b && nat_le 0 part.start) (Some part) (find (is_of_from wanted 0) xs)) [
+      | true ↦ λ e. rw (from_start part.start) refl
+      | false ↦ λ e. any_first wanted xs ys e
+    ] e
+  where
+    from_start : (a : ℕ) → nat_le 0 a ≡ true
+    from_start a = grind (arith, nat_tests)
+
+pub lowest_below : {A : Type 0} (level start half wanted : ℕ) (node lower upper next : Node A) (found : Option Span)
+    → AtSplit level start half node lower upper → next ≡ lower
+    → has_level (levels_of (level + 1) lower) wanted ≡ true
+    → found ≡ find (is_of_from wanted 0) (free_in (level + 1) start next)
+    → found ≡ find (is_of_from wanted 0) (free_in level start node)
+lowest_below level start half wanted node lower upper next found s read some e =
+    e
+    ∙ ap (λ (other : Node _). find (is_of_from wanted 0) (free_in (level + 1) start other)) read
+    ∙ sym (ap (find (is_of_from wanted 0)) s.free
+    ∙ any_first wanted (free_in (level + 1) start lower) (free_in (level + 1) (start + size_of (level + 1)) upper)
+    (sym (levels_are_those (level + 1) start wanted lower s.halves.low_tree) ∙ some))
+
+-- What the bits of a half behind its box tell.
+pub told_bits : {A : Type 0} (level wanted bits : ℕ) (half next : Node A) {asked told : Bool} → next ≡ half
+    → bits ≡ levels_of level next → asked ≡ has_level bits wanted → asked ≡ told
+    → has_level (levels_of level half) wanted ≡ told
+told_bits level wanted bits half next read are is e =
+    ap (λ n. has_level n wanted) (sym (are ∙ ap (levels_of level) read)) ∙ sym is ∙ e
+
+-- A node with no bit has no free leaf.
+no_part : (parts : List Span) → ((wanted : ℕ) → list_any (is_of wanted) parts ≡ false) → parts ≡ []
+no_part [] none = refl
+no_part (part ∷ parts) none = absurd (itself part.level (list_any (is_of part.level) parts) (none part.level))
+  where
+    itself : (a : ℕ) (b : Bool) → ((a == a) || b) ≡ false → ⊥
+    itself a b e = grind (arith, nat_tests)
+
+pub none_left : {A : Type 0} (level start levels : ℕ) (node : Node A) → IsTree level node → levels_of level node ≡ levels
+    → levels ≡ 0 → free_in level start node ≡ []
+none_left level start levels node tree e none =
+    no_part (free_in level start node)
+    (λ wanted. sym (levels_are_those level start wanted node tree) ∙ ap (λ bits. has_level bits wanted) (e ∙ none)
+    ∙ ap (λ bit. bit == 1) (bit_at-zero wanted))

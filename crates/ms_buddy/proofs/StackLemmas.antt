@@ -101,12 +101,12 @@ pub record IsOneOn {A : Type 0} (visits now : List (Option (Visit A))) : Type 0 
   pub left : left_of now ≡ left_of visits
   pub fewer : nodes_left now < nodes_left visits
 
--- A lent leaf is passed over.
-pub past_lent : {A : Type 0} (visits rest : List (Option (Visit A))) (visit : Visit A) (owner front : ℕ)
-    → IsTurn visits rest visit → visit.node.now ≡ Lent owner front → IsOneOn visits rest
-past_lent visits rest visit owner front turn e = record {
+-- A node with no free leaf is passed over.
+pub past_none : {A : Type 0} (visits rest : List (Option (Visit A))) (visit : Visit A) → IsTurn visits rest visit
+    → free_in visit.level visit.start visit.node.now ≡ [] → IsOneOn visits rest
+past_none visits rest visit turn e = record {
   stack = turn.top.below;
-  left = sym (turn.left ∙ ap (λ (node : Node _). free_in visit.level visit.start node ++ left_of rest) e);
+  left = sym (turn.left ∙ ap (λ (parts : List Span). parts ++ left_of rest) e);
   fewer = omega (arith, turn.nodes, nodes_in-some visit.node.now);
 }
 

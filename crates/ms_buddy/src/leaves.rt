@@ -85,6 +85,8 @@ fn next_free<'a, A: Allocator>(stack: &mut ArrayVec<Option<Visit<'a, A>>, 13>) -
         match visit.node {
             Node::Free => return Some(part(visit.start, visit.level)),
             Node::Lent { .. } => {}
+            // No bit tells of a free leaf below.
+            Node::Split(levels, ..) if *levels == 0 => {}
             Node::Split(_, lower, upper) => {
                 let level = visit.level + 1;
                 stack.push(Some(Visit {

@@ -70,6 +70,34 @@ impl<A: Allocator> Node<A> {
         }
     }
 
+    /// Finds the lowest free leaf of a level. The bits of the lower half tell in which half it is.
+    pub(crate) fn lowest_free(&self, level: u8, start: u64, wanted: u8) -> Option<Span>
+        requires tree { IsTree level self.now }
+        requires place { IsPlace level start }
+        requires wanted { wanted ≤ 12 }
+        ensures { result ≡ find (is_of_from wanted 0) (free_in level start self.now) }
+    {
+        match self {
+            Node::Free => {
+                if level == wanted {
+                    Some(part(start, level))
+                } else {
+                    None
+                }
+            }
+            Node::Lent { .. } => None,
+            Node::Split(levels, lower, upper) => {
+                if !has_level(*levels, wanted) {
+                    return None;
+                }
+                if has_level(lower.levels(level + 1), wanted) {
+                    return lower.lowest_free(level + 1, start, wanted);
+                }
+                upper.lowest_free(level + 1, start + half_of(level), wanted)
+            }
+        }
+    }
+
     /// Finds the lowest free leaf of a level that starts at the offset or past it. Where the bits
     /// say that a half has none of that level, its leaves are not looked at.
     pub(crate) fn next_free(&self, level: u8, start: u64, wanted: u8, from: u64) -> Option<Span>

@@ -105,7 +105,7 @@ impl<A: Allocator> SplitTree<A> {
     pub fn lowest_free(&self, level: Level) -> Option<Span>
         ensures { result ≡ find (is_of level) (free_of self.now) }
     {
-        self.next_free(level, 0)
+        self.node.lowest_free(0, 0, level.number())
     }
 
     /// Finds the lowest free leaf of a level that starts at an offset in words or past it. Goes
@@ -113,6 +113,9 @@ impl<A: Allocator> SplitTree<A> {
     pub fn next_free(&self, level: Level, from: u64) -> Option<Span>
         ensures { result ≡ find (is_of_from level from) (free_of self.now) }
     {
+        if from == 0 {
+            return self.lowest_free(level);
+        }
         self.node.next_free(0, 0, level.number(), from)
     }
 

@@ -124,19 +124,18 @@ impl Lender {
     {
         let mut counted = before;
         for leaf in self.trees.tree(root).free_leaves() {
-            counted = with_part(counted, leaf.level);
+            count_part(&mut counted, leaf.level);
         }
         counted
     }
 }
 
 /// Counts a free part of a level.
-fn with_part(counted: FreeCounted, level: Level) -> FreeCounted
-    requires fits { level < 13 → get_or counted.free level 0 + 1 < 2 ^ 32 }
-    ensures { AreRaised counted.free (λ other. cond (level == other) 1 0) result.free }
+fn count_part(counted: &mut FreeCounted, level: Level)
+    requires fits { level < 13 → get_or counted.old.free level 0 + 1 < 2 ^ 32 }
+    ensures { AreRaised counted.old.free (λ other. cond (level == other) 1 0) counted.new.free }
 {
     // That a level is at most 12 is learnt here.
     let _ = level.number();
-    let free = one_more(counted.free, level);
-    FreeCounted { free }
+    one_more(&mut counted.free, level);
 }

@@ -58,23 +58,15 @@ impl Lent {
         }
     }
 
-    /// Keeps what was counted in a space.
-    fn put(&mut self, space: Space, counted: Counted)
-        ensures { self.new ≡ with_counted space counted self.old }
-    {
-        match space {
-            Space::NonClass => self.space = counted,
-            Space::Class => self.class_space = counted,
-        }
-    }
-
     /// Counts a chunk that comes.
     pub(crate) fn add(&mut self, space: Space, chunk: &Chunk)
         requires { HasRoomFor (counted_in space self.old) chunk.now }
         ensures { MovesIn space self.old [] (chunk.now ∷ []) self.new }
     {
-        let counted = with_chunk(self.counted(space), chunk);
-        self.put(space, counted);
+        match space {
+            Space::NonClass => count_chunk(&mut self.space, chunk),
+            Space::Class => count_chunk(&mut self.class_space, chunk),
+        }
     }
 
     /// Counts a chunk that becomes a greater one.
@@ -83,11 +75,10 @@ impl Lent {
         requires room { HasRoomFor (counted_in space self.old) greater.now }
         ensures { MovesIn space self.old (chunk.now ∷ []) (greater.now ∷ []) self.new }
     {
-        // That a level is at most 12 is learnt here.
-        let _ = greater.level.number();
-        let others = without_chunk(self.counted(space), chunk);
-        let counted = with_chunk(others, greater);
-        self.put(space, counted);
+        match space {
+            Space::NonClass => count_greater(&mut self.space, chunk, greater),
+            Space::Class => count_greater(&mut self.class_space, chunk, greater),
+        }
     }
 
     /// Counts the chunks of an account that go.
@@ -95,64 +86,67 @@ impl Lent {
         requires { HaveLeast (counted_in account.now.space self.old) account.now.chunks }
         ensures { MovesIn account.now.space self.old account.now.chunks [] self.new }
     {
-        let space = account.space();
-        let counted = without_chunks(self.counted(space), account);
-        self.put(space, counted);
+        match account.space() {
+            Space::NonClass => discount_chunks(&mut self.space, account),
+            Space::Class => discount_chunks(&mut self.class_space, account),
+        }
     }
 }
 
 /// Counts one more of a level.
-pub(crate) fn one_more(counts: [u32; LEVELS], level: Level) -> [u32; LEVELS]
-    requires { get_or counts level 0 + 1 < 2 ^ 32 }
-    ensures { AreRaised counts (λ other. cond (level == other) 1 0) result }
+pub(crate) fn one_more(counts: &mut [u32; LEVELS], level: Level)
+    requires { get_or counts.old level 0 + 1 < 2 ^ 32 }
+    ensures { AreRaised counts.old (λ other. cond (level == other) 1 0) counts.new }
 {
-    let mut raised = counts;
-    raised[level.number() as usize] += 1;
-    raised
+    counts[level.number() as usize] += 1;
 }
 
 /// Counts one less of a level.
-fn one_less(counts: [u32; LEVELS], level: Level) -> [u32; LEVELS]
-    requires { 1 ≤ get_or counts level 0 }
-    ensures { AreRaised result (λ other. cond (level == other) 1 0) counts }
+fn one_less(counts: &mut [u32; LEVELS], level: Level)
+    requires { 1 ≤ get_or counts.old level 0 }
+    ensures { AreRaised counts.new (λ other. cond (level == other) 1 0) counts.old }
 {
-    let mut lowered = counts;
-    lowered[level.number() as usize] -= 1;
-    lowered
+    counts[level.number() as usize] -= 1;
 }
 
 /// Counts a chunk more.
-fn with_chunk(counted: Counted, chunk: &Chunk) -> Counted
-    requires { HasRoomFor counted chunk.now }
-    ensures { Moves counted [] (chunk.now ∷ []) result }
+fn count_chunk(counted: &mut Counted, chunk: &Chunk)
+    requires { HasRoomFor counted.old chunk.now }
+    ensures { Moves counted.old [] (chunk.now ∷ []) counted.new }
 {
-    Counted {
-        lent: one_more(counted.lent, chunk.level),
-        capacity: counted.capacity + chunk.level.words(),
-        fronts: counted.fronts + chunk.front,
-    }
+    one_more(&mut counted.lent, chunk.level);
+    counted.capacity += chunk.level.words();
+    counted.fronts += chunk.front;
 }
 
 /// Counts a chunk less.
-fn without_chunk(counted: Counted, chunk: &Chunk) -> Counted
-    requires { HasLeast counted chunk.now }
-    ensures { Moves counted (chunk.now ∷ []) [] result }
+fn discount_chunk(counted: &mut Counted, chunk: &Chunk)
+    requires { HasLeast counted.old chunk.now }
+    ensures { Moves counted.old (chunk.now ∷ []) [] counted.new }
 {
-    Counted {
-        lent: one_less(counted.lent, chunk.level),
-        capacity: counted.capacity - chunk.level.words(),
-        fronts: counted.fronts - chunk.front,
-    }
+    one_less(&mut counted.lent, chunk.level);
+    counted.capacity -= chunk.level.words();
+    counted.fronts -= chunk.front;
+}
+
+/// Counts a greater chunk in the place of a chunk.
+fn count_greater(counted: &mut Counted, chunk: &Chunk, greater: &Chunk)
+    requires least { HasLeast counted.old chunk.now }
+    requires room { HasRoomFor counted.old greater.now }
+    ensures { Moves counted.old (chunk.now ∷ []) (greater.now ∷ []) counted.new }
+{
+    // That a level is at most 12 is learnt here.
+    let _ = greater.level.number();
+    discount_chunk(counted, chunk);
+    count_chunk(counted, greater);
 }
 
 /// Counts the chunks of an account less.
-fn without_chunks(counted: Counted, account: &Account) -> Counted
-    requires { HaveLeast counted account.now.chunks }
-    ensures { Moves counted account.now.chunks [] result }
+fn discount_chunks(counted: &mut Counted, account: &Account)
+    requires { HaveLeast counted.old account.now.chunks }
+    ensures { Moves counted.old account.now.chunks [] counted.new }
 {
-    let mut others = counted;
     for place in 0..account.held() {
-        others = without_chunk(others, &account.chunk(place));
+        discount_chunk(counted, &account.chunk(place));
     }
-    others
 }

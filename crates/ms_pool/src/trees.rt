@@ -105,10 +105,11 @@ pub(crate) fn carve(trees: &mut Trees, alloc: Global, owner: u32, chunk: &Chunk)
     ensures count { length trees.new.items ≡ length trees.old.items }
     ensures unchanged { IsFalse result → trees.new.items ≡ trees.old.items }
 {
-    let lent = carve_leaf(&mut trees.trees, alloc, owner, chunk);
     let root = (chunk.start / ROOT_WORDS) as usize;
+    let before = trees.trees[root].free_levels();
+    let lent = carve_leaf(&mut trees.trees, alloc, owner, chunk);
     let levels = trees.trees[root].free_levels();
-    note(&mut trees.roots, root, levels);
+    note(&mut trees.roots, root, before, levels);
     lent
 }
 
@@ -118,10 +119,11 @@ pub(crate) fn put_back(trees: &mut Trees, chunk: &Chunk) -> Span
     requires lent { IsTrue (is_lent_in (loans_from 0 trees.old.items) chunk.now) }
     ensures { TakesBack trees.old.items chunk.now result trees.new.items }
 {
-    let part = put_back_leaf(&mut trees.trees, chunk);
     let root = (chunk.start / ROOT_WORDS) as usize;
+    let before = trees.trees[root].free_levels();
+    let part = put_back_leaf(&mut trees.trees, chunk);
     let levels = trees.trees[root].free_levels();
-    note(&mut trees.roots, root, levels);
+    note(&mut trees.roots, root, before, levels);
     part
 }
 
@@ -134,20 +136,26 @@ pub(crate) fn raise(trees: &mut Trees, chunk: &Chunk, greater: &Chunk)
     ensures leaves { All AreLeaves trees.new.items }
     ensures count { length trees.new.items ≡ length trees.old.items }
 {
-    raise_leaf(&mut trees.trees, chunk, greater);
     let root = (chunk.start / ROOT_WORDS) as usize;
+    let before = trees.trees[root].free_levels();
+    raise_leaf(&mut trees.trees, chunk, greater);
     let levels = trees.trees[root].free_levels();
-    note(&mut trees.roots, root, levels);
+    note(&mut trees.roots, root, before, levels);
 }
 
-/// Tells the index anew of which levels a root has free leaves.
-fn note(roots: &mut Mask<39>, root: usize, levels: u16)
-    requires { root < row_bits }
+/// Tells the index anew of which levels a root has free leaves, where they aren't those of before.
+fn note(roots: &mut Mask<39>, root: usize, before: u16, levels: u16)
+    requires within { root < row_bits }
+    requires told { (level : ℕ) → level ≤ 12
+        → is_among roots.old (place_in level root) ≡ has_level before level }
     ensures here { (level : ℕ) → level ≤ 12
         → is_among roots.new (place_in level root) ≡ has_level levels level }
     ensures others { (number : ℕ) → (number % row_bits ≡ root → ⊥)
         → is_among roots.new number ≡ is_among roots.old number }
 {
+    if before == levels {
+        return;
+    }
     for level in 0..LEVELS {
         let place = ROW_BITS * level + root;
         if levels >> level & 1 == 1 {

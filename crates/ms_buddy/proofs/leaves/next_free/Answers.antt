@@ -1,7 +1,10 @@
 -- Each turn leaves what was left, or answers its first part.
-use Rattle.std.proofs.Common.{◌<◌, length, arith, refl, sym, ◌∙◌}
+use Rattle.std.proofs.Common.{◌<◌, length, arith, ap, refl, sym, ◌∙◌}
+use Rattle.ms_buddy.specs.declared.node.Node.{Node}
+use Rattle.ms_buddy.specs.Tree.{free_in, levels_of}
+use Rattle.ms_buddy.proofs.LeafLevelLemmas.{none_left}
 use Rattle.ms_buddy.proofs.SplitLemmas.{at_split}
-use Rattle.ms_buddy.proofs.StackLemmas.{at_turn, at_end, gap_absurd, past_lent, past_split, whole_next}
+use Rattle.ms_buddy.proofs.StackLemmas.{at_turn, at_end, gap_absurd, past_none, past_split, whole_next}
 use Rattle.ms_buddy.proofs.leaves.next_free.Goals as goal
 
 pub part-requires : goal.part-requires
@@ -28,7 +31,7 @@ overflow_add-level g c =
 pub half_of-requires : goal.half_of-requires
 half_of-requires g c =
     let turn = at_turn _ _ _ _ c.in-Some.ensures.items c.in-Some-top.is c.loop-top.invariant.0 in
-    let s = at_split _ c.in-Some-top.visit.start _ _ _ _ _ _ _ c.in-Split.is turn.top.tree refl in
+    let s = at_split _ c.in-Some-top.visit.start _ _ _ _ _ _ _ c.in-Split-2.is turn.top.tree refl in
     s.low
 
 pub overflow_add-visit : goal.overflow_add-visit
@@ -39,46 +42,63 @@ overflow_add-visit g c =
 pub push-requires : goal.push-requires
 push-requires g c =
     let turn = at_turn _ _ _ _ c.in-Some.ensures.items c.in-Some-top.is c.loop-top.invariant.0 in
-    let s = at_split _ c.in-Some-top.visit.start _ _ _ _ _ _ _ c.in-Split.is turn.top.tree refl in
+    let s = at_split _ c.in-Some-top.visit.start _ _ _ _ _ _ _ c.in-Split-2.is turn.top.tree refl in
     let room : length c.pop.new.self.items < 13 = omega (arith, turn.top.low, s.low) in
     (omega arith, room)
 
-pub push-requires-in-Split : goal.push-requires-in-Split
-push-requires-in-Split g c =
+pub push-requires-in-Split-2 : goal.push-requires-in-Split-2
+push-requires-in-Split-2 g c =
     let turn = at_turn _ _ _ _ c.in-Some.ensures.items c.in-Some-top.is c.loop-top.invariant.0 in
-    let s = at_split _ c.in-Some-top.visit.start _ _ _ _ _ _ _ c.in-Split.is turn.top.tree refl in
+    let s = at_split _ c.in-Some-top.visit.start _ _ _ _ _ _ _ c.in-Split-2.is turn.top.tree refl in
     let room : length c.push.new.self.items < 13 = omega (arith, turn.top.low, s.low, c.push.ensures.len) in
     (omega arith, room)
 
 pub loop-top-smaller-in-Lent : goal.loop-top-smaller-in-Lent
 loop-top-smaller-in-Lent g c =
     let turn = at_turn _ _ _ _ c.in-Some.ensures.items c.in-Some-top.is c.loop-top.invariant.0 in
-    (past_lent _ _ _ _ _ turn c.in-Lent.is).fewer
+    (past_none _ _ _ turn
+    (ap (λ (node : Node _). free_in c.in-Some-top.visit.level c.in-Some-top.visit.start node) c.in-Lent.is)).fewer
 
 pub loop-top-preserved-in-Lent : goal.loop-top-preserved-in-Lent
 loop-top-preserved-in-Lent g c =
     let turn = at_turn _ _ _ _ c.in-Some.ensures.items c.in-Some-top.is c.loop-top.invariant.0 in
-    let on = past_lent _ _ _ _ _ turn c.in-Lent.is in
+    let on =
+    past_none _ _ _ turn
+    (ap (λ (node : Node _). free_in c.in-Some-top.visit.level c.in-Some-top.visit.start node) c.in-Lent.is) in
+    (on.stack, on.left ∙ c.loop-top.invariant.1)
+
+pub loop-top-smaller-then-levels-eq0 : goal.loop-top-smaller-then-levels-eq0
+loop-top-smaller-then-levels-eq0 g c =
+    let turn = at_turn _ _ _ _ c.in-Some.ensures.items c.in-Some-top.is c.loop-top.invariant.0 in
+    (past_none _ _ _ turn (none_left _ _ c.in-Split.levels _ turn.top.tree
+    (ap (levels_of c.in-Some-top.visit.level) c.in-Split.is) c.if-levels-eq0.true)).fewer
+
+pub loop-top-preserved-then-levels-eq0 : goal.loop-top-preserved-then-levels-eq0
+loop-top-preserved-then-levels-eq0 g c =
+    let turn = at_turn _ _ _ _ c.in-Some.ensures.items c.in-Some-top.is c.loop-top.invariant.0 in
+    let on =
+    past_none _ _ _ turn (none_left _ _ c.in-Split.levels _ turn.top.tree
+    (ap (levels_of c.in-Some-top.visit.level) c.in-Split.is) c.if-levels-eq0.true) in
     (on.stack, on.left ∙ c.loop-top.invariant.1)
 
 pub loop-top-smaller : goal.loop-top-smaller
 loop-top-smaller g c =
     let turn = at_turn _ _ _ _ c.in-Some.ensures.items c.in-Some-top.is c.loop-top.invariant.0 in
-    let s = at_split _ c.in-Some-top.visit.start _ _ _ _ _ _ _ c.in-Split.is turn.top.tree c.half_of.ensures.size in
-    let on = past_split c.loop-top.stack.items c.pop.new.self.items c.push.new.self.items c.push-in-Split.new.self.items
-    c.in-Some-top.visit _ _ c.half_of.result turn (rw (c.deref.ensures, c.deref-in-Split.ensures) s)
-    (rw (c.in-Split.is, c.deref.ensures, c.deref-in-Split.ensures) refl)
-    refl refl refl refl c.push.ensures.items c.push-in-Split.ensures.items in
+    let s = at_split _ c.in-Some-top.visit.start _ _ _ _ _ _ _ c.in-Split-2.is turn.top.tree c.half_of.ensures.size in
+    let on = past_split c.loop-top.stack.items c.pop.new.self.items c.push.new.self.items c.push-in-Split-2.new.self.items
+    c.in-Some-top.visit _ _ c.half_of.result turn (rw (c.deref.ensures, c.deref-in-Split-2.ensures) s)
+    (rw (c.in-Split-2.is, c.deref.ensures, c.deref-in-Split-2.ensures) refl)
+    refl refl refl refl c.push.ensures.items c.push-in-Split-2.ensures.items in
     on.fewer
 
 pub loop-top-preserved : goal.loop-top-preserved
 loop-top-preserved g c =
     let turn = at_turn _ _ _ _ c.in-Some.ensures.items c.in-Some-top.is c.loop-top.invariant.0 in
-    let s = at_split _ c.in-Some-top.visit.start _ _ _ _ _ _ _ c.in-Split.is turn.top.tree c.half_of.ensures.size in
-    let on = past_split c.loop-top.stack.items c.pop.new.self.items c.push.new.self.items c.push-in-Split.new.self.items
-    c.in-Some-top.visit _ _ c.half_of.result turn (rw (c.deref.ensures, c.deref-in-Split.ensures) s)
-    (rw (c.in-Split.is, c.deref.ensures, c.deref-in-Split.ensures) refl)
-    refl refl refl refl c.push.ensures.items c.push-in-Split.ensures.items in
+    let s = at_split _ c.in-Some-top.visit.start _ _ _ _ _ _ _ c.in-Split-2.is turn.top.tree c.half_of.ensures.size in
+    let on = past_split c.loop-top.stack.items c.pop.new.self.items c.push.new.self.items c.push-in-Split-2.new.self.items
+    c.in-Some-top.visit _ _ c.half_of.result turn (rw (c.deref.ensures, c.deref-in-Split-2.ensures) s)
+    (rw (c.in-Split-2.is, c.deref.ensures, c.deref-in-Split-2.ensures) refl)
+    refl refl refl refl c.push.ensures.items c.push-in-Split-2.ensures.items in
     (on.stack, on.left ∙ c.loop-top.invariant.1)
 
 pub returns-in_default-top-clause-stack : goal.returns-in_default-top-clause-stack

@@ -1,4 +1,19 @@
+use Rattle.std.proofs.Common.{length, ap, arith}
+use Rattle.std.proofs.lemmas.List.Elements.{recursion_from_All}
+use Rattle.ms_buddy.specs.Leaves.{AreLeaves}
+use Rattle.ms_pool.specs.Trees.{TreesState}
+use Rattle.ms_pool.proofs.ReleasedTreeLemmas.{leaf_there}
 use Rattle.ms_pool.proofs.trees.put_back.Goals as goal
+
+pub index-requires : goal.index-requires
+index-requires c =
+    let trees = c.args.trees.now.items in
+    omega (
+      arith,
+      c.trees.inside.trees.ok.0,
+      ap (λ (all : TreesState). length all.items) c.trees.view_is,
+      (leaf_there trees c.args.chunk.now (recursion_from_All AreLeaves trees c.requires.leaves) c.requires.lent).0,
+    )
 
 pub returns : goal.returns
 returns c = rw (← c.trees.view_is) (record {

@@ -21,17 +21,17 @@ pub loop-leaf-preserved : goal.loop-leaf-preserved
 loop-leaf-preserved c = record {
   can = tt;
   ends = tt;
-  full = c.with_part-counted.ensures.full ∙ c.loop-leaf.invariant.full;
+  full = c.count_part.ensures.full ∙ c.loop-leaf.invariant.full;
   counted = λ level h. omega (
     arith,
     c.loop-leaf.invariant.counted level h,
-    c.with_part-counted.ensures.counts level h,
+    c.count_part.ensures.counts level h,
     ap (parts_of level) c.in-Some.ensures.steps ∙ parts_of-cons level c.in-Some.leaf c.next.new.self,
   );
 }
 
-pub with_part-counted-requires : goal.with_part-counted-requires
-with_part-counted-requires c = record {
+pub count_part-requires : goal.count_part-requires
+count_part-requires c = record {
   fits = λ h. part_room (get_or c.loop-leaf.counted.free c.in-Some.leaf.level 0)
       (get_or c.args.before.free c.in-Some.leaf.level 0) c.loop-leaf.leaf-iterator
       (free_of (get_or c.args.self.now.trees.items c.args.root [])) c.next.new.self c.in-Some.leaf

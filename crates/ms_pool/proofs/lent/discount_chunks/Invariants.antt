@@ -1,7 +1,7 @@
 use Rattle.std.proofs.Common.{[], take}
 use Rattle.ms_pool.specs.Counting.{Moves}
-use Rattle.ms_pool.proofs.lent.without_chunks.Given as goal
+use Rattle.ms_pool.proofs.lent.discount_chunks.Given as goal
 
 -- The first chunks are gone.
 abbrev pub invariant-loop-place : goal.invariant-loop-place
-invariant-loop-place l = Moves l.fn.counted (take l.place l.account.chunks) [] l.others
+invariant-loop-place l = Moves l.fn.counted (take l.place l.account.chunks) [] l.counted

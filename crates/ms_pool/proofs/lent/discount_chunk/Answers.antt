@@ -1,8 +1,8 @@
 use Rattle.std.proofs.Common.{arith}
 use Rattle.ms_pool.proofs.LentCountLemmas.{goes_one}
-use Rattle.ms_pool.proofs.lent.without_chunk.Goals as goal
+use Rattle.ms_pool.proofs.lent.discount_chunk.Goals as goal
 
 pub returns : goal.returns
 returns c =
-    goes_one c.args.counted _ c.args.chunk.now c.one_less.ensures
+    goes_one c.args.counted.now _ c.args.chunk.now c.one_less.ensures
     (omega (arith, c.words.ensures.size, c.requires.capacity)) (omega (arith, c.requires.fronts))

@@ -1,8 +1,0 @@
-use Rattle.std.proofs.Common.{◌+◌, ℕ, ap, refl}
-use Rattle.ms_pool.proofs.LentCountLemmas.{comes_one}
-use Rattle.ms_pool.proofs.lent.with_chunk.Goals as goal
-
-pub returns : goal.returns
-returns c =
-    comes_one c.args.counted _ c.args.chunk.now c.one_more.ensures
-    (ap (λ (n : ℕ). c.args.counted.capacity + n) c.words.ensures.size) refl
