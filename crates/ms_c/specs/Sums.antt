@@ -1,5 +1,5 @@
 -- C's sums and bits as those of the model.
-use Rattle.std.specs.Prelude.{◌≡◌, ◌++◌, ℕ, Bool, false, List, map, replicate, Some, None}
+use Rattle.std.specs.Prelude.{◌≡◌, ◌++◌, ℕ, ◌+◌, Bool, false, List, map, replicate, Some, None}
 use Rattle.std.specs.List.{range_with_len}
 use Rattle.ms_base.specs.Committed.{is_among}
 use Rattle.ms_c.specs.Holding.{Held}
@@ -31,8 +31,11 @@ pub record AreTotals (m : Machine) (totals : Totals) : Type 0 where
   pub space : sums_told totals.space ≡ (sums_of m).space
   pub class_space : sums_told totals.class_space ≡ (sums_of m).class_space
 
--- Of each granule from the first on, so many of them, whether it is committed; with no system none is.
+-- The granule at a place after the first is committed.
+abbrev pub bit_at : Machine → ℕ → ℕ → Bool
+bit_at m first place = is_among (m.committed ++ m.class_committed) (first + place)
+
+-- Of so many granules from the first on, whether each is committed; with no system none is.
 abbrev pub AreBits : Held → ℕ → ℕ → List Bool → Type 0
 AreBits None first count bits = bits ≡ replicate count false
-AreBits (Some m) first count bits =
-    bits ≡ map (λ number. is_among (m.committed ++ m.class_committed) number) (range_with_len first count)
+AreBits (Some m) first count bits = bits ≡ map (bit_at m first) (range_with_len 0 count)

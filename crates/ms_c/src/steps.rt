@@ -105,7 +105,7 @@ pub extern "C" fn nizgrabul_purge(alloc: Global, handle: &mut Handle) -> Answer
         Some(mut system) => {
             let gone = system.purge();
             handle.put(system);
-            Answer::of(u64::from(gone))
+            Answer::of(gone as u64)
         }
     }
 }

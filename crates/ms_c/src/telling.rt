@@ -5,7 +5,7 @@ ghost use Rattle.ms_base.specs.Committed.{is_among};
 ghost use Rattle.ms_base.specs.Names.{named};
 ghost use Rattle.ms_base.specs.Totals.{committed_words, used_words, over_spaces};
 ghost use Rattle.ms_loaders.specs.Used.{used_if};
-ghost use Rattle.ms_c.specs.Sums.{AreTotals, AreBits};
+ghost use Rattle.ms_c.specs.Sums.{AreTotals, AreBits, bit_at};
 
 use crate::answer::{DONE, NO_SYSTEM, OUT_OF_MEMORY};
 use crate::handle::Handle;
@@ -88,9 +88,7 @@ pub extern "C" fn nizgrabul_granules(
 
 /// Writes of each granule from the first on whether it is committed.
 fn write_bits(system: &System, first: u32, out: &mut [bool])
-    ensures { out.new
-        ≡ map (λ number. is_among (system.now.committed ++ system.now.class_committed) number)
-        (range_with_len first (length out.old)) }
+    ensures { out.new ≡ map (bit_at system.now first) (range_with_len 0 (length out.old)) }
 {
     for place in 0..out.len() {
         out[place] = system.is_committed(u64::from(first) + place as u64);
@@ -114,7 +112,7 @@ pub extern "C" fn nizgrabul_totals(alloc: Global, handle: &mut Handle, out: &mut
     match answer {
         Ok(totals) => {
             *out = Totals {
-                loaders: u64::from(totals.loaders),
+                loaders: totals.loaders as u64,
                 space: tell_sums(totals.space),
                 class_space: tell_sums(totals.class_space),
             };
