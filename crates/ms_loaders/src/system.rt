@@ -18,6 +18,7 @@ ghost use Rattle.ms_loaders.specs.System.{reply_of};
 ghost use Rattle.ms_loaders.specs.Sums.{sums_in};
 ghost use Rattle.ms_loaders.specs.Used.{used_if};
 
+mod granules;
 mod settling;
 
 use crate::collecting::{gather, space_totals};

@@ -11,6 +11,8 @@ ghost use Rattle.ms_pool.specs.Tallies.{AreTallies};
 ghost use Rattle.ms_pool.specs.Ledger.{Serves, IsSoundLedger, empty_ledger, opened_in, state_in};
 ghost use Rattle.ms_pool.specs.Calls.{Opened, OpenedBoth, Took, Grew, Closed, ClosedBoth, Purged, Totalled, sums_in};
 
+mod granules;
+
 use crate::account::Account;
 use crate::lender::Lender;
 use crate::source::ChunkSource;

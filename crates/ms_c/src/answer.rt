@@ -1,0 +1,135 @@
+//! What a call answers, in numbers.
+ghost use Rattle.std.specs.Prelude.{◌≡◌};
+ghost use Rattle.ms_c.specs.Answers.{told, refused_as, numbers};
+
+use ms_base::{Refusal, Reply};
+
+/// What was asked is done.
+pub const DONE: u32 = 0;
+
+/// The C library's allocator refused.
+pub const OUT_OF_MEMORY: u32 = 1;
+
+/// The handle has no system.
+pub const NO_SYSTEM: u32 = 20;
+
+/// The handle has a system already.
+pub const IN_USE: u32 = 21;
+
+/// A setting is out of its range.
+pub const BAD_SETTINGS: u32 = 22;
+
+/// A status, 0 where the call is served, and its numbers: `value` is a start or a word, and of a
+/// refusal what there is of what was wanted; `limit` and `need` are those of a limit.
+#[repr(C)]
+#[derive(Clone, Copy, Debug, PartialEq, Eq)]
+pub struct Answer {
+    pub status: u32,
+    pub value: u64,
+    pub limit: u64,
+    pub need: u64,
+}
+
+impl Answer {
+    /// There is no system.
+    pub const NO_SYSTEM: Answer = Answer {
+        status: 20,
+        value: 0,
+        limit: 0,
+        need: 0,
+    };
+
+    /// No kind of loader has the number.
+    pub const BAD_KIND: Answer = Answer {
+        status: 23,
+        value: 0,
+        limit: 0,
+        need: 0,
+    };
+
+    /// Served, with a number.
+    pub fn of(value: u64) -> Answer
+        ensures { result ≡ numbers 0 value 0 0 }
+    {
+        Answer {
+            status: 0,
+            value,
+            limit: 0,
+            need: 0,
+        }
+    }
+}
+
+/// A status with no numbers.
+fn plain(status: u32) -> Answer
+    ensures { result ≡ numbers status 0 0 0 }
+{
+    Answer {
+        status,
+        value: 0,
+        limit: 0,
+        need: 0,
+    }
+}
+
+/// Tells a refusal in numbers.
+fn refused(refusal: Refusal) -> Answer
+    ensures { result ≡ refused_as refusal }
+{
+    match refusal {
+        Refusal::OutOfMemory => plain(1),
+        Refusal::ZeroWords => plain(2),
+        Refusal::TooLarge => plain(3),
+        Refusal::CommitLimit {
+            committed,
+            limit,
+            need,
+        } => Answer {
+            status: 4,
+            value: committed,
+            limit,
+            need,
+        },
+        Refusal::ReserveLimit { nodes, limit } => Answer {
+            status: 5,
+            value: nodes as u64,
+            limit: limit as u64,
+            need: 0,
+        },
+        Refusal::NotLive => plain(6),
+        Refusal::OutOfRange { words } => Answer {
+            status: 7,
+            value: words,
+            limit: 0,
+            need: 0,
+        },
+        Refusal::NoLoader => plain(8),
+        Refusal::LoaderExists => plain(9),
+        Refusal::NoBlock => plain(10),
+        Refusal::BlockExists => plain(11),
+        Refusal::IdsUsedUp => plain(12),
+        Refusal::Unsettled { opened, gathered } => Answer {
+            status: 13,
+            value: opened,
+            limit: gathered,
+            need: 0,
+        },
+        Refusal::NoRoom { level } => Answer {
+            status: 14,
+            value: level.number() as u64,
+            limit: 0,
+            need: 0,
+        },
+    }
+}
+
+/// Tells a reply in numbers.
+pub fn tell(reply: Reply) -> Answer
+    ensures { result ≡ told reply }
+{
+    match reply {
+        Reply::Ok => plain(0),
+        Reply::At(value) | Reply::Value(value) => Answer::of(value),
+        Reply::Refused(refusal) => refused(refusal),
+    }
+}

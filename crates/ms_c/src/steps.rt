@@ -1,0 +1,125 @@
+//! The exports that change a system: each is one step of the machine.
+ghost use Rattle.std.specs.Prelude.{◌≡◌};
+ghost use Rattle.ms_c.specs.Answers.{Steps, MakesLoader, Purges};
+
+use crate::answer::{Answer, tell};
+use crate::handle::Handle;
+use crate::kinds::kind_of;
+use ms_base::Step;
+use std::alloc::Global;
+
+/// Makes a loader with nothing of its own. The kind is 0 standard, 1 boot, 2 reflection or 3 hidden;
+/// BAD_KIND answers any other. Refused with LOADER_EXISTS, IDS_USED_UP and OUT_OF_MEMORY. Takes memory.
+#[unsafe(no_mangle)]
+pub extern "C" fn nizgrabul_new_loader(
+    alloc: Global,
+    handle: &mut Handle,
+    loader: u16,
+    kind: u32,
+) -> Answer
+    ensures { MakesLoader handle.old.slot.held loader kind result handle.new.slot.held }
+{
+    match kind_of(kind) {
+        Some(kind) => step(alloc, handle, Step::New { loader, kind }),
+        None => Answer::BAD_KIND,
+    }
+}
+
+/// Unloads a loader: all its blocks and chunks go with it, and its name may be used anew. Refused with
+/// NO_LOADER alone. Takes no memory.
+#[unsafe(no_mangle)]
+pub extern "C" fn nizgrabul_unload(alloc: Global, handle: &mut Handle, loader: u16) -> Answer
+    ensures { Steps handle.old.slot.held (Step.Unload loader) result handle.new.slot.held }
+{
+    step(alloc, handle, Step::Unload { loader })
+}
+
+/// Allocates a block of so many words, 1 to 524288, outside the class space, under a number that the
+/// loader has no block of; `value` is the word where it starts. All its words lie in committed granules,
+/// and no other block of any loader overlaps it. Takes memory.
+#[unsafe(no_mangle)]
+pub extern "C" fn nizgrabul_alloc(
+    alloc: Global,
+    handle: &mut Handle,
+    loader: u16,
+    block: u32,
+    words: u64,
+) -> Answer
+    ensures { Steps handle.old.slot.held (Step.Alloc loader block words) result handle.new.slot.held }
+{
+    step(
+        alloc,
+        handle,
+        Step::Alloc {
+            loader,
+            block,
+            words,
+        },
+    )
+}
+
+/// Allocates a block in the class space, as `nizgrabul_alloc` does. Takes memory.
+#[unsafe(no_mangle)]
+pub extern "C" fn nizgrabul_calloc(
+    alloc: Global,
+    handle: &mut Handle,
+    loader: u16,
+    block: u32,
+    words: u64,
+) -> Answer
+    ensures { Steps handle.old.slot.held (Step.Calloc loader block words) result handle.new.slot.held }
+{
+    step(
+        alloc,
+        handle,
+        Step::Calloc {
+            loader,
+            block,
+            words,
+        },
+    )
+}
+
+/// Frees a block, whose words become a free block of its loader; its number may be used anew. Refused
+/// with NO_LOADER, and with NO_BLOCK where the loader has no live block of the number. Takes no memory.
+#[unsafe(no_mangle)]
+pub extern "C" fn nizgrabul_free(
+    alloc: Global,
+    handle: &mut Handle,
+    loader: u16,
+    block: u32,
+) -> Answer
+    ensures { Steps handle.old.slot.held (Step.Free loader block) result handle.new.slot.held }
+{
+    step(alloc, handle, Step::Free { loader, block })
+}
+
+/// Gives back the nodes in which no chunk is held; `value` is how many they were. Those of the class
+/// space stay. Takes no memory.
+#[unsafe(no_mangle)]
+pub extern "C" fn nizgrabul_purge(alloc: Global, handle: &mut Handle) -> Answer
+    ensures { Purges handle.old.slot.held result handle.new.slot.held }
+{
+    match handle.take(alloc) {
+        None => Answer::NO_SYSTEM,
+        Some(mut system) => {
+            let gone = system.purge();
+            handle.put(system);
+            Answer::of(gone as u64)
+        }
+    }
+}
+
+/// Takes a step of the handle's system.
+fn step(alloc: Global, handle: &mut Handle, step: Step) -> Answer
+    ensures { Steps handle.old.slot.held step result handle.new.slot.held }
+{
+    match handle.take(alloc) {
+        None => Answer::NO_SYSTEM,
+        Some(mut system) => {
+            let reply = system.step(step);
+            handle.put(system);
+            tell(reply)
+        }
+    }
+}

@@ -1,0 +1,123 @@
+//! The exports that tell of a system and change nothing.
+ghost use Rattle.std.specs.Prelude.{◌≡◌, ◌≢◌, ◌++◌, ◌+◌, false, None, IfSome, length, map};
+ghost use Rattle.std.specs.List.{range_with_len};
+ghost use Rattle.ms_base.specs.Committed.{is_among};
+ghost use Rattle.ms_base.specs.Names.{named};
+ghost use Rattle.ms_base.specs.Totals.{committed_words, used_words, over_spaces};
+ghost use Rattle.ms_loaders.specs.Used.{used_if};
+ghost use Rattle.ms_c.specs.Sums.{AreTotals, AreBits, bit_at};
+
+use crate::answer::{DONE, NO_SYSTEM, OUT_OF_MEMORY};
+use crate::handle::Handle;
+use crate::totals::{Totals, tell_sums};
+use ms_loaders::System;
+use std::alloc::Global;
+
+/// Tells the committed words of both spaces, and 0 where there is no system. Takes no memory.
+#[unsafe(no_mangle)]
+pub extern "C" fn nizgrabul_committed(alloc: Global, handle: &mut Handle) -> u64
+    ensures words { IfSome handle.old.slot.held (λ m. result ≡ over_spaces (λ space. committed_words space m)) }
+    ensures no_system { handle.old.slot.held ≡ None → result ≡ 0 }
+    ensures unchanged { handle.new.slot.held ≡ handle.old.slot.held }
+{
+    match handle.take(alloc) {
+        None => 0,
+        Some(system) => {
+            let words = system.committed();
+            handle.put(system);
+            words
+        }
+    }
+}
+
+/// Tells the words in use of one loader, in both spaces, and 0 where none has the name. Takes no memory.
+#[unsafe(no_mangle)]
+pub extern "C" fn nizgrabul_used_by(alloc: Global, handle: &mut Handle, loader: u16) -> u64
+    ensures words { IfSome handle.old.slot.held (λ m. result ≡ used_if (named m.loaders loader)) }
+    ensures no_system { handle.old.slot.held ≡ None → result ≡ 0 }
+    ensures unchanged { handle.new.slot.held ≡ handle.old.slot.held }
+{
+    match handle.take(alloc) {
+        None => 0,
+        Some(system) => {
+            let words = system.used_by(loader);
+            handle.put(system);
+            words
+        }
+    }
+}
+
+/// Tells whether a granule is committed: the words from its number times a granule's words on, which
+/// are 8192, or 2048 under the policy aggressive. With no system none is. Takes no memory.
+#[unsafe(no_mangle)]
+pub extern "C" fn nizgrabul_is_committed(alloc: Global, handle: &mut Handle, granule: u64) -> bool
+    ensures answer { IfSome handle.old.slot.held (λ m. result ≡ is_among (m.committed ++ m.class_committed) granule) }
+    ensures no_system { handle.old.slot.held ≡ None → result ≡ false }
+    ensures unchanged { handle.new.slot.held ≡ handle.old.slot.held }
+{
+    match handle.take(alloc) {
+        None => false,
+        Some(system) => {
+            let is_committed = system.is_committed(granule);
+            handle.put(system);
+            is_committed
+        }
+    }
+}
+
+/// Tells of each granule from the first on, as many as `out` has places, whether it is committed; with
+/// no system none is. So a program compares before and after in one call. Takes no memory.
+#[unsafe(no_mangle)]
+pub extern "C" fn nizgrabul_granules(
+    alloc: Global,
+    handle: &mut Handle,
+    first: u32,
+    out: &mut [bool],
+)
+    ensures told { AreBits handle.old.slot.held first (length out.old) out.new }
+    ensures unchanged { handle.new.slot.held ≡ handle.old.slot.held }
+{
+    match handle.take(alloc) {
+        None => out.fill(false),
+        Some(system) => {
+            write_bits(&system, first, out);
+            handle.put(system);
+        }
+    }
+}
+
+/// Writes of each granule from the first on whether it is committed.
+fn write_bits(system: &System, first: u32, out: &mut [bool])
+    ensures { out.new ≡ map (bit_at system.now first) (range_with_len 0 (length out.old)) }
+{
+    for place in 0..out.len() {
+        out[place] = system.is_committed(u64::from(first) + place as u64);
+    }
+}
+
+/// Tells all sums over the system. Answers DONE, NO_SYSTEM or OUT_OF_MEMORY; all but DONE leave `out` as
+/// it was. Takes memory while it runs; looks at each node, loader and chunk, and at no block.
+#[unsafe(no_mangle)]
+pub extern "C" fn nizgrabul_totals(alloc: Global, handle: &mut Handle, out: &mut Totals) -> u32
+    ensures totals { IfSome handle.old.slot.held (λ m. result ≡ DONE → AreTotals m out.new) }
+    ensures no_system { handle.old.slot.held ≡ None → result ≡ NO_SYSTEM }
+    ensures refused { result ≢ DONE → out.new ≡ out.old }
+    ensures unchanged { handle.new.slot.held ≡ handle.old.slot.held }
+{
+    let Some(system) = handle.take(alloc) else {
+        return NO_SYSTEM;
+    };
+    let answer = system.totals();
+    handle.put(system);
+    match answer {
+        Ok(totals) => {
+            *out = Totals {
+                loaders: totals.loaders as u64,
+                space: tell_sums(totals.space),
+                class_space: tell_sums(totals.class_space),
+            };
+            DONE
+        }
+        Err(_) => OUT_OF_MEMORY,
+    }
+}

@@ -1,0 +1,57 @@
+/* Makes each call of nizgrabul.h once or twice, and tells each answer. */
+#include <inttypes.h>
+#include <stdio.h>
+
+#include "nizgrabul.h"
+
+static void tell(const char *what, nizgrabul_answer a) {
+    printf("%s: %" PRIu32 " %" PRIu64 " %" PRIu64 " %" PRIu64 "\n", what, a.status, a.value, a.limit, a.need);
+}
+
+static void tell_sums(const char *what, const nizgrabul_sums *s) {
+    printf("%s: nodes %" PRIu64 ", granules %" PRIu64 ", chunks %" PRIu64 ", capacity %" PRIu64 ", used %" PRIu64
+           ", live %" PRIu64 ", free blocks %" PRIu64 ", waste %" PRIu64 "\n", what, s->nodes, s->granules, s->chunks,
+           s->capacity, s->used, s->live, s->free_blocks, s->waste);
+}
+
+int main(void) {
+    nizgrabul_handle handle = {0};
+    nizgrabul_options options = {.nodes = 1, .class_nodes = 1, .max_granules = 2, .policy = NIZGRABUL_BALANCED};
+    nizgrabul_options wrong = {.nodes = 65, .class_nodes = 1, .max_granules = 2, .policy = NIZGRABUL_BALANCED};
+    nizgrabul_sums_of_all sums = {0};
+    bool bits[3];
+    tell("100 words with no system", nizgrabul_alloc(&handle, 1, 1, 100));
+    printf("65 nodes: %" PRIu32 "\n", nizgrabul_new(&wrong, &handle));
+    printf("a system: %" PRIu32 "\n", nizgrabul_new(&options, &handle));
+    printf("another in its place: %" PRIu32 "\n", nizgrabul_new(&options, &handle));
+    tell("a loader of no kind", nizgrabul_new_loader(&handle, 1, 4));
+    tell("loader 1", nizgrabul_new_loader(&handle, 1, NIZGRABUL_STANDARD));
+    tell("loader 1 again", nizgrabul_new_loader(&handle, 1, NIZGRABUL_STANDARD));
+    tell("100 words", nizgrabul_alloc(&handle, 1, 1, 100));
+    tell("4000 words", nizgrabul_alloc(&handle, 1, 2, 4000));
+    tell("no words", nizgrabul_alloc(&handle, 1, 3, 0));
+    tell("600000 words", nizgrabul_alloc(&handle, 1, 3, 600000));
+    tell("100000 words", nizgrabul_alloc(&handle, 1, 3, 100000));
+    tell("a used number", nizgrabul_alloc(&handle, 1, 2, 10));
+    tell("loader 2", nizgrabul_alloc(&handle, 2, 1, 10));
+    tell("10 words of the class space", nizgrabul_calloc(&handle, 1, 4, 10));
+    nizgrabul_granules(&handle, 0, bits, 3);
+    printf("granules 0 to 2: %d %d %d\n", bits[0], bits[1], bits[2]);
+    printf("granule 8192: %d\n", nizgrabul_is_committed(&handle, 8192));
+    tell("free", nizgrabul_free(&handle, 1, 1));
+    tell("free again", nizgrabul_free(&handle, 1, 1));
+    printf("sums: %" PRIu32 "\n", nizgrabul_totals(&handle, &sums));
+    printf("loaders: %" PRIu64 "\n", sums.loaders);
+    tell_sums("outside the class space", &sums.space);
+    tell_sums("class space", &sums.class_space);
+    printf("used by loader 1: %" PRIu64 "\n", nizgrabul_used_by(&handle, 1));
+    tell("purge", nizgrabul_purge(&handle));
+    tell("unload", nizgrabul_unload(&handle, 1));
+    tell("unload again", nizgrabul_unload(&handle, 1));
+    printf("committed: %" PRIu64 "\n", nizgrabul_committed(&handle));
+    tell("purge", nizgrabul_purge(&handle));
+    nizgrabul_delete(&handle);
+    nizgrabul_delete(&handle);
+    printf("ends empty: %d\n", !handle.live);
+    return 0;
+}

@@ -1,0 +1,169 @@
+/* Nizgrabul, a metaspace whose accounts are proved, for C and C++.
+ *
+ * The library says which words a block gets, which granules of 8192 words (2048 under the policy
+ * aggressive) are committed, and who holds what. It touches no memory but its own: a program reserves
+ * one range of addresses, maps word n to base + 8 * n, and after each call commits and gives back what
+ * the library says. A word is 8 bytes. A node is 1048576 words; nodes 0 to 63 lie outside the class
+ * space, and nodes 64 and up are the class space's. Each call's contract is proved, and stands with its
+ * clauses in crates/ms_c/src.
+ *
+ * To link: libms_c.a, then the toolchain's liblibc_c.a, and the C library.
+ *
+ * What a program owes, since nothing checks it:
+ * - A handle is filled with zeros before its first use. After that only these calls read or write it; it
+ *   may be moved, but of a handle and its copy only one is used again.
+ * - One call at a time has a handle, and a handle stays on its thread. Two handles serve two threads.
+ * - Pointers are not null, are aligned, and lead to room for their type that nobody else touches during
+ *   the call; `options` and `out` do not overlap the handle.
+ * - `malloc`, `realloc` and `free` are of one allocator, and align to 16. No call comes from a signal
+ *   handler, nor from the forked child of a process with threads.
+ * Any numbers are allowed, and a handle with no system is told as NIZGRABUL_NO_SYSTEM. */
+#ifndef NIZGRABUL_H
+#define NIZGRABUL_H
+
+#define NIZGRABUL_VERSION 1
+
+#include <stdbool.h>
+#include <stddef.h>
+#include <stdint.h>
+
+#ifdef __cplusplus
+extern "C" {
+#endif
+
+/* What a call came to. A refusal changes nothing, but that NIZGRABUL_OUT_OF_MEMORY for a new loader may
+ * use two owner numbers up. */
+enum nizgrabul_status {
+    NIZGRABUL_DONE = 0,           /* served */
+    NIZGRABUL_OUT_OF_MEMORY = 1,  /* the C library's allocator refused */
+    NIZGRABUL_ZERO_WORDS = 2,     /* no words were asked for */
+    NIZGRABUL_TOO_LARGE = 3,      /* more words were asked for than a root chunk has, 524288 */
+    NIZGRABUL_COMMIT_LIMIT = 4,   /* value granules of limit are committed, and need more are needed */
+    NIZGRABUL_RESERVE_LIMIT = 5,  /* value nodes of limit are reserved, and none has room */
+    NIZGRABUL_NOT_LIVE = 6,
+    NIZGRABUL_OUT_OF_RANGE = 7,
+    NIZGRABUL_NO_LOADER = 8,      /* no loader has the number */
+    NIZGRABUL_LOADER_EXISTS = 9,  /* a loader has the number already */
+    NIZGRABUL_NO_BLOCK = 10,      /* the loader has no live block of the number */
+    NIZGRABUL_BLOCK_EXISTS = 11,  /* the loader has a live block of the number already */
+    NIZGRABUL_IDS_USED_UP = 12,   /* fewer than two owner numbers are left */
+    NIZGRABUL_UNSETTLED = 13,
+    NIZGRABUL_NO_ROOM = 14,
+    NIZGRABUL_NO_SYSTEM = 20,     /* the handle has no system */
+    NIZGRABUL_IN_USE = 21,        /* the handle has a system already */
+    NIZGRABUL_BAD_SETTINGS = 22,  /* an option is out of its range */
+    NIZGRABUL_BAD_KIND = 23       /* no kind of loader has the number */
+};
+
+/* Kinds of loaders: how large their chunks are. */
+enum nizgrabul_kind {
+    NIZGRABUL_STANDARD = 0, NIZGRABUL_BOOT = 1, NIZGRABUL_REFLECTION = 2, NIZGRABUL_HIDDEN = 3
+};
+
+/* Policies: what becomes of memory that is given back. */
+enum nizgrabul_policy { NIZGRABUL_BALANCED = 0, NIZGRABUL_AGGRESSIVE = 1, NIZGRABUL_NONE = 2 };
+
+/* A system, or none. Filled with zeros before its first use, and then the library's alone. */
+typedef struct nizgrabul_handle {
+    void *at;
+    bool live;
+} nizgrabul_handle;
+
+/* The settings of a system: nodes of 8 MB that may be reserved, 1 to 64, and those of the class space
+ * besides, 0 to 16; granules that may be committed, 1 to 40960; the policy. */
+typedef struct nizgrabul_options {
+    uint32_t nodes;
+    uint32_t class_nodes;
+    uint64_t max_granules;
+    uint32_t policy;
+} nizgrabul_options;
+
+/* A status and its numbers. `value` is the word where a block starts, or how many nodes were given back;
+ * of a refusal, what its status names. The numbers that a status does not name are 0. */
+typedef struct nizgrabul_answer {
+    uint32_t status;
+    uint64_t value;
+    uint64_t limit;
+    uint64_t need;
+} nizgrabul_answer;
+
+/* The sums over one space; used = live + free_blocks + waste. */
+typedef struct nizgrabul_sums {
+    uint64_t nodes;       /* reserved nodes */
+    uint64_t reserved;    /* their words */
+    uint64_t granules;    /* committed granules */
+    uint64_t committed;   /* their words */
+    uint64_t chunks;      /* chunks that are lent */
+    uint64_t capacity;    /* their words */
+    uint64_t fronts;      /* words of their fronts: how far they are committed for their holders */
+    uint64_t used;        /* words in use */
+    uint64_t live;        /* words of live blocks */
+    uint64_t free_blocks; /* words of free blocks */
+    uint64_t waste;       /* words in use that are in no block */
+    uint32_t held[13];    /* chunks that are lent, by level: 524288 words at 0, 128 at 12 */
+    uint32_t free[13];    /* parts that are free, by level */
+} nizgrabul_sums;
+
+/* All sums over a system. */
+typedef struct nizgrabul_sums_of_all {
+    uint64_t loaders;
+    nizgrabul_sums space;       /* outside the class space */
+    nizgrabul_sums class_space;
+} nizgrabul_sums_of_all;
+
+/* Makes a system with no loader in an empty handle, under the settings that the options name. Answers
+ * DONE, IN_USE where the handle has a system already, BAD_SETTINGS where an option is out of its
+ * range, or OUT_OF_MEMORY; all but DONE leave the handle as it was. Takes memory. */
+uint32_t nizgrabul_new(const nizgrabul_options *options, nizgrabul_handle *out);
+
+/* Ends the handle's system, if there is one, and gives all its memory back; the handle is empty then,
+ * and may be used anew. Takes no memory. */
+void nizgrabul_delete(nizgrabul_handle *handle);
+
+/* Makes a loader with nothing of its own. The kind is 0 standard, 1 boot, 2 reflection or 3 hidden;
+ * BAD_KIND answers any other. Refused with LOADER_EXISTS, IDS_USED_UP and OUT_OF_MEMORY. Takes memory. */
+nizgrabul_answer nizgrabul_new_loader(nizgrabul_handle *handle, uint16_t loader, uint32_t kind);
+
+/* Unloads a loader: all its blocks and chunks go with it, and its name may be used anew. Refused with
+ * NO_LOADER alone. Takes no memory. */
+nizgrabul_answer nizgrabul_unload(nizgrabul_handle *handle, uint16_t loader);
+
+/* Allocates a block of so many words, 1 to 524288, outside the class space, under a number that the
+ * loader has no block of; `value` is the word where it starts. All its words lie in committed granules,
+ * and no other block of any loader overlaps it. Takes memory. */
+nizgrabul_answer nizgrabul_alloc(nizgrabul_handle *handle, uint16_t loader, uint32_t block, uint64_t words);
+
+/* Allocates a block in the class space, as nizgrabul_alloc does. Takes memory. */
+nizgrabul_answer nizgrabul_calloc(nizgrabul_handle *handle, uint16_t loader, uint32_t block, uint64_t words);
+
+/* Frees a block, whose words become a free block of its loader; its number may be used anew. Refused
+ * with NO_LOADER, and with NO_BLOCK where the loader has no live block of the number. Takes no memory. */
+nizgrabul_answer nizgrabul_free(nizgrabul_handle *handle, uint16_t loader, uint32_t block);
+
+/* Gives back the nodes in which no chunk is held; `value` is how many they were. Those of the class
+ * space stay. Takes no memory. */
+nizgrabul_answer nizgrabul_purge(nizgrabul_handle *handle);
+
+/* Tells the committed words of both spaces, and 0 where there is no system. Takes no memory. */
+uint64_t nizgrabul_committed(nizgrabul_handle *handle);
+
+/* Tells the words in use of one loader, in both spaces, and 0 where none has the name. Takes no memory. */
+uint64_t nizgrabul_used_by(nizgrabul_handle *handle, uint16_t loader);
+
+/* Tells whether a granule is committed: the words from its number times a granule's words on, which
+ * are 8192, or 2048 under the policy aggressive. With no system none is. Takes no memory. */
+bool nizgrabul_is_committed(nizgrabul_handle *handle, uint64_t granule);
+
+/* Tells of each granule from the first on, as many as `out` has places, whether it is committed; with
+ * no system none is. So a program compares before and after in one call. Takes no memory. */
+void nizgrabul_granules(nizgrabul_handle *handle, uint32_t first, bool *out, size_t places);
+
+/* Tells all sums over the system. Answers DONE, NO_SYSTEM or OUT_OF_MEMORY; all but DONE leave `out` as
+ * it was. Takes memory while it runs; looks at each node, loader and chunk, and at no block. */
+uint32_t nizgrabul_totals(nizgrabul_handle *handle, nizgrabul_sums_of_all *out);
+
+#ifdef __cplusplus
+}
+#endif
+
+#endif

@@ -1,0 +1,114 @@
+/* A runtime's memory under the proved account: one range of addresses is reserved with no access, and
+ * after each call those granules, and no others, can be touched that the library says are committed. A
+ * block's words lie at base + 8 * start. At each step every granule is tried: a word of a committed one
+ * can be read, and a word of any other faults. So the library's account is shown against the operating
+ * system's own. */
+#define _DEFAULT_SOURCE
+#include <inttypes.h>
+#include <setjmp.h>
+#include <signal.h>
+#include <stdio.h>
+#include <stdlib.h>
+#include <sys/mman.h>
+
+#include "nizgrabul.h"
+
+/* Words of a granule, granules of a node, nodes up to the end of the class space's first. */
+enum { WORDS = 8192, NODE = 128, NODES = 65, GRANULES = NODES * NODE, LOADERS = 4, BLOCKS = 12 };
+
+static nizgrabul_handle handle;
+static volatile uint64_t *base;
+static bool mapped[GRANULES], wanted[GRANULES];
+static sigjmp_buf back;
+
+static struct block { uint64_t start, words; } blocks[LOADERS][BLOCKS];
+
+static void ends(const char *what) {
+    fprintf(stderr, "%s\n", what);
+    exit(1);
+}
+
+/* Makes the operating system's account the library's: commits what came, and gives back what went. */
+static void follow(void) {
+    nizgrabul_granules(&handle, 0, wanted, GRANULES);
+    for (uint64_t granule = 0; granule < GRANULES; granule++) {
+        if (wanted[granule] == mapped[granule]) continue;
+        void *at = (void *)(base + granule * WORDS);
+        if (!wanted[granule] && madvise(at, WORDS * 8, MADV_DONTNEED)) ends("madvise");
+        if (mprotect(at, WORDS * 8, wanted[granule] ? PROT_READ | PROT_WRITE : PROT_NONE)) ends("mprotect");
+        mapped[granule] = wanted[granule];
+    }
+}
+
+static void fault(int signal) {
+    (void)signal;
+    siglongjmp(back, 1);
+}
+
+static bool can_be_read(uint64_t word) {
+    if (sigsetjmp(back, 1)) return false;
+    (void)base[word];
+    return true;
+}
+
+/* Counts the granules that can be touched, which are those that the library counts. */
+static void count(const char *when) {
+    uint64_t touched = 0;
+    for (uint64_t granule = 0; granule < GRANULES; granule++) {
+        bool is = nizgrabul_is_committed(&handle, granule);
+        if (can_be_read(granule * WORDS) != is || can_be_read(granule * WORDS + WORDS - 1) != is) ends("another account");
+        touched += is;
+    }
+    if (touched * WORDS != nizgrabul_committed(&handle)) ends("another count");
+    printf("%s: %" PRIu64 " granules can be touched, and %" PRIu64 " words are committed\n", when, touched,
+           nizgrabul_committed(&handle));
+}
+
+static uint64_t word_of(int loader, int block, uint64_t word) {
+    return (uint64_t)loader << 48 | (uint64_t)block << 32 | word;
+}
+
+static void allocate(int loader, int block) {
+    uint64_t words = 900 * (uint64_t)block + 10;
+    nizgrabul_answer answer = block % 3 ? nizgrabul_alloc(&handle, loader, block, words)
+                                        : nizgrabul_calloc(&handle, loader, block, words);
+    if (answer.status != NIZGRABUL_DONE) ends("a block is refused");
+    follow();
+    blocks[loader][block] = (struct block){answer.value, words};
+    for (uint64_t word = 0; word < words; word++) base[answer.value + word] = word_of(loader, block, word);
+}
+
+/* Reads every word of every block of the loaders from the first on. */
+static void read_all(int first) {
+    for (int loader = first; loader < LOADERS; loader++)
+        for (int block = 0; block < BLOCKS; block++)
+            for (uint64_t word = 0; word < blocks[loader][block].words; word++)
+                if (base[blocks[loader][block].start + word] != word_of(loader, block, word)) ends("another word");
+}
+
+int main(void) {
+    nizgrabul_options options = {.nodes = 4, .class_nodes = 1, .max_granules = 64, .policy = NIZGRABUL_BALANCED};
+    struct sigaction action = {.sa_handler = fault};
+    size_t bytes = (size_t)GRANULES * WORDS * 8;
+    base = mmap(NULL, bytes, PROT_NONE, MAP_PRIVATE | MAP_ANONYMOUS | MAP_NORESERVE, -1, 0);
+    if (base == MAP_FAILED || sigaction(SIGSEGV, &action, NULL)) ends("mmap");
+    if (nizgrabul_new(&options, &handle) != NIZGRABUL_DONE) ends("no system");
+    count("empty");
+    for (int loader = 0; loader < LOADERS; loader++) {
+        if (nizgrabul_new_loader(&handle, loader, loader % 2).status != NIZGRABUL_DONE) ends("no loader");
+        for (int block = 0; block < BLOCKS; block++) allocate(loader, block);
+    }
+    read_all(0);
+    count("all blocks written and read back");
+    for (int loader = 0; loader < LOADERS; loader++) {
+        if (nizgrabul_unload(&handle, loader).status != NIZGRABUL_DONE) ends("not unloaded");
+        follow();
+        read_all(loader + 1);
+        count("one loader went");
+    }
+    printf("nodes given back: %" PRIu64 "\n", nizgrabul_purge(&handle).value);
+    nizgrabul_delete(&handle);
+    follow();
+    count("ended");
+    return 0;
+}

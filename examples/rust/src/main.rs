@@ -1,0 +1,24 @@
+//! Class loaders come and go in plain Rust, through a safe wrapper that owns the handle.
+mod metaspace;
+
+use metaspace::{Kind, Metaspace, Refused, Settings};
+
+fn main() -> Result<(), Refused> {
+    let settings = Settings { nodes: 64, class_nodes: 1, max_granules: 8192 };
+    let refused = Metaspace::new(&Settings { nodes: 65, ..settings }).err().map(|refused| refused.status);
+    println!("65 nodes: {refused:?}");
+    let mut metaspace = Metaspace::new(&settings)?;
+    for loader in [1, 2] {
+        metaspace.new_loader(loader, Kind::Standard)?;
+        for (block, words) in [(1, 100), (2, 4000)] {
+            println!("loader {loader}, {words} words: at {}", metaspace.alloc(loader, block, words)?);
+        }
+    }
+    println!("600000 words: {:?}", metaspace.alloc(1, 3, 600000).err());
+    println!("committed: {}, granules {:?}", metaspace.committed(), metaspace.granules(0, 2));
+    metaspace.unload(2)?;
+    println!("committed: {}, used by loader 1: {}", metaspace.committed(), metaspace.used_by(1));
+    metaspace.unload(1)?;
+    println!("committed: {}, nodes given back: {}", metaspace.committed(), metaspace.purge()?);
+    Ok(())
+}
