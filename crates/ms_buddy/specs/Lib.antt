@@ -2,3 +2,4 @@ pub mod Leaves
 pub mod Tree
 pub mod Walk
 pub mod Laws
+pub mod Carving

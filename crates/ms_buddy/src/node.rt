@@ -12,6 +12,7 @@ ghost use Rattle.ms_base.specs.declared.sizes.TheConstants.{ROOT_WORDS};
 ghost use Rattle.ms_base.specs.Level.{size_of};
 ghost use Rattle.ms_buddy.specs.Leaves.{CarveAnswers, EnlargeAnswers, IsLeafAt, covers, has_level, is_lent, is_of_from};
 ghost use Rattle.ms_buddy.specs.Leaves.{leaf_of, with_front, with_leaf, with_parent, without_leaf};
+ghost use Rattle.ms_buddy.specs.Carving.{told};
 ghost use Rattle.ms_buddy.specs.Tree.{AreHalves, IsEnlarged, IsPlace, MayBeLent, MayHaveFront, is_free, IsTree};
 ghost use Rattle.ms_buddy.specs.Tree.{lent_in, free_in, levels_of, lent_in_halves, free_in_halves};
 
@@ -34,6 +35,16 @@ pub(crate) enum Node<A: Allocator> {
     Lent { owner: u32, front: u64 },
     /// The levels of the free leaves below, as bits, and the halves: the lower one, the upper one.
     Split(u16, Box<Node<A>, A>, Box<Node<A>, A>),
+}
+
+/// Why a node does not lend a part: a step's answer of one byte, which `SplitTree` tells as a
+/// refusal.
+#[derive(Clone, Copy)]
+pub(crate) enum Lack {
+    /// The part lies in no free leaf.
+    Room,
+    /// The allocator refused a box.
+    Memory,
 }
 
 /// Tells the words of a half of a part of that level.
@@ -293,14 +304,14 @@ impl<A: Allocator + Clone> Node<A> {
         span: Span,
         owner: u32,
         front: u64,
-    ) -> Result<(), Refusal>
+    ) -> Result<(), Lack>
         requires tree { IsTree level self.old }
         requires part { MayBeLent level start span front }
         ensures tree { IsTree level self.new }
         ensures split { OnOk result (is_free self.new ≡ false) }
         ensures lent { OnOk result (lent_in level start self.new
             ≡ with_leaf (leaf_of span owner front) (lent_in level start self.old)) }
-        ensures answers { CarveAnswers span (free_in level start self.old) result }
+        ensures answers { CarveAnswers span (free_in level start self.old) (told span.level result) }
         ensures unchanged { OnErr result (self.new ≡ self.old) }
     {
         match self {
@@ -309,12 +320,12 @@ impl<A: Allocator + Clone> Node<A> {
                     *self = node;
                     Ok(())
                 }
-                Err(_) => Err(Refusal::OutOfMemory),
+                Err(_) => Err(Lack::Memory),
             },
-            Node::Lent { .. } => Err(Refusal::NoRoom { level: span.level }),
+            Node::Lent { .. } => Err(Lack::Room),
             Node::Split(levels, lower, upper) => {
                 if span.level.number() == level {
-                    Err(Refusal::NoRoom { level: span.level })
+                    Err(Lack::Room)
                 } else {
                     carve_in_half(
                         levels, lower, upper, alloc, level, start, span, owner, front,
@@ -427,7 +438,7 @@ fn carve_in_half<A: Allocator + Clone>(
     span: Span,
     owner: u32,
     front: u64,
-) -> Result<(), Refusal>
+) -> Result<(), Lack>
     requires halves { AreHalves level levels.old lower.old upper.old }
     requires part { MayBeLent level start span front }
     requires low { level < span.level }
@@ -435,7 +446,8 @@ fn carve_in_half<A: Allocator + Clone>(
     ensures split { OnOk result (IsFalse (is_free lower.new && is_free upper.new)) }
     ensures lent { OnOk result (lent_in_halves level start lower.new upper.new
         ≡ with_leaf (leaf_of span owner front) (lent_in_halves level start lower.old upper.old)) }
-    ensures answers { CarveAnswers span (free_in_halves level start lower.old upper.old) result }
+    ensures answers { CarveAnswers span (free_in_halves level start lower.old upper.old)
+        (told span.level result) }
     ensures unchanged { OnErr result
         ((levels.new ≡ levels.old) × (lower.new ≡ lower.old) × (upper.new ≡ upper.old)) }
 {
@@ -446,7 +458,7 @@ fn carve_in_half<A: Allocator + Clone>(
                 *levels = levels_of_halves(lower, upper, level + 1);
                 Ok(())
             }
-            Err(refusal) => Err(refusal),
+            Err(lack) => Err(lack),
         }
     } else {
         match upper.carve(alloc, level + 1, middle, span, owner, front) {
@@ -454,7 +466,7 @@ fn carve_in_half<A: Allocator + Clone>(
                 *levels = levels_of_halves(lower, upper, level + 1);
                 Ok(())
             }
-            Err(refusal) => Err(refusal),
+            Err(lack) => Err(lack),
         }
     }
 }

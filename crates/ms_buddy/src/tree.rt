@@ -25,12 +25,13 @@ ghost use Rattle.std.specs.Prelude.{IsOk, IfOk, OnOk, IfErr, OnErr};
 ghost use Rattle.std.specs.List.{find, list_any};
 ghost use Rattle.ms_base.specs.declared.sizes.TheConstants.{ROOT_WORDS};
 ghost use Rattle.ms_base.specs.Level.{size_of};
+ghost use Rattle.ms_buddy.specs.Carving.{told};
 ghost use Rattle.ms_buddy.specs.Leaves.{AreLeaves, IsCarveRefusal, IsLeafAt, can_enlarge, covers, fits_in, free_of};
 ghost use Rattle.ms_buddy.specs.Leaves.{has_level, is_lent, is_of, is_of_from, leaf_of, parent_of, root, span_at};
 ghost use Rattle.ms_buddy.specs.Leaves.{with_front, with_leaf, with_parent, without_leaf};
 
 use crate::leaves::FreeLeaves;
-use crate::node::{Leaf, Node, part};
+use crate::node::{Lack, Leaf, Node, part};
 use ms_base::{Level, Refusal, Span};
 use std::alloc::Allocator;
 use std::marker::Model;
@@ -193,7 +194,20 @@ impl<A: Allocator + Clone> SplitTree<A> {
     {
         // Learnt here: the level is at most 12, so its words are those of a part.
         let _ = level.number();
-        self.node
-            .carve(alloc, 0, 0, Span { start: at, level }, owner, front)
+        let carved = self
+            .node
+            .carve(alloc, 0, 0, Span { start: at, level }, owner, front);
+        tell(carved, level)
+    }
+}
+
+/// Tells what is lacking as the refusal that callers see.
+fn tell(carved: Result<(), Lack>, level: Level) -> Result<(), Refusal>
+    ensures { result ≡ told level carved }
+{
+    match carved {
+        Ok(()) => Ok(()),
+        Err(Lack::Room) => Err(Refusal::NoRoom { level }),
+        Err(Lack::Memory) => Err(Refusal::OutOfMemory),
     }
 }

@@ -233,13 +233,9 @@ front_within space lender chunk mid g same size kept some inside within =
 pub front_is_low : (space : Space) (lender : Lender) (chunk : Chunk) → IsKept lender → IsPart chunk.start chunk.level
     → chunk.front ≤ size_of chunk.level
     → IsOpen space lender.nodes (slot_of chunk.start) → chunk.start + chunk.front < 2 ^ 63
-front_is_low space lender chunk kept placed within open_ = omega (
-  arith,
-  within,
-  kept.nodes.class_slots,
-  size_falls 0 chunk.level (omega arith) placed.0,
-  open_is_low space lender.nodes (slot_of chunk.start) kept.nodes kept.sound.nodes.1 open_,
-)
+front_is_low space lender chunk kept placed within open_ =
+    let low = open_is_low space lender.nodes (slot_of chunk.start) kept.nodes kept.sound.nodes.1 open_ in
+    omega (arith, within, kept.nodes.class_slots, size_falls 0 chunk.level (omega arith) placed.0, low)
 
 -- A lender with other nodes and other trees shows a ledger, and keeps what it kept.
 pub record Shows (lender : Lender) (nodes : NodesState) (items : List (List LentLeaf)) (ledger : Ledger) : Type 0 where
@@ -261,13 +257,8 @@ kept_where_shown lender nodes trees ledger kept count leaves sound_nodes shows s
 
 -- What is counted is no part of what is kept.
 pub kept_however_counted : (lender : Lender) (lent : Lent) → IsKept lender → IsKept (record lender { lent = lent })
-kept_however_counted lender lent kept = record {
-  trees = kept.trees;
-  leaves = kept.leaves;
-  granule = kept.granule;
-  nodes = kept.nodes;
-  sound = kept.sound;
-}
+kept_however_counted lender lent kept =
+    record { trees = kept.trees; leaves = kept.leaves; granule = kept.granule; nodes = kept.nodes; sound = kept.sound }
 
 -- The slot of a chunk is reserved and its front committed: the ledger has the chunk lent.
 nodes_are : (lender : Lender) (chunk : Chunk) (mid new : NodesState) (g : ℕ)

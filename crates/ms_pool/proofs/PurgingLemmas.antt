@@ -78,6 +78,10 @@ purged_at_last old mid at_ sound end before =
     (past_all (held_in NonClass old) old.slots
     (recursion_from_All (λ slot. slot < 64) old.slots (sound.spaces NonClass).below))
 
+-- Past a slot lies any other that isn't below it.
+alike : (a n : ℕ) → (n == a) ≡ false → nat_le a n ≡ nat_le (a + 1) n
+alike a n e = grind (arith, nat_tests)
+
 -- A slot that isn't reserved, or has a chunk, changes nothing.
 unreserved_alike : (at_ : ℕ) (held : List Chunk) (slots : List ℕ) → is_among slots at_ ≡ false
     → filter (stays_at at_ held) slots ≡ filter (stays_at (at_ + 1) held) slots
@@ -87,9 +91,6 @@ unreserved_alike at_ held (slot ∷ slots) none =
     ap (λ (b : Bool). cond (b || has_chunk_in held slot) (slot ∷ filter (stays_at at_ held) slots)
     (filter (stays_at at_ held) slots)) (alike at_ slot parts.0)
     ∙ ap (λ (l : List ℕ). cond (stays_at (at_ + 1) held slot) (slot ∷ l) l) (unreserved_alike at_ held slots parts.1)
-  where
-    alike : (a n : ℕ) → (n == a) ≡ false → nat_le a n ≡ nat_le (a + 1) n
-    alike a n e = grind (arith, nat_tests)
 
 pub skips_unreserved : (old mid : Ledger) (at_ : ℕ) → mid ≡ purged_to at_ old → is_reserved mid.slots at_ ≡ false
     → mid ≡ purged_to (at_ + 1) old
@@ -112,9 +113,6 @@ held_alike : (at_ : ℕ) (held : List Chunk) (slot : ℕ) → has_chunk_in held 
     → stays_at at_ held slot ≡ stays_at (at_ + 1) held slot
 held_alike at_ held slot has = go (slot == at_) refl
   where
-    alike : (a n : ℕ) → (n == a) ≡ false → nat_le a n ≡ nat_le (a + 1) n
-    alike a n e = grind (arith, nat_tests)
-
     same_number : (a n : ℕ) → (n == a) ≡ true → a ≡ n
     same_number a n e = grind (arith, nat_tests)
 
@@ -146,9 +144,6 @@ slot_goes at_ held slots none =
     ∙ filter_agree (λ slot. stays_at at_ held slot && not (slot == at_)) (stays_at (at_ + 1) held)
     (λ slot. go slot (slot == at_) refl) slots
   where
-    alike : (a n : ℕ) → (n == a) ≡ false → nat_le a n ≡ nat_le (a + 1) n
-    alike a n e = grind (arith, nat_tests)
-
     gone : (a n : ℕ) → (n == a) ≡ true → nat_le (a + 1) n ≡ false
     gone a n e = grind (arith, nat_tests)
 

@@ -8,8 +8,8 @@
 //!
 //! Kept true: the bit of a level and a root is set exactly where the root's tree has a free leaf of
 //! that level. A root that isn't reserved is whole, so at level 0 it has its bit, and whoever asks
-//! looks whether its slot is reserved. Each change of a tree tells the 13 bits of its root anew, those
-//! that differ. The places of trees and index are made once.
+//! looks whether its slot is reserved. A change of a tree that leaves it other levels tells the 13 bits
+//! of its root anew, those that differ. The places of trees and index are made once.
 ghost use Rattle.std.specs.Prelude.{◌≡◌, ℕ, ◌+◌, ◌-◌, ◌*◌, ◌/◌, ◌%◌, ◌<◌, ◌≤◌, true, false, [], get_or, length, replicate};
 ghost use Rattle.std.specs.Prelude.{IfOk, IfSome, IfNone, IsTrue, IsFalse, Some};
 ghost use Rattle.std.specs.List.{All, find};
