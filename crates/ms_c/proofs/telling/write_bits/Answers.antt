@@ -1,4 +1,4 @@
-use Rattle.std.proofs.Common.{ℕ, ◌<◌, false, length, arith}
+use Rattle.std.proofs.Common.{false, length, arith}
 use Rattle.std.proofs.lemmas.List.FromFn.{fill_by_all}
 use Rattle.ms_c.specs.Sums.{bit_at}
 use Rattle.ms_c.proofs.telling.write_bits.Goals as goal

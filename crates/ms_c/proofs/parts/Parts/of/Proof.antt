@@ -1,5 +1,5 @@
 -- What `into_raw_with_allocator` hands out is what the parts own.
-use Rattle.ms_c.proofs.Walking.{◌≡◌, List, [], ◌∷◌, ◌++◌, refl, sym, ap, ◌∙◌, proved_at, Goes-blank, handle_tells, token, box_owns, Bx, D, τ, R, P, B, word, box_typed, box_out, box_in, id⊢, fst∗, never, ftrue, flft, ◌⊑◌, fact, tables, inst_fn, bare, a_type, dcons, dnil, Val, vptr, vstruct, of_list, WpFn, sem, Item, ‵, raw, ◌⊛◌, some, later, prop, ◌$◌, ◌∵◌, !, qed, done, move, drop, use1, split, split3, join, fsplit, fsplit3, fjoin, fpick, feq_l, pick, await, rewrite, regoal, suffices, whole, sub, agg, enter, of_opd, stop, fld, no_more, and_then, returns, alloc_all, pass_all, free_all, look_at, get, get_in, sets, lands_as, no, bounded, RattleType, owns, Ptr, RawPtr, block_ptr, null_ptr, ptr_val, in_a_block, plain, types_at, nothing, heard, only, Tuple, calls_at, Lasts, lasts, triple_of, framed, Stays, walk_of, says, stay_dropped, ends_at}
+use Rattle.ms_c.proofs.Walking.{◌≡◌, List, [], ◌∷◌, ◌++◌, refl, ap, ◌∙◌, proved_at, Goes-blank, handle_tells, token, box_owns, Bx, D, τ, R, P, B, word, box_typed, box_out, box_in, id⊢, fst∗, never, ftrue, flft, ◌⊑◌, fact, tables, inst_fn, bare, a_type, dcons, dnil, Val, vstruct, of_list, WpFn, sem, Item, ‵, raw, ◌⊛◌, some, later, prop, ◌$◌, ◌∵◌, !, qed, done, move, drop, use1, split, split3, join, fsplit, fjoin, fpick, feq_l, pick, await, rewrite, regoal, suffices, whole, sub, agg, enter, of_opd, stop, fld, no_more, and_then, returns, alloc_all, pass_all, free_all, look_at, get, get_in, sets, lands_as, no, bounded, owns, Ptr, RawPtr, block_ptr, null_ptr, ptr_val, in_a_block, plain, types_at, nothing, heard, only, Tuple, calls_at, Lasts, lasts, triple_of, framed, Stays, walk_of, says, stay_dropped, ends_at}
 use Rattle.std_alloc.specs.contracts.boxed.Box.into_raw_with_allocator as opened
 use Rattle.std_alloc.proofs.boxed.Box.into_raw_with_allocator.Met.{met}
 use Rattle.ms_c.specs.contracts.parts.Parts as parts

@@ -1,12 +1,11 @@
 -- An empty slot is a null pointer beside the allocator, and owns no more than that.
-use Rattle.ms_c.proofs.Walking.{List, [], ◌∷◌, ◌++◌, refl, proved_at, handle_tells, id⊢, emp, ftrue, tables, Val, vint, vstruct, vcons, vnil, WpFn, ‵, raw, ◌⊛◌, prop, ◌$◌, ◌∵◌, !, qed, done, move, drop, use1, split, join, fsplit, fjoin, fpack, feq_i, regoal, suffices, agg, enter, of_opd, lit, no_more, and_then, returns, alloc_all, pass_all, free_all, look_at, get, sets, yes, Valss, owns, RawPtr, null_ptr, ptr_val, types_at, nothing, shape, within, Stays, walk_of, says, stay_dropped, ends_at}
+use Rattle.ms_c.proofs.Walking.{List, [], ◌∷◌, ◌++◌, refl, proved_at, handle_tells, id⊢, emp, ftrue, tables, Val, vint, vstruct, vcons, vnil, WpFn, ‵, raw, ◌⊛◌, prop, ◌$◌, ◌∵◌, !, qed, done, move, drop, use1, split, join, fsplit, fjoin, fpack, feq_i, regoal, suffices, agg, enter, lit, no_more, and_then, returns, alloc_all, pass_all, free_all, look_at, get, sets, yes, Valss, owns, null_ptr, ptr_val, types_at, nothing, shape, within, Stays, walk_of, says, stay_dropped, ends_at}
 use mir.Syntax.{w64}
 use lib.Dec.{lit<}
 use denote.Struct.Owning.{to}
 use Rattle.std_alloc.proofs.ResultValues.{and_tt}
 use denote.Triple.Walked.{Goes-dropped}
 use Rattle.std.proofs.Common.{None}
-use Rattle.std_heap.specs.contracts.Global as Heap
 use Rattle.ms_c.proofs.AsBox.{E, FromHeap}
 use Rattle.ms_c.specs.contracts.slot.Slot as slot
 use Rattle.ms_c.specs.contracts.slot.Slot.empty as f
