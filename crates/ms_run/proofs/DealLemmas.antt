@@ -6,8 +6,8 @@ use Rattle.std.proofs.Common.{Vec, Global, slice_set, append-nil}
 use Rattle.std.specs.Prelude.{◌==◌, IsTrue}
 use Rattle.std.specs.List.{All, AllByRecursion, filter}
 use Rattle.std.proofs.lemmas.Bool.{eqb-true}
-use Rattle.std.proofs.lemmas.List.{take_more, length-append, length-replicate}
-use Rattle.std.proofs.lemmas.List.Elements.{filter-append, recursion_from_All, All-from_recursion, All-replicate}
+use Rattle.std.proofs.lemmas.List.{take_more, length-append}
+use Rattle.std.proofs.lemmas.List.Elements.{filter-append, recursion_from_All, All-from_recursion}
 use mathlib.Core.Logic.{dite}
 use native.Mathlib.Decide.{ℕ_discrete, dec_le}
 use Rattle.std.proofs.Common.{lt_of_not-le}
@@ -29,7 +29,8 @@ use Rattle.ms_loaders.specs.System.{accounts_of, owners_of}
 use Rattle.ms_loaders.specs.Settles.{MaySettle, open_accounts, accounts_in}
 use Rattle.ms_shared.specs.declared.lock_rule.SeatView.{SeatView}
 use Rattle.ms_shared.specs.Entries.{Has, fresh, IsRecord}
-use Rattle.ms_shared.specs.SeatView.{SeatState, LockState, ServesBy, opened_by, knows_all, knows_limits}
+use Rattle.ms_shared.specs.SeatView.{SeatState, LockState, ServesBy, opened_by, knows_all, knows_limits, seat_with}
+use Rattle.ms_shared.specs.SeatView.{spare_seats, new_seats}
 use Rattle.ms_shared.proofs.RecordLemmas.{has_record, fresh_records}
 use Rattle.ms_run.specs.declared.share.Task.{Task}
 use Rattle.ms_run.specs.declared.share.Share.{Share}
@@ -293,18 +294,23 @@ all_manned pool loaders may all = record {
     counted NonClass = omega (arith, all, may.opened, may.class_opened)
     counted Class = omega (arith, all, may.opened, may.class_opened)
 
+spare_free : (shared : LockState) (limits : Limits) (first count : ℕ)
+    → AllByRecursion (λ (seat : SeatState). (seat.id ≡ shared.id) × IsManned seat.knows [])
+    (spare_seats shared.id limits first count)
+spare_free shared limits first zero = tt
+spare_free shared limits first (suc count) = ((refl, none_manned limits), spare_free shared limits (suc first) count)
+
 pub seats_are : (shared : LockState) (count : ℕ) (seats : List SeatState) (pool : Ledger) (loaders : Loaded)
-    → seats ≡ record { id = shared.id; knows = knows_all pool } ∷ replicate (count - 1)
-    (record { id = shared.id; knows = knows_limits pool.limits })
+    → seats ≡ new_seats shared.id count pool
     → MaySettle pool loaders → open_accounts pool ≡ accounts_in loaders → AreSeats shared seats loaders
 seats_are shared count seats pool loaders are may all = record {
-  first = record { id = shared.id; knows = knows_all pool };
-  others = replicate (count - 1) (record { id = shared.id; knows = knows_limits pool.limits });
+  first = seat_with shared.id (0, []) (knows_all pool);
+  others = spare_seats shared.id pool.limits 1 (count - 1);
   are = are;
   own = refl;
   manned = all_manned pool loaders may all;
-  free = All-replicate (λ (seat : SeatState). (seat.id ≡ shared.id) × IsManned seat.knows []) (count - 1)
-      (record { id = shared.id; knows = knows_limits pool.limits }) (refl, none_manned pool.limits);
+  free = All-from_recursion (λ (seat : SeatState). (seat.id ≡ shared.id) × IsManned seat.knows [])
+      (spare_seats shared.id pool.limits 1 (count - 1)) (spare_free shared pool.limits 1 (count - 1));
 }
 
 -- Beside a seat that serves nothing.
@@ -523,20 +529,20 @@ next_free place shared count lines loaders first left next rest others shares ar
     its.free)).0
 
 -- As many seats as were asked for.
+spare_count : (shared : LockState) (limits : Limits) (first count : ℕ)
+    → length (spare_seats shared.id limits first count) ≡ count
+spare_count shared limits first zero = refl
+spare_count shared limits first (suc count) = ap suc (spare_count shared limits (suc first) count)
+
 pub seats_count : (shared : LockState) (count : ℕ) (seats : List SeatState) (pool : Ledger) → 1 ≤ count
-    → seats ≡ record { id = shared.id; knows = knows_all pool } ∷ replicate (count - 1)
-    (record { id = shared.id; knows = knows_limits pool.limits })
-    → length seats ≡ count
+    → seats ≡ new_seats shared.id count pool → length seats ≡ count
 seats_count shared count seats pool some are =
     omega (
       arith,
       ap (λ (l : List SeatState). length l) are,
-      length-replicate (count - 1) (the_seat shared pool.limits),
+      spare_count shared pool.limits 1 (count - 1),
       some,
     )
-  where
-    the_seat : LockState → Limits → SeatState
-    the_seat lock limits = record { id = lock.id; knows = knows_limits limits }
 
 -- The lists that were not taken yet: the first one, and those of the places to come.
 abbrev pub AreLeft : Place → List Line → ℕ → TaskLists → Type 0

@@ -311,7 +311,7 @@ pub ended : (place : Place) (shared : LockState) (shares others : List Share) (l
     → old.loaders ≡ states_of loaders → AreDealt place shared shares lines loaders → AllWorked shares others
     → Merges place others lines before after
     → ((where_to : Place) → AreApart where_to others → IsGathered where_to others new.loaders) → IsGood new
-    → new.limits ≡ shared.limits → shared.limits ≡ old.limits → Adds lines before after old new
+    → new.limits ≡ shared.first.limits → shared.first.limits ≡ old.limits → Adds lines before after old new
 ended place shared shares others lines before after loaders old new old_is dealt all merges gathered good limits same = (
   merges.0,
   merges.2,

@@ -51,7 +51,7 @@ pub fn deal(
     ensures dealt { IfOk result (λ made. AreDealt (place_for (place_in turn.now) lines.now)
         made.0 made.1.items lines.now loaders) }
     ensures count { IfOk result (λ made. vec_len made.1 ≡ shares_in turn.now) }
-    ensures limits { IfOk result (λ made. made.0.limits ≡ pool.limits) }
+    ensures first { IfOk result (λ made. made.0.first ≡ pool) }
     ensures meters { IfOk result (λ made. HaveMeters made.2 (vec_len made.1) made.1.items) }
     ensures used { IfOk result (λ made. used_over made.1.items ≡ used_in loaders) }
     ensures wanting { IfErr result (λ fault. fault ≡ RunFault.OutOfMemory) }

@@ -35,7 +35,7 @@ pub fn gather(
     ensures gathered { IfOk result (λ ended. (place : Place) → AreApart place shares.items
         → IsGathered place shares.items ended.0.loaders) }
     ensures good { IfOk result (λ ended. IsGood ended.0) }
-    ensures limits { IfOk result (λ ended. ended.0.limits ≡ shared.limits) }
+    ensures limits { IfOk result (λ ended. ended.0.limits ≡ shared.first.limits) }
     ensures used { IfOk result (λ ended. used_words_of ended.0 ≡ used_over shares.items) }
     ensures meters { IfOk result (λ ended. ended.1.items ≡ map meter_of shares.items) }
     ensures wanting { IfErr result (λ fault. fault ≡ RunFault.OutOfMemory) }
@@ -54,7 +54,7 @@ fn open(shared: SharedPool, seats: Vec<PoolSeat>) -> Result<Pool, RunFault>
     requires count { shared.seats ≡ vec_len seats }
     ensures opens { IsOk result }
     ensures gathered { IfOk result (λ pool. Gathers seats.items pool) }
-    ensures limits { IfOk result (λ pool. pool.limits ≡ shared.limits) }
+    ensures limits { IfOk result (λ pool. pool.limits ≡ shared.first.limits) }
 {
     match shared.into_pool(seats) {
         Ok(pool) => Ok(pool),

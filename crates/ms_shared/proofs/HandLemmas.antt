@@ -13,11 +13,12 @@ use Rattle.ms_shared.specs.declared.lock_rule.SeatView.{SeatView}
 use Rattle.ms_shared.specs.declared.lock_rule.LockView.{LockView}
 use Rattle.ms_shared.specs.Entries.{Entry, Has, only, all_but}
 use Rattle.ms_shared.specs.SeatView.{ServesBy, HandsOn, opened_by, tallies_of_both, knows_limits, knows_both}
-use Rattle.ms_shared.specs.SeatView.{without_account, account_alone, with_account}
+use Rattle.ms_shared.specs.SeatView.{without_account, account_alone, with_account, seat_with, seat_of}
 use Rattle.ms_shared.specs.LockRule.{Sat, both, view_without, note_of, less_part, spare_part}
 use Rattle.ms_shared.proofs.SeatCutLemmas.{Cuts, no_tally}
 use Rattle.ms_shared.proofs.RecordLemmas.{times_cut, records_cut, has_left, has_right}
-use Rattle.ms_shared.proofs.SeatDealLemmas.{seat_of, seen_as}
+use Rattle.ms_shared.specs.History.{first_strand}
+use Rattle.ms_shared.proofs.SeatDealLemmas.{seen_as}
 
 opened_cut : (owner : ℕ) (space one : Space) (view : SeatView) → 0 < opened_by view space
     → opened_by (without_account owner space view) one + opened_by (account_alone owner space view) one
@@ -34,6 +35,7 @@ cuts_account owner space view more some = record {
   parts = omega arith;
   some_left = omega arith;
   some_right = omega arith;
+  strands = append-nil view.strands;
   times = λ other. times_cut owner other view.knows.served;
   records = λ pool all. records_cut pool owner view.knows.served all;
   opened = λ one. opened_cut owner space one view.knows some;
@@ -85,16 +87,18 @@ both_and_account owner Class from view = λ i. record {
 -- What callers see of the seats.
 pub from_is : (id id' : TableId) (me : Sat) (from to : LockView) (owner : ℕ) (space : Space) → id' ≡ id
     → me ≡ (both (view_without owner space from) (spare_part to), [])
-    → seat_of id' me.0.knows ≡ seat_of id (without_account owner space from.knows)
+    → seat_of id' me.0 ≡ seat_with id (first_strand from.strands) (without_account owner space from.knows)
 from_is id id' me from to owner space same is =
-    seen_as id id' (without_account owner space from.knows) me.0.knows same
+    seen_as id id' (first_strand from.strands) (without_account owner space from.knows) me.0 same
+    (ap (λ (m : Sat). first_strand m.0.strands) is ∙ ap first_strand (append-nil from.strands))
     (ap (λ (m : Sat). m.0.knows) is ∙ both_and_none (without_account owner space from.knows) to.knows.limits)
 
 pub to_is : (id id' : TableId) (me : Sat) (from to : LockView) (owner : ℕ) (space : Space) → id' ≡ id
     → me ≡ (less_part (both to (note_of owner space from)), [])
-    → seat_of id' me.0.knows ≡ seat_of id (with_account owner space from.knows to.knows)
+    → seat_of id' me.0 ≡ seat_with id (first_strand to.strands) (with_account owner space from.knows to.knows)
 to_is id id' me from to owner space same is =
-    seen_as id id' (with_account owner space from.knows to.knows) me.0.knows same
+    seen_as id id' (first_strand to.strands) (with_account owner space from.knows to.knows) me.0 same
+    (ap (λ (m : Sat). first_strand m.0.strands) is ∙ ap first_strand (append-nil to.strands))
     (ap (λ (m : Sat). m.0.knows) is ∙ both_and_account owner space from.knows to.knows)
 
 has_only : (owner : ℕ) (xs : List Entry) (chunks : List Chunk) → Has xs owner chunks → Has (only owner xs) owner chunks

@@ -1,6 +1,8 @@
 pub mod TotalLemmas
 pub mod MeterLemmas
 pub mod RecordLemmas
+pub mod StrandLemmas
+pub mod LoggedLemmas
 pub mod LockLemmas
 pub mod SeatCutLemmas
 pub mod SeatGatherLemmas

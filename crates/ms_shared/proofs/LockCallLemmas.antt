@@ -1,6 +1,6 @@
 -- A call over the lock, from the steps that it is made of: the seat finds the pool as it knows it,
 -- and knows then what the pool has become. For the calls of LockedPool.
-use Rattle.std.proofs.Common.{◌≡◌, ◌≢◌, ℕ, ◌+◌, ◌-◌, ◌<◌, Bool, List, [], ◌∷◌, refl, sym, ap, ◌∙◌, subst, arith, None}
+use Rattle.std.proofs.Common.{◌≡◌, ◌≢◌, ℕ, ◌+◌, ◌-◌, ◌<◌, Bool, List, [], ◌∷◌, ◌++◌, refl, sym, ap, ◌∙◌, subst, arith, None}
 use Rattle.std.specs.Prelude.{Result, Ok, Err, IfOk, OnErr, IfErr}
 use Rattle.std.specs.List.Sorted.{IsPermutation}
 use Rattle.atomic_table.specs.Seated.{TableId}
@@ -22,6 +22,8 @@ use Rattle.ms_pool.proofs.ledger.ClosedLemmas.{ClosesWell, ClosesBothWell}
 use Rattle.ms_shared.specs.declared.lock_rule.SeatView.{SeatView}
 use Rattle.ms_shared.specs.declared.lock_rule.LockView.{LockView}
 use Rattle.ms_shared.specs.Entries.{Has, times, refreshed, fresh}
+use Rattle.ms_shared.specs.History.{IsOne, first_strand, extended}
+use Rattle.ms_shared.specs.SeatView.{seat_with, seat_of}
 use Rattle.ms_shared.specs.SeatView.{SeatState, ServesBy, IsKnown, OverLock, opened_by, view_after, tallies_after}
 use Rattle.ms_shared.specs.SeatView.{TallyKind, commit_of_take, reserve_of_take, commit_of_grow, room_of_grow}
 use Rattle.ms_shared.specs.SeatView.{ids_of_open, raise}
@@ -30,13 +32,15 @@ use Rattle.ms_shared.specs.LockRule.{Sat, Moves, after, with_pool, taken_of}
 use Rattle.ms_shared.proofs.RecordLemmas.{has_record, has_times, has_left, has_right, has_refreshed}
 use Rattle.ms_shared.proofs.LockLemmas.{opened_after}
 use Rattle.ms_shared.proofs.MovesLemmas.{tallies_stay, tallies_rise}
-use Rattle.ms_shared.proofs.SeatDealLemmas.{seat_of, seen_as}
+use Rattle.ms_shared.proofs.SeatDealLemmas.{seen_as}
+use Rattle.ms_shared.proofs.StrandLemmas.{first_extended}
 
 -- The seat before and after a call on the pool that it found.
 pub record IsCall (old new : SeatState) (before later : Ledger) : Type 0 where
   pub sound : IsSoundLedger before
   pub known : IsKnown before old.knows
-  pub left : new ≡ record old { knows = view_after before later old.knows }
+  pub left : new
+      ≡ record old { events = old.events ++ (before, later) ∷ []; knows = view_after before later old.knows }
 
 -- What the seat may make of the pool, said of the seat that has it.
 pub moves_at : (view : LockView) (old new : Ledger) (me : Sat) → me ≡ (with_pool view old, (0, None) ∷ [])
@@ -44,23 +48,29 @@ pub moves_at : (view : LockView) (old new : Ledger) (me : Sat) → me ≡ (with_
     → Moves me.0.knows (taken_of me.0) new
 moves_at view old new me has moves = subst (λ (m : Sat). Moves m.0.knows (taken_of m.0) new) (sym has) moves
 
-knows_then : (view : LockView) (old new : Ledger) (me later : Sat) → me ≡ (with_pool view old, (0, None) ∷ [])
-    → later ≡ (after me.0 (taken_of me.0) new, [])
-    → later.0.knows ≡ view_after old new view.knows
-knows_then view old new me later has back =
-    ap (λ (m : Sat). m.0.knows) back ∙ ap (λ (m : Sat). view_after (taken_of m.0) new m.0.knows) has
+seat_then : (id id' : TableId) (view : LockView) (old new : Ledger) (me end : Sat) → IsOne view.strands
+    → me ≡ (with_pool view old, (0, None) ∷ []) → end ≡ (after me.0 (taken_of me.0) new, []) → id' ≡ id
+    → seat_of id' end.0
+    ≡ seat_with id ((first_strand view.strands).0, (first_strand view.strands).1 ++ (old, new) ∷ [])
+    (view_after old new view.knows)
+seat_then id id' view old new me end one has back same =
+    seen_as id id' ((first_strand view.strands).0, (first_strand view.strands).1 ++ (old, new) ∷ [])
+    (view_after old new view.knows) end.0 same
+    (ap (λ (m : Sat). first_strand m.0.strands) back
+    ∙ ap (λ (m : Sat). first_strand (extended (taken_of m.0, new) m.0.strands)) has
+    ∙ first_extended (old, new) view.strands one)
+    (ap (λ (m : Sat). m.0.knows) back ∙ ap (λ (m : Sat). view_after (taken_of m.0) new m.0.knows) has)
 
 pub is_call : (id id' : TableId) (view : LockView) (old : SeatState) (before later : Ledger) (me end : Sat)
-    → seat_of id view.knows ≡ old → IsKnown before view.knows
+    → IsOne view.strands → seat_of id view ≡ old → IsKnown before view.knows
     → IsSoundLedger before
     → me ≡ (with_pool view before, (0, None) ∷ []) → end ≡ (after me.0 (taken_of me.0) later, []) → id' ≡ id
-    → IsCall old (seat_of id' end.0.knows) before later
-is_call id id' view old before later me end is known sound has back same =
-    subst (λ (s : SeatState). IsCall s (seat_of id' end.0.knows) before later) is (record {
+    → IsCall old (seat_of id' end.0) before later
+is_call id id' view old before later me end one is known sound has back same =
+    subst (λ (s : SeatState). IsCall s (seat_of id' end.0) before later) is (record {
       sound = sound;
       known = known;
-      left = seen_as id id' (view_after before later view.knows) end.0.knows same
-          (knows_then view before later me end has back);
+      left = seat_then id id' view before later me end one has back same;
     })
 
 pub over_lock : (event : Ledger → Ledger → Type 0) (old new : SeatState) (before later : Ledger)

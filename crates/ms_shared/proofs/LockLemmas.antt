@@ -1,6 +1,6 @@
 -- Taking the pool and putting it back keep the rule of the lock. For `seize` and `let_go`.
 use Rattle.std.proofs.Common.{◌≡◌, ◌≢◌, ℕ, ◌+◌, ◌-◌, ◌%◌, ◌^◌, ◌<◌, ⊎_elim, ◌==◌, Bool, true, false, cond, List, []}
-use Rattle.std.proofs.Common.{◌∷◌, ◌++◌, set, slice_index, sym, refl, ap, ◌∙◌, subst, arith, Option, Some, None}
+use Rattle.std.proofs.Common.{◌∷◌, length, set, slice_index, sym, refl, ap, ◌∙◌, subst, arith, Option, Some, None}
 use Rattle.std.proofs.Common.{length-set, get_or-set_same, eq-eqb, ne_eqb}
 use Rattle.std.specs.List.{sum_by}
 use mathlib.Core.Logic.{dite}
@@ -10,10 +10,9 @@ use native.Mathlib.Decide.{ℕ_discrete}
 use lib.ListN.{get_elem?}
 use prog.Atomic.{either}
 use Rattle.atomic_table.specs.Table.{State, keeps, takes, gives, Allows}
-use Rattle.atomic_table.proofs.Lists.{at_set, at_snoc, set_here, set_again}
+use Rattle.atomic_table.proofs.Lists.{set_here, set_again}
 use Rattle.ms_base.specs.declared.kind.Space.{Space}
 use Rattle.ms_base.specs.declared.kind.Space.TheVariants.{NonClass, Class}
-use Rattle.ms_base.specs.State.{Limits}
 use Rattle.ms_pool.specs.Tallies.{Tallies, one_more}
 use Rattle.ms_pool.specs.Ledger.{Ledger, opened_in}
 use Rattle.ms_shared.specs.declared.lock_rule.SeatView.{SeatView}
@@ -21,7 +20,8 @@ use Rattle.ms_shared.specs.declared.lock_rule.LockView.{LockView}
 use Rattle.ms_shared.specs.Entries.{times, once_given, refreshed, fresh}
 use Rattle.ms_shared.specs.SeatView.{TallyKind, commit_of_take, reserve_of_take, commit_of_grow, room_of_grow}
 use Rattle.ms_shared.specs.SeatView.{ids_of_open, tally_of, opened_by, IsKnown, raised_with, tallies_after, view_after}
-use Rattle.ms_shared.specs.LockRule.{IsLocked, Fits, Sat, has_pool, count_some, with_pool, Seizes, Moves, after}
+use Rattle.ms_shared.proofs.LoggedLemmas.{each_set, logged_kept, logged_more}
+use Rattle.ms_shared.specs.LockRule.{IsLocked, IsLogged, Fits, Sat, has_pool, count_some, with_pool, Seizes, Moves, after}
 use Rattle.ms_shared.specs.LockRule.{some_pool, taken_of}
 use Rattle.ms_shared.proofs.TotalLemmas.{total-set, total_at, total_two, total_kept, mod_shift, mod_in}
 use Rattle.ms_shared.proofs.RecordLemmas.{times-append, times-refreshed, times_fresh, records_append, refreshed_records}
@@ -30,25 +30,12 @@ use Rattle.ms_shared.proofs.RecordLemmas.{fresh_records, same_records, once_give
 pub some_apart : (pool : Ledger) → None ≡ Some pool → ⊥
 some_apart pool is = let one : ◌≡◌ {A = ℕ} 0 1 = ap count_some is in absurd (omega arith)
 
--- What holds of each view, where one is replaced or one comes.
-pub each_set : (P : LockView → Type 0) (views : List LockView) (seat : ℕ) (view : LockView) → P view
-    → ((other : ℕ) (w : LockView) → get_elem? views other ≡ some w → other ≢ seat → P w)
-    → (other : ℕ) (w : LockView) → get_elem? (set views seat view) other ≡ some w → P w
-each_set P views seat view here others other w at =
-    ⊎_elim (λ t. subst P t.1 here) (λ t. others other w t.1 t.0) (at_set views seat other view w at)
-
-pub each_snoc : (P : LockView → Type 0) (views : List LockView) (view : LockView) → P view
-    → ((other : ℕ) (w : LockView) → get_elem? views other ≡ some w → P w)
-    → (other : ℕ) (w : LockView) → get_elem? (views ++ view ∷ []) other ≡ some w → P w
-each_snoc P views view here others other w at =
-    ⊎_elim (λ t. others other w t) (λ t. subst P t here) (at_snoc views view w other at)
-
 -- A view's pool is the one that there is.
 abbrev pub HasOnly : Ledger → LockView → Type 0
 HasOnly pool view = (taken : Ledger) → view.taken ≡ Some taken → taken ≡ pool
 
-module _ (made : ℕ) (limits : Limits) where
-  known_in : (state : State (Option Ledger) LockView) (rule : IsLocked made limits state) (id : ℕ) (view : LockView)
+module _ (made : ℕ) (first : Ledger) where
+  known_in : (state : State (Option Ledger) LockView) (rule : IsLocked made first state) (id : ℕ) (view : LockView)
       → 0 < view.parts
       → get_elem? state.views id ≡ some view → IsKnown rule.pool view.knows
   known_in state rule id view live at =
@@ -61,10 +48,10 @@ module _ (made : ℕ) (limits : Limits) where
 
   module _ (id : ℕ) (view : LockView) (live : 0 < view.parts) (idle : view.taken ≡ None) where
     -- The lock is free, and the seat takes the pool.
-    taken_now : (state : State (Option Ledger) LockView) (rule : IsLocked made limits state)
+    taken_now : (state : State (Option Ledger) LockView) (rule : IsLocked made first state)
         → get_elem? state.views id ≡ some view
         → slice_index state.words 0 ≡ 0
-        → IsLocked made limits
+        → IsLocked made first
         (record {
           words = set state.words 0 1;
           homes = set state.homes 0 none;
@@ -76,6 +63,7 @@ module _ (made : ℕ) (limits : Limits) where
         let total = total-set has_pool state.views id view new at in
         let none_before : has_pool view ≡ 0 = ap count_some idle in let some_now : has_pool new ≡ 1 = refl in record {
           pool = rule.pool;
+          history = logged_kept made first rule.pool state.views id view new refl at rule.history;
           word = length-set state.words 0 1 ∙ rule.word;
           bit = omega arith;
           home = length-set state.homes 0 none ∙ rule.home;
@@ -99,9 +87,9 @@ module _ (made : ℕ) (limits : Limits) where
         }
 
     -- The lock isn't free, and nothing changes.
-    same_now : (state : State (Option Ledger) LockView) → IsLocked made limits state
+    same_now : (state : State (Option Ledger) LockView) → IsLocked made first state
         → get_elem? state.views id ≡ some view
-        → IsLocked made limits
+        → IsLocked made first
         (record {
           words = set state.words 0 (slice_index state.words 0);
           homes = state.homes;
@@ -110,10 +98,11 @@ module _ (made : ℕ) (limits : Limits) where
     same_now state rule at =
         let long = rule.word in let one = get_or-set_same state.words 0 (slice_index state.words 0) 0 (omega arith) in
         let locks = rule.lock in let bit_is = rule.bit in
-        subst (λ (views : List LockView). IsLocked made limits
+        subst (λ (views : List LockView). IsLocked made first
         (record { words = set state.words 0 (slice_index state.words 0); homes = state.homes; views = views }))
         (sym (set_again state.views id view at)) (record {
           pool = rule.pool;
+          history = rule.history;
           word = length-set state.words 0 _ ∙ rule.word;
           bit = omega arith;
           home = rule.home;
@@ -134,7 +123,7 @@ module _ (made : ℕ) (limits : Limits) where
     misses : (n : ℕ) → n ≢ 0 → n ≡ either (n == 0) 1 n
     misses n differs = rw (ne_eqb n 0 differs) refl
 
-    tries_here : (slots : ℕ) → Allows (IsLocked made limits) slots id (view, []) 0 (λ n. either (n == 0) 1 n)
+    tries_here : (slots : ℕ) → Allows (IsLocked made first) slots id (view, []) 0 (λ n. either (n == 0) 1 n)
         (λ found new. (found ≡ 0 → Seizes (view, []) new) × (found ≢ 0 → new ≡ (view, [])))
     tries_here slots state rule wide at fits =
         dite (ℕ_discrete (slice_index state.words 0) 0)
@@ -142,7 +131,7 @@ module _ (made : ℕ) (limits : Limits) where
           with_pool view rule.pool,
           takes 0 (Some rule.pool),
           rule.free free,
-          subst (λ n. IsLocked made limits
+          subst (λ n. IsLocked made first
               (record {
                 words = set state.words 0 n;
                 homes = set state.homes 0 none;
@@ -155,29 +144,29 @@ module _ (made : ℕ) (limits : Limits) where
           view,
           keeps,
           tt,
-          subst (λ n. IsLocked made limits
+          subst (λ n. IsLocked made first
               (record { words = set state.words 0 n; homes = state.homes; views = set state.views id view }))
               (misses (slice_index state.words 0) held) (same_now state rule at),
           ((λ zero_now. absurd (held zero_now)), (λ differs. refl)),
         ))
 
 -- The same for a seat's whole state.
-pub tries_at : (made : ℕ) (limits : Limits) (slots id : ℕ) (me : Sat) → 0 < me.0.parts → me.0.taken ≡ None → me.1 ≡ []
-    → Allows (IsLocked made limits) slots id me 0 (λ n. either (n == 0) 1 n)
+pub tries_at : (made : ℕ) (first : Ledger) (slots id : ℕ) (me : Sat) → 0 < me.0.parts → me.0.taken ≡ None → me.1 ≡ []
+    → Allows (IsLocked made first) slots id me 0 (λ n. either (n == 0) 1 n)
     (λ found new. (found ≡ 0 → Seizes me new) × (found ≢ 0 → new ≡ me))
-tries_at made limits slots id me live idle none_taken =
-    subst (λ (taken : List (ℕ × Option Ledger)). Allows (IsLocked made limits) slots id (me.0, taken) 0
+tries_at made first slots id me live idle none_taken =
+    subst (λ (taken : List (ℕ × Option Ledger)). Allows (IsLocked made first) slots id (me.0, taken) 0
     (λ n. either (n == 0) 1 n)
     (λ found new. (found ≡ 0 → Seizes (me.0, taken) new) × (found ≢ 0 → new ≡ (me.0, taken))))
-    (sym none_taken) (tries_here made limits id me.0 live idle slots)
+    (sym none_taken) (tries_here made first id me.0 live idle slots)
 
 -- Where the seat has the pool, no other view serves an owner that its own does.
-apart_from : (made : ℕ) (limits : Limits) (state : State (Option Ledger) LockView) (rule : IsLocked made limits state)
+apart_from : (made : ℕ) (first : Ledger) (state : State (Option Ledger) LockView) (rule : IsLocked made first state)
     (id other : ℕ) (view w : LockView)
     → other ≢ id → get_elem? state.views id ≡ some view
     → get_elem? state.views other ≡ some w → (owner : ℕ) → 0 < times owner w.knows.served
     → times owner view.knows.served ≡ 0
-apart_from made limits state rule id other view w differs at at' owner there =
+apart_from made first state rule id other view w differs at at' owner there =
     let two = total_two (λ (v : LockView). times owner v.knows.served) state.views other id w view differs at' at in
     let once = rule.once owner in let most = once_given-le owner rule.pool.given in omega arith
 
@@ -237,9 +226,9 @@ has_one pool = (0, Some pool) ∷ []
 abbrev with_none : LockView → Sat
 with_none view = (view, [])
 
-module _ (made : ℕ) (limits : Limits) (id : ℕ) (view : LockView) (live : 0 < view.parts) (old new : Ledger)
-    (has : view.taken ≡ Some old) (moves : Moves view.knows old new) where
-  once_after : (owner : ℕ) (state : State (Option Ledger) LockView) (rule : IsLocked made limits state)
+module _ (made : ℕ) (first : Ledger) (id : ℕ) (view : LockView) (live : 0 < view.parts)
+    (numbered : 0 < length view.strands) (old new : Ledger) (has : view.taken ≡ Some old) (moves : Moves view.knows old new) where
+  once_after : (owner : ℕ) (state : State (Option Ledger) LockView) (rule : IsLocked made first state)
       → get_elem? state.views id ≡ some view → old ≡ rule.pool
       → sum_by (λ (v : LockView). times owner v.knows.served) (set state.views id (after view old new))
       ≡ once_given owner new.given
@@ -256,7 +245,7 @@ module _ (made : ℕ) (limits : Limits) (id : ℕ) (view : LockView) (live : 0 <
       ap (λ (pool : Ledger). once_given owner pool.given) is in
       let all = rule.once owner in omega arith
 
-  opened_then : (space : Space) (state : State (Option Ledger) LockView) (rule : IsLocked made limits state)
+  opened_then : (space : Space) (state : State (Option Ledger) LockView) (rule : IsLocked made first state)
       → get_elem? state.views id ≡ some view → old ≡ rule.pool
       → sum_by (λ (v : LockView). opened_by v.knows space) (set state.views id (after view old new))
       ≡ opened_in new space
@@ -266,7 +255,7 @@ module _ (made : ℕ) (limits : Limits) (id : ℕ) (view : LockView) (live : 0 <
       let was : opened_in old space ≡ opened_in rule.pool space = ap (λ (pool : Ledger). opened_in pool space) is in
       let all = rule.opened space in omega arith
 
-  tallies_then : (kind : TallyKind) (state : State (Option Ledger) LockView) (rule : IsLocked made limits state)
+  tallies_then : (kind : TallyKind) (state : State (Option Ledger) LockView) (rule : IsLocked made first state)
       → get_elem? state.views id ≡ some view → old ≡ rule.pool
       → tally_of kind new.tallies
       ≡ sum_by (λ (v : LockView). tally_of kind v.knows.tallies) (set state.views id (after view old new)) % 2 ^ 64
@@ -283,9 +272,9 @@ module _ (made : ℕ) (limits : Limits) (id : ℕ) (view : LockView) (live : 0 <
       (moves.tallies kind))
 
   -- The seat puts the pool back.
-  put_back_now : (state : State (Option Ledger) LockView) (rule : IsLocked made limits state)
+  put_back_now : (state : State (Option Ledger) LockView) (rule : IsLocked made first state)
       → get_elem? state.views id ≡ some view
-      → IsLocked made limits
+      → IsLocked made first
       (record {
         words = set state.words 0 0;
         homes = set state.homes 0 (some (Some new));
@@ -303,6 +292,8 @@ module _ (made : ℕ) (limits : Limits) (id : ℕ) (view : LockView) (live : 0 <
       λ seat w t. subst (λ (pool : Ledger). Fits pool w) (sym is) (rule.fits seat w t) in
       record {
         pool = new;
+        history = logged_more made first old new state.views id view numbered at
+            (subst (λ (pool : Ledger). IsLogged made first pool state.views) (sym is) rule.history);
         word = length-set state.words 0 0 ∙ rule.word;
         bit = omega arith;
         home = length-set state.homes 0 (some (Some new)) ∙ rule.home;
@@ -311,7 +302,7 @@ module _ (made : ℕ) (limits : Limits) (id : ℕ) (view : LockView) (live : 0 <
         out = λ seat w taken t q. absurd (nobody_has (set state.views id next) seat w taken nobody t q);
         fits = each_set (Fits new) state.views id next (own_fits old new view moves live (old_fits id view at))
             (λ seat w t differs. others_fit old new view w moves
-            (apart_from made limits state rule id seat view w differs at t) (old_fits seat w t));
+            (apart_from made first state rule id seat view w differs at t) (old_fits seat w t));
         once = λ owner. once_after owner state rule at is;
         opened = λ space. opened_then space state rule at is;
         tallies = λ kind. tallies_then kind state rule at is;
@@ -319,7 +310,7 @@ module _ (made : ℕ) (limits : Limits) (id : ℕ) (view : LockView) (live : 0 <
         parts = total_kept (λ (v : LockView). v.parts) state.views id view next refl at ∙ rule.parts;
       }
 
-  lets_go : (slots : ℕ) → Allows (IsLocked made limits) slots id (view, has_one new) 0 (λ _. 0)
+  lets_go : (slots : ℕ) → Allows (IsLocked made first) slots id (view, has_one new) 0 (λ _. 0)
       (λ _ n. (next : Ledger) → has_one new ≡ has_one next → n ≡ with_none (after view old next))
   lets_go slots state rule wide at fits = (
     after view old new,
@@ -334,12 +325,12 @@ module _ (made : ℕ) (limits : Limits) (id : ℕ) (view : LockView) (live : 0 <
       first_of [] = None
       first_of (x ∷ xs) = x.1
 
-pub lets_go_at : (made : ℕ) (limits : Limits) (slots id : ℕ) (me : Sat) (new : Ledger) → 0 < me.0.parts
-    → me.0.taken ≡ Some (taken_of me.0)
+pub lets_go_at : (made : ℕ) (first : Ledger) (slots id : ℕ) (me : Sat) (new : Ledger) → 0 < me.0.parts
+    → 0 < length me.0.strands → me.0.taken ≡ Some (taken_of me.0)
     → Moves me.0.knows (taken_of me.0) new → me.1 ≡ has_one new
-    → Allows (IsLocked made limits) slots id me 0 (λ _. 0)
+    → Allows (IsLocked made first) slots id me 0 (λ _. 0)
     (λ _ n. (next : Ledger) → me.1 ≡ has_one next → n ≡ with_none (after me.0 (taken_of me.0) next))
-lets_go_at made limits slots id me new live has moves one_taken =
-    subst (λ (taken : List (ℕ × Option Ledger)). Allows (IsLocked made limits) slots id (me.0, taken) 0 (λ _. 0)
+lets_go_at made first slots id me new live numbered has moves one_taken =
+    subst (λ (taken : List (ℕ × Option Ledger)). Allows (IsLocked made first) slots id (me.0, taken) 0 (λ _. 0)
     (λ _ n. (next : Ledger) → taken ≡ has_one next → n ≡ with_none (after me.0 (taken_of me.0) next)))
-    (sym one_taken) (lets_go made limits id me.0 live (taken_of me.0) new has moves slots)
+    (sym one_taken) (lets_go made first id me.0 live numbered (taken_of me.0) new has moves slots)

@@ -1,6 +1,7 @@
 -- Cutting and joining seats keep the rule of the lock, and it holds of a new lock. For `new`, `hand`
 -- and `into_pool`.
-use Rattle.std.proofs.Common.{◌≡◌, ℕ, ◌+◌, ◌%◌, ◌^◌, ◌<◌, [], ◌∷◌, set, sym, refl, ap, ◌∙◌, arith, zero-add, Some, None}
+use Rattle.std.proofs.Common.{◌≡◌, ℕ, ◌+◌, ◌-◌, ◌%◌, ◌^◌, ◌<◌, [], ◌∷◌, ◌++◌, set, sym, refl, ap, ◌∙◌, arith, zero-add, Some, None}
+use Rattle.std.proofs.lemmas.List.{append-nil}
 use mathlib.Core.Option.{some, some-ne-none}
 use lib.ListN.{get_elem?}
 use Rattle.atomic_table.specs.Table.{Splits, Joins, opening}
@@ -18,16 +19,19 @@ use Rattle.ms_shared.specs.SeatView.{TallyKind, commit_of_take, reserve_of_take,
 use Rattle.ms_shared.specs.SeatView.{ids_of_open, tally_of, tallies_of_both, opened_by, knows_limits, knows_all}
 use Rattle.ms_shared.specs.SeatView.{knows_both}
 use Rattle.ms_shared.specs.LockRule.{IsLocked, Fits, IsIdle, has_pool, count_some, first_view, blank, both, nothing}
-use Rattle.ms_shared.specs.LockRule.{no_limits}
+use Rattle.ms_shared.specs.LockRule.{no_limits, own_seat, other_seats}
 use Rattle.ms_shared.proofs.TotalLemmas.{total_cut, total_joined}
 use Rattle.ms_shared.proofs.RecordLemmas.{times-append, records_append, times_fresh, fresh_records, once_given-none}
-use Rattle.ms_shared.proofs.LockLemmas.{HasOnly, each_set, each_snoc, some_apart}
+use Rattle.ms_shared.proofs.StrandLemmas.{front_later}
+use Rattle.ms_shared.proofs.LoggedLemmas.{each_set, each_snoc, logged_cut, logged_joined, logged_first}
+use Rattle.ms_shared.proofs.LockLemmas.{HasOnly, some_apart}
 
 -- A view cut in two: between them they have all of it.
 pub record Cuts (view left right : LockView) : Type 0 where
   pub parts : left.parts + right.parts ≡ view.parts
   pub some_left : 0 < left.parts
   pub some_right : 0 < right.parts
+  pub strands : left.strands ++ right.strands ≡ view.strands
   pub times : (owner : ℕ) → times owner left.knows.served + times owner right.knows.served
       ≡ times owner view.knows.served
   pub records : (pool : Ledger) → AreRecords pool view.knows.served
@@ -40,9 +44,9 @@ pub record Cuts (view left right : LockView) : Type 0 where
   pub taken_left : left.taken ≡ view.taken
   pub taken_right : right.taken ≡ None
 
-pub cut : (made : ℕ) (limits : Limits) (id : ℕ) (view left right : LockView) → Cuts view left right
-    → Splits (IsLocked made limits) id view left right
-cut made limits id view left right cuts state rule at =
+pub cut : (made : ℕ) (first : Ledger) (id : ℕ) (view left right : LockView) → Cuts view left right
+    → Splits (IsLocked made first) id view left right
+cut made first id view left right cuts state rule at =
     let fits = rule.fits id view at in let some_left = cuts.some_left in let some_right = cuts.some_right in let parts =
     cuts.parts in
     let live : 0 < view.parts = omega arith in let records = cuts.records rule.pool fits.served in
@@ -62,6 +66,7 @@ cut made limits id view left right cuts state rule at =
     } in
     record {
       pool = rule.pool;
+      history = logged_cut made first rule.pool state.views id view left right cuts.strands at rule.history;
       word = rule.word;
       bit = rule.bit;
       home = rule.home;
@@ -111,12 +116,18 @@ none_opened Class limits = refl
 
 nothing_is_idle : IsIdle nothing
 nothing_is_idle =
-    record { served = refl; opened = λ space. none_opened space no_limits; tallies = no_tally; taken = refl }
+    record {
+      strands = refl;
+      served = refl;
+      opened = λ space. none_opened space no_limits;
+      tallies = no_tally;
+      taken = refl;
+    }
 
-pub join : (made : ℕ) (limits : Limits) (id other : ℕ) (view w : LockView) → 0 < view.parts → view.taken ≡ None
+pub join : (made : ℕ) (first : Ledger) (id other : ℕ) (view w : LockView) → 0 < view.parts → view.taken ≡ None
     → w.taken ≡ None
-    → Joins (IsLocked made limits) id view other w (both view w) nothing
-join made limits id other view w live view_free w_free state rule at apart at' =
+    → Joins (IsLocked made first) id view other w (both view w) nothing
+join made first id other view w live view_free w_free state rule at apart at' =
     let new = both view w in let views = set state.views id new in
     let fits = rule.fits id view at in
     let fits' : Fits rule.pool w = rule.fits other w (sym (set_else state.views id other new apart) ∙ at') in
@@ -128,6 +139,7 @@ join made limits id other view w live view_free w_free state rule at apart at' =
       idle = λ z. absurd (omega arith);
     } in record {
       pool = rule.pool;
+      history = logged_joined made first rule.pool state.views id other view w new nothing refl refl at apart at' rule.history;
       word = rule.word;
       bit = rule.bit;
       home = rule.home;
@@ -165,6 +177,7 @@ cuts_blank view left right parts some_left some_right = record {
   parts = parts;
   some_left = some_left;
   some_right = some_right;
+  strands = append-nil view.strands;
   times = λ owner. omega arith;
   records = λ pool all. (all, tt);
   opened = λ space. let zero_rest = none_opened space view.knows.limits in omega arith;
@@ -174,6 +187,24 @@ cuts_blank view left right parts some_left some_right = record {
   taken_left = refl;
   taken_right = refl;
 }
+
+-- The first number is cut off with all that the view knows, and the others stay together.
+pub cuts_seats : (view : LockView) → 2 < view.parts → Cuts view (own_seat view) (other_seats view)
+cuts_seats view more =
+    let rest = cuts_blank view 2 (view.parts - 2) (omega arith) (omega arith) (omega arith) in record {
+      parts = rest.parts;
+      some_left = rest.some_left;
+      some_right = rest.some_right;
+      strands = front_later view.strands;
+      times = rest.times;
+      records = rest.records;
+      opened = rest.opened;
+      tallies = rest.tallies;
+      limits_left = rest.limits_left;
+      limits_right = rest.limits_right;
+      taken_left = rest.taken_left;
+      taken_right = rest.taken_right;
+    }
 
 not_there : (seat : ℕ) (view : LockView) → get_elem? {A = LockView} [] seat ≡ some view → ⊥
 not_there seat view at = some-ne-none view (sym at)
@@ -194,10 +225,11 @@ all_opened Class pool = refl
 
 -- The rule holds of a new lock.
 pub begins : (made : ℕ) (pool : Ledger) → 0 < made → AreTallies pool.tallies
-    → IsLocked made pool.limits (opening (0 ∷ []) (Some pool ∷ []) (first_view made pool))
+    → IsLocked made pool (opening (0 ∷ []) (Some pool ∷ []) (first_view made pool))
 begins made pool some_seat fit =
     let view = first_view made pool in record {
       pool = pool;
+      history = logged_first made pool;
       word = refl;
       bit = omega arith;
       home = refl;

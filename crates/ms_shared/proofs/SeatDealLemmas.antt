@@ -1,76 +1,112 @@
 -- The seats of a new lock, cut off one by one: the first knows all of the pool. For `new`.
-use Rattle.std.proofs.Common.{◌≡◌, ℕ, ◌+◌, ◌-◌, ◌*◌, ◌<◌, ◌≤◌, List, [], ◌∷◌, ◌++◌, replicate, ap, ◌∙◌, arith, None}
-use Rattle.std.proofs.lemmas.List.{replicate_more}
+use Rattle.std.proofs.Common.{◌≡◌, ℕ, zero, suc, ◌+◌, ◌-◌, ◌*◌, ◌<◌, ◌≤◌, List, [], ◌∷◌, ◌++◌, length, ap, ◌∙◌}
+use Rattle.std.proofs.Common.{arith, None, refl, sym, subst, add-zero}
 use Rattle.atomic_table.specs.Seated.{TableId}
+use Rattle.ms_base.specs.State.{Limits}
 use Rattle.ms_pool.specs.Ledger.{Ledger}
 use Rattle.ms_shared.specs.declared.lock_rule.SeatView.{SeatView}
 use Rattle.ms_shared.specs.declared.lock_rule.LockView.{LockView}
-use Rattle.ms_shared.specs.SeatView.{SeatState, knows_all, knows_limits, new_seats}
+use Rattle.ms_shared.specs.History.{Strand, first_strand, later, IsOne, no_events}
+use Rattle.ms_shared.specs.SeatView.{SeatState, knows_all, knows_limits, seat_with, seat_of, spare_seats, new_seats}
 use Rattle.ms_shared.specs.LockRule.{first_view, other_seats}
 
-abbrev pub seat_of : TableId → SeatView → SeatState
-seat_of id view = record { id = id; knows = view }
-
--- All seats but the last n are cut off, and the rest stands for those.
+-- All seats but the last ones are cut off, and the rest stands for those.
 pub record IsDealing (id : TableId) (made n : ℕ) (pool : Ledger) (given : List SeatState) (rest : LockView) : Type 0
   where
-    pub seats : given ++ seat_of id rest.knows ∷ [] ≡ new_seats id n pool
+    pub done : ℕ
+    pub left : ℕ
+    pub count : suc done ≡ n
+    pub all : done + suc left ≡ made
+    pub seats : given ++ seat_of id rest ∷ [] ≡ new_seats id n pool
+    pub strands : rest.strands ≡ no_events done (suc left)
     pub limits : rest.knows.limits ≡ pool.limits
     pub parts : rest.parts + n * 2 ≡ made * 2 + 2
     pub free : rest.taken ≡ None
-    pub some : 1 ≤ n
-    pub most : n ≤ made
 
 pub deals_begin : (id : TableId) (made : ℕ) (pool : Ledger) (given : List SeatState) (rest : LockView) → 1 ≤ made
     → given ≡ []
     → rest ≡ first_view made pool → IsDealing id made 1 pool given rest
-deals_begin id made pool given rest some none is =
-    let parts : rest.parts ≡ made * 2 = ap (λ (v : LockView). v.parts) is in record {
-      seats = ap (λ (l : List SeatState). l ++ seat_of id rest.knows ∷ []) none
-          ∙ ap (λ (v : LockView). seat_of id v.knows ∷ []) is;
+deals_begin id zero pool given rest some none is = absurd (omega arith)
+deals_begin id (suc left) pool given rest some none is =
+    let parts : rest.parts ≡ suc left * 2 = ap (λ (v : LockView). v.parts) is in record {
+      done = 0;
+      left = left;
+      count = refl;
+      all = omega arith;
+      seats = ap (λ (l : List SeatState). l ++ seat_of id rest ∷ []) none ∙ ap (λ (v : LockView). seat_of id v ∷ []) is;
+      strands = ap (λ (v : LockView). v.strands) is;
       limits = ap (λ (v : LockView). v.knows.limits) is;
       parts = omega arith;
       free = ap (λ (v : LockView). v.taken) is;
-      some = omega arith;
-      most = some;
     }
 
 -- A seat of the table as callers see it.
-pub seen_as : (id id' : TableId) (knows knows' : SeatView) → id' ≡ id → knows' ≡ knows
-    → seat_of id' knows' ≡ seat_of id knows
-seen_as id id' knows knows' same same' = ap (λ (i : TableId). seat_of i knows') same ∙ ap (seat_of id) same'
+pub seen_as : (id id' : TableId) (strand : Strand) (knows : SeatView) (view : LockView) → id' ≡ id
+    → first_strand view.strands ≡ strand → view.knows ≡ knows → seat_of id' view ≡ seat_with id strand knows
+seen_as id id' strand knows view same same' same'' =
+    ap (λ (i : TableId). seat_with i (first_strand view.strands) view.knows) same
+    ∙ ap (λ (s : Strand). seat_with id s view.knows) same' ∙ ap (seat_with id strand) same''
 
-one_more_seat : (id : TableId) (n : ℕ) (pool : Ledger) → 1 ≤ n
-    → new_seats id n pool ++ seat_of id (knows_limits pool.limits) ∷ [] ≡ new_seats id (n + 1) pool
-one_more_seat id n pool some =
-    let spare = seat_of id (knows_limits pool.limits) in let count : n - 1 + 1 ≡ n + 1 - 1 = omega arith in
-    ap (λ (l : List SeatState). seat_of id (knows_all pool) ∷ l)
-    (replicate_more (n - 1) spare ∙ ap (λ (k : ℕ). replicate k spare) count)
+more_seats : (id : TableId) (limits : Limits) (first n : ℕ)
+    → spare_seats id limits first n ++ seat_with id (first + n, []) (knows_limits limits) ∷ []
+    ≡ spare_seats id limits first (suc n)
+more_seats id limits first zero = ap (λ k. seat_with id (k, []) (knows_limits limits) ∷ []) (add-zero first)
+more_seats id limits first (suc n) =
+    let same : first + suc n ≡ suc first + n = omega arith in
+    ap (λ (l : List SeatState). seat_with id (first, []) (knows_limits limits) ∷ l)
+    (ap (λ k. spare_seats id limits (suc first) n ++ seat_with id (k, []) (knows_limits limits) ∷ []) same
+    ∙ more_seats id limits (suc first) n)
+
+one_more_seat : (id : TableId) (done : ℕ) (pool : Ledger)
+    → new_seats id (suc done) pool ++ seat_with id (suc done, []) (knows_limits pool.limits) ∷ []
+    ≡ new_seats id (suc (suc done)) pool
+one_more_seat id done pool =
+    let same : suc done ≡ 1 + done = omega arith in let less : suc done - 1 ≡ done = omega arith in
+    let most : suc done ≡ suc (suc done) - 1 = omega arith in
+    ap (λ (l : List SeatState). seat_with id (0, []) (knows_all pool) ∷ l)
+    (ap (λ n. spare_seats id pool.limits 1 n ++ seat_with id (suc done, []) (knows_limits pool.limits) ∷ []) less
+    ∙ ap (λ k. spare_seats id pool.limits 1 done ++ seat_with id (k, []) (knows_limits pool.limits) ∷ []) same
+    ∙ more_seats id pool.limits 1 done ∙ ap (spare_seats id pool.limits 1) most)
 
 pub deals_more : (id : TableId) (made n : ℕ) (pool : Ledger) (old new : List SeatState) (rest next : LockView)
     (seat : SeatState)
     → IsDealing id made n pool old rest → n < made
-    → new ≡ old ++ seat ∷ [] → seat ≡ seat_of id rest.knows → next ≡ other_seats rest
+    → new ≡ old ++ seat ∷ [] → seat ≡ seat_of id rest → next ≡ other_seats rest
     → IsDealing id made (n + 1) pool new next
-deals_more id made n pool old new rest next seat so_far more is its cut =
-    let parts = so_far.parts in let next_parts : next.parts ≡ rest.parts - 2 = ap (λ (v : LockView). v.parts) cut in
-    let knows : next.knows ≡ knows_limits pool.limits =
-    ap (λ (v : LockView). v.knows) cut ∙ ap knows_limits so_far.limits in record {
-      seats = ap (λ (l : List SeatState). l ++ seat_of id next.knows ∷ [])
-          (is ∙ ap (λ (s : SeatState). old ++ s ∷ []) its ∙ so_far.seats)
-          ∙ ap (λ (view : SeatView). new_seats id n pool ++ seat_of id view ∷ []) knows
-          ∙ one_more_seat id n pool so_far.some;
-      limits = ap (λ (view : SeatView). view.limits) knows;
-      parts = omega arith;
-      free = ap (λ (v : LockView). v.taken) cut;
-      some = omega arith;
-      most = omega arith;
-    }
+deals_more id made n pool old new rest next seat so_far more is its cut = go so_far.left so_far.all so_far.strands
+  where
+    go : (left : ℕ) → so_far.done + suc left ≡ made → rest.strands ≡ no_events so_far.done (suc left)
+        → IsDealing id made (n + 1) pool new next
+    go zero all strands = let count = so_far.count in absurd (omega arith)
+    go (suc left) all strands =
+        let count = so_far.count in let parts = so_far.parts in
+        let next_parts : next.parts ≡ rest.parts - 2 = ap (λ (v : LockView). v.parts) cut in
+        let knows : next.knows ≡ knows_limits pool.limits =
+        ap (λ (v : LockView). v.knows) cut ∙ ap knows_limits so_far.limits in
+        let numbers : next.strands ≡ no_events (suc so_far.done) (suc left) =
+        ap (λ (v : LockView). v.strands) cut ∙ ap later strands in
+        let above : suc (suc so_far.done) ≡ n + 1 = omega arith in record {
+          done = suc so_far.done;
+          left = left;
+          count = omega arith;
+          all = omega arith;
+          seats = ap (λ (l : List SeatState). l ++ seat_of id next ∷ [])
+              (is ∙ ap (λ (s : SeatState). old ++ s ∷ []) its ∙ so_far.seats)
+              ∙ ap (λ (s : SeatState). new_seats id n pool ++ s ∷ [])
+              (seen_as id id (suc so_far.done, []) (knows_limits pool.limits) next refl (ap first_strand numbers) knows)
+              ∙ ap (λ (k : ℕ). new_seats id k pool ++ seat_with id (suc so_far.done, []) (knows_limits pool.limits) ∷ [])
+              (sym count)
+              ∙ one_more_seat id so_far.done pool ∙ ap (λ (k : ℕ). new_seats id k pool) above;
+          strands = numbers;
+          limits = ap (λ (view : SeatView). view.limits) knows;
+          parts = omega arith;
+          free = ap (λ (v : LockView). v.taken) cut;
+        }
 
 pub deals_end : (id : TableId) (made n : ℕ) (pool : Ledger) (old new : List SeatState) (rest : LockView)
     (seat : SeatState)
     → IsDealing id made n pool old rest → made ≤ n
-    → new ≡ old ++ seat ∷ [] → seat ≡ seat_of id rest.knows → new ≡ new_seats id made pool
+    → new ≡ old ++ seat ∷ [] → seat ≡ seat_of id rest → new ≡ new_seats id made pool
 deals_end id made n pool old new rest seat so_far all is its =
-    let most = so_far.most in let same : n ≡ made = omega arith in
+    let count = so_far.count in let sum = so_far.all in let same : n ≡ made = omega arith in
     is ∙ ap (λ (s : SeatState). old ++ s ∷ []) its ∙ so_far.seats ∙ ap (λ (k : ℕ). new_seats id k pool) same

@@ -1,6 +1,7 @@
 -- What a seat of the lock knows of the pool, and how callers see seats and lock (this project's
 -- choice).
-use Rattle.std.specs.Prelude.{◌≡◌, ◌≢◌, ℕ, ◌+◌, ◌-◌, ◌%◌, ◌^◌, ◌≤◌, ◌==◌, cond, List, [], ◌∷◌, ◌++◌, replicate}
+use Rattle.std.specs.Prelude.{◌≡◌, ◌≢◌, ℕ, zero, suc, ◌+◌, ◌-◌, ◌%◌, ◌^◌, ◌<◌, ◌≤◌, ◌==◌, cond, List, [], ◌∷◌, ◌++◌}
+use Rattle.std.specs.Prelude.{length}
 use Rattle.std.specs.List.{All, sum_by}
 use Rattle.std.specs.List.Sorted.{IsPermutation}
 use Rattle.atomic_table.specs.Seated.{TableId}
@@ -11,8 +12,10 @@ use Rattle.ms_base.specs.State.{Limits}
 use Rattle.ms_pool.specs.Account.{AccountState}
 use Rattle.ms_pool.specs.Tallies.{Tallies, no_tallies, one_more}
 use Rattle.ms_pool.specs.Ledger.{Ledger, IsSoundLedger, opened_in}
-use Rattle.ms_shared.specs.Entries.{Has, AreRecords, times, once_given, refreshed, fresh, only, all_but}
+use Rattle.ms_shared.specs.Entries.{Has, AreRecords, times, one_if, once_given, refreshed, fresh, only, all_but}
+use Rattle.ms_shared.specs.History.{Event, Logged, Strand, Chain, events_in, events_of, AreBelow, first_strand}
 use Rattle.ms_shared.specs.declared.lock_rule.SeatView.{SeatView}
+use Rattle.ms_shared.specs.declared.lock_rule.LockView.{LockView}
 
 -- The five tallies, each by its name.
 pub data TallyKind : Type 0 where
@@ -146,23 +149,36 @@ pub record HandsOn (from_old to_old : SeatView) (account : AccountState) (from_n
   pub counted : opened_by to_new account.space ≡ opened_by to_old account.space + 1
   pub from_counted : opened_by from_new account.space + 1 ≡ opened_by from_old account.space
 
--- A lock as its callers see it: which one it is, how many seats it was made with, and the limits of
--- its pool.
+-- A lock as its callers see it: which one it is, how many seats it was made with, and its pool as it
+-- was then.
 pub record LockState : Type 0 where
   pub id : TableId
   pub seats : ℕ
-  pub limits : Limits
+  pub first : Ledger
 
--- A seat: of which lock, and what it knows.
+-- A seat: of which lock, its number, its own events in their order, and what it knows.
 pub record SeatState : Type 0 where
   pub id : TableId
+  pub number : ℕ
+  pub events : List Event
   pub knows : SeatView
 
--- The seats of a new lock: the first knows all of the pool, the others know its limits alone.
+abbrev pub seat_with : TableId → Strand → SeatView → SeatState
+seat_with id strand knows = record { id = id; number = strand.0; events = strand.1; knows = knows }
+
+-- A seat of a lock, as its view says.
+abbrev pub seat_of : TableId → LockView → SeatState
+seat_of id view = seat_with id (first_strand view.strands) view.knows
+
+-- The seats of a new lock, numbered from 0 on, with no event: the first knows all of the pool, the
+-- others know its limits alone.
+abbrev pub spare_seats : TableId → Limits → ℕ → ℕ → List SeatState
+spare_seats id limits first zero = []
+spare_seats id limits first (suc n) =
+    seat_with id (first, []) (knows_limits limits) ∷ spare_seats id limits (suc first) n
+
 abbrev pub new_seats : TableId → ℕ → Ledger → List SeatState
-new_seats id made pool =
-    record { id = id; knows = knows_all pool }
-    ∷ replicate (made - 1) (record { id = id; knows = knows_limits pool.limits })
+new_seats id made pool = seat_with id (0, []) (knows_all pool) ∷ spare_seats id pool.limits 1 (made - 1)
 
 -- All seats of a lock and the pool that it gives out: the records that seats know are the pool's,
 -- each owner number given out is served by one seat, once, and counts and tallies are the sums of the
@@ -174,15 +190,27 @@ pub record Gathers (seats : List SeatState) (pool : Ledger) : Type 0 where
   pub tallies : (kind : TallyKind)
       → tally_of kind pool.tallies ≡ sum_by (λ seat. tally_of kind seat.knows.tallies) seats % 2 ^ 64
 
+-- All seats of a lock and the pool that it gives out: one history of events leads from the lock's first
+-- pool to this one. Each seat has just its own events of it, in their order, and each event is of one
+-- seat.
+pub record IsHistory (first : Ledger) (seats : List SeatState) (pool : Ledger) : Type 0 where
+  pub log : List Logged
+  pub chain : Chain first (events_in log) pool
+  pub numbered : AreBelow (length seats) log
+  pub own : All (λ seat. seat.events ≡ events_of seat.number log) seats
+  pub once : (number : ℕ) → number < length seats → sum_by (λ seat. one_if (seat.number == number)) seats ≡ 1
+
 -- A call over the lock is one event on the pool that the seat finds: by its relation the pool becomes
--- another, and the seat knows then what its records, counts and tallies have become.
+-- another. The event is the seat's last one, and the seat knows then what its records, counts and
+-- tallies have become.
 pub record OverLock (event : Ledger → Ledger → Type 0) (old new : SeatState) : Type 0 where
   pub before : Ledger
   pub after : Ledger
   pub sound : IsSoundLedger before
   pub known : IsKnown before old.knows
   pub called : event before after
-  pub left : new ≡ record old { knows = view_after before after old.knows }
+  pub left : new
+      ≡ record old { events = old.events ++ (before, after) ∷ []; knows = view_after before after old.knows }
 
 -- One tally raised by one.
 abbrev pub raise : TallyKind → Tallies → Tallies

@@ -6,7 +6,8 @@
 //!
 //! Kept true between any two steps: there is one pool, in the slot where the word is 0, and else
 //! with one seat. Each owner number that it gave out is served by one seat, once, with the pool's
-//! record of the owner; its open accounts and tallies are the sums of the seats'. Views, plays,
+//! record of the owner; its open accounts and tallies are the sums of the seats'. One history of
+//! events leads from the lock's first pool to it, of which each seat has just its own. Views, plays,
 //! cuts and joins have no bytes and do nothing when they run. Nothing here takes memory or waits.
 ghost use Rattle.ms_shared.specs.LockRule.{IsLocked, Tries, LetsGo, first_view, own_seat, other_seats, both, nothing};
 ghost use Rattle.ms_shared.specs.LockRule.{view_without, note_of, less_part, spare_part};
@@ -76,11 +77,14 @@ pub struct SeatView {
     pub limits: LimitsView,
 }
 
-/// The view of a seat: its parts of the right to know all, what it knows, and the pool while it
-/// has it. No value of it is made.
+/// The view of a seat: its parts of the right to know all, its own events, what it knows, and the
+/// pool while it has it. No value of it is made.
 pub struct LockView {
     /// Two for each seat that it stands for.
     pub parts: u64,
+    /// The numbers of these seats, each with the events that were made under it: the pool before
+    /// and after.
+    pub strands: LinkedList<(u64, LinkedList<(Pool, Pool)>)>,
     /// What the seat knows.
     pub knows: SeatView,
     /// The pool, from the moment in which it is taken until it is put back.
@@ -98,7 +102,7 @@ pub struct LockKey {
 pub struct Locked;
 
 impl TableRule<Option<Pool>, LockView, LockKey> for Locked {
-    ghost holds = { λ key. IsLocked key.made key.pool.value.limits };
+    ghost holds = { λ key. IsLocked key.made key.pool.value };
 
     ghost first = { λ key. first_view key.made key.pool.value };
 }

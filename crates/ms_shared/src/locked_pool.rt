@@ -32,16 +32,18 @@ pub struct LockedPool<'a, R: Wait> {
 }
 
 impl<'a, R: Wait> Model for LockedPool<'a, R> {
-    ghost use Rattle.ms_shared.specs.SeatView.{SeatState};
+    ghost use Rattle.ms_shared.specs.History.{IsOne};
+    ghost use Rattle.ms_shared.specs.SeatView.{SeatState, seat_of};
 
     ghost Value = { SeatState };
 
     ghost use Rattle.std.specs.Prelude.{◌≡◌, [], None};
 
-    ghost view = { λ pool. record { id = pool.seat.table_id; knows = pool.seat.me.0.knows } };
+    ghost view = { λ pool. seat_of pool.seat.table_id pool.seat.me.0 };
 
     ghost invariant = { λ pool. (pool.seat.table_id ≡ pool.shared.now.id) × (pool.seat.me.1 ≡ [])
-        × (pool.seat.me.0.parts ≡ 2) × (pool.seat.me.0.taken ≡ None) };
+        × (pool.seat.me.0.parts ≡ 2) × (pool.seat.me.0.taken ≡ None)
+        × IsOne pool.seat.me.0.strands };
 }
 
 impl SharedPool {

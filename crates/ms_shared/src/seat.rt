@@ -1,9 +1,9 @@
 //! A thread's right to call a pool behind a lock.
 //!
-//! A seat serves accounts, counts open ones and has tallies of refusals, all of which contracts
-//! alone see. Kept true: it has both of its parts, and neither slot nor pool. Nothing here takes
-//! memory or waits.
-ghost use Rattle.std.specs.Prelude.{◌≡◌, [], None};
+//! A seat has a number and its own events, serves accounts, counts open ones and has tallies of
+//! refusals, all of which contracts alone see. Kept true: it has both of its parts and one number,
+//! and neither slot nor pool. Nothing here takes memory or waits.
+ghost use Rattle.std.specs.Prelude.{◌≡◌, ◌∷◌, [], None};
 
 use crate::lock_rule::LockView;
 use atomic_table::Seat;
@@ -18,16 +18,17 @@ pub struct PoolSeat {
 }
 
 impl Model for PoolSeat {
-    ghost use Rattle.ms_shared.specs.SeatView.{SeatState};
+    ghost use Rattle.ms_shared.specs.History.{IsOne};
+    ghost use Rattle.ms_shared.specs.SeatView.{SeatState, seat_of};
 
     ghost Value = { SeatState };
 
     ghost use Rattle.std.specs.Prelude.{◌≡◌, [], None};
 
-    ghost view = { λ seat. record { id = seat.seat.table_id; knows = seat.seat.me.0.knows } };
+    ghost view = { λ seat. seat_of seat.seat.table_id seat.seat.me.0 };
 
     ghost invariant = { λ seat. (seat.seat.me.1 ≡ []) × (seat.seat.me.0.parts ≡ 2)
-        × (seat.seat.me.0.taken ≡ None) };
+        × (seat.seat.me.0.taken ≡ None) × IsOne seat.seat.me.0.strands };
 }
 
 impl PoolSeat {
@@ -35,6 +36,7 @@ impl PoolSeat {
     pub(crate) fn into_table_seat(self) -> Seat<Option<Pool>, LockView>
         ensures own { result.table_id ≡ self.id }
         ensures knows { result.me.0.knows ≡ self.knows }
+        ensures strands { result.me.0.strands ≡ (self.number, self.events) ∷ [] }
         ensures parts { result.me.0.parts ≡ 2 }
         ensures free { result.me.0.taken ≡ None }
         ensures slots { result.me.1 ≡ [] }

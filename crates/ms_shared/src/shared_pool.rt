@@ -10,11 +10,11 @@
 //! and the pool's open accounts and tallies are the sums of the seats'. `new` takes memory. What
 //! takes the lock tries its word again until it has the pool. This project's choice; HotSpot has
 //! Metaspace_lock.
-ghost use Rattle.std.specs.Prelude.{◌≡◌, ◌<◌, ◌≤◌, ◌↔◌, ◌∷◌, [], Some, None, IsOk, IfOk, IfErr, vec_len};
+ghost use Rattle.std.specs.Prelude.{◌≡◌, ◌<◌, ◌≤◌, ◌↔◌, ◌∷◌, [], Some, None, IsOk, IfOk, IfErr, vec_len, length};
 ghost use Rattle.std.specs.List.{All};
 ghost use Rattle.ms_pool.specs.Ledger.{IsSoundLedger};
-ghost use Rattle.ms_shared.specs.SeatView.{IsKnown, Gathers, ServesBy, HandsOn, opened_by, new_seats, without_account};
-ghost use Rattle.ms_shared.specs.SeatView.{with_account};
+ghost use Rattle.ms_shared.specs.SeatView.{IsKnown, Gathers, IsHistory, ServesBy, HandsOn, opened_by, new_seats};
+ghost use Rattle.ms_shared.specs.SeatView.{without_account, with_account};
 ghost use Rattle.ms_shared.specs.LockRule.{Moves, IsWhole, after, with_pool, taken_of, both, view_without, note_of};
 ghost use Rattle.ms_shared.specs.LockRule.{less_part, spare_part};
 
@@ -48,7 +48,7 @@ impl Model for SharedPool {
     ghost view = { λ lock. record {
       id = lock.table.shared.table_id;
       seats = lock.made;
-      limits = lock.table.shared.key.pool.value.limits;
+      first = lock.table.shared.key.pool.value;
     } };
 
     ghost invariant = { λ lock. (lock.table.shared.key.made ≡ lock.made)
@@ -57,10 +57,10 @@ impl Model for SharedPool {
 }
 
 impl SharedPool {
-    /// Puts a pool behind a lock and makes its seats, 1 to 8 of them. The first serves every owner
-    /// number that was given out, counts all open accounts and has the pool's tallies; the others
-    /// have nothing. Takes memory; where that is refused the pool is handed back. This project's
-    /// choice.
+    /// Puts a pool behind a lock and makes its seats, 1 to 8 of them, numbered from 0 on and with no
+    /// event. The first serves every owner number that was given out, counts all open accounts and
+    /// has the pool's tallies; the others have nothing. Takes memory; where that is refused the pool
+    /// is handed back. This project's choice.
     pub fn new(
         alloc: Global,
         pool: Pool,
@@ -69,7 +69,7 @@ impl SharedPool {
         requires some { 1 ≤ seats }
         requires few { seats ≤ 8 }
         ensures lock { IfOk result (λ made. made.0.seats ≡ seats) }
-        ensures limits { IfOk result (λ made. made.0.limits ≡ pool.limits) }
+        ensures first { IfOk result (λ made. made.0.first ≡ pool) }
         ensures seats { IfOk result (λ made. made.1.items ≡ new_seats made.0.id seats pool) }
         ensures out_of_memory { IfErr result (λ refused. refused.0 ≡ Refusal.OutOfMemory) }
         ensures handed_back { IfErr result (λ refused. refused.1 ≡ pool) }
@@ -105,7 +105,8 @@ impl SharedPool {
     }
 
     /// Gives the pool out, once all seats are given back: it serves what the seats served, each
-    /// owner by one of them, counts what they counted, and has the same limits. Refused with
+    /// owner by one of them, counts what they counted, and has the same limits. It is what the one
+    /// history of the seats' events makes of the lock's first pool. Refused with
     /// `Unsettled`, the numbers of seats made and given, exactly where not all seats are given;
     /// then all is handed back as it was. Takes no memory and does not wait. This project's
     /// choice.
@@ -115,8 +116,9 @@ impl SharedPool {
     ) -> Result<Pool, (Refusal, SharedPool, Vec<PoolSeat>)>
         requires { All (λ seat. seat.id ≡ self.id) seats.items }
         ensures all { IsOk result ↔ (vec_len seats ≡ self.seats) }
-        ensures limits { IfOk result (λ pool. pool.limits ≡ self.limits) }
+        ensures limits { IfOk result (λ pool. pool.limits ≡ self.first.limits) }
         ensures gathered { IfOk result (λ pool. Gathers seats.items pool) }
+        ensures history { IfOk result (λ pool. IsHistory self.first seats.items pool) }
         ensures unsettled { IfErr result
             (λ refused. refused.0 ≡ Refusal.Unsettled self.seats (vec_len seats)) }
         ensures lock { IfErr result (λ refused. refused.1 ≡ self) }
@@ -204,6 +206,7 @@ impl SharedPool {
     pub(crate) fn let_go(&self, seat: &mut Seat<Option<Pool>, LockView>, pool: Pool)
         requires own { seat.old.table_id ≡ self.now.id }
         requires live { 0 < seat.old.me.0.parts }
+        requires numbered { 0 < length seat.old.me.0.strands }
         requires slots { seat.old.me.1 ≡ (0, None) ∷ [] }
         requires has { seat.old.me.0.taken ≡ Some (taken_of seat.old.me.0) }
         requires moves { Moves seat.old.me.0.knows (taken_of seat.old.me.0) pool }
@@ -228,6 +231,7 @@ fn gathered(
     requires own { All (λ seat. seat.id ≡ table.shared.table_id) seats.items }
     ensures limits { result.limits ≡ table.shared.key.pool.value.limits }
     ensures gathered { Gathers seats.items result }
+    ensures history { IsHistory table.shared.key.pool.value seats.items result }
 {
     let Some(first) = seats.pop() else {
         unreachable!()

@@ -1,4 +1,7 @@
-use Rattle.std.proofs.Common.{◌≡◌, ◌≤◌, ◌∙◌, sym, subst, vec_len, ℕ}
+use Rattle.std.proofs.Common.{◌≡◌, ◌≤◌, ◌∙◌, sym, ap, subst, vec_len, ℕ, List, length}
+use Rattle.std.proofs.lemmas.List.{length-replicate}
+use Rattle.ms_shared.specs.MeterRule.{MeterSeatState}
+use Rattle.ms_run.specs.Metering.{unmoved}
 use Rattle.ms_run.specs.Turn.{place_in}
 use Rattle.ms_run.specs.Shares.{AreWithin, place_for}
 use Rattle.ms_run.proofs.StandByLemmas.{within_still}
@@ -41,3 +44,13 @@ deal_to-requires-clause-count c =
     c.in-Ok.seats.ok.0
     ∙ seats_count c.in-Ok.shared c.shares-count.result c.in-Ok.seats.items c.args.pool few c.in-Ok.ensures.seats
     ∙ c.shares-count.ensures.count
+
+pub deal_to-requires-clause-meters : goal.deal_to-requires-clause-meters
+deal_to-requires-clause-meters c =
+    let few : 1 ≤ c.shares-count.result =
+    subst (λ (n : ℕ). 1 ≤ n) (sym c.shares-count.ensures.count) c.shares-count.ensures.turn.some in
+    let counted : vec_len c.in-Ok.seats ≡ c.shares-count.result =
+    c.in-Ok.seats.ok.0
+    ∙ seats_count c.in-Ok.shared c.shares-count.result c.in-Ok.seats.items c.args.pool few c.in-Ok.ensures.seats in
+    c.in_ok-meter.meters.ok.0 ∙ ap (λ (l : List MeterSeatState). length l) c.in_ok-meter.ensures.seats
+    ∙ length-replicate c.shares-count.result (unmoved c.in_ok-meter.meter) ∙ sym counted

@@ -1,6 +1,7 @@
 use Rattle.std.proofs.Common.{sym, ap, ◌∙◌, length}
 use Rattle.std.proofs.lemmas.List.{length-map}
 use Rattle.ms_base.specs.State.{Machine}
+use Rattle.ms_pool.specs.Ledger.{Ledger}
 use Rattle.ms_run.specs.Metering.{used_words_of, meter_of}
 use Rattle.ms_run.specs.Turn.{place_in}
 use Rattle.ms_run.specs.Shares.{place_for}
@@ -72,7 +73,8 @@ returns-clause-phase g c =
     c.in_ok-shared.ensures.dealt c.in_ok-shares.ensures.worked
     (merges_still (place_in c.activate.new.self) _ c.args.lines.now _ _ c.in_ok-merge.ensures)
     c.in_ok-system.ensures.gathered c.in_ok-system.ensures.good c.in_ok-system.ensures.limits
-    (c.in_ok-shared.ensures.limits ∙ ap (λ (m : Machine). m.limits) c.into_parts-pool.ensures.machine)
+    (ap (λ (l : Ledger). l.limits) c.in_ok-shared.ensures.first
+    ∙ ap (λ (m : Machine). m.limits) c.into_parts-pool.ensures.machine)
 
 pub returns-clause-used : goal.returns-clause-used
 returns-clause-used g c =

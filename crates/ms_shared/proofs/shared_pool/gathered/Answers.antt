@@ -4,6 +4,7 @@ use Rattle.ms_shared.specs.SeatView.{SeatState}
 use Rattle.ms_shared.specs.LockRule.{Sat}
 use Rattle.ms_shared.proofs.SeatCutLemmas.{join}
 use Rattle.ms_shared.proofs.SeatGatherLemmas.{gather_done, slot_has, same_pool, gather_begins, gather_more, gather_ends}
+use Rattle.ms_shared.proofs.SeatGatherLemmas.{gather_history}
 use Rattle.ms_shared.proofs.TotalLemmas.{all_front, all_last}
 use Rattle.ms_shared.proofs.shared_pool.gathered.Goals as goal
 
@@ -13,7 +14,8 @@ loop-seat-init c =
     λ (seat : SeatState). seat.id ≡ c.args.table.shared.table_id in (
       whole.own ∙ all_last own _ _ _ items c.requires.own,
       whole.slots,
-      gather_begins _ _ _ _ _ items (sym c.args.seats.ok.0 ∙ sym c.requires.made) whole.knows whole.parts whole.free,
+      gather_begins _ _ _ _ _ items (sym c.args.seats.ok.0 ∙ sym c.requires.made) whole.knows whole.strands whole.parts
+          whole.free,
       all_front own _ _ _ items c.requires.own,
     )
 
@@ -34,7 +36,7 @@ loop-seat-preserved c =
     let seat = c.into_table_seat.ensures in (
       joined.0 ∙ inv.0,
       ap (λ (m : Sat). m.1) joined.2 ∙ inv.1,
-      gather_more _ _ _ _ _ c.loop-seat.whole.me.0 c.into_table_seat.result.me.0 _ inv.2 items seat.knows seat.parts
+      gather_more _ _ _ _ _ c.loop-seat.whole.me.0 c.into_table_seat.result.me.0 _ inv.2 items seat.knows seat.strands seat.parts
           (ap (λ (m : Sat). m.0) joined.2),
       all_front (λ (s : SeatState). s.id ≡ c.args.table.shared.table_id) _ _ _ items inv.3,
     )
@@ -53,5 +55,9 @@ returns c =
     let slot =
     slot_has c.args.table.shared.key.made _ _ _ _ _ c.take-slot.result end.parts end.free
     c.close_with-closed.ensures.values.2 c.take-slot.ensures.value in
-    let all = same_pool _ _ _ c.unwrap.result c.take-slot.result slot.1 c.unwrap.ensures slot.2 in
-    record { limits = all.limits_are; gathered = gather_ends _ _ _ _ c.unwrap.result end.seats all }
+    let all = same_pool _ _ _ _ c.unwrap.result c.take-slot.result slot.1 c.unwrap.ensures slot.2 in
+    record {
+      limits = all.limits_are;
+      gathered = gather_ends _ _ _ _ c.unwrap.result end.seats all;
+      history = gather_history _ _ _ _ c.unwrap.result (sym c.args.seats.ok.0 ∙ sym c.requires.made) end.seats all;
+    }

@@ -1,4 +1,4 @@
-use Rattle.std.proofs.Common.{rules, ◌≡◌, ℕ, ◌<◌, ◌∷◌, List, [], Option, Some, None, sym, ap, ◌∙◌, subst}
+use Rattle.std.proofs.Common.{rules, ◌≡◌, ℕ, ◌<◌, ◌∷◌, List, length, [], Option, Some, None, sym, ap, ◌∙◌, subst}
 use Rattle.atomic_table.specs.Table.{rest}
 use Rattle.ms_pool.specs.Ledger.{Ledger}
 use Rattle.ms_shared.specs.SeatView.{LockState}
@@ -16,6 +16,7 @@ store-requires c =
       e.0 ∙ c.requires.own ∙ ap (λ (l : LockState). l.id) (sym c.self.view_is),
       search rules,
       lets_go_at _ _ _ _ _ c.args.pool (subst (λ (m : Sat). 0 < m.0.parts) me c.requires.live)
+          (subst (λ (m : Sat). 0 < length m.0.strands) me c.requires.numbered)
           (subst (λ (m : Sat). m.0.taken ≡ Some (taken_of m.0)) me c.requires.has)
           (subst (λ (m : Sat). Moves m.0.knows (taken_of m.0) c.args.pool) me c.requires.moves)
           (ap (λ (m : Sat). m.1) (sym me)),

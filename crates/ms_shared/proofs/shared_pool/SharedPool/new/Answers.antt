@@ -3,7 +3,9 @@ use Rattle.atomic_table.specs.Table.{opening}
 use Rattle.ms_pool.specs.Ledger.{Ledger}
 use Rattle.ms_shared.specs.SeatView.{new_seats}
 use Rattle.ms_shared.specs.LockRule.{IsLocked, Sat, first_view}
-use Rattle.ms_shared.proofs.SeatCutLemmas.{begins, cut, cuts_blank}
+use Rattle.ms_shared.specs.History.{first_strand}
+use Rattle.ms_shared.proofs.StrandLemmas.{first_of_front}
+use Rattle.ms_shared.proofs.SeatCutLemmas.{begins, cut, cuts_seats}
 use Rattle.ms_shared.proofs.SeatDealLemmas.{deals_begin, deals_more, deals_end, seen_as}
 use Rattle.ms_shared.proofs.shared_pool.SharedPool.new.Goals as goal
 
@@ -12,9 +14,9 @@ new-requires c =
     let some = c.requires.some in let slots =
     c.push_reserved.ensures.items
     ∙ ap (λ (l : List (Option Ledger)). l ++ Some c.args.pool ∷ []) c.in-Ok-Ok.ensures'.items in
-    subst (λ (l : List (Option Ledger)). IsLocked c.args.seats c.of.result.value.limits
+    subst (λ (l : List (Option Ledger)). IsLocked c.args.seats c.of.result.value
     (opening (0 ∷ []) l (first_view c.args.seats c.of.result.value))) (sym slots)
-    (subst (λ (p : Ledger). IsLocked c.args.seats p.limits
+    (subst (λ (p : Ledger). IsLocked c.args.seats p
     (opening (0 ∷ []) (Some c.args.pool ∷ []) (first_view c.args.seats p))) (sym c.of.ensures)
     (begins c.args.seats c.args.pool (omega arith) c.committed.ensures.tallies))
 
@@ -31,7 +33,7 @@ loop-init c =
 pub split_seat-next-requires : goal.split_seat-next-requires
 split_seat-next-requires c =
     let inv = c.loop.invariant in let parts = inv.0.parts in let more = c.loop-test.true in
-    (inv.1, search rules, cut _ _ _ _ _ _ (cuts_blank c.loop.rest.me.0 2 _ (omega arith) (omega arith) (omega arith)))
+    (inv.1, search rules, cut _ _ _ _ _ _ (cuts_seats c.loop.rest.me.0 (omega arith)))
 
 pub loop-preserved : goal.loop-preserved
 loop-preserved c =
@@ -40,7 +42,9 @@ loop-preserved c =
     inv.3 in let room = inv.4 in (
       deals_more _ _ _ _ _ _ c.loop.rest.me.0 c.split_seat-next.result.me.0 _ inv.0 more
           c.push_reserved-in-loop.ensures.items
-          (seen_as _ _ _ _ (s.0 ∙ inv.1) (ap (λ (m : Sat). m.0.knows) s.2)) (ap (λ (m : Sat). m.0) s.4),
+          (seen_as _ _ _ _ c.split_seat-next.new.seat.me.0 (s.0 ∙ inv.1)
+          (ap (λ (m : Sat). first_strand m.0.strands) s.2 ∙ first_of_front c.loop.rest.me.0.strands)
+          (ap (λ (m : Sat). m.0.knows) s.2)) (ap (λ (m : Sat). m.0) s.4),
       s.3 ∙ inv.1,
       ap (λ (m : Sat). m.1) s.4,
       omega arith,
@@ -51,5 +55,5 @@ pub returns-after-loop-clause-seats : goal.returns-after-loop-clause-seats
 returns-after-loop-clause-seats c =
     let inv = c.loop.invariant in let all = c.loop-test.false in
     deals_end _ _ _ _ _ _ c.loop.rest.me.0 _ inv.0 (omega arith) c.push_reserved-in-Ok.ensures.items
-    (seen_as _ _ _ _ inv.1 refl)
+    (seen_as _ _ _ _ c.loop.rest.me.0 inv.1 refl refl)
     ∙ ap (new_seats c.in-Ok.table.shared.table_id c.args.seats) c.of.ensures
