@@ -37,6 +37,7 @@ use Rattle.ms_run.specs.declared.share.Share.{Share}
 use Rattle.ms_run.specs.Manned.{IsManned}
 use Rattle.ms_run.specs.Shares.{Place, IsReady, tasks_of, task_of, tasks_at, AreDealt, AreWithin}
 use Rattle.ms_run.specs.Dealing.{Loaded, AreBeside, AreCrews, IsHanded, AreHanded, AreHandedAt, AreSeats}
+use Rattle.ms_run.specs.Dealing.{IsSameSeat, AreSpare}
 use Rattle.ms_run.specs.Dealing.{IsShareAt, AreSharesFrom, AreDealtTo, TaskLists, AreListed, AreEmpty, AreAdded}
 
 -- The loader of a name went over, or is where it was.
@@ -300,6 +301,11 @@ spare_free : (shared : LockState) (limits : Limits) (first count : ℕ)
 spare_free shared limits first zero = tt
 spare_free shared limits first (suc count) = ((refl, none_manned limits), spare_free shared limits (suc first) count)
 
+spare_numbers : (shared : LockState) (limits : Limits) (first count : ℕ)
+    → AreSpare first (spare_seats shared.id limits first count)
+spare_numbers shared limits first zero = tt
+spare_numbers shared limits first (suc count) = (refl, refl, spare_numbers shared limits (suc first) count)
+
 pub seats_are : (shared : LockState) (count : ℕ) (seats : List SeatState) (pool : Ledger) (loaders : Loaded)
     → seats ≡ new_seats shared.id count pool
     → MaySettle pool loaders → open_accounts pool ≡ accounts_in loaders → AreSeats shared seats loaders
@@ -308,6 +314,7 @@ seats_are shared count seats pool loaders are may all = record {
   others = spare_seats shared.id pool.limits 1 (count - 1);
   are = are;
   own = refl;
+  spare = (refl, refl, spare_numbers shared pool.limits 1 (count - 1));
   manned = all_manned pool loaders may all;
   free = All-from_recursion (λ (seat : SeatState). (seat.id ≡ shared.id) × IsManned seat.knows [])
       (spare_seats shared.id pool.limits 1 (count - 1)) (spare_free shared pool.limits 1 (count - 1));
@@ -328,6 +335,9 @@ beside_none from to loaders others nothing manned names to_manned = rw nothing (
 pub record IsDealing (place : Place) (shared : LockState) (count : ℕ) (lines : List Line) (loaders : Loaded)
     (first : SeatState) (left : Loaded) (rest : List SeatState) (shares : List Share) : Type 0 where
   pub own : first.id ≡ shared.id
+  pub number : first.number ≡ 0
+  pub fresh : first.events ≡ []
+  pub spare : AreSpare (suc (length shares)) rest
   pub manned : IsManned first.knows left
   pub names : AreNamed left
   pub free : All (λ (seat : SeatState). (seat.id ≡ shared.id) × IsManned seat.knows []) rest
@@ -363,25 +373,33 @@ pub record IsMade (place : Place) (lines : List Line) (at : ℕ) (seat : SeatSta
 
 is_ready : (place : Place) (shared : LockState) (lines : List Line) (at : ℕ) (seat : SeatState) (loaders : Loaded)
     (share : Share) → IsMade place lines at seat loaders share
-    → seat.id ≡ shared.id → IsManned seat.knows loaders → IsReady shared share
-is_ready place shared lines at seat loaders share made own manned = record {
+    → seat.id ≡ shared.id → seat.events ≡ [] → IsManned seat.knows loaders → IsReady shared share
+is_ready place shared lines at seat loaders share made own fresh manned = record {
   own = ap (λ (s : SeatState). s.id) made.seat_is ∙ own;
+  fresh = ap (λ (s : SeatState). s.events) made.seat_is ∙ fresh;
   manned = rw (ap (λ (s : SeatState). s.knows) made.seat_is, made.loaders_are) manned;
   room = made.room;
   none = made.none;
 }
+
+pub same_then : (old mid new : SeatState) → IsSameSeat old mid → IsSameSeat mid new → IsSameSeat old new
+same_then old mid new first second =
+    record { number = second.number ∙ first.number; events = second.events ∙ first.events }
 
 pub dealing_on : (place : Place) (shared : LockState) (count : ℕ) (lines : List Line) (loaders : Loaded)
     (first first' : SeatState) (left left' : Loaded)
     (seat : SeatState) (others : Loaded) (next : SeatState) (rest : List SeatState) (shares shares' : List Share)
     (share : Share) (at : ℕ)
     → IsDealing place shared count lines loaders first left (next ∷ rest) shares → at ≡ length shares + 1
-    → AreCrews shared first' left' seat others → AreHandedAt place at left left' others
+    → AreCrews shared first' left' seat others → IsSameSeat first first' → IsSameSeat next seat → AreHandedAt place at left left' others
     → IsMade place lines at seat others share → shares' ≡ shares ++ share ∷ []
     → IsDealing place shared count lines loaders first' left' rest shares'
 dealing_on place shared count lines loaders first first' left left' seat others next rest shares shares' share at its
-    at_is crews handed made added = record {
+    at_is crews same same' handed made added = record {
       own = crews.own;
+      number = same.number ∙ its.number;
+      fresh = same.events ∙ its.fresh;
+      spare = subst (λ (n : ℕ). AreSpare (suc n) rest) more its.spare.2;
       manned = crews.beside.manned;
       names = crews.beside.names;
       free = All-from_recursion (λ (s : SeatState). (s.id ≡ shared.id) × IsManned s.knows []) rest
@@ -399,6 +417,9 @@ dealing_on place shared count lines loaders first first' left left' seat others 
     long : length shares' ≡ length shares + 1
     long = ap length added ∙ length-append shares (share ∷ [])
 
+    more : suc (length shares) ≡ length shares'
+    more = omega (arith, long)
+
     there_is : at ≡ 1 + length shares
     there_is = omega (arith, at_is)
 
@@ -413,7 +434,9 @@ dealing_on place shared count lines loaders first first' left left' seat others 
 
     is_there : IsShareAt place shared lines loaders at share
     is_there = record {
-      ready = is_ready place shared lines at seat others share made crews.to_own crews.beside.to_manned;
+      ready = is_ready place shared lines at seat others share made crews.to_own (same'.events ∙ its.spare.1)
+          crews.beside.to_manned;
+      number = ap (λ (s : SeatState). s.number) made.seat_is ∙ same'.number ∙ its.spare.0 ∙ omega (arith, at_is);
       apart = λ name differs. ap (λ (l : Loaded). named l name) made.loaders_are ∙ (handed.apart name differs).0;
       here = λ name is. ap (λ (l : Loaded). named l name) made.loaders_are ∙ (handed.here name is).0
           ∙ its.there name (inr (omega (arith, is, at_is)));
@@ -430,7 +453,8 @@ dealing_ends place shared count lines loaders first left rest shares shares' sha
       count_is = omega (arith, its.count_is, ap length nothing);
       each = λ within. (
         record {
-          ready = is_ready place shared lines 0 first left share made its.own its.manned;
+          ready = is_ready place shared lines 0 first left share made its.own its.fresh its.manned;
+          number = ap (λ (s : SeatState). s.number) made.seat_is ∙ its.number;
           apart = λ name differs. ap (λ (l : Loaded). named l name) made.loaders_are
               ∙ its.gone name (some (place (Some name)) differs)
               (omega (arith, within name, its.count_is, ap length nothing));
@@ -453,6 +477,9 @@ pub dealing_starts : (place : Place) (shared : LockState) (count : ℕ) (lines :
 dealing_starts place shared count lines loaders seats first rest shares its names first_is rest_are count_is nothing =
     rw nothing (record {
       own = ap (λ (s : SeatState). s.id) same.0 ∙ its.own;
+      number = ap (λ (s : SeatState). s.number) same.0 ∙ its.spare.0;
+      fresh = ap (λ (s : SeatState). s.events) same.0 ∙ its.spare.1;
+      spare = subst (AreSpare 1) (sym same.1) its.spare.2;
       manned = subst (λ (s : SeatState). IsManned s.knows loaders) (sym same.0) its.manned;
       names = names;
       free = subst (λ (l : List SeatState). All (λ (s : SeatState). (s.id ≡ shared.id) × IsManned s.knows []) l)
@@ -503,6 +530,7 @@ are_dealt place shared count lines loaders shares its within seats = record {
   apart = λ at share name found. (one at share found).apart name;
   here = λ at share name found. (one at share found).here name;
   tasks = λ at share found. (one at share found).tasks;
+  numbers = λ at share found. (one at share found).number;
 }
   where
     all : AreSharesFrom place shared lines loaders 0 shares

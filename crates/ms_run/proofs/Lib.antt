@@ -1,5 +1,6 @@
 mod TouchLemmas
 mod ServeLemmas
+mod ActLemmas
 mod WorkLemmas
 mod LifetimeLemmas
 mod LifetimeOpenLemmas

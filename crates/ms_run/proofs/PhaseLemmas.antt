@@ -24,10 +24,14 @@ use Rattle.ms_trace.specs.declared.trace.Line.{Line}
 use Rattle.ms_loaders.specs.declared.replies.Answer.{Answer}
 use Rattle.ms_loaders.specs.Loader.{LoaderView}
 use Rattle.ms_loaders.specs.System.{states_of}
-use Rattle.ms_shared.specs.SeatView.{LockState}
+use Rattle.std.proofs.lemmas.List.{length-map}
+use Rattle.ms_shared.specs.History.{Event, Logged, events_of, AreBelow}
+use Rattle.ms_shared.specs.SeatView.{LockState, SeatState}
+use Rattle.ms_run.specs.Acts.{events_by}
+use Rattle.ms_run.specs.Joined.{IsMadeFrom, seat_of}
 use Rattle.ms_run.specs.Own.{Said, own_said, own_of, own_in, OwnRun, ArePurged}
 use Rattle.ms_run.specs.Manned.{IsManned}
-use Rattle.ms_run.specs.Replay.{AreSaid, IsPhase, GoesOn, runs}
+use Rattle.ms_run.specs.Replay.{AreSaid, IsPhase, GoesOn, runs, IsMachineOf, HasPart, by_workers}
 use Rattle.ms_run.proofs.AloneLemmas.{AddsFirst}
 use Rattle.ms_run.proofs.StandByLemmas.{same_merged}
 use Rattle.ms_run.specs.Shares.{place_for}
@@ -224,20 +228,65 @@ purged_all wider lets (s ∷ said) all =
       | false ↦ λ stays all. ((λ e. let yes = lets s e in absurd (cc)), purged_all wider lets said all)
     ] refl all
 
+-- What holds of all seats holds of the one at a place.
+abbrev HasOwn : List Logged → SeatState → Type 0
+HasOwn log seat = seat.events ≡ events_of seat.number log
+
+seat_at : (P : SeatState → Type 0) (shares : List Share) (at : ℕ) (share : Share)
+    → AllByRecursion P (map seat_of shares) → slice_get shares at ≡ Some share → P share.seat
+seat_at P [] at share all found = absurd (cc)
+seat_at P (x ∷ shares) zero share all found = let same : x ≡ share = cc in
+    subst (λ (s : Share). P s.seat) same all.0
+seat_at P (x ∷ shares) (suc at) share all found = seat_at P shares at share all.1 found
+
 -- What a phase's parts say of it together.
 pub phase_of : (place : Place) (shared : LockState) (shares others : List Share) (lines : List Line)
     (added : List Answer) (said : List Said)
     (loaders : List (ℕ × LoaderView)) (old new : Machine)
     → old.loaders ≡ states_of loaders → AreDealt place shared shares lines loaders → AllWorked shares others
     → AreSaid lines added said → AreMerged place others said → IsGathered place others new.loaders → IsGood new
+    → IsMachineOf shared.first old → IsMadeFrom shared.first (map seat_of others) new
     → new.limits ≡ old.limits
     → IsPhase old lines added new
 phase_of place shared shares others lines added said loaders old new old_is dealt all said_are merged gathered good
-    limits =
-    record { said = said; said_are = said_are; own = own; purges = purges; good = good; limits = limits }
+    begins made limits = record {
+      said = said;
+      said_are = said_are;
+      own = own;
+      purges = purges;
+      leads = by_workers said new (record {
+        first = shared.first;
+        last = made.last;
+        begins = begins;
+        ends = made.ends;
+        place = place;
+        count = length others;
+        within = λ name. omega (arith, same_count shares others all, dealt.within name);
+        log = made.history.log;
+        chain = made.history.chain;
+        numbered = subst (λ (n : ℕ). AreBelow n made.history.log) (length-map others seat_of) made.history.numbered;
+        parts = λ at within. parted at (share_at others at within);
+      });
+      good = good;
+      limits = limits;
+    }
   where
     there : (name : Option ℕ) → (done : Share) × (slice_get others (place name) ≡ Some done)
     there name = share_at others (place name) (omega (arith, same_count shares others all, dealt.within name))
+
+    parted : (at : ℕ) → (done : Share) × (slice_get others at ≡ Some done) → HasPart place said made.history.log at
+    parted at (done, found) =
+        let from = worked_from shares others at done all found in let acted = from.worked.acted in
+        let fresh = (at_place (IsReady shared) shares at from.share dealt.ready from.is).fresh in
+        let its = seat_at (HasOwn made.history.log) others at done
+        (recursion_from_All (HasOwn made.history.log) (map seat_of others) made.history.own) found in record {
+          acts = acted.acts;
+          each = acted.each;
+          said_are = acted.said_are
+              ∙ ap (λ (l : List Task). said_in l done.replies.items) (sym from.worked.tasks) ∙ sym (merged at done found);
+          events = sym (acted.events ∙ ap (λ (l : List Event). l ++ events_by acted.acts) fresh) ∙ its
+              ∙ ap (λ (n : ℕ). events_of n made.history.log) (acted.number ∙ dealt.numbers at from.share from.is);
+        }
 
     own : (name : ℕ) → OwnRun (own_in old.loaders name) (own_said name said) (own_in new.loaders name)
     own name =
@@ -311,11 +360,13 @@ pub ended : (place : Place) (shared : LockState) (shares others : List Share) (l
     → old.loaders ≡ states_of loaders → AreDealt place shared shares lines loaders → AllWorked shares others
     → Merges place others lines before after
     → ((where_to : Place) → AreApart where_to others → IsGathered where_to others new.loaders) → IsGood new
+    → IsMachineOf shared.first old → IsMadeFrom shared.first (map seat_of others) new
     → new.limits ≡ shared.first.limits → shared.first.limits ≡ old.limits → Adds lines before after old new
-ended place shared shares others lines before after loaders old new old_is dealt all merges gathered good limits same = (
-  merges.0,
-  merges.2,
-  goes_on lines merges.0 old new
-      (phase_of place shared shares others lines merges.0 merges.1 loaders old new old_is dealt all merges.3 merges.4
-      (gathered place (still_apart place shares others lines dealt.apart dealt.tasks all)) good (limits ∙ same)),
-)
+ended place shared shares others lines before after loaders old new old_is dealt all merges gathered good begins made
+    limits same = (
+      merges.0,
+      merges.2,
+      goes_on lines merges.0 old new
+          (phase_of place shared shares others lines merges.0 merges.1 loaders old new old_is dealt all merges.3 merges.4
+          (gathered place (still_apart place shares others lines dealt.apart dealt.tasks all)) good begins made (limits ∙ same)),
+    )

@@ -22,6 +22,8 @@ use Rattle.ms_run.proofs.TouchLemmas.{named_states}
 use Rattle.ms_loaders.proofs.UnloadLemmas.{state_of}
 use Rattle.ms_shared.specs.MeterRule.{MeterSeatState}
 use Rattle.ms_shared.specs.SeatView.{SeatState}
+use Rattle.ms_run.specs.Acts.{HasMade, Makes, HasActed}
+use Rattle.ms_run.proofs.ActLemmas.{acted_none, acted_more}
 use Rattle.ms_run.specs.Answering.{IsAnswered}
 use Rattle.ms_run.specs.Manned.{IsManned}
 use Rattle.ms_run.specs.Moved.{IsMoved}
@@ -125,8 +127,8 @@ purged_more said step reply all one =
     IsDone : Said → Type 0
     IsDone s = s.0 ≡ Purge → s.1 ≡ Done
 
--- The share is worked so far: the seat serves the loaders, so many tasks have their reply, each
--- loader's replies are its own, and the meter's seat moved as the words in use did.
+-- The share is worked so far: the seat serves the loaders and made the tasks' events, so many tasks
+-- have their reply, each loader's replies are its own, and the meter's seat moved as the words in use did.
 pub record IsWorkedTo (share : Share) (pool : SeatState) (counted : MeterSeatState) (loaders : List (ℕ × LoaderView))
     (tasks : List Task) (index : ℕ) (replies : Vec Reply Global) : Type 0 where
   pub manned : IsManned pool.knows loaders
@@ -135,6 +137,7 @@ pub record IsWorkedTo (share : Share) (pool : SeatState) (counted : MeterSeatSta
   pub room : length tasks ≤ vec_capacity replies
   pub own : AreOwn share.loaders (said_in tasks replies.items) loaders
   pub purges : ArePurged (said_in tasks replies.items)
+  pub acted : HasActed share.seat pool (said_in tasks replies.items)
   pub moved : IsMoved share.meter (used_in share.loaders) counted (used_in loaders)
 
 pub work_begins : (share : Share) (pool : SeatState) (tasks : List Task) → IsManned share.seat.knows share.loaders
@@ -148,6 +151,8 @@ work_begins share pool tasks manned room none seat count = record {
   room = omega arith;
   own = subst (λ (l : List Said). AreOwn share.loaders l share.loaders) (sym said) (none_said share.loaders);
   purges = subst ArePurged (sym said) none_purged;
+  acted = subst (λ (l : List Said). HasActed share.seat pool l) (sym said)
+      (subst (λ (s : SeatState). HasActed share.seat s []) (sym seat) (acted_none share.seat));
   moved = moved_none share.meter (used_in share.loaders);
 }
   where
@@ -166,12 +171,13 @@ pub work_goes_on : (share : Share) (pool new_pool : SeatState) (counted mid_coun
     (replies new_replies : Vec Reply Global) (d : Task) (reply : Reply)
     → IsWorkedTo share pool counted loaders tasks index replies → index < length tasks → new_pool.id ≡ pool.id
     → IsAnswered loaders (get_or tasks index d).step reply new_pool.knows new_loaders
+    → HasMade pool new_pool (Makes (get_or tasks index d).step reply)
     → IsMoved counted (used_in loaders) mid_counted (used_in new_loaders) → new_counted ≡ mid_counted
     → new_replies.items ≡ replies.items ++ reply ∷ [] → vec_len new_replies ≡ vec_len replies + 1
     → vec_capacity new_replies ≡ vec_capacity replies
     → IsWorkedTo share new_pool new_counted new_loaders tasks (index + 1) new_replies
 work_goes_on share pool new_pool counted mid_counted new_counted loaders new_loaders tasks index replies new_replies d
-    reply its within id answered moved looked items count capacity = record {
+    reply its within id answered made moved looked items count capacity = record {
       manned = answered.manned;
       id = id ∙ its.id;
       count = let before = its.count in omega arith;
@@ -181,6 +187,9 @@ work_goes_on share pool new_pool counted mid_counted new_counted loaders new_loa
           its.own answered.own answered.others);
       purges = subst ArePurged (sym said)
           (purged_more (said_in tasks replies.items) (get_or tasks index d).step reply its.purges answered.purge);
+      acted = subst (λ (l : List Said). HasActed share.seat new_pool l) (sym said)
+          (acted_more share.seat pool new_pool (said_in tasks replies.items) (get_or tasks index d).step reply its.acted
+          made);
       moved = moved_then share.meter counted new_counted (used_in share.loaders) (used_in loaders)
           (used_in new_loaders) its.moved
           (subst (λ (s : MeterSeatState). IsMoved counted (used_in loaders) s (used_in new_loaders)) (sym looked) moved);
@@ -213,5 +222,7 @@ work_ends share pool seat counted loaders tasks index replies its seat_is tasks_
   replies = its.count ∙ all;
   own = subst (λ (l : List Task). AreOwn share.loaders (said_in l replies.items) loaders) tasks_are its.own;
   purges = subst (λ (l : List Task). ArePurged (said_in l replies.items)) tasks_are its.purges;
+  acted = subst (λ (s : SeatState). HasActed share.seat s (said_in share.tasks.items replies.items)) (sym seat_is)
+      (subst (λ (l : List Task). HasActed share.seat pool (said_in l replies.items)) tasks_are its.acted);
   moved = its.moved;
 }

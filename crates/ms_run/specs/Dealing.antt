@@ -39,6 +39,16 @@ pub record AreCrews (shared : LockState) (from : SeatState) (loaders : Loaded) (
   pub to_own : to.id ≡ shared.id
   pub beside : AreBeside from.knows loaders to.knows others
 
+-- A seat has its number and its events still.
+pub record IsSameSeat (old new : SeatState) : Type 0 where
+  pub number : new.number ≡ old.number
+  pub events : new.events ≡ old.events
+
+-- Seats numbered from one on, with no event.
+abbrev pub AreSpare : ℕ → List SeatState → Type 0
+AreSpare number [] = Unit {0}
+AreSpare number (seat ∷ seats) = (seat.number ≡ number) × (seat.events ≡ []) × AreSpare (suc number) seats
+
 -- A pool and its loaders may be dealt: it counts just the loaders' accounts, and serves them.
 pub record MayBeDealt (pool : Ledger) (loaders : Loaded) : Type 0 where
   pub fits : MaySettle pool loaders
@@ -70,12 +80,13 @@ pub record AreHandedAt (place : Place) (at : ℕ) (loaders after others : Loaded
   pub here : (name : ℕ) → place (Some name) ≡ at → (named others name ≡ named loaders name) × (named after name ≡ None)
   pub apart : (name : ℕ) → place (Some name) ≢ at → (named others name ≡ None) × (named after name ≡ named loaders name)
 
--- The first seat serves all loaders, and the others nothing.
+-- The first seat serves all loaders, and the others nothing. They are numbered, and none has an event.
 pub record AreSeats (shared : LockState) (seats : List SeatState) (loaders : Loaded) : Type 0 where
   pub first : SeatState
   pub others : List SeatState
   pub are : seats ≡ first ∷ others
   pub own : first.id ≡ shared.id
+  pub spare : AreSpare 0 (first ∷ others)
   pub manned : IsManned first.knows loaders
   pub free : All (λ (seat : SeatState). (seat.id ≡ shared.id) × IsManned seat.knows []) others
 
@@ -83,6 +94,7 @@ pub record AreSeats (shared : LockState) (seats : List SeatState) (loaders : Loa
 pub record IsShareAt (place : Place) (shared : LockState) (lines : List Line) (loaders : Loaded) (at : ℕ)
     (share : Share) : Type 0 where
   pub ready : IsReady shared share
+  pub number : share.seat.number ≡ at
   pub apart : (name : ℕ) → place (Some name) ≢ at → named share.loaders name ≡ None
   pub here : (name : ℕ) → place (Some name) ≡ at → named share.loaders name ≡ named loaders name
   pub tasks : share.tasks.items ≡ tasks_at place at lines

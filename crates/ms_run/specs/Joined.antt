@@ -5,7 +5,10 @@ use Rattle.ms_base.specs.declared.refusal.Refusal.{Refusal}
 use Rattle.ms_base.specs.declared.refusal.Refusal.TheVariants.{OutOfMemory, Unsettled}
 use Rattle.ms_base.specs.Names.{named}
 use Rattle.ms_loaders.specs.Loader.{LoaderView}
-use Rattle.ms_shared.specs.SeatView.{SeatState}
+use Rattle.ms_base.specs.State.{Machine}
+use Rattle.ms_pool.specs.Ledger.{Ledger}
+use Rattle.ms_shared.specs.SeatView.{SeatState, IsHistory}
+use Rattle.ms_run.specs.Replay.{IsMachineOf}
 use Rattle.ms_run.specs.declared.share.Share.{Share}
 
 -- No name is in both.
@@ -26,6 +29,12 @@ AreJoined old (share ∷ shares) new =
 
 abbrev pub seat_of : Share → SeatState
 seat_of share = share.seat
+
+-- A state whose pool the seats' one history of events makes of a first one.
+pub record IsMadeFrom (first : Ledger) (seats : List SeatState) (state : Machine) : Type 0 where
+  pub last : Ledger
+  pub ends : IsMachineOf last state
+  pub history : IsHistory first seats last
 
 -- Why shares aren't gathered: memory is wanting, or not all was given.
 abbrev pub IsWantOrUnsettled : Refusal → Type 0

@@ -1,4 +1,5 @@
 pub mod Own
+pub mod Acts
 pub mod Replay
 pub mod Manned
 pub mod Shares

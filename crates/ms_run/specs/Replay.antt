@@ -1,5 +1,6 @@
 -- What a replay answers, whatever the number of workers and their order (this project's choice).
-use Rattle.std.specs.Prelude.{◌≡◌, ℕ, ⊤, List, [], ◌∷◌, ◌++◌, Option, Some, None, Box}
+use Rattle.std.specs.List.{All, filter}
+use Rattle.std.specs.Prelude.{◌≡◌, ◌<◌, ◌==◌, ℕ, ⊤, List, [], ◌∷◌, ◌++◌, Option, Some, None, Box}
 use Rattle.std.specs.declared.alloc.Global.{Global}
 use Rattle.ms_base.specs.declared.step.Step.{Step}
 use Rattle.ms_base.specs.declared.step.Reply.{Reply}
@@ -15,6 +16,14 @@ use Rattle.ms_trace.specs.Steps.{step_of}
 use Rattle.ms_loaders.specs.declared.totals.Totals.{Totals}
 use Rattle.ms_loaders.specs.declared.replies.Answer.{Answer}
 use Rattle.ms_loaders.specs.Sums.{sums_in}
+use Rattle.ms_pool.specs.Ledger.{Ledger}
+use Rattle.ms_loaders.specs.Loader.{LoaderView}
+use Rattle.ms_loaders.specs.System.{machine_of}
+use Rattle.ms_loaders.specs.Settles.{MaySettle}
+use Rattle.ms_shared.specs.History.{Logged, Chain, events_in, events_of, AreBelow}
+use Rattle.ms_base.specs.Request.{loader_of}
+use Rattle.ms_run.specs.Acts.{Act, IsAct, said_of, events_by}
+use Rattle.ms_run.specs.Shares.{Place, AreWithin}
 use Rattle.ms_run.specs.Own.{Said, own_said, own_in, OwnRun, ArePurged}
 use Rattle.ms_run.specs.declared.fault.RunFault.{RunFault}
 use Rattle.ms_run.specs.declared.fault.RunFault.TheVariants.{Unsettled}
@@ -52,14 +61,51 @@ AreSaid (line ∷ lines) (answer ∷ answers) (s ∷ said) =
     × AreSaid lines answers said
 AreSaid _ _ _ = ⊥
 
+-- The state is this pool's and of loaders that it serves.
+pub record IsMachineOf (pool : Ledger) (state : Machine) : Type 0 where
+  pub loaders : List (ℕ × LoaderView)
+  pub machine : state ≡ machine_of pool loaders
+  pub fits : MaySettle pool loaders
+
+-- What was said at one place came of acts, and the events of that number are those of the acts.
+pub record HasPart (place : Place) (said : List Said) (log : List Logged) (at : ℕ) : Type 0 where
+  pub acts : List Act
+  pub each : All IsAct acts
+  pub said_are : said_of acts ≡ filter (λ (s : Said). place (loader_of s.0) == at) said
+  pub events : events_by acts ≡ events_of at log
+
+-- Some workers said it, each what its loaders or a purge were asked. One history of events leads from
+-- the pool of the old state to that of the new one, and each event of it is a worker's, who made just
+-- the events of its own steps.
+pub record HasHistory (old : Machine) (said : List Said) (new : Machine) : Type 0 where
+  pub first : Ledger
+  pub last : Ledger
+  pub begins : IsMachineOf first old
+  pub ends : IsMachineOf last new
+  pub place : Place
+  pub count : ℕ
+  pub within : AreWithin place count
+  pub log : List Logged
+  pub chain : Chain first (events_in log) last
+  pub numbered : AreBelow count log
+  pub parts : (at : ℕ) → at < count → HasPart place said log at
+
+-- What was said leads from one state to another: one step is a transition of the machine, and steps of
+-- several workers are one history of events.
+pub data Leads (old : Machine) : List Said → Machine → Type 0 where
+  by_step : (step : Step) (reply : Reply) (new : Machine) → Transition old step reply new
+      → Leads old ((step, reply) ∷ []) new
+  by_workers : (said : List Said) (new : Machine) → HasHistory old said new → Leads old said new
+
 -- A phase from one good state to another with the same limits. The replies to each loader's lines
 -- are its own: they follow from its lines and from which of them were refused for want, and leave
--- what the new state has of it. Each purge is done.
+-- what the new state has of it. Each purge is done. What was said leads from the old pool to the new.
 pub record IsPhase (old : Machine) (lines : List Line) (answers : List Answer) (new : Machine) : Type 0 where
   pub said : List Said
   pub said_are : AreSaid lines answers said
   pub own : (name : ℕ) → OwnRun (own_in old.loaders name) (own_said name said) (own_in new.loaders name)
   pub purges : ArePurged said
+  pub leads : Leads old said new
   pub good : IsGood new
   pub limits : new.limits ≡ old.limits
 

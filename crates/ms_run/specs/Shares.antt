@@ -16,6 +16,7 @@ use Rattle.ms_loaders.specs.Used.{used_in}
 use Rattle.ms_shared.specs.SeatView.{LockState}
 use Rattle.ms_shared.specs.MeterRule.{MeterState}
 use Rattle.ms_run.specs.Own.{Said, own_said, own_in, OwnRun, ArePurged}
+use Rattle.ms_run.specs.Acts.{HasActed}
 use Rattle.ms_run.specs.Manned.{IsManned}
 use Rattle.ms_run.specs.Moved.{IsMoved}
 use Rattle.ms_run.specs.declared.share.Task.{Task}
@@ -25,10 +26,11 @@ use Rattle.ms_run.specs.declared.share.Share.{Share}
 abbrev pub said_in : List Task → List Reply → List Said
 said_in tasks replies = zip (map (λ (task : Task). task.step) tasks) replies
 
--- A share is ready: its seat is of the lock and serves its loaders, there is room for all replies,
--- and none is there yet.
+-- A share is ready: its seat is of the lock, has made no event, and serves its loaders; there is room
+-- for all replies, and none is there yet.
 pub record IsReady (shared : LockState) (share : Share) : Type 0 where
   pub own : share.seat.id ≡ shared.id
+  pub fresh : share.seat.events ≡ []
   pub manned : IsManned share.seat.knows share.loaders
   pub room : vec_len share.tasks ≤ vec_capacity share.replies
   pub none : share.replies.items ≡ []
@@ -43,8 +45,8 @@ pub record StandOver (shared : LockState) (count : ℕ) (shares : List Share) : 
   pub manned : All (λ (share : Share). IsManned share.seat.knows share.loaders) shares
   pub all : shared.seats ≡ count
 
--- A share is worked: each task has its reply, each loader's replies are its own, and the meter's seat
--- moved as the words in use did.
+-- A share is worked: each task has its reply, each loader's replies are its own, the seat made the
+-- tasks' events and no other, and the meter's seat moved as the words in use did.
 pub record IsWorked (share done : Share) : Type 0 where
   pub id : done.seat.id ≡ share.seat.id
   pub manned : IsManned done.seat.knows done.loaders
@@ -54,6 +56,7 @@ pub record IsWorked (share done : Share) : Type 0 where
       → OwnRun (own_in (states_of share.loaders) name) (own_said name (said_in share.tasks.items done.replies.items))
       (own_in (states_of done.loaders) name)
   pub purges : ArePurged (said_in share.tasks.items done.replies.items)
+  pub acted : HasActed share.seat done.seat (said_in share.tasks.items done.replies.items)
   pub moved : IsMoved share.meter (used_in share.loaders) done.meter (used_in done.loaders)
 
 -- Each share is worked.
@@ -114,6 +117,10 @@ abbrev pub HaveTasks : Place → List Share → List Line → Type 0
 HaveTasks place shares lines =
     (at : ℕ) (share : Share) → slice_get shares at ≡ Some share → share.tasks.items ≡ tasks_at place at lines
 
+-- Each share's seat has the number of its place.
+abbrev pub AreNumbered : List Share → Type 0
+AreNumbered shares = (at : ℕ) (share : Share) → slice_get shares at ≡ Some share → share.seat.number ≡ at
+
 -- All go to one of so many shares.
 abbrev pub AreWithin : Place → ℕ → Type 0
 AreWithin place count = (name : Option ℕ) → place name < count
@@ -127,6 +134,7 @@ pub record AreDealt (place : Place) (shared : LockState) (shares : List Share) (
   pub apart : AreApart place shares
   pub here : AreHere place shares loaders
   pub tasks : HaveTasks place shares lines
+  pub numbers : AreNumbered shares
 
 -- Each line asks a step.
 abbrev pub AreSteps : List Line → Type 0

@@ -17,7 +17,7 @@ ghost use Rattle.ms_loaders.specs.Used.{used_in};
 ghost use Rattle.ms_run.specs.Metering.{used_over, meter_of};
 ghost use Rattle.ms_run.specs.Shares.{AreDealt, AreSteps, tasks_of, names_in, name_with, place_for};
 ghost use Rattle.ms_run.specs.Dealing.{AreCrews, AreListed, AreEmpty, AreAdded, IsHanded, AreHanded, AreSeats};
-ghost use Rattle.ms_run.specs.Dealing.{AreDealtTo, HaveMeters, MayBeDealt};
+ghost use Rattle.ms_run.specs.Dealing.{AreDealtTo, HaveMeters, MayBeDealt, IsSameSeat};
 
 use crate::fault::RunFault;
 use crate::share::{Share, Task};
@@ -215,6 +215,8 @@ fn hand_all(
         (AreCrews shared.now from.new.seat from.new.loaders to.new.seat to.new.loaders) }
     ensures handed { OnOk result
         (AreHanded (names_in tasks.now) from.old.loaders from.new.loaders to.new.loaders) }
+    ensures from { OnOk result (IsSameSeat from.old.seat from.new.seat) }
+    ensures to { OnOk result (IsSameSeat to.old.seat to.new.seat) }
     ensures used { OnOk result
         (used_in from.new.loaders + used_in to.new.loaders
         ≡ used_in from.old.loaders + used_in to.old.loaders) }
@@ -256,6 +258,8 @@ fn hand_on(shared: &SharedPool, name: u16, from: &mut Crew, to: &mut Crew) -> Re
         (AreCrews shared.now from.new.seat from.new.loaders to.new.seat to.new.loaders) }
     ensures handed { OnOk result
         (IsHanded name from.old.loaders to.old.loaders from.new.loaders to.new.loaders) }
+    ensures from { OnOk result (IsSameSeat from.old.seat from.new.seat) }
+    ensures to { OnOk result (IsSameSeat to.old.seat to.new.seat) }
     ensures used { OnOk result
         (used_in from.new.loaders + used_in to.new.loaders
         ≡ used_in from.old.loaders + used_in to.old.loaders) }

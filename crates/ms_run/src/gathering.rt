@@ -10,8 +10,9 @@ ghost use Rattle.ms_base.specs.declared.refusal.Refusal.TheVariants as Refusal;
 ghost use Rattle.ms_base.specs.Good.{IsGood};
 ghost use Rattle.ms_loaders.specs.Settles.{MaySettle, open_accounts, accounts_in};
 ghost use Rattle.ms_loaders.specs.System.{machine_of};
-ghost use Rattle.ms_shared.specs.SeatView.{SeatState, Gathers};
-ghost use Rattle.ms_run.specs.Joined.{HaveOtherNames, IsJoined, AreJoined, IsWantOrUnsettled, seat_of};
+ghost use Rattle.ms_shared.specs.SeatView.{SeatState, Gathers, IsHistory};
+ghost use Rattle.ms_run.specs.Joined.{HaveOtherNames, IsJoined, AreJoined, IsWantOrUnsettled, IsMadeFrom};
+ghost use Rattle.ms_run.specs.Joined.{seat_of};
 ghost use Rattle.ms_run.specs.Metering.{used_words_of, used_over, meter_of};
 ghost use Rattle.ms_run.specs.Shares.{Place, AreApart, IsGathered, StandOver};
 
@@ -36,6 +37,7 @@ pub fn gather(
         → IsGathered place shares.items ended.0.loaders) }
     ensures good { IfOk result (λ ended. IsGood ended.0) }
     ensures limits { IfOk result (λ ended. ended.0.limits ≡ shared.first.limits) }
+    ensures history { IfOk result (λ ended. IsMadeFrom shared.first (map seat_of shares.items) ended.0) }
     ensures used { IfOk result (λ ended. used_words_of ended.0 ≡ used_over shares.items) }
     ensures meters { IfOk result (λ ended. ended.1.items ≡ map meter_of shares.items) }
     ensures wanting { IfErr result (λ fault. fault ≡ RunFault.OutOfMemory) }
@@ -55,6 +57,7 @@ fn open(shared: SharedPool, seats: Vec<PoolSeat>) -> Result<Pool, RunFault>
     ensures opens { IsOk result }
     ensures gathered { IfOk result (λ pool. Gathers seats.items pool) }
     ensures limits { IfOk result (λ pool. pool.limits ≡ shared.first.limits) }
+    ensures history { IfOk result (λ pool. IsHistory shared.first seats.items pool) }
 {
     match shared.into_pool(seats) {
         Ok(pool) => Ok(pool),

@@ -1,10 +1,12 @@
 //! A loader's beginning and end in a worker's hands: both its accounts are opened by one event, and
 //! closed by one.
-ghost use Rattle.std.specs.Prelude.{◌≡◌, ◌≢◌, IfOk, OnOk, IfErr, ℕ, true, false, Bool};
+ghost use Rattle.std.specs.Prelude.{◌≡◌, ◌≢◌, IfOk, OnOk, IfErr, ℕ, true, false, Bool, List, []};
 ghost use Rattle.ms_base.specs.Names.{named};
 ghost use Rattle.ms_base.specs.Alone.{OwnReply};
 ghost use Rattle.ms_loaders.specs.System.{states_of};
 ghost use Rattle.ms_loaders.specs.Used.{used_at};
+ghost use Rattle.ms_shared.specs.History.{Event};
+ghost use Rattle.ms_run.specs.Acts.{HasMade, Once, IsOpening, IsClosing, LacksLoader};
 ghost use Rattle.ms_run.specs.Own.{own_in};
 ghost use Rattle.ms_run.specs.Manned.{IsManned};
 
@@ -33,6 +35,8 @@ pub fn new_loader<R: Wait>(
         (own_in (states_of loaders.new) name)) }
     ensures used { used_at (named loaders.new name) ≡ used_at (named loaders.old name) }
     ensures others { (other : ℕ) → other ≢ name → named loaders.new other ≡ named loaders.old other }
+    ensures made { OnOk result (HasMade pool.old pool.new (Once IsOpening)) }
+    ensures not_made { IfErr result (λ refusal. HasMade pool.old pool.new (LacksLoader refusal)) }
 {
     if loaders.contains(name) {
         return Err(Refusal::LoaderExists);
@@ -66,6 +70,9 @@ pub fn unload<R: Wait>(
     ensures refused { IfErr result (λ refusal. OwnReply (own_in (states_of loaders.old) name)
         (Step.Unload name) false (Reply.Refused refusal) (own_in (states_of loaders.new) name)) }
     ensures others { (other : ℕ) → other ≢ name → named loaders.new other ≡ named loaders.old other }
+    ensures made { OnOk result (HasMade pool.old pool.new (Once IsClosing)) }
+    ensures not_made { IfErr result
+        (λ refusal. HasMade pool.old pool.new (λ (events : List Event). events ≡ [])) }
 {
     // That names differ is learnt here.
     let _ = loaders.len();

@@ -6,6 +6,7 @@ ghost use Rattle.std.specs.Prelude.{◌≡◌, ◌+◌, Some};
 ghost use Rattle.ms_base.specs.Names.{AreNamed, named};
 ghost use Rattle.ms_base.specs.Request.{loader_of};
 ghost use Rattle.ms_loaders.specs.Used.{used_at, used_in};
+ghost use Rattle.ms_run.specs.Acts.{HasMade, Makes};
 ghost use Rattle.ms_run.specs.Answering.{IsAnswered};
 ghost use Rattle.ms_run.specs.Manned.{IsManned};
 ghost use Rattle.ms_run.specs.Metering.{MovesNoTop};
@@ -31,6 +32,7 @@ pub fn answer_metered<R: Wait>(
     requires meter { seat.old.id ≡ meter.now.id }
     ensures lock { pool.new.id ≡ pool.old.id }
     ensures answered { IsAnswered loaders.old step result pool.new.knows loaders.new }
+    ensures made { HasMade pool.old pool.new (Makes step result) }
     ensures moved { IsMoved seat.old (used_in loaders.old) seat.new (used_in loaders.new) }
 {
     match step {
@@ -64,6 +66,7 @@ fn answer_rise<R: Wait>(
     requires names { loader_of step ≡ Some name }
     ensures lock { pool.new.id ≡ pool.old.id }
     ensures answered { IsAnswered loaders.old step result pool.new.knows loaders.new }
+    ensures made { HasMade pool.old pool.new (Makes step result) }
     ensures moved { IsMoved seat.old (used_in loaders.old) seat.new (used_in loaders.new) }
 {
     let before = used_by(loaders, name);
@@ -84,6 +87,7 @@ fn answer_unload<R: Wait>(
     requires { IsManned pool.old.knows loaders.old }
     ensures lock { pool.new.id ≡ pool.old.id }
     ensures answered { IsAnswered loaders.old (Step.Unload name) result pool.new.knows loaders.new }
+    ensures made { HasMade pool.old pool.new (Makes (Step.Unload name) result) }
     ensures used { used_in loaders.new + used_at (named loaders.old name) ≡ used_in loaders.old }
 {
     // That names rise is learnt here, of the loaders before and after.
@@ -104,6 +108,7 @@ fn answer_still<R: Wait>(
     requires still { MovesNoTop step }
     ensures lock { pool.new.id ≡ pool.old.id }
     ensures answered { IsAnswered loaders.old step result pool.new.knows loaders.new }
+    ensures made { HasMade pool.old pool.new (Makes step result) }
     ensures used { used_in loaders.new ≡ used_in loaders.old }
 {
     // That names rise is learnt here, of the loaders before and after.

@@ -9,6 +9,7 @@ ghost use Rattle.ms_base.specs.Names.{named};
 ghost use Rattle.ms_base.specs.Request.{loader_of};
 ghost use Rattle.ms_base.specs.Alone.{OwnReply};
 ghost use Rattle.ms_loaders.specs.System.{states_of, reply_of};
+ghost use Rattle.ms_run.specs.Acts.{HasMade, Makes};
 ghost use Rattle.ms_run.specs.Own.{own_in};
 ghost use Rattle.ms_run.specs.Manned.{IsManned};
 ghost use Rattle.ms_loaders.specs.Used.{used_at};
@@ -38,6 +39,7 @@ pub fn answer<R: Wait>(
     ensures others { (name : ℕ) → loader_of step ≢ Some name
         → named loaders.new name ≡ named loaders.old name }
     ensures purge { step ≡ Step.Purge → result ≡ Reply.Ok }
+    ensures made { HasMade pool.old pool.new (Makes step result) }
     ensures used { MovesNoTop step → (name : ℕ)
         → used_at (named loaders.new name) ≡ used_at (named loaders.old name) }
 {
@@ -63,6 +65,7 @@ fn serve<R: Wait>(
     ensures others { (name : ℕ) → loader_of step ≢ Some name
         → named loaders.new name ≡ named loaders.old name }
     ensures purge { step ≡ Step.Purge → reply_of result ≡ Reply.Ok }
+    ensures made { HasMade pool.old pool.new (Makes step (reply_of result)) }
     ensures used { MovesNoTop step → (name : ℕ)
         → used_at (named loaders.new name) ≡ used_at (named loaders.old name) }
 {

@@ -62,7 +62,7 @@ loop-seat-preserved c = (
       c.in-Some.seat _ c.loop-seat.shares.items _ c.in_ok-share.share (c.len-at.result + 1)
       (rw c.in-Some.ensures.steps.0 at c.loop-seat.invariant.0)
       (omega (arith, c.len-at.ensures, c.loop-seat.shares.ok.0))
-      c.in_ok-hand_all.ensures.crews
+      c.in_ok-hand_all.ensures.crews c.in_ok-hand_all.ensures.from c.in_ok-hand_all.ensures.to
       (handed_at (place_in c.args.turn.now) c.args.lines.now (c.len-at.result + 1) c.take_list-tasks.result.items
       c.loop-seat.first.loaders c.hand_all.new.from.loaders c.hand_all.new.to.loaders (omega arith)
       (c.loop-seat.invariant.2 (c.len-at.result + 1) c.take_list-tasks.result

@@ -1,6 +1,6 @@
 use Rattle.std.proofs.Common.{◌∙◌, sym, subst, refl}
 use Rattle.ms_run.specs.Shares.{names_in}
-use Rattle.ms_run.proofs.DealLemmas.{IsHanding, handing_starts, handing_on, handing_ends, none_left}
+use Rattle.ms_run.proofs.DealLemmas.{IsHanding, handing_starts, handing_on, handing_ends, none_left, same_then}
 use Rattle.ms_run.proofs.dealing.hand_all.Goals as goal
 
 pub loop-name-init : goal.loop-name-init
@@ -9,6 +9,8 @@ loop-name-init c = (
   handing_starts c.args.from.now.loaders c.args.to.now.loaders (names_in c.args.tasks.now) _ c.requires.none
       (c.into_iter-name-iterator.ensures.into_iter_gives.0 ∙ c.in_ok-names.ensures),
   refl,
+  record { number = refl; events = refl },
+  record { number = refl; events = refl },
 )
 
 pub hand_on-requires : goal.hand_on-requires
@@ -24,6 +26,8 @@ loop-name-preserved c =
           c.loop-name.to.loaders _ _ c.in-Some.name _
           (rw c.in-Some.ensures.steps.0 at so_far) c.in_ok-hand_on.ensures.handed,
       c.in_ok-hand_on.ensures.used ∙ c.loop-name.invariant.2,
+      same_then _ _ _ c.loop-name.invariant.3 c.in_ok-hand_on.ensures.from,
+      same_then _ _ _ c.loop-name.invariant.4 c.in_ok-hand_on.ensures.to,
     )
 
 pub returns-clause-crews : goal.returns-clause-crews
@@ -40,3 +44,9 @@ returns-clause-handed c =
 
 pub returns-clause-used : goal.returns-clause-used
 returns-clause-used c = c.loop-name.invariant.2
+
+pub returns-clause-from : goal.returns-clause-from
+returns-clause-from c = c.loop-name.invariant.3
+
+pub returns-clause-to : goal.returns-clause-to
+returns-clause-to c = c.loop-name.invariant.4

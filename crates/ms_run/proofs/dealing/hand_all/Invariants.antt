@@ -1,6 +1,6 @@
 use Rattle.std.proofs.Common.{◌≡◌, ◌+◌}
 use Rattle.ms_loaders.specs.Used.{used_in}
-use Rattle.ms_run.specs.Dealing.{AreCrews}
+use Rattle.ms_run.specs.Dealing.{AreCrews, IsSameSeat}
 use Rattle.ms_run.specs.Shares.{names_in}
 use Rattle.ms_run.proofs.DealLemmas.{IsHanding}
 use Rattle.ms_run.proofs.dealing.hand_all.Given as goal
@@ -10,3 +10,5 @@ invariant-loop-name l =
     AreCrews l.shared l.from.seat l.from.loaders l.to.seat l.to.loaders
     × IsHanding (names_in l.tasks) l.fn.from.loaders l.from.loaders l.to.loaders l.name-iterator.rest.items
     × (used_in l.from.loaders + used_in l.to.loaders ≡ used_in l.fn.from.loaders + used_in l.fn.to.loaders)
+    × IsSameSeat l.fn.from.seat l.from.seat
+    × IsSameSeat l.fn.to.seat l.to.seat

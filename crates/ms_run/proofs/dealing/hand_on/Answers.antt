@@ -60,3 +60,19 @@ pub returns-clause-used : goal.returns-clause-used
 returns-clause-used c =
     used_handed c.args.from.now.loaders c.args.to.now.loaders _ _ c.args.name c.in-Some.loader
     (sym c.remove.ensures.found ∙ c.in-Some.is) c.remove.ensures.rest c.in-Ok.ensures.fresh c.in-Ok.ensures.inserted
+
+pub returns-clause-from : goal.returns-clause-from
+returns-clause-from c = record {
+  number = ap (λ (seat : SeatState). seat.number) c.hand-2.ensures.from
+      ∙ ap (λ (seat : SeatState). seat.number) c.hand.ensures.from;
+  events = ap (λ (seat : SeatState). seat.events) c.hand-2.ensures.from
+      ∙ ap (λ (seat : SeatState). seat.events) c.hand.ensures.from;
+}
+
+pub returns-clause-to : goal.returns-clause-to
+returns-clause-to c = record {
+  number = ap (λ (seat : SeatState). seat.number) c.hand-2.ensures.to
+      ∙ ap (λ (seat : SeatState). seat.number) c.hand.ensures.to;
+  events = ap (λ (seat : SeatState). seat.events) c.hand-2.ensures.to
+      ∙ ap (λ (seat : SeatState). seat.events) c.hand.ensures.to;
+}

@@ -2,7 +2,7 @@ use Rattle.std.proofs.Common.{◌≡◌, ◌∙◌, List, sym, ap, subst}
 use Rattle.std.specs.List.{All}
 use Rattle.std.proofs.lemmas.List.Elements.{All-map}
 use Rattle.ms_base.specs.State.{Machine}
-use Rattle.ms_shared.specs.SeatView.{SeatState, Gathers}
+use Rattle.ms_shared.specs.SeatView.{SeatState, Gathers, IsHistory}
 use Rattle.ms_run.specs.Joined.{seat_of}
 use Rattle.ms_run.specs.Metering.{used_words_of}
 use Rattle.ms_run.specs.Shares.{IsGathered}
@@ -39,3 +39,18 @@ pub returns-clause-used : goal.returns-clause-used
 returns-clause-used c =
     ap used_words_of c.in_ok-system.ensures.machine ∙ used_machine c.in_ok-pool.pool c.in_ok-seats.loaders
     ∙ used_gathered c.args.shares.items c.in_ok-seats.loaders c.in_ok-seats.ensures.loaders
+
+pub returns-clause-history : goal.returns-clause-history
+returns-clause-history c = record {
+  last = c.in_ok-pool.pool;
+  ends = record {
+    loaders = c.in_ok-seats.loaders;
+    machine = c.in_ok-system.ensures.machine;
+    fits = may_settle _ c.args.shares.items _ c.committed.ensures.sound
+        (subst (λ (seats : List SeatState). Gathers seats c.in_ok-pool.pool) c.in_ok-seats.ensures.seats
+        c.in_ok-pool.ensures.gathered)
+        c.requires.stand.manned c.in_ok-seats.ensures.loaders;
+  };
+  history = subst (λ (seats : List SeatState). IsHistory c.args.shared.first seats c.in_ok-pool.pool)
+      c.in_ok-seats.ensures.seats c.in_ok-pool.ensures.history;
+}
