@@ -1,9 +1,11 @@
 -- A step over the lock as events of its seat, and what is said as acts. For the answers of `serving`,
 -- `blocks`, `lifetimes` and `working`.
-use Rattle.std.proofs.Common.{◌≡◌, ℕ, Bool, true, false, Option, Some, None, Result, Ok, Err, List, [], ◌∷◌, ◌++◌, inl, inr}
+use Rattle.std.proofs.Common.{◌≡◌, ◌≢◌, ℕ, Bool, true, false, Option, Some, None, Result, Ok, Err, List, [], ◌∷◌, ◌++◌, inl, inr}
 use Rattle.std.proofs.Common.{refl, sym, ap, ◌∙◌, subst, append-nil, append_assoc}
-use Rattle.std.proofs.lemmas.List.Elements.{All-append, All-from_recursion}
 use Rattle.ms_base.specs.declared.kind.Space.{Space}
+use Rattle.ms_base.specs.declared.kind.Space.TheVariants.{NonClass, Class}
+use Rattle.ms_base.specs.Names.{named}
+use Rattle.ms_base.specs.Request.{loader_of}
 use Rattle.ms_base.specs.declared.policy.Policy.{Policy}
 use Rattle.ms_base.specs.declared.span.Chunk.{Chunk}
 use Rattle.ms_base.specs.declared.span.Span.{Span}
@@ -17,7 +19,10 @@ use Rattle.ms_base.specs.Asks.{asks_growth, wanted_level, total_asked, may_enlar
 use Rattle.ms_base.specs.Level.{level_that_holds}
 use Rattle.ms_base.specs.State.{ArenaState}
 use Rattle.ms_pool.specs.Account.{AccountState}
-use Rattle.ms_pool.specs.Ledger.{Ledger}
+use Rattle.ms_pool.specs.Ledger.{Ledger, with_both_closed, Serves as ServesIn}
+use Rattle.ms_pool.specs.Source.{ServesBoth}
+use Rattle.ms_pool.specs.Calls.{ClosedBoth}
+use Rattle.ms_shared.proofs.LockCloseLemmas.{both_served_by_pool}
 use Rattle.ms_pool.proofs.ledger.KeepsLemmas.{serves_where_tallied}
 use Rattle.ms_pool.proofs.ledger.GrewLemmas.{grow_refused_raises}
 use Rattle.ms_arena.specs.Arena.{ArenaView, account_of}
@@ -28,8 +33,8 @@ use Rattle.ms_shared.specs.SeatView.{SeatState, ServesBy, OverLock}
 use Rattle.ms_shared.specs.LockCalls.{TookOver, GrewOver}
 use Rattle.ms_shared.proofs.LockCallLemmas.{IsCall, served_by_pool, serves_then}
 use Rattle.ms_run.specs.Own.{Said}
-use Rattle.ms_run.specs.Acts.{IsTaking, IsGrowing, Takes as TakesEvent, Asks, Makes, HasMade, Act, IsAct, said_of, events_by}
-use Rattle.ms_run.specs.Acts.{HasActed}
+use Rattle.ms_run.specs.Acts.{IsTaking, IsGrowing, IsClosing, Takes as TakesEvent, Asks, Makes, HasMade, Act, IsAct}
+use Rattle.ms_run.specs.Acts.{said_of, events_by, Works, HasActed}
 
 pub made_none : (seat : SeatState) (are : List Event → Type 0) → are [] → HasMade seat seat are
 made_none seat are so = record { made = []; events = sym (append-nil seat.events); number = refl; are_so = so }
@@ -65,30 +70,28 @@ module _ (policy : Policy) (was : ArenaView) (n : ℕ) (answer : Result Block Re
     (after : SeatState) where
   -- The events, as its answer says.
   abbrev MadeAs : SeatState → Type 0
-  MadeAs before = HasMade before after (Asks was.space (start_of answer))
+  MadeAs before = HasMade before after (Asks (account_of was) (start_of answer))
 
   none_made : (before : SeatState) → after ≡ before → MadeAs before
   none_made before same =
-      subst (λ (s : SeatState). HasMade before s (Asks was.space (start_of answer))) (sym same)
-      (made_none before (Asks was.space (start_of answer)) tt)
+      subst (λ (s : SeatState). HasMade before s (Asks (account_of was) (start_of answer))) (sym same)
+      (made_none before (Asks (account_of was) (start_of answer)) tt)
 
-  taking : (lent : Result Span Refusal) (event : Event) → IsTaking was.space lent event
-      → AfterTake policy was n lent answer is → TakesEvent was.space (start_of answer) event
+  taking : (lent : Result Span Refusal) (event : Event) → IsTaking (account_of was) lent event
+      → AfterTake policy was n lent answer is → TakesEvent (account_of was) (start_of answer) event
   taking (Ok span) event its follows =
-      subst (λ (a : Result Block Refusal). TakesEvent was.space (start_of a) event) (sym follows.0) (span, refl, its)
+      subst (λ (a : Result Block Refusal). TakesEvent (account_of was) (start_of a) event) (sym follows.0) (span, refl, its)
   taking (Err refusal) event its follows =
-      subst (λ (a : Result Block Refusal). TakesEvent was.space (start_of a) event) (sym follows.0) its
+      subst (λ (a : Result Block Refusal). TakesEvent (account_of was) (start_of a) event) (sym follows.0) its
 
   takes : (before : SeatState) (its : Takes TookOver policy was n before answer is after)
       → ServesBy before.knows (account_of was)
-      → TakesEvent was.space (start_of answer) (its.asked.event.before, its.asked.event.after)
+      → TakesEvent (account_of was) (start_of answer) (its.asked.event.before, its.asked.event.after)
   takes before its serves = taking its.lent (its.asked.event.before, its.asked.event.after)
       (record {
-        account = account_of was;
         wanted = wanted_level was.kind was.space was.books n;
         most = level_that_holds n;
         words = n;
-        space_is = refl;
         served = served_by_pool its.asked.event.before before.knows (account_of was) its.asked.event.known serves;
         took = its.asked.event.called;
       }) its.follows
@@ -96,17 +99,15 @@ module _ (policy : Policy) (was : ArenaView) (n : ℕ) (answer : Result Block Re
   took : (before : SeatState) → Takes TookOver policy was n before answer is after
       → ServesBy before.knows (account_of was) → MadeAs before
   took before its serves =
-      made_one before after its.asked.event (Asks was.space (start_of answer)) (inr (takes before its serves))
+      made_one before after its.asked.event (Asks (account_of was) (start_of answer)) (inr (takes before its serves))
 
   growing : (start total : ℕ) (may : Bool) (grown : Result Span Refusal) (before middle : SeatState)
       (its : GrewOver before (account_of was) start total may grown middle) → ServesBy before.knows (account_of was)
-      → IsGrowing was.space grown (its.event.before, its.event.after)
+      → IsGrowing (account_of was) grown (its.event.before, its.event.after)
   growing start total may grown before middle its serves = record {
-    account = account_of was;
     start = start;
     total = total;
     enlarges = may;
-    space_is = refl;
     served = served_by_pool its.event.before before.knows (account_of was) its.event.known serves;
     grew = its.event.called;
   }
@@ -129,12 +130,12 @@ module _ (policy : Policy) (was : ArenaView) (n : ℕ) (answer : Result Block Re
       → AfterGrow TookOver policy was chunk n grown middle answer is after → ServesBy before.knows (account_of was)
       → MadeAs before
   grew chunk start total may (Ok span) before middle its follows serves =
-      subst (λ (s : SeatState). HasMade before s (Asks was.space (start_of answer))) (sym follows.0)
-      (made_one before middle its.event (Asks was.space (start_of answer))
-      (subst (λ (a : Result Block Refusal). Asks was.space (start_of a) ((its.event.before, its.event.after) ∷ []))
+      subst (λ (s : SeatState). HasMade before s (Asks (account_of was) (start_of answer))) (sym follows.0)
+      (made_one before middle its.event (Asks (account_of was) (start_of answer))
+      (subst (λ (a : Result Block Refusal). Asks (account_of was) (start_of a) ((its.event.before, its.event.after) ∷ []))
       (sym follows.1) (inl (span, growing start total may (Ok span) before middle its serves))))
   grew chunk start total may (Err refusal) before middle its follows serves =
-      made_two before middle after its.event follows.asked.event (Asks was.space (start_of answer)) (
+      made_two before middle after its.event follows.asked.event (Asks (account_of was) (start_of answer)) (
         (refusal, growing start total may (Err refusal) before middle its serves),
         takes middle follows (served_still start total may refusal before middle its serves),
       )
@@ -159,7 +160,7 @@ module _ (policy : Policy) (was : ArenaView) (n : ℕ) (answer : Result Block Re
 arena_made : (policy : Policy) (was : ArenaView) (words : ℕ) (before : SeatState) (answer : Result Block Refusal)
     (is : ArenaView) (after : SeatState)
     → Allocates GrewOver TookOver policy was words before answer is after → ServesBy before.knows (account_of was)
-    → HasMade before after (Asks was.space (start_of answer))
+    → HasMade before after (Asks (account_of was) (start_of answer))
 arena_made policy was words before answer is after (inl refused) serves =
     none_made policy was words answer is after before refused.source
 arena_made policy was words before answer is after (inr its) serves =
@@ -168,12 +169,12 @@ arena_made policy was words before answer is after (inr its) serves =
 pub block_made : (space : Space) (policy : Policy) (was is : LoaderView) (name words : ℕ) (old new : SeatState)
     (answer : Result Block Refusal)
     → AllocatesBlock GrewOver TookOver policy space was name words old answer is new
-    → ServesBy old.knows (account_in space was) → HasMade old new (Asks space (start_of answer))
+    → ServesBy old.knows (account_in space was) → HasMade old new (Asks (account_in space was) (start_of answer))
 block_made space policy was is name words old new answer (inl refused) serves =
-    subst (λ (s : SeatState). HasMade old s (Asks space (start_of answer))) (sym refused.source)
-    (made_none old (Asks space (start_of answer)) tt)
+    subst (λ (s : SeatState). HasMade old s (Asks (account_in space was) (start_of answer))) (sym refused.source)
+    (made_none old (Asks (account_in space was) (start_of answer)) tt)
 block_made space policy was is name words old new answer (inr asks) serves =
-    subst (λ (one : Space). HasMade old new (Asks one (start_of answer))) asks.arena.space_is
+    subst (λ (account : AccountState). HasMade old new (Asks account (start_of answer))) account_is
     (arena_made policy asks.was words old answer asks.is new asks.allocates
     (subst (ServesBy old.knows) (sym account_is) serves))
   where
@@ -182,6 +183,20 @@ block_made space policy was is name words old new answer (inr asks) serves =
       owner = asks.arena.owner i;
       space = asks.arena.space_is i;
       chunks = ap (λ (books : ArenaState). books.chunks) asks.arena.books i;
+    }
+
+-- Both accounts of a loader are closed over the lock.
+pub is_closing : (loader : LoaderView) (old new : SeatState) (account class_account : AccountState)
+    → account ≡ account_in NonClass loader → class_account ≡ account_in Class loader
+    → ServesBoth ServesBy old.knows account class_account
+    → (its : OverLock (λ before after. ClosedBoth before account class_account after) old new)
+    → IsClosing loader (its.before, its.after)
+is_closing loader old new account class_account is class_is serves its =
+    let both = both_served_by_pool its.before old.knows account class_account its.known serves in record {
+      both = subst (λ (a : AccountState). ServesBoth ServesIn its.before a (account_in Class loader)) is
+          (subst (λ (a : AccountState). ServesBoth ServesIn its.before account a) class_is both);
+      closed = its.called ∙ ap (λ (a : AccountState). with_both_closed its.before a class_account) is
+          ∙ ap (λ (a : AccountState). with_both_closed its.before (account_in NonClass loader) a) class_is;
     }
 
 -- Acts, one after another.
@@ -194,21 +209,31 @@ events_more [] act = append-nil act.1
 events_more (one ∷ acts) act = ap (λ (l : List Event). one.1 ++ l) (events_more acts act)
     ∙ sym (append_assoc one.1 (events_by acts) act.1)
 
-pub acted_none : (seat : SeatState) → HasActed seat seat []
-acted_none seat = record {
+works_more : (before : List (ℕ × LoaderView)) (acts : List Act) (old : List (ℕ × LoaderView)) (act : Act)
+    (new : List (ℕ × LoaderView)) → Works before acts old → IsAct old act new → Works before (acts ++ act ∷ []) new
+works_more before [] old act new so_far more =
+    (new, subst (λ (l : List (ℕ × LoaderView)). IsAct l act new) so_far more, refl)
+works_more before (one ∷ acts) old act new so_far more =
+    (so_far.0, so_far.1, works_more so_far.0 acts old act new so_far.2 more)
+
+pub acted_none : (seat : SeatState) (loaders : List (ℕ × LoaderView)) → HasActed seat seat loaders [] loaders
+acted_none seat loaders = record {
   acts = [];
-  each = All-from_recursion IsAct [] tt;
+  works = refl;
   said_are = refl;
   events = sym (append-nil seat.events);
   number = refl;
 }
 
-pub acted_more : (first old new : SeatState) (said : List Said) (step : Step) (reply : Reply)
-    → HasActed first old said → HasMade old new (Makes step reply) → HasActed first new (said ++ (step, reply) ∷ [])
-acted_more first old new said step reply acted more =
+pub acted_more : (first old new : SeatState) (before mid after : List (ℕ × LoaderView)) (said : List Said) (step : Step)
+    (reply : Reply) → HasActed first old before said mid → HasMade old new (Makes mid step reply after)
+    → ((name : ℕ) → loader_of step ≢ Some name → named after name ≡ named mid name)
+    → HasActed first new before (said ++ (step, reply) ∷ []) after
+acted_more first old new before mid after said step reply acted more others =
     let act : Act = ((step, reply), more.made) in record {
       acts = acted.acts ++ act ∷ [];
-      each = All-append IsAct acted.acts (act ∷ []) acted.each (All-from_recursion IsAct (act ∷ []) (more.are_so, tt));
+      works = works_more before acted.acts mid act after acted.works
+          (record { made = more.are_so; others = others });
       said_are = said_more acted.acts act ∙ ap (λ (l : List Said). l ++ (step, reply) ∷ []) acted.said_are;
       events = more.events ∙ ap (λ (l : List Event). l ++ more.made) acted.events
           ∙ append_assoc first.events (events_by acted.acts) more.made

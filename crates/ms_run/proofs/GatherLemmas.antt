@@ -222,14 +222,19 @@ joined_named name old (share ∷ shares) new (suc at) own joined there apart non
 named_state : (loaders : Loaders) (name : ℕ) → named (states_of loaders) name ≡ option_map state_of (named loaders name)
 named_state loaders name = lookup-map_values state_of (is_at (nat_cmp name)) loaders
 
+pub views_gathered : (place : Place) (shares : List Share) (loaders : Loaders) → AreJoined [] shares loaders
+    → AreApart place shares → (at : ℕ) (share : Share) (name : ℕ) → slice_get shares at ≡ Some share
+    → place (Some name) ≡ at → named loaders name ≡ named share.loaders name
+views_gathered place shares loaders joined apart at share name there goes =
+    joined_named name [] shares loaders at share joined there
+    (λ other one here differ. apart other one name here (λ e. differ (sym e ∙ goes))) refl
+
 pub all_gathered : (place : Place) (shares : List Share) (loaders : Loaders) → AreJoined [] shares loaders
     → AreApart place shares
     → IsGathered place shares (states_of loaders)
 all_gathered place shares loaders joined apart at share name there goes =
     named_state loaders name
-    ∙ ap (option_map state_of)
-    (joined_named name [] shares loaders at share joined there
-    (λ other one here differ. apart other one name here (λ e. differ (sym e ∙ goes))) refl)
+    ∙ ap (option_map state_of) (views_gathered place shares loaders joined apart at share name there goes)
     ∙ sym (named_state share.loaders name)
 
 -- No name is in two of the shares that are left, nor in one of these and the loaders so far.

@@ -23,7 +23,8 @@ use Rattle.ms_base.specs.Alone.{OwnLoader, OwnReplies}
 use Rattle.ms_trace.specs.declared.trace.Line.{Line}
 use Rattle.ms_loaders.specs.declared.replies.Answer.{Answer}
 use Rattle.ms_loaders.specs.Loader.{LoaderView}
-use Rattle.ms_loaders.specs.System.{states_of}
+use Rattle.ms_loaders.specs.System.{states_of, machine_of}
+use Rattle.ms_loaders.specs.Settles.{MaySettle}
 use Rattle.std.proofs.lemmas.List.{length-map}
 use Rattle.ms_shared.specs.History.{Event, Logged, events_of, AreBelow}
 use Rattle.ms_shared.specs.SeatView.{LockState, SeatState}
@@ -31,7 +32,7 @@ use Rattle.ms_run.specs.Acts.{events_by}
 use Rattle.ms_run.specs.Joined.{IsMadeFrom, seat_of}
 use Rattle.ms_run.specs.Own.{Said, own_said, own_of, own_in, OwnRun, ArePurged}
 use Rattle.ms_run.specs.Manned.{IsManned}
-use Rattle.ms_run.specs.Replay.{AreSaid, IsPhase, GoesOn, runs, IsMachineOf, HasPart, by_workers}
+use Rattle.ms_run.specs.Replay.{AreSaid, IsPhase, GoesOn, runs, HasPart, by_workers}
 use Rattle.ms_run.proofs.AloneLemmas.{AddsFirst}
 use Rattle.ms_run.proofs.StandByLemmas.{same_merged}
 use Rattle.ms_run.specs.Shares.{place_for}
@@ -245,11 +246,11 @@ pub phase_of : (place : Place) (shared : LockState) (shares others : List Share)
     (loaders : List (ℕ × LoaderView)) (old new : Machine)
     → old.loaders ≡ states_of loaders → AreDealt place shared shares lines loaders → AllWorked shares others
     → AreSaid lines added said → AreMerged place others said → IsGathered place others new.loaders → IsGood new
-    → IsMachineOf shared.first old → IsMadeFrom shared.first (map seat_of others) new
+    → old ≡ machine_of shared.first loaders → MaySettle shared.first loaders → IsMadeFrom shared.first others new
     → new.limits ≡ old.limits
     → IsPhase old lines added new
 phase_of place shared shares others lines added said loaders old new old_is dealt all said_are merged gathered good
-    begins made limits = record {
+    machine fits made limits = record {
       said = said;
       said_are = said_are;
       own = own;
@@ -257,7 +258,7 @@ phase_of place shared shares others lines added said loaders old new old_is deal
       leads = by_workers said new (record {
         first = shared.first;
         last = made.last;
-        begins = begins;
+        begins = record { loaders = loaders; machine = machine; fits = fits };
         ends = made.ends;
         place = place;
         count = length others;
@@ -274,14 +275,28 @@ phase_of place shared shares others lines added said loaders old new old_is deal
     there : (name : Option ℕ) → (done : Share) × (slice_get others (place name) ≡ Some done)
     there name = share_at others (place name) (omega (arith, same_count shares others all, dealt.within name))
 
-    parted : (at : ℕ) → (done : Share) × (slice_get others at ≡ Some done) → HasPart place said made.history.log at
+    apart : AreApart place others
+    apart = still_apart place shares others lines dealt.apart dealt.tasks all
+
+    parted : (at : ℕ) → (done : Share) × (slice_get others at ≡ Some done)
+        → HasPart place loaders made.ends.loaders said made.history.log at
     parted at (done, found) =
         let from = worked_from shares others at done all found in let acted = from.worked.acted in
         let fresh = (at_place (IsReady shared) shares at from.share dealt.ready from.is).fresh in
         let its = seat_at (HasOwn made.history.log) others at done
         (recursion_from_All (HasOwn made.history.log) (map seat_of others) made.history.own) found in record {
+          before = from.share.loaders;
+          after = done.loaders;
+          begins = record {
+            here = λ name goes. dealt.here at from.share name from.is goes;
+            apart = λ name differs. dealt.apart at from.share name from.is differs;
+          };
+          ends = record {
+            here = λ name goes. made.here place apart at done name found goes;
+            apart = λ name differs. apart at done name found differs;
+          };
           acts = acted.acts;
-          each = acted.each;
+          works = acted.works;
           said_are = acted.said_are
               ∙ ap (λ (l : List Task). said_in l done.replies.items) (sym from.worked.tasks) ∙ sym (merged at done found);
           events = sym (acted.events ∙ ap (λ (l : List Event). l ++ events_by acted.acts) fresh) ∙ its
@@ -360,13 +375,13 @@ pub ended : (place : Place) (shared : LockState) (shares others : List Share) (l
     → old.loaders ≡ states_of loaders → AreDealt place shared shares lines loaders → AllWorked shares others
     → Merges place others lines before after
     → ((where_to : Place) → AreApart where_to others → IsGathered where_to others new.loaders) → IsGood new
-    → IsMachineOf shared.first old → IsMadeFrom shared.first (map seat_of others) new
+    → old ≡ machine_of shared.first loaders → MaySettle shared.first loaders → IsMadeFrom shared.first others new
     → new.limits ≡ shared.first.limits → shared.first.limits ≡ old.limits → Adds lines before after old new
-ended place shared shares others lines before after loaders old new old_is dealt all merges gathered good begins made
+ended place shared shares others lines before after loaders old new old_is dealt all merges gathered good machine fits made
     limits same = (
       merges.0,
       merges.2,
       goes_on lines merges.0 old new
           (phase_of place shared shares others lines merges.0 merges.1 loaders old new old_is dealt all merges.3 merges.4
-          (gathered place (still_apart place shares others lines dealt.apart dealt.tasks all)) good begins made (limits ∙ same)),
+          (gathered place (still_apart place shares others lines dealt.apart dealt.tasks all)) good machine fits made (limits ∙ same)),
     )

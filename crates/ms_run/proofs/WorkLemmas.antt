@@ -137,7 +137,7 @@ pub record IsWorkedTo (share : Share) (pool : SeatState) (counted : MeterSeatSta
   pub room : length tasks ≤ vec_capacity replies
   pub own : AreOwn share.loaders (said_in tasks replies.items) loaders
   pub purges : ArePurged (said_in tasks replies.items)
-  pub acted : HasActed share.seat pool (said_in tasks replies.items)
+  pub acted : HasActed share.seat pool share.loaders (said_in tasks replies.items) loaders
   pub moved : IsMoved share.meter (used_in share.loaders) counted (used_in loaders)
 
 pub work_begins : (share : Share) (pool : SeatState) (tasks : List Task) → IsManned share.seat.knows share.loaders
@@ -151,8 +151,8 @@ work_begins share pool tasks manned room none seat count = record {
   room = omega arith;
   own = subst (λ (l : List Said). AreOwn share.loaders l share.loaders) (sym said) (none_said share.loaders);
   purges = subst ArePurged (sym said) none_purged;
-  acted = subst (λ (l : List Said). HasActed share.seat pool l) (sym said)
-      (subst (λ (s : SeatState). HasActed share.seat s []) (sym seat) (acted_none share.seat));
+  acted = subst (λ (l : List Said). HasActed share.seat pool share.loaders l share.loaders) (sym said)
+      (subst (λ (s : SeatState). HasActed share.seat s share.loaders [] share.loaders) (sym seat) (acted_none share.seat share.loaders));
   moved = moved_none share.meter (used_in share.loaders);
 }
   where
@@ -171,7 +171,7 @@ pub work_goes_on : (share : Share) (pool new_pool : SeatState) (counted mid_coun
     (replies new_replies : Vec Reply Global) (d : Task) (reply : Reply)
     → IsWorkedTo share pool counted loaders tasks index replies → index < length tasks → new_pool.id ≡ pool.id
     → IsAnswered loaders (get_or tasks index d).step reply new_pool.knows new_loaders
-    → HasMade pool new_pool (Makes (get_or tasks index d).step reply)
+    → HasMade pool new_pool (Makes loaders (get_or tasks index d).step reply new_loaders)
     → IsMoved counted (used_in loaders) mid_counted (used_in new_loaders) → new_counted ≡ mid_counted
     → new_replies.items ≡ replies.items ++ reply ∷ [] → vec_len new_replies ≡ vec_len replies + 1
     → vec_capacity new_replies ≡ vec_capacity replies
@@ -187,9 +187,9 @@ work_goes_on share pool new_pool counted mid_counted new_counted loaders new_loa
           its.own answered.own answered.others);
       purges = subst ArePurged (sym said)
           (purged_more (said_in tasks replies.items) (get_or tasks index d).step reply its.purges answered.purge);
-      acted = subst (λ (l : List Said). HasActed share.seat new_pool l) (sym said)
-          (acted_more share.seat pool new_pool (said_in tasks replies.items) (get_or tasks index d).step reply its.acted
-          made);
+      acted = subst (λ (l : List Said). HasActed share.seat new_pool share.loaders l new_loaders) (sym said)
+          (acted_more share.seat pool new_pool share.loaders loaders new_loaders (said_in tasks replies.items)
+          (get_or tasks index d).step reply its.acted made answered.others);
       moved = moved_then share.meter counted new_counted (used_in share.loaders) (used_in loaders)
           (used_in new_loaders) its.moved
           (subst (λ (s : MeterSeatState). IsMoved counted (used_in loaders) s (used_in new_loaders)) (sym looked) moved);
@@ -222,7 +222,7 @@ work_ends share pool seat counted loaders tasks index replies its seat_is tasks_
   replies = its.count ∙ all;
   own = subst (λ (l : List Task). AreOwn share.loaders (said_in l replies.items) loaders) tasks_are its.own;
   purges = subst (λ (l : List Task). ArePurged (said_in l replies.items)) tasks_are its.purges;
-  acted = subst (λ (s : SeatState). HasActed share.seat s (said_in share.tasks.items replies.items)) (sym seat_is)
-      (subst (λ (l : List Task). HasActed share.seat pool (said_in l replies.items)) tasks_are its.acted);
+  acted = subst (λ (s : SeatState). HasActed share.seat s share.loaders (said_in share.tasks.items replies.items) loaders) (sym seat_is)
+      (subst (λ (l : List Task). HasActed share.seat pool share.loaders (said_in l replies.items) loaders) tasks_are its.acted);
   moved = its.moved;
 }

@@ -1,6 +1,6 @@
 -- Which events on the pool a worker's step is (this project's choice).
-use Rattle.std.specs.Prelude.{◌≡◌, ℕ, ◌⊎◌, ⊤, Bool, List, [], ◌∷◌, ◌++◌, Result, Ok, Err}
-use Rattle.std.specs.List.{All}
+use Rattle.std.specs.Prelude.{◌≡◌, ◌≢◌, ℕ, ◌⊎◌, ⊤, Bool, List, [], ◌∷◌, ◌++◌, Option, Some, None, Result, Ok, Err}
+use Rattle.ms_base.specs.declared.kind.Kind.{Kind}
 use Rattle.ms_base.specs.declared.kind.Space.{Space}
 use Rattle.ms_base.specs.declared.kind.Space.TheVariants.{NonClass, Class}
 use Rattle.ms_base.specs.declared.span.Span.{Span}
@@ -9,96 +9,105 @@ use Rattle.ms_base.specs.declared.step.Step.{Step}
 use Rattle.ms_base.specs.declared.step.Step.TheVariants.{New, Alloc, Calloc, Write, Read, Free, Unload, Purge}
 use Rattle.ms_base.specs.declared.step.Reply.{Reply}
 use Rattle.ms_base.specs.declared.step.Reply.TheVariants.{Ok as Done, At, Refused}
+use Rattle.ms_base.specs.Names.{named}
+use Rattle.ms_base.specs.Request.{loader_of}
 use Rattle.ms_pool.specs.Account.{AccountState}
 use Rattle.ms_pool.specs.Ledger.{Serves}
 use Rattle.ms_pool.specs.Source.{ServesBoth}
 use Rattle.ms_pool.specs.Calls.{OpenedBoth, ClosedBoth, Took, Grew, Purged}
+use Rattle.ms_loaders.specs.Loader.{LoaderView, account_in, new_loader}
 use Rattle.ms_shared.specs.History.{Event}
 use Rattle.ms_shared.specs.SeatView.{SeatState}
 use Rattle.ms_run.specs.Own.{Said}
 
--- A chunk is asked for an account that the pool serves, in a space; and a chunk of one is asked to grow.
-pub record IsTaking (space : Space) (answer : Result Span Refusal) (event : Event) : Type 0 where
-  pub account : AccountState
+-- A chunk is asked for an account that the pool serves, and a chunk of one is asked to grow.
+pub record IsTaking (account : AccountState) (answer : Result Span Refusal) (event : Event) : Type 0 where
   pub wanted : ℕ
   pub most : ℕ
   pub words : ℕ
-  pub space_is : account.space ≡ space
   pub served : Serves event.0 account
   pub took : Took event.0 account wanted most words answer event.1
 
-pub record IsGrowing (space : Space) (answer : Result Span Refusal) (event : Event) : Type 0 where
-  pub account : AccountState
+pub record IsGrowing (account : AccountState) (answer : Result Span Refusal) (event : Event) : Type 0 where
   pub start : ℕ
   pub total : ℕ
   pub enlarges : Bool
-  pub space_is : account.space ≡ space
   pub served : Serves event.0 account
   pub grew : Grew event.0 account start total enlarges answer event.1
 
--- Both accounts of a loader are opened, or closed, which the pool serves; and the pool is purged.
-abbrev pub IsOpening : Event → Type 0
-IsOpening event = (accounts : AccountState × AccountState) × OpenedBoth event.0 (Ok accounts) event.1
+-- Both accounts of a new loader are opened; those of a loader, which the pool serves, are closed; and
+-- the pool is purged.
+abbrev pub IsOpening : Kind → LoaderView → Event → Type 0
+IsOpening kind loader event =
+    (accounts : AccountState × AccountState) × (loader ≡ new_loader accounts.0 accounts.1 kind)
+    × OpenedBoth event.0 (Ok accounts) event.1
 
-pub record IsClosing (event : Event) : Type 0 where
-  pub account : AccountState
-  pub class_account : AccountState
-  pub both : ServesBoth Serves event.0 account class_account
-  pub closed : ClosedBoth event.0 account class_account event.1
+pub record IsClosing (loader : LoaderView) (event : Event) : Type 0 where
+  pub both : ServesBoth Serves event.0 (account_in NonClass loader) (account_in Class loader)
+  pub closed : ClosedBoth event.0 (account_in NonClass loader) (account_in Class loader) event.1
 
 abbrev pub IsPurging : Event → Type 0
 IsPurging event = (gone : ℕ) × Purged event.0 gone event.1
 
--- One event, and no other.
+-- One event, and no other; and an event of a loader that is there.
 abbrev pub Once : (Event → Type 0) → List Event → Type 0
 Once is (event ∷ []) = is event
 Once is _ = ⊥
 
+abbrev pub OfLoader : Option LoaderView → (LoaderView → Event → Type 0) → Event → Type 0
+OfLoader (Some loader) is event = is loader event
+OfLoader None is event = ⊥
+
 -- A chunk that is lent starts where the block does; a refusal is the block's. A growth that is had is
 -- the block's place.
-abbrev pub Takes : Space → Result ℕ Refusal → Event → Type 0
-Takes space (Ok start) event = (span : Span) × (start ≡ span.start) × IsTaking space (Ok span) event
-Takes space (Err refusal) event = IsTaking space (Err refusal) event
+abbrev pub Takes : AccountState → Result ℕ Refusal → Event → Type 0
+Takes account (Ok start) event = (span : Span) × (start ≡ span.start) × IsTaking account (Ok span) event
+Takes account (Err refusal) event = IsTaking account (Err refusal) event
 
-abbrev pub Grows : Space → Result ℕ Refusal → Event → Type 0
-Grows space (Ok start) event = (span : Span) × IsGrowing space (Ok span) event
-Grows space (Err refusal) event = ⊥
+abbrev pub Grows : AccountState → Result ℕ Refusal → Event → Type 0
+Grows account (Ok start) event = (span : Span) × IsGrowing account (Ok span) event
+Grows account (Err refusal) event = ⊥
 
-abbrev pub LacksGrowth : Space → Event → Type 0
-LacksGrowth space event = (refusal : Refusal) × IsGrowing space (Err refusal) event
+abbrev pub LacksGrowth : AccountState → Event → Type 0
+LacksGrowth account event = (refusal : Refusal) × IsGrowing account (Err refusal) event
 
 -- An allocation is no event; or a growth that is had, or a chunk taken; or a growth refused and then a
--- chunk taken.
-abbrev pub Asks : Space → Result ℕ Refusal → List Event → Type 0
-Asks space answer [] = ⊤
-Asks space answer (event ∷ []) = Grows space answer event ⊎ Takes space answer event
-Asks space answer (event ∷ other ∷ []) = LacksGrowth space event × Takes space answer other
-Asks space answer _ = ⊥
+-- chunk taken. Without a loader it is none.
+abbrev pub Asks : AccountState → Result ℕ Refusal → List Event → Type 0
+Asks account answer [] = ⊤
+Asks account answer (event ∷ []) = Grows account answer event ⊎ Takes account answer event
+Asks account answer (event ∷ other ∷ []) = LacksGrowth account event × Takes account answer other
+Asks account answer _ = ⊥
 
--- A New that is refused is no event; or an opening that is refused; or an opening, and a closing where
--- memory is wanting then.
-abbrev pub LacksLoader : Refusal → List Event → Type 0
-LacksLoader refusal [] = ⊤
-LacksLoader refusal (event ∷ []) = OpenedBoth event.0 (Err refusal) event.1
-LacksLoader refusal (event ∷ other ∷ []) = IsOpening event × IsClosing other
-LacksLoader refusal _ = ⊥
+abbrev pub AsksOf : Option LoaderView → Space → Result ℕ Refusal → List Event → Type 0
+AsksOf (Some loader) space answer events = Asks (account_in space loader) answer events
+AsksOf None space answer events = events ≡ []
 
--- The events that a step with this reply is. An Unload that is served is one closing, a Purge one
--- purge, and what needs no pool is none.
-abbrev pub Makes : Step → Reply → List Event → Type 0
-Makes (New name kind) Done events = Once IsOpening events
-Makes (New name kind) (Refused refusal) events = LacksLoader refusal events
-Makes (Alloc name block words) (At start) events = Asks NonClass (Ok start) events
-Makes (Alloc name block words) (Refused refusal) events = Asks NonClass (Err refusal) events
-Makes (Calloc name block words) (At start) events = Asks Class (Ok start) events
-Makes (Calloc name block words) (Refused refusal) events = Asks Class (Err refusal) events
-Makes (Write name block index value) reply events = events ≡ []
-Makes (Read name block index) reply events = events ≡ []
-Makes (Free name block) reply events = events ≡ []
-Makes (Unload name) Done events = Once IsClosing events
-Makes (Unload name) (Refused refusal) events = events ≡ []
-Makes Purge Done events = Once IsPurging events
-Makes _ _ events = ⊥
+-- A New that is refused is no event; or an opening that is refused; or an opening, and the closing of
+-- what it opened where memory is wanting then.
+abbrev pub LacksLoader : Kind → Refusal → List Event → Type 0
+LacksLoader kind refusal [] = ⊤
+LacksLoader kind refusal (event ∷ []) = OpenedBoth event.0 (Err refusal) event.1
+LacksLoader kind refusal (event ∷ other ∷ []) =
+    (loader : LoaderView) × IsOpening kind loader event × IsClosing loader other
+LacksLoader kind refusal _ = ⊥
+
+-- The events that a step with this reply is, for accounts of the loader that it names. An Unload that
+-- is served is one closing, a Purge one purge, and what needs no pool is none.
+abbrev pub Makes : List (ℕ × LoaderView) → Step → Reply → List (ℕ × LoaderView) → List Event → Type 0
+Makes old (New name kind) Done new events = Once (OfLoader (named new name) (IsOpening kind)) events
+Makes old (New name kind) (Refused refusal) new events = LacksLoader kind refusal events
+Makes old (Alloc name block words) (At start) new events = AsksOf (named old name) NonClass (Ok start) events
+Makes old (Alloc name block words) (Refused refusal) new events = AsksOf (named old name) NonClass (Err refusal) events
+Makes old (Calloc name block words) (At start) new events = AsksOf (named old name) Class (Ok start) events
+Makes old (Calloc name block words) (Refused refusal) new events = AsksOf (named old name) Class (Err refusal) events
+Makes old (Write name block index value) reply new events = events ≡ []
+Makes old (Read name block index) reply new events = events ≡ []
+Makes old (Free name block) reply new events = events ≡ []
+Makes old (Unload name) Done new events = Once (OfLoader (named old name) IsClosing) events
+Makes old (Unload name) (Refused refusal) new events = events ≡ []
+Makes old Purge Done new events = Once IsPurging events
+Makes old _ _ new events = ⊥
 
 -- A seat has these events more.
 pub record HasMade (old new : SeatState) (are : List Event → Type 0) : Type 0 where
@@ -111,9 +120,6 @@ pub record HasMade (old new : SeatState) (are : List Event → Type 0) : Type 0 
 abbrev pub Act : Type 0
 Act = Said × List Event
 
-abbrev pub IsAct : Act → Type 0
-IsAct act = Makes act.0.0 act.0.1 act.1
-
 abbrev pub said_of : List Act → List Said
 said_of [] = []
 said_of (act ∷ acts) = act.0 ∷ said_of acts
@@ -122,10 +128,21 @@ abbrev pub events_by : List Act → List Event
 events_by [] = []
 events_by (act ∷ acts) = act.1 ++ events_by acts
 
--- What was said came of acts, whose events the seat has more.
-pub record HasActed (old new : SeatState) (said : List Said) : Type 0 where
+-- A worker's act: the events are the step's, and the loaders that it doesn't name stay.
+pub record IsAct (old : List (ℕ × LoaderView)) (act : Act) (new : List (ℕ × LoaderView)) : Type 0 where
+  pub made : Makes old act.0.0 act.0.1 new act.1
+  pub others : (name : ℕ) → loader_of act.0.0 ≢ Some name → named new name ≡ named old name
+
+-- Acts follow one another, over a worker's own loaders.
+abbrev pub Works : List (ℕ × LoaderView) → List Act → List (ℕ × LoaderView) → Type 0
+Works old [] new = new ≡ old
+Works old (act ∷ acts) new = (mid : List (ℕ × LoaderView)) × IsAct old act mid × Works mid acts new
+
+-- What was said came of acts over these loaders, whose events the seat has more.
+pub record HasActed (old new : SeatState) (before : List (ℕ × LoaderView)) (said : List Said)
+    (after : List (ℕ × LoaderView)) : Type 0 where
   pub acts : List Act
-  pub each : All IsAct acts
+  pub works : Works before acts after
   pub said_are : said_of acts ≡ said
   pub events : new.events ≡ old.events ++ events_by acts
   pub number : new.number ≡ old.number

@@ -1,5 +1,5 @@
 -- The loaders of several shares put together, one share's after the other's.
-use Rattle.std.specs.Prelude.{◌≡◌, ℕ, ◌⊎◌, ⊤, List, [], ◌∷◌, ◌++◌, None}
+use Rattle.std.specs.Prelude.{◌≡◌, ℕ, ◌⊎◌, ⊤, List, [], ◌∷◌, ◌++◌, map, None}
 use Rattle.std.specs.List.Sorted.{IsPermutation}
 use Rattle.ms_base.specs.declared.refusal.Refusal.{Refusal}
 use Rattle.ms_base.specs.declared.refusal.Refusal.TheVariants.{OutOfMemory, Unsettled}
@@ -9,6 +9,7 @@ use Rattle.ms_base.specs.State.{Machine}
 use Rattle.ms_pool.specs.Ledger.{Ledger}
 use Rattle.ms_shared.specs.SeatView.{SeatState, IsHistory}
 use Rattle.ms_run.specs.Replay.{IsMachineOf}
+use Rattle.ms_run.specs.Shares.{Place, AreApart, AreHere}
 use Rattle.ms_run.specs.declared.share.Share.{Share}
 
 -- No name is in both.
@@ -30,11 +31,12 @@ AreJoined old (share ∷ shares) new =
 abbrev pub seat_of : Share → SeatState
 seat_of share = share.seat
 
--- A state whose pool the seats' one history of events makes of a first one.
-pub record IsMadeFrom (first : Ledger) (seats : List SeatState) (state : Machine) : Type 0 where
+-- A state whose pool the one history of all shares' events makes of a first one, with their loaders.
+pub record IsMadeFrom (first : Ledger) (shares : List Share) (state : Machine) : Type 0 where
   pub last : Ledger
   pub ends : IsMachineOf last state
-  pub history : IsHistory first seats last
+  pub history : IsHistory first (map seat_of shares) last
+  pub here : (place : Place) → AreApart place shares → AreHere place shares ends.loaders
 
 -- Why shares aren't gathered: memory is wanting, or not all was given.
 abbrev pub IsWantOrUnsettled : Refusal → Type 0

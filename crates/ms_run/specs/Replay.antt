@@ -1,5 +1,5 @@
 -- What a replay answers, whatever the number of workers and their order (this project's choice).
-use Rattle.std.specs.List.{All, filter}
+use Rattle.std.specs.List.{filter}
 use Rattle.std.specs.Prelude.{◌≡◌, ◌<◌, ◌==◌, ℕ, ⊤, List, [], ◌∷◌, ◌++◌, Option, Some, None, Box}
 use Rattle.std.specs.declared.alloc.Global.{Global}
 use Rattle.ms_base.specs.declared.step.Step.{Step}
@@ -22,8 +22,8 @@ use Rattle.ms_loaders.specs.System.{machine_of}
 use Rattle.ms_loaders.specs.Settles.{MaySettle}
 use Rattle.ms_shared.specs.History.{Logged, Chain, events_in, events_of, AreBelow}
 use Rattle.ms_base.specs.Request.{loader_of}
-use Rattle.ms_run.specs.Acts.{Act, IsAct, said_of, events_by}
-use Rattle.ms_run.specs.Shares.{Place, AreWithin}
+use Rattle.ms_run.specs.Acts.{Act, Works, said_of, events_by}
+use Rattle.ms_run.specs.Shares.{Place, AreWithin, AreAt}
 use Rattle.ms_run.specs.Own.{Said, own_said, own_in, OwnRun, ArePurged}
 use Rattle.ms_run.specs.declared.fault.RunFault.{RunFault}
 use Rattle.ms_run.specs.declared.fault.RunFault.TheVariants.{Unsettled}
@@ -67,10 +67,16 @@ pub record IsMachineOf (pool : Ledger) (state : Machine) : Type 0 where
   pub machine : state ≡ machine_of pool loaders
   pub fits : MaySettle pool loaders
 
--- What was said at one place came of acts, and the events of that number are those of the acts.
-pub record HasPart (place : Place) (said : List Said) (log : List Logged) (at : ℕ) : Type 0 where
+-- What was said at one place came of acts, over the loaders of that place from the old ones to the new,
+-- and the events of that number are those of the acts.
+pub record HasPart (place : Place) (old new : List (ℕ × LoaderView)) (said : List Said) (log : List Logged)
+    (at : ℕ) : Type 0 where
+  pub before : List (ℕ × LoaderView)
+  pub after : List (ℕ × LoaderView)
+  pub begins : AreAt place at old before
+  pub ends : AreAt place at new after
   pub acts : List Act
-  pub each : All IsAct acts
+  pub works : Works before acts after
   pub said_are : said_of acts ≡ filter (λ (s : Said). place (loader_of s.0) == at) said
   pub events : events_by acts ≡ events_of at log
 
@@ -88,7 +94,7 @@ pub record HasHistory (old : Machine) (said : List Said) (new : Machine) : Type 
   pub log : List Logged
   pub chain : Chain first (events_in log) last
   pub numbered : AreBelow count log
-  pub parts : (at : ℕ) → at < count → HasPart place said log at
+  pub parts : (at : ℕ) → at < count → HasPart place begins.loaders ends.loaders said log at
 
 -- What was said leads from one state to another: one step is a transition of the machine, and steps of
 -- several workers are one history of events.

@@ -56,7 +56,7 @@ pub record IsWorked (share done : Share) : Type 0 where
       → OwnRun (own_in (states_of share.loaders) name) (own_said name (said_in share.tasks.items done.replies.items))
       (own_in (states_of done.loaders) name)
   pub purges : ArePurged (said_in share.tasks.items done.replies.items)
-  pub acted : HasActed share.seat done.seat (said_in share.tasks.items done.replies.items)
+  pub acted : HasActed share.seat done.seat share.loaders (said_in share.tasks.items done.replies.items) done.loaders
   pub moved : IsMoved share.meter (used_in share.loaders) done.meter (used_in done.loaders)
 
 -- Each share is worked.
@@ -99,6 +99,11 @@ placed_by place names (Some name) = cond (is_among names name) (place (Some name
 -- So each loader's place in a phase, by its lines.
 abbrev pub place_for : Place → List Line → Place
 place_for place lines = placed_by place (names_in (tasks_of lines))
+
+-- Some loaders are those of a place.
+pub record AreAt (place : Place) (at : ℕ) (all part : List (ℕ × LoaderView)) : Type 0 where
+  pub here : (name : ℕ) → place (Some name) ≡ at → named part name ≡ named all name
+  pub apart : (name : ℕ) → place (Some name) ≢ at → named part name ≡ None
 
 -- A loader is in no share but the one that its lines go to.
 abbrev pub AreApart : Place → List Share → Type 0

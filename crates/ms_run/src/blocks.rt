@@ -6,7 +6,7 @@ ghost use Rattle.ms_base.specs.Alone.{OwnReply};
 ghost use Rattle.ms_base.specs.Request.{alloc_in};
 ghost use Rattle.ms_loaders.specs.System.{states_of};
 ghost use Rattle.ms_loaders.specs.Used.{used_at};
-ghost use Rattle.ms_run.specs.Acts.{HasMade, Asks};
+ghost use Rattle.ms_run.specs.Acts.{HasMade, AsksOf};
 ghost use Rattle.ms_run.specs.Own.{own_in};
 ghost use Rattle.ms_run.specs.Manned.{IsManned, KeepsSeats};
 
@@ -33,7 +33,7 @@ pub fn allocate<R: Wait>(
         (own_in (states_of loaders.old) name) (alloc_in space name block words) want
         (Reply.Refused refusal) (own_in (states_of loaders.new) name)) }
     ensures others { (other : ℕ) → other ≢ name → named loaders.new other ≡ named loaders.old other }
-    ensures made { HasMade pool.old pool.new (Asks space result) }
+    ensures made { HasMade pool.old pool.new (AsksOf (named loaders.old name) space result) }
 {
     let Some(loader) = loaders.get_mut(name) else {
         return Err(Refusal::NoLoader);

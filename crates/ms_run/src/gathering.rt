@@ -37,7 +37,7 @@ pub fn gather(
         → IsGathered place shares.items ended.0.loaders) }
     ensures good { IfOk result (λ ended. IsGood ended.0) }
     ensures limits { IfOk result (λ ended. ended.0.limits ≡ shared.first.limits) }
-    ensures history { IfOk result (λ ended. IsMadeFrom shared.first (map seat_of shares.items) ended.0) }
+    ensures history { IfOk result (λ ended. IsMadeFrom shared.first shares.items ended.0) }
     ensures used { IfOk result (λ ended. used_words_of ended.0 ≡ used_over shares.items) }
     ensures meters { IfOk result (λ ended. ended.1.items ≡ map meter_of shares.items) }
     ensures wanting { IfErr result (λ fault. fault ≡ RunFault.OutOfMemory) }

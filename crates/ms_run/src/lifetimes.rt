@@ -6,7 +6,7 @@ ghost use Rattle.ms_base.specs.Alone.{OwnReply};
 ghost use Rattle.ms_loaders.specs.System.{states_of};
 ghost use Rattle.ms_loaders.specs.Used.{used_at};
 ghost use Rattle.ms_shared.specs.History.{Event};
-ghost use Rattle.ms_run.specs.Acts.{HasMade, Once, IsOpening, IsClosing, LacksLoader};
+ghost use Rattle.ms_run.specs.Acts.{HasMade, Once, OfLoader, IsOpening, IsClosing, LacksLoader};
 ghost use Rattle.ms_run.specs.Own.{own_in};
 ghost use Rattle.ms_run.specs.Manned.{IsManned};
 
@@ -35,8 +35,10 @@ pub fn new_loader<R: Wait>(
         (own_in (states_of loaders.new) name)) }
     ensures used { used_at (named loaders.new name) ≡ used_at (named loaders.old name) }
     ensures others { (other : ℕ) → other ≢ name → named loaders.new other ≡ named loaders.old other }
-    ensures made { OnOk result (HasMade pool.old pool.new (Once IsOpening)) }
-    ensures not_made { IfErr result (λ refusal. HasMade pool.old pool.new (LacksLoader refusal)) }
+    ensures made { OnOk result
+        (HasMade pool.old pool.new (Once (OfLoader (named loaders.new name) (IsOpening kind)))) }
+    ensures not_made { IfErr result
+        (λ refusal. HasMade pool.old pool.new (LacksLoader kind refusal)) }
 {
     if loaders.contains(name) {
         return Err(Refusal::LoaderExists);
@@ -70,7 +72,8 @@ pub fn unload<R: Wait>(
     ensures refused { IfErr result (λ refusal. OwnReply (own_in (states_of loaders.old) name)
         (Step.Unload name) false (Reply.Refused refusal) (own_in (states_of loaders.new) name)) }
     ensures others { (other : ℕ) → other ≢ name → named loaders.new other ≡ named loaders.old other }
-    ensures made { OnOk result (HasMade pool.old pool.new (Once IsClosing)) }
+    ensures made { OnOk result
+        (HasMade pool.old pool.new (Once (OfLoader (named loaders.old name) IsClosing))) }
     ensures not_made { IfErr result
         (λ refusal. HasMade pool.old pool.new (λ (events : List Event). events ≡ [])) }
 {

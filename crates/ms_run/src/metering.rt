@@ -32,7 +32,7 @@ pub fn answer_metered<R: Wait>(
     requires meter { seat.old.id ≡ meter.now.id }
     ensures lock { pool.new.id ≡ pool.old.id }
     ensures answered { IsAnswered loaders.old step result pool.new.knows loaders.new }
-    ensures made { HasMade pool.old pool.new (Makes step result) }
+    ensures made { HasMade pool.old pool.new (Makes loaders.old step result loaders.new) }
     ensures moved { IsMoved seat.old (used_in loaders.old) seat.new (used_in loaders.new) }
 {
     match step {
@@ -66,7 +66,7 @@ fn answer_rise<R: Wait>(
     requires names { loader_of step ≡ Some name }
     ensures lock { pool.new.id ≡ pool.old.id }
     ensures answered { IsAnswered loaders.old step result pool.new.knows loaders.new }
-    ensures made { HasMade pool.old pool.new (Makes step result) }
+    ensures made { HasMade pool.old pool.new (Makes loaders.old step result loaders.new) }
     ensures moved { IsMoved seat.old (used_in loaders.old) seat.new (used_in loaders.new) }
 {
     let before = used_by(loaders, name);
@@ -87,7 +87,8 @@ fn answer_unload<R: Wait>(
     requires { IsManned pool.old.knows loaders.old }
     ensures lock { pool.new.id ≡ pool.old.id }
     ensures answered { IsAnswered loaders.old (Step.Unload name) result pool.new.knows loaders.new }
-    ensures made { HasMade pool.old pool.new (Makes (Step.Unload name) result) }
+    ensures made { HasMade pool.old pool.new
+        (Makes loaders.old (Step.Unload name) result loaders.new) }
     ensures used { used_in loaders.new + used_at (named loaders.old name) ≡ used_in loaders.old }
 {
     // That names rise is learnt here, of the loaders before and after.
@@ -108,7 +109,7 @@ fn answer_still<R: Wait>(
     requires still { MovesNoTop step }
     ensures lock { pool.new.id ≡ pool.old.id }
     ensures answered { IsAnswered loaders.old step result pool.new.knows loaders.new }
-    ensures made { HasMade pool.old pool.new (Makes step result) }
+    ensures made { HasMade pool.old pool.new (Makes loaders.old step result loaders.new) }
     ensures used { used_in loaders.new ≡ used_in loaders.old }
 {
     // That names rise is learnt here, of the loaders before and after.

@@ -39,7 +39,7 @@ pub fn answer<R: Wait>(
     ensures others { (name : ℕ) → loader_of step ≢ Some name
         → named loaders.new name ≡ named loaders.old name }
     ensures purge { step ≡ Step.Purge → result ≡ Reply.Ok }
-    ensures made { HasMade pool.old pool.new (Makes step result) }
+    ensures made { HasMade pool.old pool.new (Makes loaders.old step result loaders.new) }
     ensures used { MovesNoTop step → (name : ℕ)
         → used_at (named loaders.new name) ≡ used_at (named loaders.old name) }
 {
@@ -65,7 +65,7 @@ fn serve<R: Wait>(
     ensures others { (name : ℕ) → loader_of step ≢ Some name
         → named loaders.new name ≡ named loaders.old name }
     ensures purge { step ≡ Step.Purge → reply_of result ≡ Reply.Ok }
-    ensures made { HasMade pool.old pool.new (Makes step (reply_of result)) }
+    ensures made { HasMade pool.old pool.new (Makes loaders.old step (reply_of result) loaders.new) }
     ensures used { MovesNoTop step → (name : ℕ)
         → used_at (named loaders.new name) ≡ used_at (named loaders.old name) }
 {

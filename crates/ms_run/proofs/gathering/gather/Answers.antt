@@ -6,7 +6,7 @@ use Rattle.ms_shared.specs.SeatView.{SeatState, Gathers, IsHistory}
 use Rattle.ms_run.specs.Joined.{seat_of}
 use Rattle.ms_run.specs.Metering.{used_words_of}
 use Rattle.ms_run.specs.Shares.{IsGathered}
-use Rattle.ms_run.proofs.GatherLemmas.{all_gathered}
+use Rattle.ms_run.proofs.GatherLemmas.{all_gathered, views_gathered}
 use Rattle.ms_run.proofs.PhaseSettleLemmas.{may_settle, no_more}
 use Rattle.ms_run.proofs.MeterSumLemmas.{used_machine, used_gathered}
 use Rattle.ms_run.proofs.gathering.gather.Goals as goal
@@ -53,4 +53,7 @@ returns-clause-history c = record {
   };
   history = subst (λ (seats : List SeatState). IsHistory c.args.shared.first seats c.in_ok-pool.pool)
       c.in_ok-seats.ensures.seats c.in_ok-pool.ensures.history;
+  here = λ place apart at share name found goes.
+      sym (views_gathered place c.args.shares.items c.in_ok-seats.loaders c.in_ok-seats.ensures.loaders apart at share name
+      found goes);
 }

@@ -1,4 +1,4 @@
-use Rattle.std.proofs.Common.{rules, ℕ, Bool, List, Some, sym, ap, ◌∙◌, subst}
+use Rattle.std.proofs.Common.{rules, ℕ, Bool, List, Option, Some, refl, sym, ap, ◌∙◌, subst}
 use Rattle.ms_base.specs.Names.{named, with_new}
 use Rattle.ms_base.specs.Alone.{OwnReply}
 use Rattle.ms_base.proofs.entries.LookupLemmas.{named_new_same, named_new_other}
@@ -18,9 +18,8 @@ use Rattle.ms_run.proofs.TouchLemmas.{own_found, own_missing}
 use Rattle.ms_base.specs.declared.refusal.Refusal.TheVariants.{LoaderExists}
 use Rattle.ms_pool.specs.Source.{ServesBoth}
 use Rattle.ms_shared.specs.SeatView.{ServesBy}
-use Rattle.ms_shared.proofs.LockCloseLemmas.{both_served_by_pool}
-use Rattle.ms_run.specs.Acts.{Once, IsOpening, LacksLoader}
-use Rattle.ms_run.proofs.ActLemmas.{made_none, made_one, made_two}
+use Rattle.ms_run.specs.Acts.{HasMade, Once, OfLoader, IsOpening, LacksLoader}
+use Rattle.ms_run.proofs.ActLemmas.{made_none, made_one, made_two, is_closing}
 use Rattle.ms_run.proofs.lifetimes.new_loader.Goals as goal
 
 pub returns-then-contains-clause-refused : goal.returns-then-contains-clause-refused
@@ -103,31 +102,35 @@ returns-in-Err-insert-clause-refused g c =
     (own_missing c.args.loaders.now c.args.name unused) c.in-Err-insert.ensures.refused)
 
 pub returns-then-contains-clause-not_made : goal.returns-then-contains-clause-not_made
-returns-then-contains-clause-not_made g c = made_none c.args.pool.now (LacksLoader LoaderExists) tt
+returns-then-contains-clause-not_made g c = made_none c.args.pool.now (LacksLoader c.args.kind LoaderExists) tt
 
 pub returns-in-Err-clause-not_made : goal.returns-in-Err-clause-not_made
 returns-in-Err-clause-not_made g c =
-    made_one c.args.pool.now c.open_both.new.self c.in-Err.ensures.event (LacksLoader c.in-Err.refusal)
+    made_one c.args.pool.now c.open_both.new.self c.in-Err.ensures.event (LacksLoader c.args.kind c.in-Err.refusal)
     c.in-Err.ensures.event.called
 
 pub returns-in-Ok-insert-clause-made : goal.returns-in-Ok-insert-clause-made
 returns-in-Ok-insert-clause-made g c =
-    made_one c.args.pool.now c.open_both.new.self c.in-Ok.ensures.event (Once IsOpening)
-    (c.in-Ok.accounts, c.in-Ok.ensures.event.called)
+    let v = new_loader c.in-Ok.accounts.0 c.in-Ok.accounts.1 c.args.kind in
+    subst (λ (loader : Option LoaderView). HasMade c.args.pool.now c.open_both.new.self
+    (Once (OfLoader loader (IsOpening c.args.kind))))
+    (sym (ap (λ l. named l c.args.name) c.in-Ok-insert.ensures.inserted
+    ∙ named_new_same c.args.loaders.now c.args.name c.new-loader.result ∙ ap Some c.new-loader.ensures.made))
+    (made_one c.args.pool.now c.open_both.new.self c.in-Ok.ensures.event (Once (IsOpening c.args.kind v))
+    (c.in-Ok.accounts, refl, c.in-Ok.ensures.event.called))
 
 pub returns-in-Err-insert-clause-not_made : goal.returns-in-Err-insert-clause-not_made
 returns-in-Err-insert-clause-not_made g c =
-    let closed = c.close_both.ensures.event in
+    let v = new_loader c.in-Ok.accounts.0 c.in-Ok.accounts.1 c.args.kind in
+    let same = c.in-Err-insert.ensures.back ∙ c.new-loader.ensures.made in
     let both : ServesBoth ServesBy c.open_both.new.self.knows c.into_accounts-account.result.0
     c.into_accounts-account.result.1 =
     search rules in
-    made_two c.args.pool.now c.open_both.new.self c.close_both.new.self c.in-Ok.ensures.event closed
-    (LacksLoader c.in-Err-insert.refusal) (
-      (c.in-Ok.accounts, c.in-Ok.ensures.event.called),
-      record {
-        account = c.into_accounts-account.result.0;
-        class_account = c.into_accounts-account.result.1;
-        both = both_served_by_pool closed.before c.open_both.new.self.knows _ _ closed.known both;
-        closed = closed.called;
-      },
+    made_two c.args.pool.now c.open_both.new.self c.close_both.new.self c.in-Ok.ensures.event c.close_both.ensures.event
+    (LacksLoader c.args.kind c.in-Err-insert.refusal) (
+      v,
+      (c.in-Ok.accounts, refl, c.in-Ok.ensures.event.called),
+      is_closing v c.open_both.new.self c.close_both.new.self c.into_accounts-account.result.0
+          c.into_accounts-account.result.1 (c.into_accounts-account.ensures.account ∙ ap (account_in NonClass) same)
+          (c.into_accounts-account.ensures.class_account ∙ ap (account_in Class) same) both c.close_both.ensures.event,
     )

@@ -1,4 +1,4 @@
-use Rattle.std.proofs.Common.{◌≡◌, ℕ, false, List, [], refl, sym, ap, ◌∙◌, subst}
+use Rattle.std.proofs.Common.{◌≡◌, ℕ, false, List, [], Option, refl, sym, ap, ◌∙◌, subst}
 use Rattle.ms_base.specs.declared.step.Step.TheVariants.{Unload}
 use Rattle.ms_base.specs.declared.step.Reply.TheVariants.{Ok as Done, Refused}
 use Rattle.ms_base.specs.declared.refusal.Refusal.TheVariants.{NoLoader}
@@ -13,9 +13,8 @@ use Rattle.ms_run.specs.Manned.{IsManned}
 use Rattle.ms_run.proofs.LifetimeCloseLemmas.{closes_loader, serves_first, serves_second, counts_some, manned_closed}
 use Rattle.ms_run.proofs.LifetimeReplyLemmas.{unloaded_reply, none_reply}
 use Rattle.ms_shared.specs.History.{Event}
-use Rattle.ms_shared.proofs.LockCloseLemmas.{both_served_by_pool}
-use Rattle.ms_run.specs.Acts.{Once, IsClosing}
-use Rattle.ms_run.proofs.ActLemmas.{made_none, made_one}
+use Rattle.ms_run.specs.Acts.{HasMade, Once, OfLoader, IsClosing}
+use Rattle.ms_run.proofs.ActLemmas.{made_none, made_one, is_closing}
 use Rattle.ms_run.proofs.lifetimes.unload.Goals as goal
 
 pub close_both-requires-clause-both : goal.close_both-requires-clause-both
@@ -78,20 +77,19 @@ returns-in-None-clause-others g c =
 
 pub returns-in-Some-clause-made : goal.returns-in-Some-clause-made
 returns-in-Some-clause-made g c =
-    let closed = c.close_both.ensures.event in let found = sym c.remove.ensures.found ∙ c.in-Some.is in
-    made_one c.args.pool.now c.close_both.new.self closed (Once IsClosing) (record {
-      account = c.into_accounts-account.result.0;
-      class_account = c.into_accounts-account.result.1;
-      both = both_served_by_pool closed.before c.args.pool.now.knows _ _ closed.known
-          (rw (c.into_accounts-account.ensures.account, c.into_accounts-account.ensures.class_account) (record {
-            served = serves_first c.args.loaders.now c.args.name c.in-Some.loader found c.args.pool.now.knows c.requires;
-            class_served =
-                serves_second c.args.loaders.now c.args.name c.in-Some.loader found c.args.pool.now.knows c.requires;
-            space = refl;
-            class_space = refl;
-          }));
-      closed = closed.called;
-    })
+    let found = sym c.remove.ensures.found ∙ c.in-Some.is in
+    subst (λ (loader : Option LoaderView). HasMade c.args.pool.now c.close_both.new.self (Once (OfLoader loader IsClosing)))
+    (sym found)
+    (made_one c.args.pool.now c.close_both.new.self c.close_both.ensures.event (Once (IsClosing c.in-Some.loader))
+    (is_closing c.in-Some.loader c.args.pool.now c.close_both.new.self c.into_accounts-account.result.0
+    c.into_accounts-account.result.1 c.into_accounts-account.ensures.account c.into_accounts-account.ensures.class_account
+    (rw (c.into_accounts-account.ensures.account, c.into_accounts-account.ensures.class_account) (record {
+      served = serves_first c.args.loaders.now c.args.name c.in-Some.loader found c.args.pool.now.knows c.requires;
+      class_served =
+          serves_second c.args.loaders.now c.args.name c.in-Some.loader found c.args.pool.now.knows c.requires;
+      space = refl;
+      class_space = refl;
+    })) c.close_both.ensures.event))
 
 pub returns-in-None-clause-not_made : goal.returns-in-None-clause-not_made
 returns-in-None-clause-not_made g c = made_none c.args.pool.now (λ (events : List Event). events ≡ []) refl

@@ -3,7 +3,8 @@ use Rattle.std.proofs.lemmas.List.{length-map}
 use Rattle.ms_base.specs.State.{Machine}
 use Rattle.ms_pool.specs.Ledger.{Ledger}
 use Rattle.ms_run.specs.Metering.{used_words_of, meter_of}
-use Rattle.ms_run.specs.Replay.{IsMachineOf}
+use Rattle.ms_loaders.specs.System.{machine_of}
+use Rattle.ms_loaders.specs.Settles.{MaySettle}
 use Rattle.ms_run.specs.Turn.{place_in}
 use Rattle.ms_run.specs.Shares.{place_for}
 use Rattle.ms_run.proofs.StandByLemmas.{same_tasks}
@@ -74,11 +75,10 @@ returns-clause-phase g c =
     c.in_ok-shared.ensures.dealt c.in_ok-shares.ensures.worked
     (merges_still (place_in c.activate.new.self) _ c.args.lines.now _ _ c.in_ok-merge.ensures)
     c.in_ok-system.ensures.gathered c.in_ok-system.ensures.good
-    (subst (λ (l : Ledger). IsMachineOf l c.args.run.system) (sym c.in_ok-shared.ensures.first) (record {
-      loaders = c.into_parts-pool.result.1;
-      machine = sym c.into_parts-pool.ensures.machine;
-      fits = c.into_parts-pool.ensures.fits;
-    }))
+    (sym c.into_parts-pool.ensures.machine
+    ∙ ap (λ (l : Ledger). machine_of l c.into_parts-pool.result.1) (sym c.in_ok-shared.ensures.first))
+    (subst (λ (l : Ledger). MaySettle l c.into_parts-pool.result.1) (sym c.in_ok-shared.ensures.first)
+    c.into_parts-pool.ensures.fits)
     c.in_ok-system.ensures.history c.in_ok-system.ensures.limits
     (ap (λ (l : Ledger). l.limits) c.in_ok-shared.ensures.first
     ∙ ap (λ (m : Machine). m.limits) c.into_parts-pool.ensures.machine)

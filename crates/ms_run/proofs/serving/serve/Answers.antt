@@ -21,17 +21,17 @@ returns-in-Purge-clause-manned g c =
 
 pub returns-in-Write-clause-made : goal.returns-in-Write-clause-made
 returns-in-Write-clause-made g c =
-    subst (λ (s : Step). HasMade c.args.pool.now c.args.pool.now (Makes s (reply_of c.map-in-Write.result)))
+    subst (λ (s : Step). HasMade c.args.pool.now c.args.pool.now (Makes c.args.loaders.now s (reply_of c.map-in-Write.result) c.write.new.loaders))
     (sym c.in-Write.is) (made_none c.args.pool.now (λ (events : List Event). events ≡ []) refl)
 
 pub returns-in-Free-clause-made : goal.returns-in-Free-clause-made
 returns-in-Free-clause-made g c =
-    subst (λ (s : Step). HasMade c.args.pool.now c.args.pool.now (Makes s (reply_of c.map-in-Free.result)))
+    subst (λ (s : Step). HasMade c.args.pool.now c.args.pool.now (Makes c.args.loaders.now s (reply_of c.map-in-Free.result) c.free.new.loaders))
     (sym c.in-Free.is) (made_none c.args.pool.now (λ (events : List Event). events ≡ []) refl)
 
 pub returns-in-Purge-clause-made : goal.returns-in-Purge-clause-made
 returns-in-Purge-clause-made g c =
-    subst (λ (s : Step). HasMade c.args.pool.now c.purge.new.self (Makes s Done)) (sym c.in-Purge.is)
+    subst (λ (s : Step). HasMade c.args.pool.now c.purge.new.self (Makes c.args.loaders.now s Done c.args.loaders.now)) (sym c.in-Purge.is)
     (made_one c.args.pool.now c.purge.new.self c.purge.ensures.event (Once IsPurging)
     (c.purge.result, c.purge.ensures.event.called))
 
