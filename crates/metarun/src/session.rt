@@ -67,7 +67,9 @@ fn answer_to<T: Threads + Wait + Sync, R: Read>(
 {
     let text = read_text(alloc, input)?;
     let trace = parse(alloc, &text)?;
+    drop(text);
     let replies = replay(rt, alloc, &trace, options.settings, &NoGate)?;
+    drop(trace);
     Ok(lines(alloc, &replies, options.addresses)?)
 }
 

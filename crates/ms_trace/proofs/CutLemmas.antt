@@ -42,7 +42,7 @@ cut_there p text at e =
     found_inside _ _ at e in
     rw found.1 at (slice_split_first p text 0 (ltb-true _ _ found.0))
 
-not_true : (b : Bool) → (b ≡ true → ⊥) → b ≡ false
+pub not_true : (b : Bool) → (b ≡ true → ⊥) → b ≡ false
 not_true true never = absurd (never refl)
 not_true false never = refl
 

@@ -9,3 +9,4 @@ pub mod TraceLemmas
 pub mod ReadingLemmas
 pub mod PrintingLemmas
 pub mod KeepingLemmas
+pub mod EndLemmas

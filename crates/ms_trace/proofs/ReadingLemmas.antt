@@ -11,7 +11,7 @@ use Rattle.ms_trace.specs.declared.trace.Line.{Line}
 use Rattle.ms_trace.specs.Cutting.{parts_after, parts_of}
 use Rattle.ms_trace.specs.Grammar.{lines_of, without_empty_end, most_lines}
 use Rattle.ms_trace.specs.Faults.{fault_of, HasFault, BlamesText}
-use Rattle.ms_trace.specs.Keeping.{Keeps, KeepsFirst, BlamesFirst}
+use Rattle.ms_trace.specs.Keeping.{BlamesLine, Keeps}
 use Rattle.ms_trace.specs.Spelling.{ReadsFrom}
 use Rattle.ms_trace.proofs.SpellingLemmas.{IsAllowed, allowed_from_no_fault}
 use Rattle.ms_trace.proofs.TraceLemmas.{Says, faultless_from_reads}
@@ -24,7 +24,7 @@ line_first [] (next ∷ parts) some = refl
 line_first (byte ∷ bytes) (next ∷ parts) some = refl
 
 -- So is a last part with a byte.
-last_line : (part : List ℕ) → 0 < length part → without_empty_end (part ∷ []) ≡ part ∷ []
+pub last_line : (part : List ℕ) → 0 < length part → without_empty_end (part ∷ []) ≡ part ∷ []
 last_line [] some = absurd (omega arith)
 last_line (byte ∷ bytes) some = refl
 
@@ -68,26 +68,25 @@ reads_push number (first ∷ before) line trace said (rest, few, short, says, mo
       reads_push (number + 1) before line rest said more (rw place at last),
     )
 
--- What is left of a text after so many lines, which read as that trace.
-pub record IsRead (text rest : List ℕ) (number : ℕ) (trace : List Line) : Type 0 where
+-- Which lines of a text are left after so many, which read as that trace.
+pub record IsRead (text : List ℕ) (left : List (List ℕ)) (number : ℕ) (trace : List Line) : Type 0 where
   pub before : List (List ℕ)
-  pub lines_are : lines_of text ≡ before ++ lines_of rest
+  pub lines_are : lines_of text ≡ before ++ left
   pub number_is : number ≡ length before
   pub reads : ReadsFrom 1 before trace
 
 -- One line more.
-pub line_more : (text rest after : List ℕ) (number : ℕ) (trace new : List Line) → IsRead text rest number trace
-    → KeepsFirst (number + 1) rest after trace new → IsRead text after (number + 1) new
-line_more text rest after number trace new read first =
-    let line : List ℕ = first.line in
-    let keeps : Keeps (number + 1) line trace new = first.keeps in
+pub line_more : (text line : List ℕ) (left later : List (List ℕ)) (number : ℕ) (trace new : List Line)
+    → IsRead text left number trace → left ≡ line ∷ later → Keeps (number + 1) line trace new
+    → IsRead text later (number + 1) new
+line_more text line left later number trace new read cut keeps =
     let allowed : IsAllowed (number + 1) line = allowed_from_no_fault (number + 1) line keeps.faultless in
     let place : 1 + length read.before ≡ number + 1 = omega (arith, read.number_is) in
     let last : ReadsFrom (number + 1) (line ∷ []) keeps.said = ([], allowed.few, allowed.short, keeps.says, refl) in
     record {
       before = read.before ++ line ∷ [];
-      lines_are = read.lines_are ∙ ap (λ lines. read.before ++ lines) first.cut
-          ∙ sym (append_assoc read.before (line ∷ []) (lines_of after));
+      lines_are = read.lines_are ∙ ap (λ lines. read.before ++ lines) cut
+          ∙ sym (append_assoc read.before (line ∷ []) later);
       number_is = simp length-append (omega (arith, read.number_is));
       reads = rw keeps.new_is (reads_push 1 read.before line trace keeps.said read.reads (rw place last));
     }
@@ -98,10 +97,10 @@ pub kept_number : (number : ℕ) (line : List ℕ) (trace new : List Line) → K
 kept_number number line trace new keeps = (allowed_from_no_fault number line keeps.faultless).few
 
 -- A line with a fault is the first one.
-fault_here : (text rest line : List ℕ) (after : List (List ℕ)) (number : ℕ) (trace : List Line) (kind : FaultKind)
-    → IsRead text rest number trace → lines_of rest ≡ line ∷ after →
+fault_here : (text line : List ℕ) (left after : List (List ℕ)) (number : ℕ) (trace : List Line) (kind : FaultKind)
+    → IsRead text left number trace → left ≡ line ∷ after →
     fault_of (number + 1) line ≡ Some kind → HasFault text (number + 1) kind
-fault_here text rest line after number trace kind read cut e = record {
+fault_here text line left after number trace kind read cut e = record {
   before = read.before;
   line = line;
   after = after;
@@ -111,17 +110,41 @@ fault_here text rest line after number trace kind read cut e = record {
   kind_is = e;
 }
 
-pub blames_text : (text rest : List ℕ) (number : ℕ) (trace : List Line) (fault : ParseFault)
-    → IsRead text rest number trace → BlamesFirst (number + 1) rest fault → BlamesText text fault
-blames_text text rest number trace (Trace fault) read first =
-    rw first.blames.0
-    (fault_here text rest first.line first.after number trace fault.kind read first.cut first.blames.1)
-blames_text text rest number trace OutOfMemory read first = tt
+pub blames_text : (text line : List ℕ) (left after : List (List ℕ)) (number : ℕ) (trace : List Line)
+    (fault : ParseFault) → IsRead text left number trace → left ≡ line ∷ after → BlamesLine (number + 1) line fault
+    → BlamesText text fault
+blames_text text line left after number trace (Trace fault) read cut blames =
+    rw blames.0 (fault_here text line left after number trace fault.kind read cut blames.1)
+blames_text text line left after number trace OutOfMemory read cut blames = tt
 
--- Where nothing is left, the text was read.
-pub all_read : (text rest : List ℕ) (number : ℕ) (trace : List Line) → IsRead text rest number trace → length rest ≡ 0
-    → ReadsFrom 1 (lines_of text) trace
-all_read text [] number trace read none =
-    let whole : lines_of text ≡ read.before = read.lines_are ∙ append-nil read.before in
+-- A text without bytes has no lines.
+no_lines : (text : List ℕ) → length text ≡ 0 → lines_of text ≡ []
+no_lines [] none = refl
+no_lines (byte ∷ bytes) none = absurd (omega (arith, none))
+
+-- Where only the last line is left, it may have a fault.
+pub last_left : (rest last : List ℕ) → length rest ≡ 0 → lines_of last ≡ last ∷ []
+    → lines_of rest ++ lines_of last ≡ last ∷ []
+last_left rest last none alone = ap (λ lines. lines ++ lines_of last) (no_lines rest none) ∙ alone
+
+-- Where none is left, the text was read.
+all_read : (text : List ℕ) (left : List (List ℕ)) (number : ℕ) (trace : List Line) → IsRead text left number trace
+    → left ≡ [] → ReadsFrom 1 (lines_of text) trace
+all_read text left number trace read none =
+    let whole : lines_of text ≡ read.before =
+    read.lines_are ∙ ap (λ lines. read.before ++ lines) none ∙ append-nil read.before in
     rw whole read.reads
-all_read text (byte ∷ rest) number trace read none = absurd (omega (arith, none))
+
+pub read_whole : (text rest last : List ℕ) (number : ℕ) (trace : List Line)
+    → IsRead text (lines_of rest ++ lines_of last) number trace → length rest ≡ 0 → length last ≡ 0
+    → ReadsFrom 1 (lines_of text) trace
+read_whole text rest last number trace read none no_last =
+    all_read text _ number trace read
+    (ap (λ lines. lines ++ lines_of last) (no_lines rest none) ∙ no_lines last no_last)
+
+pub read_last : (text rest last : List ℕ) (number : ℕ) (trace new : List Line)
+    → IsRead text (lines_of rest ++ lines_of last) number trace → length rest ≡ 0 → lines_of last ≡ last ∷ []
+    → Keeps (number + 1) last trace new → ReadsFrom 1 (lines_of text) new
+read_last text rest last number trace new read none alone keeps =
+    all_read text [] (number + 1) new
+    (line_more text last _ [] number trace new read (last_left rest last none alone) keeps) refl

@@ -1,5 +1,5 @@
 -- What reading a command line answers, what it does to the lines kept so far, and what it blames.
-use Rattle.std.specs.Prelude.{◌≡◌, ℕ, ◌⊎◌, List, [], ◌∷◌, ◌++◌, ◌<◌, length, Some, None, Result, IfOk, IsTrue, ⊤}
+use Rattle.std.specs.Prelude.{◌≡◌, ℕ, ◌==◌, Bool, false, ◌⊎◌, List, [], ◌∷◌, ◌++◌, ◌<◌, length, Some, None, Result, IfOk, IsTrue, ⊤}
 use Rattle.std.specs.Result.{result_err}
 use Rattle.ms_trace.specs.declared.fault.FaultKind.{FaultKind}
 use Rattle.ms_trace.specs.declared.fault.ParseFault.{ParseFault}
@@ -15,6 +15,12 @@ pub record IsReadFrom (fields : List (List ℕ)) (result : Result Command FaultK
   pub fault : result_err result ≡ command_fault fields
   pub spelled : IfOk result (λ command. command_fields command ≡ fields)
   pub valid : IfOk result IsValid
+
+-- A text ends with a newline.
+abbrev pub is_ended : List ℕ → Bool
+is_ended [] = false
+is_ended (byte ∷ []) = byte == 10
+is_ended (byte ∷ next ∷ rest) = is_ended (next ∷ rest)
 
 -- A text begins with the line of a valid command.
 pub record BeginsWith (text : List ℕ) (command : Command) (rest : List ℕ) : Type 0 where

@@ -3,13 +3,14 @@
 //!     alloc 1 10      cut at a space
 //!     -----           the part
 //!           ----      what is left, until nothing is: a last part may be empty
-ghost use Rattle.std.specs.Prelude.{◌≡◌, ◌==◌, ◌∷◌, ◌<◌, [], length, IfOk, IfSome, position};
+ghost use Rattle.std.specs.Prelude.{◌≡◌, ◌==◌, ◌∷◌, ◌++◌, ◌<◌, [], length, IfOk, IfSome, position};
 ghost use Rattle.std.specs.Result.{result_err};
 ghost use Rattle.ms_trace.specs.Cutting.{count_fault, fields_in, parts_after, parts_of};
-ghost use Rattle.ms_trace.specs.Grammar.{fields_of};
+ghost use Rattle.ms_trace.specs.Grammar.{fields_of, lines_of};
+ghost use Rattle.ms_trace.specs.Keeping.{is_ended};
 
 use crate::fault::FaultKind;
-use memchr::memchr;
+use memchr::{memchr, memrchr};
 
 /// Cuts off the first line: what stands before the first newline, and what stands after it where
 /// there is one. Lines may be long, so the search is by blocks.
@@ -18,6 +19,24 @@ pub(crate) fn cut_line(text: &[u8]) -> (&[u8], Option<&[u8]>)
     ensures shorter { IfSome result.1 (λ rest. length rest.now < length text.now) }
 {
     cut_at(text, b'\n', first_newline(text))
+}
+
+/// Tells whether a text ends with a newline.
+pub(crate) fn is_ended(text: &[u8]) -> bool
+    ensures { result ≡ is_ended text.now }
+{
+    !text.is_empty() && text[text.len() - 1] == b'\n'
+}
+
+/// Cuts a text after its last newline: the lines that have one, and a last line that has none.
+pub(crate) fn cut_last(text: &[u8]) -> (&[u8], &[u8])
+    ensures lines { lines_of text.now ≡ lines_of result.0.now ++ lines_of result.1.now }
+    ensures last { 0 < length result.1.now → lines_of result.1.now ≡ result.1.now ∷ [] }
+{
+    match memrchr(b'\n', text) {
+        None => text.split_at(0),
+        Some(at) => text.split_at(at + 1),
+    }
 }
 
 /// Cuts off the first field, as `cut_line` does at spaces. Fields are short, so the search is by

@@ -2,11 +2,13 @@
 //!
 //!     37 500 ..       up to a space: 37, and `500 ..` is left
 //!
-//! Digits are added up modulo 2^64, and what they are is tested once, where they end. Where nothing
-//! is answered, `fields` judges.
-ghost use Rattle.std.specs.Prelude.{◌≡◌, ◌≤◌, ◌++◌, ◌∷◌, ◌%◌, ◌^◌, IfSome, IsTrue, decimal, true};
+//! The text ends with a newline, which is no digit, so digits are looked at without asking where
+//! the text ends. They are added up modulo 2^64, and what they are is tested once, where they end.
+//! Where nothing is answered, `fields` judges.
+ghost use Rattle.std.specs.Prelude.{◌≡◌, ◌≤◌, ◌++◌, ◌∷◌, ◌%◌, ◌^◌, ◌==◌, IfSome, IsTrue, decimal, true, false};
 ghost use Rattle.std.specs.Str.{all_ascii_digits};
 ghost use Rattle.std.specs.Str.Parse.{digits_value};
+ghost use Rattle.ms_trace.specs.Keeping.{is_ended};
 
 /// The least number of twenty digits.
 const TWENTY_DIGITS: u64 = 10_000_000_000_000_000_000;
@@ -14,21 +16,22 @@ const TWENTY_DIGITS: u64 = 10_000_000_000_000_000_000;
 /// Reads the number that a text begins with, where that byte ends it and it isn't too great.
 #[inline(always)]
 pub(crate) fn number_before(end: u8, text: &[u8], greatest: u64) -> Option<(u64, &[u8])>
+    requires { IsTrue (is_ended text.now) }
     ensures spelled { IfSome result (λ read. text.now ≡ decimal read.0 ++ end ∷ read.1.now) }
     ensures bounded { IfSome result (λ read. read.0 ≤ greatest) }
+    ensures ended { (end == 10) ≡ false → IfSome result (λ read. IsTrue (is_ended read.1.now)) }
 {
     let mut value: u64 = 0;
-    for at in 0..text.len() {
-        let digit = text[at].wrapping_sub(b'0');
-        if digit > 9 {
-            if text[at] != end || value > greatest || !is_number(&text[..at], value) {
-                return None;
-            }
-            return Some((value, &text[at + 1..]));
-        }
-        value = value.wrapping_mul(10).wrapping_add(u64::from(digit));
+    let mut at = 0;
+    while text[at].is_ascii_digit() {
+        let digit = u64::from(text[at] - b'0');
+        value = value.wrapping_mul(10).wrapping_add(digit);
+        at += 1;
     }
-    None
+    if text[at] != end || value > greatest || !is_number(&text[..at], value) {
+        return None;
+    }
+    Some((value, &text[at + 1..]))
 }
 
 /// Tells whether digits, which have that value modulo 2^64, are that number. Of twenty digits those

@@ -1,5 +1,6 @@
 //! Reading a text as a trace, line by line. What is left of the text shrinks by a line a turn, and
-//! what was read stands in `lines`: the lines cut off so far read as those.
+//! what was read stands in `lines`: the lines cut off so far read as those. A last line without a
+//! newline is read apart.
 ghost use Rattle.std.specs.Prelude.{◌≡◌, ◌<◌, length, IfOk, IfErr, IsTrue, OnOk};
 ghost use Rattle.ms_trace.specs.Faults.{BlamesText};
 ghost use Rattle.ms_trace.specs.Grammar.{lines_of};
@@ -7,7 +8,7 @@ ghost use Rattle.ms_trace.specs.Keeping.{Adds, Keeps, KeepsFirst, BlamesFirst, B
 ghost use Rattle.ms_trace.specs.Spelling.{ReadsAs, ReadsFrom, rises_above};
 
 use crate::commands::read_line;
-use crate::cutting::cut_line;
+use crate::cutting::{cut_last, cut_line, is_ended};
 use crate::fault::{ParseFault, TraceFault};
 use crate::spellings::command_before;
 use crate::trace::{Command, Line, Lines, MOST_LINES, Trace};
@@ -36,12 +37,17 @@ pub(crate) fn read_lines<A: Allocator>(alloc: A, text: &[u8]) -> Result<Vec<Line
     ensures faults { IfErr result (λ fault. BlamesText text.now fault) }
 {
     let mut lines: Vec<Line, A> = Vec::new(alloc);
-    let mut rest = text;
+    let (whole, last) = cut_last(text);
+    let mut rest = whole;
     let mut number: u32 = 0;
     while !rest.is_empty() {
         number += 1;
         rest = keep_first(&mut lines, number, rest)?;
     }
+    if last.is_empty() {
+        return Ok(lines);
+    }
+    keep(&mut lines, number + 1, last)?;
     Ok(lines)
 }
 
@@ -58,6 +64,7 @@ fn keep_first<'a, A: Allocator>(
     ensures fault { IfErr result (λ fault. BlamesFirst number text.now fault) }
 {
     if number <= MOST_LINES
+        && is_ended(text)
         && let Some((command, rest)) = command_before(text)
     {
         add(lines, number, command)?;
@@ -69,6 +76,7 @@ fn keep_first<'a, A: Allocator>(
 }
 
 /// Reads the line of that number, and keeps its command, if it gives one.
+#[inline(always)]
 fn keep<A: Allocator>(lines: &mut Vec<Line, A>, number: u32, line: &[u8]) -> Result<(), ParseFault>
     ensures kept { OnOk result (Keeps number line.now lines.old.items lines.new.items) }
     ensures fault { IfErr result (λ fault. BlamesLine number line.now fault) }

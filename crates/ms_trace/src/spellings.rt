@@ -4,9 +4,9 @@
 //!           - -- -        and each is read up to the byte after it
 //!
 //! Where nothing is answered, `commands` judges the line.
-ghost use Rattle.std.specs.Prelude.{◌≡◌, ◌++◌, ◌∷◌, IfSome, codes, decimal};
+ghost use Rattle.std.specs.Prelude.{◌≡◌, ◌++◌, ◌∷◌, ◌==◌, IfSome, IsTrue, codes, decimal, false};
 ghost use Rattle.ms_trace.specs.Grammar.{kind_word};
-ghost use Rattle.ms_trace.specs.Keeping.{BeginsWith};
+ghost use Rattle.ms_trace.specs.Keeping.{BeginsWith, is_ended};
 
 use crate::numbers::number_before;
 use crate::trace::Command;
@@ -14,6 +14,7 @@ use ms_base::{Kind, Step};
 
 /// Reads the command that a text begins with, and answers what stands after its newline.
 pub(crate) fn command_before(text: &[u8]) -> Option<(Command, &[u8])>
+    requires { IsTrue (is_ended text.now) }
     ensures { IfSome result (λ read. BeginsWith text.now read.0 read.1.now) }
 {
     match text {
@@ -36,6 +37,7 @@ pub(crate) fn command_before(text: &[u8]) -> Option<(Command, &[u8])>
 /// Reads the command after `alloc `.
 #[inline(always)]
 fn alloc_before(text: &[u8]) -> Option<(Command, &[u8])>
+    requires { IsTrue (is_ended text.now) }
     ensures { IfSome result (λ read. BeginsWith (codes "alloc " ++ text.now) read.0 read.1.now) }
 {
     let (loader, block, words, rest) = three_before(text)?;
@@ -52,6 +54,7 @@ fn alloc_before(text: &[u8]) -> Option<(Command, &[u8])>
 /// Reads the command after `calloc `.
 #[inline(always)]
 fn calloc_before(text: &[u8]) -> Option<(Command, &[u8])>
+    requires { IsTrue (is_ended text.now) }
     ensures { IfSome result (λ read. BeginsWith (codes "calloc " ++ text.now) read.0 read.1.now) }
 {
     let (loader, block, words, rest) = three_before(text)?;
@@ -68,6 +71,7 @@ fn calloc_before(text: &[u8]) -> Option<(Command, &[u8])>
 /// Reads the command after `read `.
 #[inline(always)]
 fn read_before(text: &[u8]) -> Option<(Command, &[u8])>
+    requires { IsTrue (is_ended text.now) }
     ensures { IfSome result (λ read. BeginsWith (codes "read " ++ text.now) read.0 read.1.now) }
 {
     let (loader, block, index, rest) = three_before(text)?;
@@ -84,6 +88,7 @@ fn read_before(text: &[u8]) -> Option<(Command, &[u8])>
 /// Reads the command after `write `.
 #[inline(always)]
 fn write_before(text: &[u8]) -> Option<(Command, &[u8])>
+    requires { IsTrue (is_ended text.now) }
     ensures { IfSome result (λ read. BeginsWith (codes "write " ++ text.now) read.0 read.1.now) }
 {
     let (loader, rest) = loader_before(b' ', text)?;
@@ -104,6 +109,7 @@ fn write_before(text: &[u8]) -> Option<(Command, &[u8])>
 /// Reads the command after `free `.
 #[inline(always)]
 fn free_before(text: &[u8]) -> Option<(Command, &[u8])>
+    requires { IsTrue (is_ended text.now) }
     ensures { IfSome result (λ read. BeginsWith (codes "free " ++ text.now) read.0 read.1.now) }
 {
     let (loader, rest) = loader_before(b' ', text)?;
@@ -114,6 +120,7 @@ fn free_before(text: &[u8]) -> Option<(Command, &[u8])>
 /// Reads the command after `unload `.
 #[inline(always)]
 fn unload_before(text: &[u8]) -> Option<(Command, &[u8])>
+    requires { IsTrue (is_ended text.now) }
     ensures { IfSome result (λ read. BeginsWith (codes "unload " ++ text.now) read.0 read.1.now) }
 {
     let (loader, rest) = loader_before(b'\n', text)?;
@@ -123,6 +130,7 @@ fn unload_before(text: &[u8]) -> Option<(Command, &[u8])>
 /// Reads the command after `new `.
 #[inline(always)]
 fn new_before(text: &[u8]) -> Option<(Command, &[u8])>
+    requires { IsTrue (is_ended text.now) }
     ensures { IfSome result (λ read. BeginsWith (codes "new " ++ text.now) read.0 read.1.now) }
 {
     let (loader, rest) = loader_before(b' ', text)?;
@@ -171,6 +179,7 @@ fn kind_before(text: &[u8]) -> Option<(Kind, &[u8])>
 /// Reads a loader, a block, and words or an index, the last up to the newline.
 #[inline(always)]
 fn three_before(text: &[u8]) -> Option<(u16, u32, u64, &[u8])>
+    requires { IsTrue (is_ended text.now) }
     ensures { IfSome result (λ read. text.now
         ≡ decimal read.0 ++ 32 ∷ decimal read.1 ++ 32 ∷ decimal read.2 ++ 10 ∷ read.3.now) }
 {
@@ -183,7 +192,9 @@ fn three_before(text: &[u8]) -> Option<(u16, u32, u64, &[u8])>
 /// Reads a loader's name up to that byte.
 #[inline(always)]
 fn loader_before(end: u8, text: &[u8]) -> Option<(u16, &[u8])>
-    ensures { IfSome result (λ read. text.now ≡ decimal read.0 ++ end ∷ read.1.now) }
+    requires { IsTrue (is_ended text.now) }
+    ensures spelled { IfSome result (λ read. text.now ≡ decimal read.0 ++ end ∷ read.1.now) }
+    ensures ended { (end == 10) ≡ false → IfSome result (λ read. IsTrue (is_ended read.1.now)) }
 {
     let (loader, rest) = number_before(end, text, 65_535)?;
     Some((loader as u16, rest))
@@ -192,7 +203,9 @@ fn loader_before(end: u8, text: &[u8]) -> Option<(u16, &[u8])>
 /// Reads a block's name up to that byte.
 #[inline(always)]
 fn block_before(end: u8, text: &[u8]) -> Option<(u32, &[u8])>
-    ensures { IfSome result (λ read. text.now ≡ decimal read.0 ++ end ∷ read.1.now) }
+    requires { IsTrue (is_ended text.now) }
+    ensures spelled { IfSome result (λ read. text.now ≡ decimal read.0 ++ end ∷ read.1.now) }
+    ensures ended { (end == 10) ≡ false → IfSome result (λ read. IsTrue (is_ended read.1.now)) }
 {
     let (block, rest) = number_before(end, text, 4_294_967_295)?;
     Some((block as u32, rest))
