@@ -33,7 +33,7 @@ use Rattle.ms_shared.specs.SeatView.{SeatState, ServesBy, OverLock}
 use Rattle.ms_shared.specs.LockCalls.{TookOver, GrewOver}
 use Rattle.ms_shared.proofs.LockCallLemmas.{IsCall, served_by_pool, serves_then}
 use Rattle.ms_run.specs.Own.{Said}
-use Rattle.ms_run.specs.Acts.{IsTaking, IsGrowing, IsClosing, Takes as TakesEvent, Asks, Makes, HasMade, Act, IsAct}
+use Rattle.ms_run.specs.Acts.{IsTaking, IsGrowing, IsClosing, Takes as TakesEvent, Asks, Makes, HasMade, Act, IsAct, IsOwnStep}
 use Rattle.ms_run.specs.Acts.{said_of, events_by, Works, HasActed}
 
 pub made_none : (seat : SeatState) (are : List Event → Type 0) → are [] → HasMade seat seat are
@@ -193,6 +193,7 @@ pub is_closing : (loader : LoaderView) (old new : SeatState) (account class_acco
     → IsClosing loader (its.before, its.after)
 is_closing loader old new account class_account is class_is serves its =
     let both = both_served_by_pool its.before old.knows account class_account its.known serves in record {
+      sound = its.sound;
       both = subst (λ (a : AccountState). ServesBoth ServesIn its.before a (account_in Class loader)) is
           (subst (λ (a : AccountState). ServesBoth ServesIn its.before account a) class_is both);
       closed = its.called ∙ ap (λ (a : AccountState). with_both_closed its.before a class_account) is
@@ -227,13 +228,13 @@ acted_none seat loaders = record {
 
 pub acted_more : (first old new : SeatState) (before mid after : List (ℕ × LoaderView)) (said : List Said) (step : Step)
     (reply : Reply) → HasActed first old before said mid → HasMade old new (Makes mid step reply after)
-    → ((name : ℕ) → loader_of step ≢ Some name → named after name ≡ named mid name)
+    → IsOwnStep mid (step, reply) after
     → HasActed first new before (said ++ (step, reply) ∷ []) after
-acted_more first old new before mid after said step reply acted more others =
+acted_more first old new before mid after said step reply acted more own =
     let act : Act = ((step, reply), more.made) in record {
       acts = acted.acts ++ act ∷ [];
       works = works_more before acted.acts mid act after acted.works
-          (record { made = more.are_so; others = others });
+          (record { loaders = own; made = more.are_so });
       said_are = said_more acted.acts act ∙ ap (λ (l : List Said). l ++ (step, reply) ∷ []) acted.said_are;
       events = more.events ∙ ap (λ (l : List Event). l ++ more.made) acted.events
           ∙ append_assoc first.events (events_by acted.acts) more.made

@@ -11,6 +11,7 @@ mod SeatStaysLemmas
 mod GatherLemmas
 mod PhaseSettleLemmas
 mod MergeLemmas
+mod OrderLemmas
 mod PhaseLemmas
 mod OwnStepLemmas
 mod AloneLemmas

@@ -32,7 +32,10 @@ use Rattle.ms_run.specs.Acts.{events_by}
 use Rattle.ms_run.specs.Joined.{IsMadeFrom, seat_of}
 use Rattle.ms_run.specs.Own.{Said, own_said, own_of, own_in, OwnRun, ArePurged}
 use Rattle.ms_run.specs.Manned.{IsManned}
-use Rattle.ms_run.specs.Replay.{AreSaid, IsPhase, GoesOn, runs, HasPart, by_workers}
+use Rattle.ms_run.specs.Replay.{AreSaid, IsPhase, GoesOn, runs, by_workers}
+use Rattle.ms_run.proofs.OrderLemmas.{HasPart, IsOrdered, ordered}
+use Rattle.ms_run.specs.Shares.{AreAt}
+use Rattle.std.specs.Prelude.{slice_index_or}
 use Rattle.ms_run.proofs.AloneLemmas.{AddsFirst}
 use Rattle.ms_run.proofs.StandByLemmas.{same_merged}
 use Rattle.ms_run.specs.Shares.{place_for}
@@ -240,6 +243,15 @@ seat_at P (x ∷ shares) zero share all found = let same : x ≡ share = cc in
     subst (λ (s : Share). P s.seat) same all.0
 seat_at P (x ∷ shares) (suc at) share all found = seat_at P shares at share all.1 found
 
+abbrev loaders_of : Share → List (ℕ × LoaderView)
+loaders_of share = share.loaders
+
+loaders_at : (shares : List Share) (at : ℕ) (share : Share) → slice_get shares at ≡ Some share
+    → slice_index_or (map loaders_of shares) at [] ≡ share.loaders
+loaders_at [] at share found = absurd (cc)
+loaders_at (x ∷ shares) zero share found = let same : x ≡ share = cc in ap loaders_of same
+loaders_at (x ∷ shares) (suc at) share found = loaders_at shares at share found
+
 -- What a phase's parts say of it together.
 pub phase_of : (place : Place) (shared : LockState) (shares others : List Share) (lines : List Line)
     (added : List Answer) (said : List Said)
@@ -261,12 +273,14 @@ phase_of place shared shares others lines added said loaders old new old_is deal
         begins = record { loaders = loaders; machine = machine; fits = fits };
         ends = made.ends;
         place = place;
-        count = length others;
-        within = λ name. omega (arith, same_count shares others all, dealt.within name);
-        log = made.history.log;
-        chain = made.history.chain;
-        numbered = subst (λ (n : ℕ). AreBelow n made.history.log) (length-map others seat_of) made.history.numbered;
-        parts = λ at within. parted at (share_at others at within);
+        before = before;
+        after = after;
+        within = λ name. omega (arith, many, same_count shares others all, dealt.within name);
+        begins_at = λ at less. begins_at at (done_at at less);
+        ends_at = λ at less. ends_at at (done_at at less);
+        order = woven.order;
+        runs = woven.runs;
+        keeps = woven.keeps;
       });
       good = good;
       limits = limits;
@@ -278,30 +292,59 @@ phase_of place shared shares others lines added said loaders old new old_is deal
     apart : AreApart place others
     apart = still_apart place shares others lines dealt.apart dealt.tasks all
 
+    before : List (List (ℕ × LoaderView))
+    before = map loaders_of shares
+
+    after : List (List (ℕ × LoaderView))
+    after = map loaders_of others
+
+    many : length before ≡ length others
+    many = length-map shares loaders_of ∙ sym (same_count shares others all)
+
+    done_at : (at : ℕ) → at < length before → (done : Share) × (slice_get others at ≡ Some done)
+    done_at at less = share_at others at (omega (arith, many))
+
+    begins_at : (at : ℕ) → (done : Share) × (slice_get others at ≡ Some done)
+        → AreAt place at loaders (slice_index_or before at [])
+    begins_at at (done, found) =
+        let from = worked_from shares others at done all found in
+        subst (AreAt place at loaders) (sym (loaders_at shares at from.share from.is)) (record {
+          here = λ name goes. dealt.here at from.share name from.is goes;
+          apart = λ name differs. dealt.apart at from.share name from.is differs;
+        })
+
+    ends_at : (at : ℕ) → (done : Share) × (slice_get others at ≡ Some done)
+        → AreAt place at made.ends.loaders (slice_index_or after at [])
+    ends_at at (done, found) = subst (AreAt place at made.ends.loaders) (sym (loaders_at others at done found)) (record {
+      here = λ name goes. made.here place apart at done name found goes;
+      apart = λ name differs. apart at done name found differs;
+    })
+
     parted : (at : ℕ) → (done : Share) × (slice_get others at ≡ Some done)
-        → HasPart place loaders made.ends.loaders said made.history.log at
+        → HasPart place said made.history.log (slice_index_or before at []) (slice_index_or after at []) at
     parted at (done, found) =
         let from = worked_from shares others at done all found in let acted = from.worked.acted in
         let fresh = (at_place (IsReady shared) shares at from.share dealt.ready from.is).fresh in
         let its = seat_at (HasOwn made.history.log) others at done
-        (recursion_from_All (HasOwn made.history.log) (map seat_of others) made.history.own) found in record {
-          before = from.share.loaders;
-          after = done.loaders;
-          begins = record {
-            here = λ name goes. dealt.here at from.share name from.is goes;
-            apart = λ name differs. dealt.apart at from.share name from.is differs;
-          };
-          ends = record {
-            here = λ name goes. made.here place apart at done name found goes;
-            apart = λ name differs. apart at done name found differs;
-          };
+        (recursion_from_All (HasOwn made.history.log) (map seat_of others) made.history.own) found in
+        subst (λ (l : List (ℕ × LoaderView)). HasPart place said made.history.log l (slice_index_or after at []) at)
+        (sym (loaders_at shares at from.share from.is))
+        (subst (λ (l : List (ℕ × LoaderView)). HasPart place said made.history.log from.share.loaders l at)
+        (sym (loaders_at others at done found)) (record {
           acts = acted.acts;
           works = acted.works;
           said_are = acted.said_are
               ∙ ap (λ (l : List Task). said_in l done.replies.items) (sym from.worked.tasks) ∙ sym (merged at done found);
           events = sym (acted.events ∙ ap (λ (l : List Event). l ++ events_by acted.acts) fresh) ∙ its
               ∙ ap (λ (n : ℕ). events_of n made.history.log) (acted.number ∙ dealt.numbers at from.share from.is);
-        }
+        }))
+
+    woven : IsOrdered place said shared.first made.last before after
+    woven =
+        ordered place said shared.first made.last before after made.history.log
+        (length-map others loaders_of ∙ sym many) made.history.chain
+        (subst (λ (n : ℕ). AreBelow n made.history.log) (length-map others seat_of ∙ sym many) made.history.numbered)
+        (λ at less. parted at (done_at at less))
 
     own : (name : ℕ) → OwnRun (own_in old.loaders name) (own_said name said) (own_in new.loaders name)
     own name =

@@ -189,7 +189,8 @@ work_goes_on share pool new_pool counted mid_counted new_counted loaders new_loa
           (purged_more (said_in tasks replies.items) (get_or tasks index d).step reply its.purges answered.purge);
       acted = subst (λ (l : List Said). HasActed share.seat new_pool share.loaders l new_loaders) (sym said)
           (acted_more share.seat pool new_pool share.loaders loaders new_loaders (said_in tasks replies.items)
-          (get_or tasks index d).step reply its.acted made answered.others);
+          (get_or tasks index d).step reply its.acted made
+          (record { own = answered.own; others = answered.others }));
       moved = moved_then share.meter counted new_counted (used_in share.loaders) (used_in loaders)
           (used_in new_loaders) its.moved
           (subst (λ (s : MeterSeatState). IsMoved counted (used_in loaders) s (used_in new_loaders)) (sym looked) moved);

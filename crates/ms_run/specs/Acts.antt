@@ -12,13 +12,17 @@ use Rattle.ms_base.specs.declared.step.Reply.TheVariants.{Ok as Done, At, Refuse
 use Rattle.ms_base.specs.Names.{named}
 use Rattle.ms_base.specs.Request.{loader_of}
 use Rattle.ms_pool.specs.Account.{AccountState}
-use Rattle.ms_pool.specs.Ledger.{Serves}
+use Rattle.ms_pool.specs.Tallies.{no_tallies}
+use Rattle.ms_pool.specs.Ledger.{Ledger, Serves, IsSoundLedger}
 use Rattle.ms_pool.specs.Source.{ServesBoth}
 use Rattle.ms_pool.specs.Calls.{OpenedBoth, ClosedBoth, Took, Grew, Purged}
 use Rattle.ms_loaders.specs.Loader.{LoaderView, account_in, new_loader}
 use Rattle.ms_shared.specs.History.{Event}
+use Rattle.ms_shared.specs.Weaving.{events_of as events_in_acts, said_of as said_in_acts}
 use Rattle.ms_shared.specs.SeatView.{SeatState}
-use Rattle.ms_run.specs.Own.{Said}
+use Rattle.ms_base.specs.Alone.{OwnReply}
+use Rattle.ms_loaders.specs.System.{states_of}
+use Rattle.ms_run.specs.Own.{Said, own_in}
 
 -- A chunk is asked for an account that the pool serves, and a chunk of one is asked to grow.
 pub record IsTaking (account : AccountState) (answer : Result Span Refusal) (event : Event) : Type 0 where
@@ -43,6 +47,7 @@ IsOpening kind loader event =
     × OpenedBoth event.0 (Ok accounts) event.1
 
 pub record IsClosing (loader : LoaderView) (event : Event) : Type 0 where
+  pub sound : IsSoundLedger event.0
   pub both : ServesBoth Serves event.0 (account_in NonClass loader) (account_in Class loader)
   pub closed : ClosedBoth event.0 (account_in NonClass loader) (account_in Class loader) event.1
 
@@ -121,17 +126,43 @@ abbrev pub Act : Type 0
 Act = Said × List Event
 
 abbrev pub said_of : List Act → List Said
-said_of [] = []
-said_of (act ∷ acts) = act.0 ∷ said_of acts
+said_of = said_in_acts
 
 abbrev pub events_by : List Act → List Event
-events_by [] = []
-events_by (act ∷ acts) = act.1 ++ events_by acts
+events_by = events_in_acts
 
--- A worker's act: the events are the step's, and the loaders that it doesn't name stay.
+-- The reply to a step is its own loader's, by what that loader was and is then; the loaders that the
+-- step doesn't name stay.
+pub record IsOwnStep (old : List (ℕ × LoaderView)) (said : Said) (new : List (ℕ × LoaderView)) : Type 0 where
+  pub own : (name : ℕ) → loader_of said.0 ≡ Some name
+      → (refused : Bool) × OwnReply (own_in (states_of old) name) said.0 refused said.1 (own_in (states_of new) name)
+  pub others : (name : ℕ) → loader_of said.0 ≢ Some name → named new name ≡ named old name
+
+-- A worker's act: a step on its own loaders, by the events that the step is.
 pub record IsAct (old : List (ℕ × LoaderView)) (act : Act) (new : List (ℕ × LoaderView)) : Type 0 where
+  pub loaders : IsOwnStep old act.0 new
   pub made : Makes old act.0.0 act.0.1 new act.1
-  pub others : (name : ℕ) → loader_of act.0.0 ≢ Some name → named new name ≡ named old name
+
+-- What a step of the whole sees of a pool: neither counts of open accounts nor tallies.
+abbrev pub seen : Ledger → Ledger
+seen pool = record pool { opened = 0; class_opened = 0; tallies = no_tallies }
+
+-- The one event at which a step is done. A New that lacks memory is done where accounts were opened in
+-- vain.
+abbrev pub OpensInVain : Step → Reply → Event → Type 0
+OpensInVain (New name kind) (Refused refusal) event = (loader : LoaderView) × IsOpening kind loader event
+OpensInVain _ _ event = ⊥
+
+abbrev pub IsDoneBy : List (ℕ × LoaderView) → Step → Reply → List (ℕ × LoaderView) → Event → Type 0
+IsDoneBy old step reply new event = Makes old step reply new (event ∷ []) ⊎ OpensInVain step reply event
+
+-- A worker's step as a whole, on its own loaders and over what is seen of the pool: it leaves the pool,
+-- or is done by one event.
+pub record IsStep (before : Ledger) (old : List (ℕ × LoaderView)) (said : Said) (after : Ledger)
+    (new : List (ℕ × LoaderView)) : Type 0 where
+  pub loaders : IsOwnStep old said new
+  pub pool : ((after ≡ before) × Makes old said.0 said.1 new [])
+      ⊎ ((event : Event) × (seen event.0 ≡ before) × (seen event.1 ≡ after) × IsDoneBy old said.0 said.1 new event)
 
 -- Acts follow one another, over a worker's own loaders.
 abbrev pub Works : List (ℕ × LoaderView) → List Act → List (ℕ × LoaderView) → Type 0

@@ -1,5 +1,6 @@
 -- What a replay answers, whatever the number of workers and their order (this project's choice).
 use Rattle.std.specs.List.{filter}
+use Rattle.std.specs.Prelude.{length, slice_index_or}
 use Rattle.std.specs.Prelude.{◌≡◌, ◌<◌, ◌==◌, ℕ, ⊤, List, [], ◌∷◌, ◌++◌, Option, Some, None, Box}
 use Rattle.std.specs.declared.alloc.Global.{Global}
 use Rattle.ms_base.specs.declared.step.Step.{Step}
@@ -20,9 +21,9 @@ use Rattle.ms_pool.specs.Ledger.{Ledger}
 use Rattle.ms_loaders.specs.Loader.{LoaderView}
 use Rattle.ms_loaders.specs.System.{machine_of}
 use Rattle.ms_loaders.specs.Settles.{MaySettle}
-use Rattle.ms_shared.specs.History.{Logged, Chain, events_in, events_of, AreBelow}
+use Rattle.ms_shared.specs.Weaving.{of, Runs}
 use Rattle.ms_base.specs.Request.{loader_of}
-use Rattle.ms_run.specs.Acts.{Act, Works, said_of, events_by}
+use Rattle.ms_run.specs.Acts.{seen, IsStep}
 use Rattle.ms_run.specs.Shares.{Place, AreWithin, AreAt}
 use Rattle.ms_run.specs.Own.{Said, own_said, own_in, OwnRun, ArePurged}
 use Rattle.ms_run.specs.declared.fault.RunFault.{RunFault}
@@ -67,41 +68,31 @@ pub record IsMachineOf (pool : Ledger) (state : Machine) : Type 0 where
   pub machine : state ≡ machine_of pool loaders
   pub fits : MaySettle pool loaders
 
--- What was said at one place came of acts, over the loaders of that place from the old ones to the new,
--- and the events of that number are those of the acts.
-pub record HasPart (place : Place) (old new : List (ℕ × LoaderView)) (said : List Said) (log : List Logged)
-    (at : ℕ) : Type 0 where
-  pub before : List (ℕ × LoaderView)
-  pub after : List (ℕ × LoaderView)
-  pub begins : AreAt place at old before
-  pub ends : AreAt place at new after
-  pub acts : List Act
-  pub works : Works before acts after
-  pub said_are : said_of acts ≡ filter (λ (s : Said). place (loader_of s.0) == at) said
-  pub events : events_by acts ≡ events_of at log
-
--- Some workers said it, each what its loaders or a purge were asked. One history of events leads from
--- the pool of the old state to that of the new one, and each event of it is a worker's, who made just
--- the events of its own steps.
-pub record HasHistory (old : Machine) (said : List Said) (new : Machine) : Type 0 where
+-- Some workers said it, each what its loaders or a purge were asked. There is one order of all that was
+-- said, which keeps each worker's, and in which each line is one step on what is seen of the pool, from
+-- the pool of the old state and each worker's loaders to those of the new one.
+pub record HasOrder (old : Machine) (said : List Said) (new : Machine) : Type 0 where
   pub first : Ledger
   pub last : Ledger
   pub begins : IsMachineOf first old
   pub ends : IsMachineOf last new
   pub place : Place
-  pub count : ℕ
-  pub within : AreWithin place count
-  pub log : List Logged
-  pub chain : Chain first (events_in log) last
-  pub numbered : AreBelow count log
-  pub parts : (at : ℕ) → at < count → HasPart place begins.loaders ends.loaders said log at
+  pub before : List (List (ℕ × LoaderView))
+  pub after : List (List (ℕ × LoaderView))
+  pub within : AreWithin place (length before)
+  pub begins_at : (at : ℕ) → at < length before → AreAt place at begins.loaders (slice_index_or before at [])
+  pub ends_at : (at : ℕ) → at < length before → AreAt place at ends.loaders (slice_index_or after at [])
+  pub order : List (ℕ × Said)
+  pub runs : Runs IsStep [] (seen first, before) order (seen last, after)
+  pub keeps : (at : ℕ) → at < length before
+      → of at order ≡ filter (λ (s : Said). place (loader_of s.0) == at) said
 
 -- What was said leads from one state to another: one step is a transition of the machine, and steps of
--- several workers are one history of events.
+-- several workers have one order.
 pub data Leads (old : Machine) : List Said → Machine → Type 0 where
   by_step : (step : Step) (reply : Reply) (new : Machine) → Transition old step reply new
       → Leads old ((step, reply) ∷ []) new
-  by_workers : (said : List Said) (new : Machine) → HasHistory old said new → Leads old said new
+  by_workers : (said : List Said) (new : Machine) → HasOrder old said new → Leads old said new
 
 -- A phase from one good state to another with the same limits. The replies to each loader's lines
 -- are its own: they follow from its lines and from which of them were refused for want, and leave

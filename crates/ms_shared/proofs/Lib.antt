@@ -1,6 +1,7 @@
 pub mod TotalLemmas
 pub mod MeterLemmas
 pub mod RecordLemmas
+pub mod WeaveLemmas
 pub mod StrandLemmas
 pub mod LoggedLemmas
 pub mod LockLemmas

@@ -5,7 +5,8 @@ use mathlib.Core.Logic.{dite}
 use native.Mathlib.Decide.{ℕ_discrete}
 use Rattle.ms_pool.specs.Ledger.{Ledger}
 use Rattle.ms_shared.specs.Entries.{one_if}
-use Rattle.ms_shared.specs.History.{Event, Logged, Strand, Chain, events_in, where_so, events_of, AreBelow, AreStrands}
+use Rattle.ms_shared.specs.Weaving.{where_so}
+use Rattle.ms_shared.specs.History.{Event, Logged, Strand, Chain, events_in, events_of, AreBelow, AreStrands}
 use Rattle.ms_shared.specs.History.{strands_with, first_strand, front, later, IsOne, extended, no_events}
 
 -- The history with an event more.

@@ -1,9 +1,9 @@
 -- Events on a pool, and one history of them: a list in which each has the number of the seat that made
 -- it (this project's choice).
-use Rattle.std.specs.Prelude.{◌≡◌, ℕ, zero, suc, ◌+◌, ◌<◌, ◌==◌, Bool, true, false, List, [], ◌∷◌, ◌++◌, length}
-use Rattle.std.specs.List.{sum_by}
+use Rattle.std.specs.Prelude.{◌≡◌, ℕ, zero, suc, ◌+◌, ◌<◌, ◌==◌, List, [], ◌∷◌, ◌++◌}
 use Rattle.ms_pool.specs.Ledger.{Ledger}
 use Rattle.ms_shared.specs.Entries.{one_if}
+use Rattle.ms_shared.specs.Weaving.{Chain as ChainOf, without_numbers, of, AreBelow as BelowOf}
 
 -- An event is the pool before and after.
 abbrev pub Event : Type 0
@@ -18,26 +18,17 @@ Strand = ℕ × List Event
 
 -- Each event begins where the last one ended.
 abbrev pub Chain : Ledger → List Event → Ledger → Type 0
-Chain old [] new = new ≡ old
-Chain old (e ∷ es) new = (e.0 ≡ old) × Chain e.1 es new
+Chain = ChainOf
 
--- The events of a history, and those of one number.
+-- The events of a history, and those of one number; and all numbers are below one.
 abbrev pub events_in : List Logged → List Event
-events_in [] = []
-events_in (l ∷ log) = l.1 ∷ events_in log
-
-abbrev pub where_so : Bool → Event → List Event → List Event
-where_so true e es = e ∷ es
-where_so false e es = es
+events_in = without_numbers
 
 abbrev pub events_of : ℕ → List Logged → List Event
-events_of n [] = []
-events_of n (l ∷ log) = where_so (l.0 == n) l.1 (events_of n log)
+events_of = of
 
--- All numbers are below one.
 abbrev pub AreBelow : ℕ → List Logged → Type 0
-AreBelow made [] = Unit {0}
-AreBelow made (l ∷ log) = (l.0 < made) × AreBelow made log
+AreBelow = BelowOf
 
 -- Each strand has just its own events of the history.
 abbrev pub AreStrands : ℕ → List Logged → List Strand → Type 0
