@@ -1,9 +1,8 @@
--- What the tables and cells of the code stand for.
-use Rattle.std.specs.Prelude.{ℕ, List, map}
+-- What the tables and columns of the code stand for.
+use Rattle.std.specs.Prelude.{ℕ, List, ◌++◌, map}
 use Rattle.std.specs.Fmt.{decimal}
 use denote.Ref.{Bor}
-use Rattle.ms_report.specs.declared.layout.Cell.{Cell}
-use Rattle.ms_report.specs.declared.layout.Cell.TheVariants.{Word, Number}
+use Rattle.ms_report.specs.Layout.{right_in}
 
 -- A text beside a number.
 abbrev pub pair_in : Bor (List ℕ) × ℕ → List ℕ × ℕ
@@ -12,10 +11,10 @@ pair_in pair = (pair.0.now, pair.1)
 abbrev pub pairs_in : List (Bor (List ℕ) × ℕ) → List (List ℕ × ℕ)
 pairs_in pairs = map pair_in pairs
 
--- The text of a cell.
-abbrev pub text_of : Cell → List ℕ
-text_of (Word word) = word.now
-text_of (Number number) = decimal number
+-- A number, right in its places.
+abbrev pub placed : ℕ × ℕ → List ℕ
+placed column = right_in column.0 (decimal column.1)
 
-abbrev pub texts_of : List Cell → List (List ℕ)
-texts_of contents = map text_of contents
+-- Four numbers, one beside the other.
+abbrev pub four_placed : ℕ × ℕ → ℕ × ℕ → ℕ × ℕ → ℕ × ℕ → List ℕ
+four_placed first second third fourth = placed first ++ (placed second ++ (placed third ++ placed fourth))

@@ -1,14 +1,13 @@
 //! Lines of a report: texts in columns that are filled with spaces.
 //!
 //!     |  committed           8192      a line of a label and a number: 12 places left, 12 right
-//!     |  level   words    held    free      a table's headings ..
-//!     |      0  524288       0       1      .. and a line of it, each cell right in its column
+//!     |  level   words    held    free      a table's headings, each right in its column
 //!
 //! Kept true: a line is the bytes that `specs/Layout.antt` gives for its texts and numbers. All
 //! calls append to a text, and take memory for it alone.
-ghost use Rattle.std.specs.Prelude.{◌≡◌, ◌≤◌, ◌++◌, OnOk, string_bytes, decimal, replicate, length};
-ghost use Rattle.ms_report.specs.Layout.{number_line, number_lines, right_in, cells, table_line, header, headings};
-ghost use Rattle.ms_report.specs.Cells.{pairs_in, text_of, texts_of};
+ghost use Rattle.std.specs.Prelude.{◌≡◌, ◌++◌, OnOk, string_bytes, decimal, replicate};
+ghost use Rattle.ms_report.specs.Layout.{number_line, number_lines, right_in, header, headings};
+ghost use Rattle.ms_report.specs.Cells.{pairs_in};
 
 use itoa::Buffer;
 use std::alloc::AllocError;
@@ -21,13 +20,6 @@ const SPACES: &str = "            ";
 
 /// A column of a table: its heading, and its places.
 pub type Column = (&'static str, usize);
-
-/// What stands in a line under a column's heading.
-#[derive(Clone, Copy, Debug)]
-pub enum Cell {
-    Word(&'static str),
-    Number(u64),
-}
 
 /// Appends a number in decimal.
 pub fn push_number(text: &mut String, number: u64) -> Result<(), AllocError>
@@ -78,55 +70,22 @@ pub fn push_number_lines(text: &mut String, rows: &[(&'static str, u64)]) -> Res
     Ok(())
 }
 
+/// Appends a number with spaces before it to so many places.
+pub fn push_right(text: &mut String, places: usize, number: u64) -> Result<(), AllocError>
+    ensures { OnOk result (string_bytes text.new
+        ≡ string_bytes text.old ++ right_in places (decimal number)) }
+{
+    let mut buffer = Buffer::new();
+    push_word(text, places, buffer.format(number))
+}
+
 /// Appends a text with spaces before it to so many places.
-fn push_right(text: &mut String, places: usize, word: &str) -> Result<(), AllocError>
+fn push_word(text: &mut String, places: usize, word: &str) -> Result<(), AllocError>
     ensures { OnOk result (string_bytes text.new
         ≡ string_bytes text.old ++ right_in places word.now) }
 {
     push_spaces(text, places.saturating_sub(word.len()))?;
     text.push_str(word)?;
-    Ok(())
-}
-
-/// Appends what stands in a column.
-fn push_cell(text: &mut String, places: usize, cell: Cell) -> Result<(), AllocError>
-    ensures { OnOk result (string_bytes text.new
-        ≡ string_bytes text.old ++ right_in places (text_of cell)) }
-{
-    match cell {
-        Cell::Word(word) => push_right(text, places, word),
-        Cell::Number(number) => {
-            let mut buffer = Buffer::new();
-            push_right(text, places, buffer.format(number))
-        }
-    }
-}
-
-/// Appends a line of a table: a cell in each of its columns.
-pub fn push_table_line(
-    text: &mut String,
-    table: &[Column],
-    contents: &[Cell],
-) -> Result<(), AllocError>
-    requires { length contents.now ≤ length table.now }
-    ensures { OnOk result (string_bytes text.new
-        ≡ string_bytes text.old ++ table_line (pairs_in table.now) (texts_of contents.now)) }
-{
-    text.push_str("  ")?;
-    push_cells(text, table, contents)?;
-    text.push_str("\n")?;
-    Ok(())
-}
-
-/// Appends the cells of a line.
-fn push_cells(text: &mut String, table: &[Column], contents: &[Cell]) -> Result<(), AllocError>
-    requires { length contents.now ≤ length table.now }
-    ensures { OnOk result (string_bytes text.new
-        ≡ string_bytes text.old ++ cells (pairs_in table.now) (texts_of contents.now)) }
-{
-    for (index, cell) in contents.iter().enumerate() {
-        push_cell(text, table[index].1, *cell)?;
-    }
     Ok(())
 }
 
@@ -147,7 +106,7 @@ fn push_headings(text: &mut String, table: &[Column]) -> Result<(), AllocError>
         ≡ string_bytes text.old ++ headings (pairs_in table.now)) }
 {
     for (heading, places) in table {
-        push_right(text, *places, heading)?;
+        push_word(text, *places, heading)?;
     }
     Ok(())
 }

@@ -10,6 +10,7 @@
 #![tactic(auto)]
 
 mod collecting;
+mod columns;
 pub mod laws;
 mod layout;
 mod reply_lines;

@@ -6,12 +6,11 @@
 ghost use Rattle.std.specs.Prelude.{◌≡◌, ◌++◌, IfOk, OnOk, string_bytes, map};
 ghost use Rattle.ms_loaders.specs.Sums.{sums_in, space_in, row_in};
 ghost use Rattle.ms_report.specs.Layout.{number_lines, space_rows, kind_text, level_table, level_texts, loader_table};
-ghost use Rattle.ms_report.specs.Layout.{loader_lines, loader_texts, table_line};
+ghost use Rattle.ms_report.specs.Layout.{loader_lines, loader_texts, right_in, table_line};
 ghost use Rattle.ms_report.specs.Sections.{levels_part, main_part, class_part, class_lines, loaders_part, report_text};
 
-use crate::layout::{
-    Cell, Column, push_header, push_number_line, push_number_lines, push_table_line,
-};
+use crate::columns::push_four;
+use crate::layout::{Column, push_header, push_number_line, push_number_lines, push_right};
 use ms_base::{Kind, Level};
 use ms_loaders::{LoaderRow, SpaceTotals, Totals};
 use std::alloc::{AllocError, Global};
@@ -132,13 +131,16 @@ fn push_level(text: &mut String, level: Level, held: u32, free: u32) -> Result<(
     ensures { OnOk result (string_bytes text.new
         ≡ string_bytes text.old ++ table_line level_table (level_texts level held free)) }
 {
-    let contents = [
-        Cell::Number(u64::from(level.number())),
-        Cell::Number(level.words()),
-        Cell::Number(u64::from(held)),
-        Cell::Number(u64::from(free)),
-    ];
-    push_table_line(text, &LEVEL_TABLE, &contents)
+    text.push_str("  ")?;
+    push_four(
+        text,
+        (LEVEL_TABLE[0].1, u64::from(level.number())),
+        (LEVEL_TABLE[1].1, level.words()),
+        (LEVEL_TABLE[2].1, u64::from(held)),
+        (LEVEL_TABLE[3].1, u64::from(free)),
+    )?;
+    text.push_str("\n")?;
+    Ok(())
 }
 
 /// Appends the table of loaders.
@@ -168,25 +170,28 @@ fn push_row(text: &mut String, row: &LoaderRow) -> Result<(), AllocError>
     ensures { OnOk result (string_bytes text.new
         ≡ string_bytes text.old ++ table_line loader_table (loader_texts (row_in row.now))) }
 {
-    let contents = [
-        Cell::Number(u64::from(row.name)),
-        Cell::Word(kind_word(row.kind)),
-        Cell::Number(u64::from(row.chunks)),
-        Cell::Number(row.capacity),
-        Cell::Number(row.used),
-        Cell::Number(row.live),
-    ];
-    push_table_line(text, &LOADER_TABLE, &contents)
+    text.push_str("  ")?;
+    push_right(text, LOADER_TABLE[0].1, u64::from(row.name))?;
+    text.push_str(kind_cell(row.kind))?;
+    push_four(
+        text,
+        (LOADER_TABLE[2].1, u64::from(row.chunks)),
+        (LOADER_TABLE[3].1, row.capacity),
+        (LOADER_TABLE[4].1, row.used),
+        (LOADER_TABLE[5].1, row.live),
+    )?;
+    text.push_str("\n")?;
+    Ok(())
 }
 
-/// Tells the word of a kind.
-fn kind_word(kind: Kind) -> &'static str
-    ensures { result.now ≡ kind_text kind }
+/// Tells the word of a kind, right in its column.
+fn kind_cell(kind: Kind) -> &'static str
+    ensures { result.now ≡ right_in 12 (kind_text kind) }
 {
     match kind {
-        Kind::Standard => "standard",
-        Kind::Boot => "boot",
-        Kind::Reflection => "reflection",
-        Kind::Hidden => "hidden",
+        Kind::Standard => "    standard",
+        Kind::Boot => "        boot",
+        Kind::Reflection => "  reflection",
+        Kind::Hidden => "      hidden",
     }
 }
