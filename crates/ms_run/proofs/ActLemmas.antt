@@ -1,11 +1,9 @@
 -- A step over the lock as events of its seat, and what is said as acts. For the answers of `serving`,
 -- `blocks`, `lifetimes` and `working`.
-use Rattle.std.proofs.Common.{◌≡◌, ◌≢◌, ℕ, Bool, true, false, Option, Some, None, Result, Ok, Err, List, [], ◌∷◌, ◌++◌, inl, inr}
+use Rattle.std.proofs.Common.{◌≡◌, ℕ, Bool, true, false, Option, Some, None, Result, Ok, Err, List, [], ◌∷◌, ◌++◌, inl, inr}
 use Rattle.std.proofs.Common.{refl, sym, ap, ◌∙◌, subst, append-nil, append_assoc}
 use Rattle.ms_base.specs.declared.kind.Space.{Space}
 use Rattle.ms_base.specs.declared.kind.Space.TheVariants.{NonClass, Class}
-use Rattle.ms_base.specs.Names.{named}
-use Rattle.ms_base.specs.Request.{loader_of}
 use Rattle.ms_base.specs.declared.policy.Policy.{Policy}
 use Rattle.ms_base.specs.declared.span.Chunk.{Chunk}
 use Rattle.ms_base.specs.declared.span.Span.{Span}
@@ -15,26 +13,25 @@ use Rattle.ms_base.specs.declared.step.Reply.{Reply}
 use Rattle.ms_base.specs.declared.refusal.Refusal.{Refusal}
 use Rattle.ms_base.specs.Live.{block_words}
 use Rattle.ms_base.specs.Place.{placed, current}
-use Rattle.ms_base.specs.Asks.{asks_growth, wanted_level, total_asked, may_enlarge}
-use Rattle.ms_base.specs.Level.{level_that_holds}
+use Rattle.ms_base.specs.Asks.{asks_growth, total_asked, may_enlarge}
 use Rattle.ms_base.specs.State.{ArenaState}
 use Rattle.ms_pool.specs.Account.{AccountState}
 use Rattle.ms_pool.specs.Ledger.{Ledger, with_both_closed, Serves as ServesIn}
 use Rattle.ms_pool.specs.Source.{ServesBoth}
-use Rattle.ms_pool.specs.Calls.{ClosedBoth}
+use Rattle.ms_pool.specs.Calls.{ClosedBoth, Took}
 use Rattle.ms_shared.proofs.LockCloseLemmas.{both_served_by_pool}
 use Rattle.ms_pool.proofs.ledger.KeepsLemmas.{serves_where_tallied}
 use Rattle.ms_pool.proofs.ledger.GrewLemmas.{grow_refused_raises}
 use Rattle.ms_arena.specs.Arena.{ArenaView, account_of}
-use Rattle.ms_arena.specs.Alloc.{Takes, Grows, AfterTake, AfterGrow, AsksChunk, Serves, Allocates}
+use Rattle.ms_arena.specs.Alloc.{Takes, Grows, AfterGrow, AsksChunk, Serves, Allocates}
 use Rattle.ms_loaders.specs.Loader.{LoaderView, account_in, AllocatesBlock}
 use Rattle.ms_shared.specs.History.{Event}
 use Rattle.ms_shared.specs.SeatView.{SeatState, ServesBy, OverLock}
 use Rattle.ms_shared.specs.LockCalls.{TookOver, GrewOver}
 use Rattle.ms_shared.proofs.LockCallLemmas.{IsCall, served_by_pool, serves_then}
 use Rattle.ms_run.specs.Own.{Said}
-use Rattle.ms_run.specs.Acts.{IsTaking, IsGrowing, IsClosing, Takes as TakesEvent, Asks, Makes, HasMade, Act, IsAct, IsOwnStep}
-use Rattle.ms_run.specs.Acts.{said_of, events_by, Works, HasActed}
+use Rattle.ms_run.specs.Acts.{IsClosing, LacksGrowth, GrewSeen, IsAllocation, Asks, start_of, Makes, HasMade, Act, IsAct}
+use Rattle.ms_run.specs.Acts.{IsOwnStep, said_of, events_by, Works, HasActed}
 
 pub made_none : (seat : SeatState) (are : List Event → Type 0) → are [] → HasMade seat seat are
 made_none seat are so = record { made = []; events = sym (append-nil seat.events); number = refl; are_so = so }
@@ -60,57 +57,55 @@ made_two old mid new first second are so = record {
   are_so = so;
 }
 
--- What is said of an allocation: where the block starts.
-abbrev pub start_of : Result Block Refusal → Result ℕ Refusal
-start_of (Ok block) = Ok block.start
-start_of (Err refusal) = Err refusal
+-- An allocation over the lock, arena by arena: its events, and that it is whole at the one where it is
+-- done.
+-- The events of a relation between pools: none, one, or one after a refused growth.
+abbrev AskedBy : AccountState → (Ledger → Ledger → Type 0) → List Event → Type 0
+AskedBy account whole [] = (pool : Ledger) → whole pool pool
+AskedBy account whole (event ∷ []) = ServesIn event.0 account × whole event.0 event.1
+AskedBy account whole (event ∷ other ∷ []) =
+    LacksGrowth account event × ServesIn other.0 account × whole other.0 other.1
+AskedBy account whole _ = ⊥
 
--- An allocation over the lock, arena by arena.
+-- A weaker relation has the same events.
+asked_weaker : (account : AccountState) (whole other : Ledger → Ledger → Type 0)
+    → ((before after : Ledger) → whole before after → other before after) → (events : List Event)
+    → AskedBy account whole events → AskedBy account other events
+asked_weaker account whole other weaker [] asked = λ pool. weaker pool pool (asked pool)
+asked_weaker account whole other weaker (e ∷ []) asked = (asked.0, weaker e.0 e.1 asked.1)
+asked_weaker account whole other weaker (e ∷ f ∷ []) asked = (asked.0, asked.1, weaker f.0 f.1 asked.2)
+asked_weaker account whole other weaker (e ∷ f ∷ g ∷ es) asked = absurd asked
+
+made_weaker : (old new : SeatState) (account : AccountState) (whole other : Ledger → Ledger → Type 0)
+    → ((before after : Ledger) → whole before after → other before after)
+    → HasMade old new (AskedBy account whole) → HasMade old new (AskedBy account other)
+made_weaker old new account whole other weaker made = record {
+  made = made.made;
+  events = made.events;
+  number = made.number;
+  are_so = asked_weaker account whole other weaker made.made made.are_so;
+}
+
 module _ (policy : Policy) (was : ArenaView) (n : ℕ) (answer : Result Block Refusal) (is : ArenaView)
     (after : SeatState) where
-  -- The events, as its answer says.
-  abbrev MadeAs : SeatState → Type 0
-  MadeAs before = HasMade before after (Asks (account_of was) (start_of answer))
+  -- The events of a relation that the arena's call is.
+  abbrev MadeBy : (Ledger → Ledger → Type 0) → SeatState → Type 0
+  MadeBy whole before = HasMade before after (AskedBy (account_of was) whole)
 
-  none_made : (before : SeatState) → after ≡ before → MadeAs before
-  none_made before same =
-      subst (λ (s : SeatState). HasMade before s (Asks (account_of was) (start_of answer))) (sym same)
-      (made_none before (Asks (account_of was) (start_of answer)) tt)
+  served_then : {call : Ledger → Ledger → Type 0} (before middle : SeatState) (its : OverLock call before middle)
+      → ServesBy before.knows (account_of was) → ServesIn its.before (account_of was)
+  served_then before middle its serves = served_by_pool its.before before.knows (account_of was) its.known serves
 
-  taking : (lent : Result Span Refusal) (event : Event) → IsTaking (account_of was) lent event
-      → AfterTake policy was n lent answer is → TakesEvent (account_of was) (start_of answer) event
-  taking (Ok span) event its follows =
-      subst (λ (a : Result Block Refusal). TakesEvent (account_of was) (start_of a) event) (sym follows.0) (span, refl, its)
-  taking (Err refusal) event its follows =
-      subst (λ (a : Result Block Refusal). TakesEvent (account_of was) (start_of a) event) (sym follows.0) its
-
-  takes : (before : SeatState) (its : Takes TookOver policy was n before answer is after)
-      → ServesBy before.knows (account_of was)
-      → TakesEvent (account_of was) (start_of answer) (its.asked.event.before, its.asked.event.after)
-  takes before its serves = taking its.lent (its.asked.event.before, its.asked.event.after)
-      (record {
-        wanted = wanted_level was.kind was.space was.books n;
-        most = level_that_holds n;
-        words = n;
-        served = served_by_pool its.asked.event.before before.knows (account_of was) its.asked.event.known serves;
-        took = its.asked.event.called;
-      }) its.follows
+  abbrev WholeTakes : Ledger → Ledger → Type 0
+  WholeTakes before later = Takes Took policy was n before answer is later
 
   took : (before : SeatState) → Takes TookOver policy was n before answer is after
-      → ServesBy before.knows (account_of was) → MadeAs before
+      → ServesBy before.knows (account_of was) → MadeBy WholeTakes before
   took before its serves =
-      made_one before after its.asked.event (Asks (account_of was) (start_of answer)) (inr (takes before its serves))
-
-  growing : (start total : ℕ) (may : Bool) (grown : Result Span Refusal) (before middle : SeatState)
-      (its : GrewOver before (account_of was) start total may grown middle) → ServesBy before.knows (account_of was)
-      → IsGrowing (account_of was) grown (its.event.before, its.event.after)
-  growing start total may grown before middle its serves = record {
-    start = start;
-    total = total;
-    enlarges = may;
-    served = served_by_pool its.event.before before.knows (account_of was) its.event.known serves;
-    grew = its.event.called;
-  }
+      made_one before after its.asked.event (AskedBy (account_of was) WholeTakes) (
+        served_then before after its.asked.event serves,
+        record { lent = its.lent; asked = its.asked.event.called; follows = its.follows },
+      )
 
   -- A growth that was refused leaves the account served.
   served_still : (start total : ℕ) (may : Bool) (refusal : Refusal) (before middle : SeatState)
@@ -125,64 +120,160 @@ module _ (policy : Policy) (was : ArenaView) (n : ℕ) (answer : Result Block Re
       event.called.after)
       (served_by_pool event.before before.knows (account_of was) event.known serves))
 
-  grew : (chunk : Chunk) (start total : ℕ) (may : Bool) (grown : Result Span Refusal) (before middle : SeatState)
-      → GrewOver before (account_of was) start total may grown middle
+  abbrev WholeGrows : Chunk → Ledger → Ledger → Type 0
+  WholeGrows chunk before later = Grows GrewSeen Took policy was chunk n before answer is later
+
+  grew : (chunk : Chunk) (grown : Result Span Refusal) (before middle : SeatState)
+      → GrewOver before (account_of was) chunk.start (total_asked was.books n)
+      (may_enlarge was.kind was.space was.books chunk) grown middle
       → AfterGrow TookOver policy was chunk n grown middle answer is after → ServesBy before.knows (account_of was)
-      → MadeAs before
-  grew chunk start total may (Ok span) before middle its follows serves =
-      subst (λ (s : SeatState). HasMade before s (Asks (account_of was) (start_of answer))) (sym follows.0)
-      (made_one before middle its.event (Asks (account_of was) (start_of answer))
-      (subst (λ (a : Result Block Refusal). Asks (account_of was) (start_of a) ((its.event.before, its.event.after) ∷ []))
-      (sym follows.1) (inl (span, growing start total may (Ok span) before middle its serves))))
-  grew chunk start total may (Err refusal) before middle its follows serves =
-      made_two before middle after its.event follows.asked.event (Asks (account_of was) (start_of answer)) (
-        (refusal, growing start total may (Err refusal) before middle its serves),
-        takes middle follows (served_still start total may refusal before middle its serves),
+      → MadeBy (WholeGrows chunk) before
+  grew chunk (Ok span) before middle its follows serves =
+      subst (λ (s : SeatState). HasMade before s (AskedBy (account_of was) (WholeGrows chunk))) (sym follows.0)
+      (made_one before middle its.event (AskedBy (account_of was) (WholeGrows chunk)) (
+        served_then before middle its.event serves,
+        record {
+          middle = its.event.after;
+          grown = Ok span;
+          asked = its.event.called;
+          follows = (refl, follows.1, follows.2);
+        },
+      ))
+  grew chunk (Err refusal) before middle its follows serves =
+      let event = its.event in let other = follows.asked.event in
+      made_two before middle after event other (AskedBy (account_of was) (WholeGrows chunk)) (
+        (
+          refusal,
+          record {
+            start = chunk.start;
+            total = total_asked was.books n;
+            enlarges = may_enlarge was.kind was.space was.books chunk;
+            served = served_then before middle event serves;
+            grew = event.called;
+          },
+        ),
+        served_then middle after other
+            (served_still chunk.start (total_asked was.books n) (may_enlarge was.kind was.space was.books chunk) refusal
+            before middle its serves),
+        record {
+          middle = other.before;
+          grown = Err refusal;
+          asked = refl;
+          follows = record { lent = follows.lent; asked = other.called; follows = follows.follows };
+        },
       )
+
+  abbrev WholeAsks : Option Chunk → Bool → Ledger → Ledger → Type 0
+  WholeAsks o b before later = AsksChunk GrewSeen Took policy was n o b before answer is later
 
   asked : (o : Option Chunk) (b : Bool) (before : SeatState)
       → AsksChunk GrewOver TookOver policy was n o b before answer is after → ServesBy before.knows (account_of was)
-      → MadeAs before
-  asked (Some chunk) true before its serves =
-      grew chunk chunk.start (total_asked was.books n) (may_enlarge was.kind was.space was.books chunk) its.grown
-      before its.middle its.asked its.follows serves
+      → MadeBy (WholeAsks o b) before
+  asked (Some chunk) true before its serves = grew chunk its.grown before its.middle its.asked its.follows serves
   asked (Some chunk) false before its serves = took before its serves
   asked None true before its serves = took before its serves
   asked None false before its serves = took before its serves
 
+  abbrev WholeServes : Option (ℕ × ArenaState) → Ledger → Ledger → Type 0
+  WholeServes o before later = Serves GrewSeen Took policy was n o before answer is later
+
   served : (o : Option (ℕ × ArenaState)) (before : SeatState)
       → Serves GrewOver TookOver policy was n o before answer is after → ServesBy before.knows (account_of was)
-      → MadeAs before
-  served (Some place) before its serves = none_made before its.2
+      → MadeBy (WholeServes o) before
+  served (Some place) before its serves =
+      subst (λ (s : SeatState). HasMade before s (AskedBy (account_of was) (WholeServes (Some place)))) (sym its.2)
+      (made_none before (AskedBy (account_of was) (WholeServes (Some place))) (λ pool. (its.0, its.1, refl)))
   served None before its serves =
       asked (current was.books) (asks_growth was.kind was.space was.books (current was.books) n) before its serves
 
 arena_made : (policy : Policy) (was : ArenaView) (words : ℕ) (before : SeatState) (answer : Result Block Refusal)
     (is : ArenaView) (after : SeatState)
     → Allocates GrewOver TookOver policy was words before answer is after → ServesBy before.knows (account_of was)
-    → HasMade before after (Asks (account_of was) (start_of answer))
+    → HasMade before after
+    (AskedBy (account_of was) (λ pool later. Allocates GrewSeen Took policy was words pool answer is later))
 arena_made policy was words before answer is after (inl refused) serves =
-    none_made policy was words answer is after before refused.source
+    subst (λ (s : SeatState). HasMade before s
+    (AskedBy (account_of was) (λ pool later. Allocates GrewSeen Took policy was words pool answer is later)))
+    (sym refused.source)
+    (made_none before (AskedBy (account_of was) (λ pool later. Allocates GrewSeen Took policy was words pool answer is later))
+    (λ pool. inl (record {
+      refusal = refused.refusal;
+      answer_is = refused.answer_is;
+      cause = refused.cause;
+      arena = refused.arena;
+      source = refl;
+    })))
 arena_made policy was words before answer is after (inr its) serves =
-    served policy was (block_words words) answer is after (placed was.books (block_words words)) before its.1 serves
+    made_weaker before after (account_of was)
+    (λ pool later. Serves GrewSeen Took policy was (block_words words) (placed was.books (block_words words)) pool answer is later)
+    (λ pool later. Allocates GrewSeen Took policy was words pool answer is later) (λ pool later whole. inr (its.0, whole))
+    (served policy was (block_words words) answer is after (placed was.books (block_words words)) before its.1 serves)
 
-pub block_made : (space : Space) (policy : Policy) (was is : LoaderView) (name words : ℕ) (old new : SeatState)
+block_asked : (space : Space) (policy : Policy) (was is : LoaderView) (name words : ℕ) (old new : SeatState)
     (answer : Result Block Refusal)
     → AllocatesBlock GrewOver TookOver policy space was name words old answer is new
-    → ServesBy old.knows (account_in space was) → HasMade old new (Asks (account_in space was) (start_of answer))
-block_made space policy was is name words old new answer (inl refused) serves =
-    subst (λ (s : SeatState). HasMade old s (Asks (account_in space was) (start_of answer))) (sym refused.source)
-    (made_none old (Asks (account_in space was) (start_of answer)) tt)
-block_made space policy was is name words old new answer (inr asks) serves =
-    subst (λ (account : AccountState). HasMade old new (Asks account (start_of answer))) account_is
+    → ServesBy old.knows (account_in space was)
+    → HasMade old new (AskedBy (account_in space was)
+    (λ pool later. AllocatesBlock GrewSeen Took policy space was name words pool answer is later))
+block_asked space policy was is name words old new answer (inl refused) serves =
+    subst (λ (s : SeatState). HasMade old s (AskedBy (account_in space was)
+    (λ pool later. AllocatesBlock GrewSeen Took policy space was name words pool answer is later))) (sym refused.source)
+    (made_none old (AskedBy (account_in space was)
+    (λ pool later. AllocatesBlock GrewSeen Took policy space was name words pool answer is later))
+    (λ pool. inl (record {
+      refusal = refused.refusal;
+      answer_is = refused.answer_is;
+      cause = refused.cause;
+      loader = refused.loader;
+      source = refl;
+    })))
+block_asked space policy was is name words old new answer (inr asks) serves =
+    made_weaker old new (account_in space was)
+    (λ pool later. Allocates GrewSeen Took policy asks.was words pool answer asks.is later)
+    (λ pool later. AllocatesBlock GrewSeen Took policy space was name words pool answer is later)
+    (λ pool later whole. inr (record {
+      unused = asks.unused;
+      was = asks.was;
+      is = asks.is;
+      arena = asks.arena;
+      allocates = whole;
+      follows = asks.follows;
+    }))
+    (subst (λ (account : AccountState). HasMade old new (AskedBy account
+    (λ pool later. Allocates GrewSeen Took policy asks.was words pool answer asks.is later))) account_is
     (arena_made policy asks.was words old answer asks.is new asks.allocates
-    (subst (ServesBy old.knows) (sym account_is) serves))
+    (subst (ServesBy old.knows) (sym account_is) serves)))
   where
     account_is : account_of asks.was ≡ account_in space was
     account_is = λ i. record {
       owner = asks.arena.owner i;
       space = asks.arena.space_is i;
       chunks = ap (λ (books : ArenaState). books.chunks) asks.arena.books i;
+    }
+
+asks_from : (space : Space) (was is : LoaderView) (name words : ℕ) (answer : Result ℕ Refusal) (events : List Event)
+    → AskedBy (account_in space was) (λ before after. IsAllocation space was is name words answer before after) events
+    → Asks space was is name words answer events
+asks_from space was is name words answer [] asked = asked
+asks_from space was is name words answer (e ∷ []) asked = asked
+asks_from space was is name words answer (e ∷ f ∷ []) asked = asked
+asks_from space was is name words answer (e ∷ f ∷ g ∷ es) asked = asked
+
+pub block_made : (space : Space) (policy : Policy) (was is : LoaderView) (name words : ℕ) (old new : SeatState)
+    (answer : Result Block Refusal)
+    → AllocatesBlock GrewOver TookOver policy space was name words old answer is new
+    → ServesBy old.knows (account_in space was) → HasMade old new (Asks space was is name words (start_of answer))
+block_made space policy was is name words old new answer allocates serves =
+    let made = made_weaker old new (account_in space was)
+    (λ pool later. AllocatesBlock GrewSeen Took policy space was name words pool answer is later)
+    (λ pool later. IsAllocation space was is name words (start_of answer) pool later)
+    (λ pool later whole. record { policy = policy; made = answer; answer_is = refl; allocates = whole })
+    (block_asked space policy was is name words old new answer allocates serves) in
+    record {
+      made = made.made;
+      events = made.events;
+      number = made.number;
+      are_so = asks_from space was is name words (start_of answer) made.made made.are_so;
     }
 
 -- Both accounts of a loader are closed over the lock.

@@ -1,7 +1,7 @@
 -- Lines and loaders dealt to shares by their places. For `deal`.
 use Rattle.std.proofs.Common.{◌≡◌, ◌≢◌, ◌≤◌, ◌<◌, ◌+◌, ◌-◌, ℕ, zero, suc, Bool, true, false, cond, ◌||◌, Option, Some}
 use Rattle.std.proofs.Common.{None, List, [], ◌∷◌, ◌++◌, map, length, refl, sym, ap, ◌∙◌, subst, ◌⊎◌, inl, inr, ⊎_elim}
-use Rattle.std.proofs.Common.{arith, eq-eqb, ne_eqb, take, drop, get_or, slice_get, replicate, vec_len, vec_capacity}
+use Rattle.std.proofs.Common.{arith, eq-eqb, ne_eqb, take, drop, get_or, slice_get, vec_len, vec_capacity}
 use Rattle.std.proofs.Common.{Vec, Global, slice_set, append-nil}
 use Rattle.std.specs.Prelude.{◌==◌, IsTrue}
 use Rattle.std.specs.List.{All, AllByRecursion, filter}

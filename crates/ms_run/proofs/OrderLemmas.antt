@@ -1,5 +1,5 @@
 -- One order of whole steps, from the one history of events that workers' acts made. For `run_phase`.
-use Rattle.std.proofs.Common.{◌≡◌, ◌≢◌, ◌<◌, ◌==◌, ℕ, Bool, true, false, not, cond, Option, Some, None, Result, Ok, Err}
+use Rattle.std.proofs.Common.{◌≡◌, ◌<◌, ◌==◌, ℕ, true, false, not, cond, Option, Some, None, Result, Ok, Err}
 use Rattle.std.proofs.Common.{List, [], ◌∷◌, map, length, inl, inr, refl, sym, ap, ◌∙◌, subst, arith}
 use Rattle.std.specs.Prelude.{slice_index_or}
 use Rattle.std.specs.List.{filter}
@@ -12,7 +12,7 @@ use Rattle.ms_base.specs.declared.refusal.Refusal.{Refusal}
 use Rattle.ms_base.specs.declared.step.Step.{Step}
 use Rattle.ms_base.specs.declared.step.Step.TheVariants.{New, Alloc, Calloc, Write, Read, Free, Unload, Purge}
 use Rattle.ms_base.specs.declared.step.Reply.{Reply}
-use Rattle.ms_base.specs.declared.step.Reply.TheVariants.{Ok as Done, At, Value, Refused}
+use Rattle.ms_base.specs.declared.step.Reply.TheVariants.{Ok as Done, At, Refused}
 use Rattle.ms_base.specs.Names.{named}
 use Rattle.ms_base.specs.Request.{loader_of}
 use Rattle.ms_pool.specs.Account.{AccountState}
@@ -87,19 +87,25 @@ step_at : (old : List (ℕ × LoaderView)) (step : Step) (reply : Reply) (new : 
     → IsStep (seen event.0) old (step, reply) (seen event.1) new
 step_at old step reply new event own done = record { loaders = own; pool = inr (event, refl, refl, done) }
 
-asks_two : (o : Option LoaderView) (space : Space) (answer : Result ℕ Refusal) (e f : Event) (es : List Event)
-    → AsksOf o space answer (e ∷ f ∷ es) → (es ≡ []) × IsStill seen e × AsksOf o space answer (f ∷ [])
-asks_two (Some loader) space answer e f [] made =
-    (refl, growth_still (account_in space loader) made.0.0 e made.0.1, inr made.1)
-asks_two (Some loader) space answer e f (g ∷ es) made = absurd made
-asks_two None space answer e f es made = let long : length (e ∷ f ∷ es) ≡ 0 = ap length made in absurd (omega arith)
+asks_two : (old new : Option LoaderView) (space : Space) (block words : ℕ) (answer : Result ℕ Refusal) (e f : Event)
+    (es : List Event) → AsksOf old new space block words answer (e ∷ f ∷ es)
+    → (es ≡ []) × IsStill seen e × AsksOf old new space block words answer (f ∷ [])
+asks_two (Some old) (Some new) space block words answer e f [] made =
+    (refl, growth_still (account_in space old) made.0.0 e made.0.1, (made.1, made.2))
+asks_two (Some old) (Some new) space block words answer e f (g ∷ es) made = absurd made
+asks_two (Some old) None space block words answer e f es made = absurd made
+asks_two None (Some new) space block words answer e f es made = absurd made
+asks_two None None space block words answer e f es made =
+    let long : length (e ∷ f ∷ es) ≡ 0 = ap length made in absurd (omega arith)
 
 asks_spread : (old : List (ℕ × LoaderView)) (step : Step) (reply : Reply) (new : List (ℕ × LoaderView)) (name : ℕ)
-    (space : Space) (answer : Result ℕ Refusal) (e f : Event) (es : List Event) → IsOwnStep old (step, reply) new
-    → (AsksOf (named old name) space answer (f ∷ []) → Makes old step reply new (f ∷ []))
-    → AsksOf (named old name) space answer (e ∷ f ∷ es) → SpreadOf old step reply new (e ∷ f ∷ es)
-asks_spread old step reply new name space answer e f es own makes made =
-    let two = asks_two (named old name) space answer e f es made in
+    (space : Space) (block words : ℕ) (answer : Result ℕ Refusal) (e f : Event) (es : List Event)
+    → IsOwnStep old (step, reply) new
+    → (AsksOf (named old name) (named new name) space block words answer (f ∷ []) → Makes old step reply new (f ∷ []))
+    → AsksOf (named old name) (named new name) space block words answer (e ∷ f ∷ es)
+    → SpreadOf old step reply new (e ∷ f ∷ es)
+asks_spread old step reply new name space block words answer e f es own makes made =
+    let two = asks_two (named old name) (named new name) space block words answer e f es made in
     subst (λ (l : List Event). SpreadOf old step reply new (e ∷ f ∷ l)) (sym two.0)
     (inr (two.1, inl (step_at old step reply new f own (inl (makes two.2)), tt)))
 
@@ -116,13 +122,13 @@ spread_two old (New name kind) (Refused refusal) new e f [] own made =
     )
 spread_two old (New name kind) (Refused refusal) new e f (g ∷ es) own made = absurd made
 spread_two old (Alloc name block words) (At start) new e f es own made =
-    asks_spread old (Alloc name block words) (At start) new name NonClass (Ok start) e f es own (λ m. m) made
+    asks_spread old (Alloc name block words) (At start) new name NonClass block words (Ok start) e f es own (λ m. m) made
 spread_two old (Alloc name block words) (Refused refusal) new e f es own made =
-    asks_spread old (Alloc name block words) (Refused refusal) new name NonClass (Err refusal) e f es own (λ m. m) made
+    asks_spread old (Alloc name block words) (Refused refusal) new name NonClass block words (Err refusal) e f es own (λ m. m) made
 spread_two old (Calloc name block words) (At start) new e f es own made =
-    asks_spread old (Calloc name block words) (At start) new name Class (Ok start) e f es own (λ m. m) made
+    asks_spread old (Calloc name block words) (At start) new name Class block words (Ok start) e f es own (λ m. m) made
 spread_two old (Calloc name block words) (Refused refusal) new e f es own made =
-    asks_spread old (Calloc name block words) (Refused refusal) new name Class (Err refusal) e f es own (λ m. m) made
+    asks_spread old (Calloc name block words) (Refused refusal) new name Class block words (Err refusal) e f es own (λ m. m) made
 spread_two old (Write name block index value) reply new e f es own made = absurd (none_long e f es made)
 spread_two old (Read name block index) reply new e f es own made = absurd (none_long e f es made)
 spread_two old (Free name block) reply new e f es own made = absurd (none_long e f es made)

@@ -3,7 +3,10 @@ use Rattle.std.specs.Prelude.{◌≡◌, ◌≢◌, ℕ, ◌⊎◌, ⊤, Bool, L
 use Rattle.ms_base.specs.declared.kind.Kind.{Kind}
 use Rattle.ms_base.specs.declared.kind.Space.{Space}
 use Rattle.ms_base.specs.declared.kind.Space.TheVariants.{NonClass, Class}
+use Rattle.ms_base.specs.declared.policy.Policy.{Policy}
 use Rattle.ms_base.specs.declared.span.Span.{Span}
+use Rattle.ms_base.specs.declared.span.Block.{Block}
+use Rattle.ms_arena.specs.Alloc.{GrowRelation}
 use Rattle.ms_base.specs.declared.refusal.Refusal.{Refusal}
 use Rattle.ms_base.specs.declared.step.Step.{Step}
 use Rattle.ms_base.specs.declared.step.Step.TheVariants.{New, Alloc, Calloc, Write, Read, Free, Unload, Purge}
@@ -16,7 +19,7 @@ use Rattle.ms_pool.specs.Tallies.{no_tallies}
 use Rattle.ms_pool.specs.Ledger.{Ledger, Serves, IsSoundLedger}
 use Rattle.ms_pool.specs.Source.{ServesBoth}
 use Rattle.ms_pool.specs.Calls.{OpenedBoth, ClosedBoth, Took, Grew, Purged}
-use Rattle.ms_loaders.specs.Loader.{LoaderView, account_in, new_loader}
+use Rattle.ms_loaders.specs.Loader.{LoaderView, account_in, new_loader, AllocatesBlock}
 use Rattle.ms_shared.specs.History.{Event}
 use Rattle.ms_shared.specs.Weaving.{events_of as events_in_acts, said_of as said_in_acts}
 use Rattle.ms_shared.specs.SeatView.{SeatState}
@@ -24,14 +27,7 @@ use Rattle.ms_base.specs.Alone.{OwnReply}
 use Rattle.ms_loaders.specs.System.{states_of}
 use Rattle.ms_run.specs.Own.{Said, own_in}
 
--- A chunk is asked for an account that the pool serves, and a chunk of one is asked to grow.
-pub record IsTaking (account : AccountState) (answer : Result Span Refusal) (event : Event) : Type 0 where
-  pub wanted : ℕ
-  pub most : ℕ
-  pub words : ℕ
-  pub served : Serves event.0 account
-  pub took : Took event.0 account wanted most words answer event.1
-
+-- A chunk of an account that the pool serves is asked to grow.
 pub record IsGrowing (account : AccountState) (answer : Result Span Refusal) (event : Event) : Type 0 where
   pub start : ℕ
   pub total : ℕ
@@ -63,30 +59,45 @@ abbrev pub OfLoader : Option LoaderView → (LoaderView → Event → Type 0) �
 OfLoader (Some loader) is event = is loader event
 OfLoader None is event = ⊥
 
--- A chunk that is lent starts where the block does; a refusal is the block's. A growth that is had is
--- the block's place.
-abbrev pub Takes : AccountState → Result ℕ Refusal → Event → Type 0
-Takes account (Ok start) event = (span : Span) × (start ≡ span.start) × IsTaking account (Ok span) event
-Takes account (Err refusal) event = IsTaking account (Err refusal) event
+-- What is said of a block: where it starts.
+abbrev pub start_of : Result Block Refusal → Result ℕ Refusal
+start_of (Ok block) = Ok block.start
+start_of (Err refusal) = Err refusal
 
-abbrev pub Grows : AccountState → Result ℕ Refusal → Event → Type 0
-Grows account (Ok start) event = (span : Span) × IsGrowing account (Ok span) event
-Grows account (Err refusal) event = ⊥
+-- What a growth makes of a pool in an allocation that is done at one event: of one that was refused
+-- before nothing is seen.
+abbrev pub GrewSeen : GrowRelation Ledger
+GrewSeen old account start total enlarges (Ok span) new = Grew old account start total enlarges (Ok span) new
+GrewSeen old account start total enlarges (Err refusal) new = new ≡ old
+
+-- An allocation as a whole, by the loader's own relation: its books before and after, its answer, and the
+-- pool before and after.
+pub record IsAllocation (space : Space) (old new : LoaderView) (name words : ℕ) (answer : Result ℕ Refusal)
+    (before after : Ledger) : Type 0 where
+  pub policy : Policy
+  pub made : Result Block Refusal
+  pub answer_is : answer ≡ start_of made
+  pub allocates : AllocatesBlock GrewSeen Took policy space old name words before made new after
 
 abbrev pub LacksGrowth : AccountState → Event → Type 0
 LacksGrowth account event = (refusal : Refusal) × IsGrowing account (Err refusal) event
 
--- An allocation is no event; or a growth that is had, or a chunk taken; or a growth refused and then a
--- chunk taken. Without a loader it is none.
-abbrev pub Asks : AccountState → Result ℕ Refusal → List Event → Type 0
-Asks account answer [] = ⊤
-Asks account answer (event ∷ []) = Grows account answer event ⊎ Takes account answer event
-Asks account answer (event ∷ other ∷ []) = LacksGrowth account event × Takes account answer other
-Asks account answer _ = ⊥
+-- Its events: none, whatever the pool is; or one, at which it is done, for the loader's account; or a
+-- growth refused, and then one at which it is done.
+abbrev pub Asks : Space → LoaderView → LoaderView → ℕ → ℕ → Result ℕ Refusal → List Event → Type 0
+Asks space old new name words answer [] = (pool : Ledger) → IsAllocation space old new name words answer pool pool
+Asks space old new name words answer (event ∷ []) =
+    Serves event.0 (account_in space old) × IsAllocation space old new name words answer event.0 event.1
+Asks space old new name words answer (event ∷ other ∷ []) =
+    LacksGrowth (account_in space old) event × Serves other.0 (account_in space old)
+    × IsAllocation space old new name words answer other.0 other.1
+Asks space old new name words answer _ = ⊥
 
-abbrev pub AsksOf : Option LoaderView → Space → Result ℕ Refusal → List Event → Type 0
-AsksOf (Some loader) space answer events = Asks (account_in space loader) answer events
-AsksOf None space answer events = events ≡ []
+-- So it is of a loader that is there; without one there is no event.
+abbrev pub AsksOf : Option LoaderView → Option LoaderView → Space → ℕ → ℕ → Result ℕ Refusal → List Event → Type 0
+AsksOf (Some old) (Some new) space name words answer events = Asks space old new name words answer events
+AsksOf None None space name words answer events = events ≡ []
+AsksOf _ _ space name words answer events = ⊥
 
 -- A New that is refused is no event; or an opening that is refused; or an opening, and the closing of
 -- what it opened where memory is wanting then.
@@ -102,10 +113,14 @@ LacksLoader kind refusal _ = ⊥
 abbrev pub Makes : List (ℕ × LoaderView) → Step → Reply → List (ℕ × LoaderView) → List Event → Type 0
 Makes old (New name kind) Done new events = Once (OfLoader (named new name) (IsOpening kind)) events
 Makes old (New name kind) (Refused refusal) new events = LacksLoader kind refusal events
-Makes old (Alloc name block words) (At start) new events = AsksOf (named old name) NonClass (Ok start) events
-Makes old (Alloc name block words) (Refused refusal) new events = AsksOf (named old name) NonClass (Err refusal) events
-Makes old (Calloc name block words) (At start) new events = AsksOf (named old name) Class (Ok start) events
-Makes old (Calloc name block words) (Refused refusal) new events = AsksOf (named old name) Class (Err refusal) events
+Makes old (Alloc name block words) (At start) new events =
+    AsksOf (named old name) (named new name) NonClass block words (Ok start) events
+Makes old (Alloc name block words) (Refused refusal) new events =
+    AsksOf (named old name) (named new name) NonClass block words (Err refusal) events
+Makes old (Calloc name block words) (At start) new events =
+    AsksOf (named old name) (named new name) Class block words (Ok start) events
+Makes old (Calloc name block words) (Refused refusal) new events =
+    AsksOf (named old name) (named new name) Class block words (Err refusal) events
 Makes old (Write name block index value) reply new events = events ≡ []
 Makes old (Read name block index) reply new events = events ≡ []
 Makes old (Free name block) reply new events = events ≡ []

@@ -33,7 +33,8 @@ pub fn allocate<R: Wait>(
         (own_in (states_of loaders.old) name) (alloc_in space name block words) want
         (Reply.Refused refusal) (own_in (states_of loaders.new) name)) }
     ensures others { (other : ℕ) → other ≢ name → named loaders.new other ≡ named loaders.old other }
-    ensures made { HasMade pool.old pool.new (AsksOf (named loaders.old name) space result) }
+    ensures made { HasMade pool.old pool.new
+        (AsksOf (named loaders.old name) (named loaders.new name) space block words result) }
 {
     let Some(loader) = loaders.get_mut(name) else {
         return Err(Refusal::NoLoader);

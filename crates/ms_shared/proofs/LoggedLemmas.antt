@@ -1,13 +1,13 @@
 -- The one history as the views of all seats change: one is replaced by one with the same strands, cut,
 -- joined with another, or puts the pool back. For the rule of the lock.
-use Rattle.std.proofs.Common.{◌≡◌, ◌≢◌, ℕ, ◌+◌, ◌<◌, ◌≤◌, List, [], ◌∷◌, ◌++◌, length, set, refl, sym, ap, ◌∙◌, subst}
+use Rattle.std.proofs.Common.{◌≡◌, ◌≢◌, ℕ, ◌+◌, ◌<◌, List, [], ◌∷◌, ◌++◌, length, set, refl, sym, ap, ◌∙◌, subst}
 use Rattle.std.proofs.Common.{⊎_elim, arith}
 use mathlib.Core.Option.{some, some-ne-none}
 use lib.ListN.{get_elem?}
 use Rattle.atomic_table.proofs.Lists.{at_set, at_snoc, set_else}
 use Rattle.ms_pool.specs.Ledger.{Ledger}
 use Rattle.ms_shared.specs.declared.lock_rule.LockView.{LockView}
-use Rattle.ms_shared.specs.History.{Logged, Strand, Chain, events_in, AreStrands, strands_with, extended}
+use Rattle.ms_shared.specs.History.{Logged, AreStrands, strands_with}
 use Rattle.ms_shared.specs.LockRule.{IsLogged, after, first_view}
 use Rattle.ms_shared.proofs.TotalLemmas.{total_at, total_two, total_kept, total_cut, total_joined}
 use Rattle.ms_shared.proofs.StrandLemmas.{with_event, chain_more, below_more, strands_kept, strands_extended, own_number}

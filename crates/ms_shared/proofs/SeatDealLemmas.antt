@@ -1,12 +1,12 @@
 -- The seats of a new lock, cut off one by one: the first knows all of the pool. For `new`.
-use Rattle.std.proofs.Common.{◌≡◌, ℕ, zero, suc, ◌+◌, ◌-◌, ◌*◌, ◌<◌, ◌≤◌, List, [], ◌∷◌, ◌++◌, length, ap, ◌∙◌}
-use Rattle.std.proofs.Common.{arith, None, refl, sym, subst, add-zero}
+use Rattle.std.proofs.Common.{◌≡◌, ℕ, zero, suc, ◌+◌, ◌-◌, ◌*◌, ◌<◌, ◌≤◌, List, [], ◌∷◌, ◌++◌, ap, ◌∙◌}
+use Rattle.std.proofs.Common.{arith, None, refl, sym, add-zero}
 use Rattle.atomic_table.specs.Seated.{TableId}
 use Rattle.ms_base.specs.State.{Limits}
 use Rattle.ms_pool.specs.Ledger.{Ledger}
 use Rattle.ms_shared.specs.declared.lock_rule.SeatView.{SeatView}
 use Rattle.ms_shared.specs.declared.lock_rule.LockView.{LockView}
-use Rattle.ms_shared.specs.History.{Strand, first_strand, later, IsOne, no_events}
+use Rattle.ms_shared.specs.History.{Strand, first_strand, later, no_events}
 use Rattle.ms_shared.specs.SeatView.{SeatState, knows_all, knows_limits, seat_with, seat_of, spare_seats, new_seats}
 use Rattle.ms_shared.specs.LockRule.{first_view, other_seats}
 

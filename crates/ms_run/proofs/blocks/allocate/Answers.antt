@@ -1,11 +1,13 @@
-use Rattle.std.proofs.Common.{◌≡◌, List, [], Option, Result, Ok, Err, false, refl, sym, subst}
+use Rattle.std.proofs.Common.{◌≡◌, List, [], Option, Some, Result, Ok, Err, false, refl, sym, subst}
 use Rattle.ms_base.specs.declared.span.Block.{Block}
 use Rattle.ms_base.specs.declared.refusal.Refusal.{Refusal}
 use Rattle.ms_base.specs.declared.refusal.Refusal.TheVariants.{NoLoader}
-use Rattle.ms_run.specs.Acts.{HasMade, Asks, AsksOf}
-use Rattle.ms_loaders.specs.Loader.{LoaderView, account_in}
+use Rattle.ms_base.specs.Names.{named}
+use Rattle.ms_base.proofs.entries.LookupLemmas.{named_changed_same}
+use Rattle.ms_run.specs.Acts.{HasMade, Asks, AsksOf, start_of}
+use Rattle.ms_loaders.specs.Loader.{LoaderView}
 use Rattle.ms_shared.specs.History.{Event}
-use Rattle.ms_run.proofs.ActLemmas.{made_none, block_made, start_of}
+use Rattle.ms_run.proofs.ActLemmas.{made_none, block_made}
 use Rattle.ms_run.proofs.SeatStaysLemmas.{others_stay, own_is_served, manned_after}
 use Rattle.ms_run.proofs.GrantLemmas.{replies_without, replies_at, replies_why}
 use Rattle.ms_run.proofs.blocks.allocate.Goals as goal
@@ -58,27 +60,38 @@ returns-in-Err-clause-others g c = others_stay c.args.loaders.now c.args.name c.
 
 pub returns-in_default-clause-made : goal.returns-in_default-clause-made
 returns-in_default-clause-made g c =
-    subst (λ (loader : Option LoaderView). HasMade c.args.pool.now c.args.pool.now (AsksOf loader c.args.space (Err NoLoader)))
+    subst (λ (loader : Option LoaderView). HasMade c.args.pool.now c.args.pool.now
+    (AsksOf loader loader c.args.space c.args.block c.args.words (Err NoLoader)))
     c.in_default.ensures.found (made_none c.args.pool.now (λ (events : List Event). events ≡ []) refl)
 
 pub returns-in-Ok-clause-made : goal.returns-in-Ok-clause-made
 returns-in-Ok-clause-made g c =
-    subst (λ (loader : Option LoaderView). HasMade c.args.pool.now c.allocate.new.source (AsksOf loader c.args.space (Ok c.in-Ok.made.start)))
+    subst (λ (loader : Option LoaderView). HasMade c.args.pool.now c.allocate.new.source
+    (AsksOf (named c.args.loaders.now c.args.name) loader c.args.space c.args.block c.args.words (Ok c.in-Ok.made.start)))
+    (sym (named_changed_same c.args.loaders.now c.args.name c.in-Some.loader.now c.allocate.new.self
+    (sym c.in-Some.ensures.found)))
+    (subst (λ (loader : Option LoaderView). HasMade c.args.pool.now c.allocate.new.source
+    (AsksOf loader (Some c.allocate.new.self) c.args.space c.args.block c.args.words (Ok c.in-Ok.made.start)))
     c.in-Some.ensures.found
     (subst (λ (answer : Result Block Refusal). HasMade c.args.pool.now c.allocate.new.source
-    (Asks (account_in c.args.space c.in-Some.loader.now) (start_of answer))) c.in-Ok.is
+    (Asks c.args.space c.in-Some.loader.now c.allocate.new.self c.args.block c.args.words (start_of answer))) c.in-Ok.is
     (block_made c.args.space c.args.pool.now.knows.limits.policy c.in-Some.loader.now c.allocate.new.self c.args.block
     c.args.words c.args.pool.now c.allocate.new.source c.allocate.result c.allocate.ensures.allocates
     (own_is_served c.args.space c.args.pool.now.knows c.args.loaders.now c.args.name c.in-Some.loader.now
-    (sym c.in-Some.ensures.found) c.requires)))
+    (sym c.in-Some.ensures.found) c.requires))))
 
 pub returns-in-Err-clause-made : goal.returns-in-Err-clause-made
 returns-in-Err-clause-made g c =
-    subst (λ (loader : Option LoaderView). HasMade c.args.pool.now c.allocate.new.source (AsksOf loader c.args.space (Err c.in-Err.refusal)))
+    subst (λ (loader : Option LoaderView). HasMade c.args.pool.now c.allocate.new.source
+    (AsksOf (named c.args.loaders.now c.args.name) loader c.args.space c.args.block c.args.words (Err c.in-Err.refusal)))
+    (sym (named_changed_same c.args.loaders.now c.args.name c.in-Some.loader.now c.allocate.new.self
+    (sym c.in-Some.ensures.found)))
+    (subst (λ (loader : Option LoaderView). HasMade c.args.pool.now c.allocate.new.source
+    (AsksOf loader (Some c.allocate.new.self) c.args.space c.args.block c.args.words (Err c.in-Err.refusal)))
     c.in-Some.ensures.found
     (subst (λ (answer : Result Block Refusal). HasMade c.args.pool.now c.allocate.new.source
-    (Asks (account_in c.args.space c.in-Some.loader.now) (start_of answer))) c.in-Err.is
+    (Asks c.args.space c.in-Some.loader.now c.allocate.new.self c.args.block c.args.words (start_of answer))) c.in-Err.is
     (block_made c.args.space c.args.pool.now.knows.limits.policy c.in-Some.loader.now c.allocate.new.self c.args.block
     c.args.words c.args.pool.now c.allocate.new.source c.allocate.result c.allocate.ensures.allocates
     (own_is_served c.args.space c.args.pool.now.knows c.args.loaders.now c.args.name c.in-Some.loader.now
-    (sym c.in-Some.ensures.found) c.requires)))
+    (sym c.in-Some.ensures.found) c.requires))))
