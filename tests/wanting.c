@@ -45,10 +45,13 @@ static int run(nizgrabul_handle *handle) {
         uint32_t status = nizgrabul_new_loader(handle, loader, loader % 4).status;
         if (made ? status != NIZGRABUL_NO_SYSTEM : !wants(status, NIZGRABUL_DONE)) return 2;
         for (uint32_t block = 0; block < 6; block++) {
-            uint64_t words = 1 + 700 * block, before = nizgrabul_committed(handle);
+            nizgrabul_limit_counts before = {0}, after = {0};
+            uint64_t words = 1 + 700 * block;
+            nizgrabul_counts(handle, &before);
             uint32_t got = (block % 2 ? nizgrabul_calloc : nizgrabul_alloc)(handle, loader, block, words).status;
             uint32_t otherwise = made ? NIZGRABUL_NO_SYSTEM : status ? NIZGRABUL_NO_LOADER : NIZGRABUL_DONE;
-            if (!wants(got, otherwise) || (got && nizgrabul_committed(handle) != before)) return 3;
+            nizgrabul_counts(handle, &after);
+            if (!wants(got, otherwise) || (got && after.granules != before.granules)) return 3;
         }
     }
     uint32_t told = nizgrabul_totals(handle, &sums);

@@ -14,11 +14,26 @@ static void tell_sums(const char *what, const nizgrabul_sums *s) {
            s->capacity, s->used, s->live, s->free_blocks, s->waste);
 }
 
+static void tell_arena(const char *what, const nizgrabul_arena_sums *s) {
+    printf("%s: chunks %" PRIu64 ", capacity %" PRIu64 ", fronts %" PRIu64 ", used %" PRIu64 ", live %" PRIu64
+           ", free blocks %" PRIu64 ", waste %" PRIu64 "\n", what, s->chunks, s->capacity, s->fronts, s->used, s->live,
+           s->free_blocks, s->waste);
+}
+
+static void tell_counts(nizgrabul_handle *handle, nizgrabul_limit_counts *c) {
+    printf("counts: %" PRIu32 ", ", nizgrabul_counts(handle, c));
+    printf("granules %" PRIu64 " of %" PRIu64 ", each of %" PRIu64 " words, nodes %" PRIu64 " of %" PRIu64
+           ", class nodes %" PRIu64 "\n", c->granules, c->granule_limit, c->granule_words, c->nodes, c->node_limit,
+           c->class_nodes);
+}
+
 int main(void) {
     nizgrabul_handle handle = {0};
     nizgrabul_options options = {.nodes = 1, .class_nodes = 1, .max_granules = 2, .policy = NIZGRABUL_BALANCED};
     nizgrabul_options wrong = {.nodes = 65, .class_nodes = 1, .max_granules = 2, .policy = NIZGRABUL_BALANCED};
     nizgrabul_sums_of_all sums = {0};
+    nizgrabul_limit_counts counts = {0};
+    nizgrabul_sums_of_loader loader = {0};
     bool bits[3];
     tell("100 words with no system", nizgrabul_alloc(&handle, 1, 1, 100));
     printf("65 nodes: %" PRIu32 "\n", nizgrabul_new(&wrong, &handle));
@@ -45,11 +60,17 @@ int main(void) {
     tell_sums("outside the class space", &sums.space);
     tell_sums("class space", &sums.class_space);
     printf("used by loader 1: %" PRIu64 "\n", nizgrabul_used_by(&handle, 1));
+    printf("sums of loader 1: %" PRIu32 "\n", nizgrabul_loader_totals(&handle, 1, &loader));
+    printf("kind: %" PRIu64 "\n", loader.kind);
+    tell_arena("outside the class space", &loader.space);
+    tell_arena("class space", &loader.class_space);
+    printf("sums of loader 2: %" PRIu32 "\n", nizgrabul_loader_totals(&handle, 2, &loader));
+    tell_counts(&handle, &counts);
     tell("purge", nizgrabul_purge(&handle));
     tell("unload", nizgrabul_unload(&handle, 1));
     tell("unload again", nizgrabul_unload(&handle, 1));
-    printf("committed: %" PRIu64 "\n", nizgrabul_committed(&handle));
     tell("purge", nizgrabul_purge(&handle));
+    tell_counts(&handle, &counts);
     nizgrabul_delete(&handle);
     nizgrabul_delete(&handle);
     printf("ends empty: %d\n", !handle.live);

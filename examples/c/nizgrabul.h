@@ -21,7 +21,7 @@
 #ifndef NIZGRABUL_H
 #define NIZGRABUL_H
 
-#define NIZGRABUL_VERSION 1
+#define NIZGRABUL_VERSION 2
 
 #include <stdbool.h>
 #include <stddef.h>
@@ -111,6 +111,34 @@ typedef struct nizgrabul_sums_of_all {
     nizgrabul_sums class_space;
 } nizgrabul_sums_of_all;
 
+/* What is committed and reserved, beside what may be. */
+typedef struct nizgrabul_limit_counts {
+    uint64_t granules;      /* committed granules, of both spaces together */
+    uint64_t granule_limit; /* how many may be */
+    uint64_t granule_words; /* the words of a granule, 8192 or 2048 */
+    uint64_t nodes;         /* reserved nodes, without those of the class space */
+    uint64_t node_limit;    /* how many may be */
+    uint64_t class_nodes;   /* nodes of the class space, which stay reserved */
+} nizgrabul_limit_counts;
+
+/* The sums over one loader's arena in a space; used = live + free_blocks + waste. */
+typedef struct nizgrabul_arena_sums {
+    uint64_t chunks;      /* chunks that it holds */
+    uint64_t capacity;    /* their words */
+    uint64_t fronts;      /* words of their fronts */
+    uint64_t used;        /* words in use */
+    uint64_t live;        /* words of live blocks */
+    uint64_t free_blocks; /* words of free blocks */
+    uint64_t waste;       /* words in use that are in no block */
+} nizgrabul_arena_sums;
+
+/* The kind of one loader, by its number, and its sums. */
+typedef struct nizgrabul_sums_of_loader {
+    uint64_t kind;
+    nizgrabul_arena_sums space;       /* outside the class space */
+    nizgrabul_arena_sums class_space;
+} nizgrabul_sums_of_loader;
+
 /* Makes a system with no loader in an empty handle, under the settings that the options name. Answers
  * DONE, IN_USE where the handle has a system already, BAD_SETTINGS where an option is out of its
  * range, or OUT_OF_MEMORY; all but DONE leave the handle as it was. Takes memory. */
@@ -144,8 +172,10 @@ nizgrabul_answer nizgrabul_free(nizgrabul_handle *handle, uint16_t loader, uint3
  * space stay. Takes no memory. */
 nizgrabul_answer nizgrabul_purge(nizgrabul_handle *handle);
 
-/* Tells the committed words of both spaces, and 0 where there is no system. Takes no memory. */
-uint64_t nizgrabul_committed(nizgrabul_handle *handle);
+/* Tells how many granules are committed in both spaces and how many may be, and the same of nodes
+ * outside the class space. Answers DONE, or NO_SYSTEM, which leaves `out` as it was. Takes no memory,
+ * and looks at no loader and no chunk. */
+uint32_t nizgrabul_counts(nizgrabul_handle *handle, nizgrabul_limit_counts *out);
 
 /* Tells the words in use of one loader, in both spaces, and 0 where none has the name. Takes no memory. */
 uint64_t nizgrabul_used_by(nizgrabul_handle *handle, uint16_t loader);
@@ -161,6 +191,11 @@ void nizgrabul_granules(nizgrabul_handle *handle, uint32_t first, bool *out, siz
 /* Tells all sums over the system. Answers DONE, NO_SYSTEM or OUT_OF_MEMORY; all but DONE leave `out` as
  * it was. Takes memory while it runs; looks at each node, loader and chunk, and at no block. */
 uint32_t nizgrabul_totals(nizgrabul_handle *handle, nizgrabul_sums_of_all *out);
+
+/* Tells the sums of one loader. Answers DONE, NO_SYSTEM, or NO_LOADER where none has the name; all but
+ * DONE leave `out` as it was. Takes no memory; looks at each chunk of that loader, at no block, and at
+ * no other loader. */
+uint32_t nizgrabul_loader_totals(nizgrabul_handle *handle, uint16_t loader, nizgrabul_sums_of_loader *out);
 
 #ifdef __cplusplus
 }

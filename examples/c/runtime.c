@@ -59,9 +59,10 @@ static void count(const char *when) {
         if (can_be_read(granule * WORDS) != is || can_be_read(granule * WORDS + WORDS - 1) != is) ends("another account");
         touched += is;
     }
-    if (touched * WORDS != nizgrabul_committed(&handle)) ends("another count");
-    printf("%s: %" PRIu64 " granules can be touched, and %" PRIu64 " words are committed\n", when, touched,
-           nizgrabul_committed(&handle));
+    nizgrabul_limit_counts counts = {0};
+    nizgrabul_counts(&handle, &counts);
+    if (touched != counts.granules) ends("another count");
+    printf("%s: %" PRIu64 " granules can be touched, and %" PRIu64 " are committed\n", when, touched, counts.granules);
 }
 
 static uint64_t word_of(int loader, int block, uint64_t word) {

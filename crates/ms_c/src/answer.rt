@@ -10,6 +10,9 @@ pub const DONE: u32 = 0;
 /// The C library's allocator refused.
 pub const OUT_OF_MEMORY: u32 = 1;
 
+/// No loader has the number.
+pub const NO_LOADER: u32 = 8;
+
 /// The handle has no system.
 pub const NO_SYSTEM: u32 = 20;
 

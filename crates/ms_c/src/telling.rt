@@ -1,31 +1,33 @@
 //! The exports that tell of a system and change nothing.
-ghost use Rattle.std.specs.Prelude.{◌≡◌, ◌≢◌, ◌++◌, ◌+◌, false, None, IfSome, length, map};
+ghost use Rattle.std.specs.Prelude.{◌≡◌, ◌≢◌, ◌↔◌, ◌++◌, false, None, IfSome, length, map};
 ghost use Rattle.std.specs.List.{range_with_len};
 ghost use Rattle.ms_base.specs.Committed.{is_among};
 ghost use Rattle.ms_base.specs.Names.{named};
-ghost use Rattle.ms_base.specs.Totals.{committed_words, used_words, over_spaces};
+ghost use Rattle.ms_base.specs.Transition.{LacksLoader};
 ghost use Rattle.ms_loaders.specs.Used.{used_if};
-ghost use Rattle.ms_c.specs.Sums.{AreTotals, AreBits, bit_at};
+ghost use Rattle.ms_c.specs.Sums.{AreTotals, AreBits, bit_at, counts_of, TellsLoader};
 
-use crate::answer::{DONE, NO_SYSTEM, OUT_OF_MEMORY};
+use crate::answer::{DONE, NO_LOADER, NO_SYSTEM, OUT_OF_MEMORY};
 use crate::handle::Handle;
-use crate::totals::{Totals, tell_sums};
+use crate::totals::{Counts, LoaderSums, Totals, tell_counts, tell_loader, tell_sums};
 use ms_loaders::System;
 use std::alloc::Global;
 
-/// Tells the committed words of both spaces, and 0 where there is no system. Takes no memory.
+/// Tells how many granules are committed in both spaces and how many may be, and the same of nodes
+/// outside the class space. Answers DONE, or NO_SYSTEM, which leaves `out` as it was. Takes no memory,
+/// and looks at no loader and no chunk.
 #[unsafe(no_mangle)]
-pub extern "C" fn nizgrabul_committed(alloc: Global, handle: &mut Handle) -> u64
-    ensures words { IfSome handle.old.slot.held (λ m. result ≡ over_spaces (λ space. committed_words space m)) }
-    ensures no_system { handle.old.slot.held ≡ None → result ≡ 0 }
+pub extern "C" fn nizgrabul_counts(alloc: Global, handle: &mut Handle, out: &mut Counts) -> u32
+    ensures counts { IfSome handle.old.slot.held (λ m. (result ≡ DONE) × (out.new ≡ counts_of m)) }
+    ensures no_system { handle.old.slot.held ≡ None → (result ≡ NO_SYSTEM) × (out.new ≡ out.old) }
     ensures unchanged { handle.new.slot.held ≡ handle.old.slot.held }
 {
     match handle.take(alloc) {
-        None => 0,
+        None => NO_SYSTEM,
         Some(system) => {
-            let words = system.committed();
+            *out = tell_counts(system.counts());
             handle.put(system);
-            words
+            DONE
         }
     }
 }
@@ -119,5 +121,35 @@ pub extern "C" fn nizgrabul_totals(alloc: Global, handle: &mut Handle, out: &mut
             DONE
         }
         Err(_) => OUT_OF_MEMORY,
+    }
+}
+
+/// Tells the sums of one loader. Answers DONE, NO_SYSTEM, or NO_LOADER where none has the name; all but
+/// DONE leave `out` as it was. Takes no memory; looks at each chunk of that loader, at no block, and at
+/// no other loader.
+#[unsafe(no_mangle)]
+pub extern "C" fn nizgrabul_loader_totals(
+    alloc: Global,
+    handle: &mut Handle,
+    loader: u16,
+    out: &mut LoaderSums,
+) -> u32
+    ensures totals { IfSome handle.old.slot.held (λ m. result ≡ DONE → TellsLoader m loader out.new) }
+    ensures no_loader { IfSome handle.old.slot.held (λ m. (result ≡ NO_LOADER) ↔ LacksLoader m loader) }
+    ensures no_system { handle.old.slot.held ≡ None → result ≡ NO_SYSTEM }
+    ensures refused { result ≢ DONE → out.new ≡ out.old }
+    ensures unchanged { handle.new.slot.held ≡ handle.old.slot.held }
+{
+    let Some(system) = handle.take(alloc) else {
+        return NO_SYSTEM;
+    };
+    let answer = system.loader_totals(loader);
+    handle.put(system);
+    match answer {
+        Some(totals) => {
+            *out = tell_loader(totals);
+            DONE
+        }
+        None => NO_LOADER,
     }
 }

@@ -8,3 +8,4 @@ pub mod SystemInside
 pub mod Sums
 pub mod Collecting
 pub mod Used
+pub mod LoaderSums

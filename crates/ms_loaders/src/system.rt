@@ -18,8 +18,10 @@ ghost use Rattle.ms_loaders.specs.System.{reply_of};
 ghost use Rattle.ms_loaders.specs.Sums.{sums_in};
 ghost use Rattle.ms_loaders.specs.Used.{used_if};
 
+mod counts;
 mod granules;
 mod settling;
+mod sums;
 
 use crate::collecting::{gather, space_totals};
 use crate::loader::Loader;
@@ -29,6 +31,7 @@ use ms_base::{Kind, Policy, Refusal, Reply, Settings, Space, Step, granule};
 use ms_pool::Pool;
 use std::alloc::{AllocError, Global};
 use std::marker::Model;
+pub use sums::LoaderTotals;
 
 /// The interval machine in one thread: class loaders by name, each with an arena in each space, over
 /// one pool.

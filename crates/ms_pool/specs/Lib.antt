@@ -12,3 +12,4 @@ pub mod Growing
 pub mod Releasing
 pub mod Placing
 pub mod Serving
+pub mod LimitCounts

@@ -20,6 +20,6 @@ mod totals;
 mod trees;
 
 pub use account::Account;
-pub use pool::Pool;
+pub use pool::{LimitCounts, Pool};
 pub use source::ChunkSource;
 pub use totals::PoolTotals;

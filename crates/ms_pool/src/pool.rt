@@ -11,12 +11,14 @@ ghost use Rattle.ms_pool.specs.Tallies.{AreTallies};
 ghost use Rattle.ms_pool.specs.Ledger.{Serves, IsSoundLedger, empty_ledger, opened_in, state_in};
 ghost use Rattle.ms_pool.specs.Calls.{Opened, OpenedBoth, Took, Grew, Closed, ClosedBoth, Purged, Totalled, sums_in};
 
+mod counts;
 mod granules;
 
 use crate::account::Account;
 use crate::lender::Lender;
 use crate::source::ChunkSource;
 use crate::totals::PoolTotals;
+pub use counts::LimitCounts;
 use ms_base::{Level, Policy, Refusal, Settings, Space, Span};
 use std::alloc::{AllocError, Global};
 use std::marker::Model;

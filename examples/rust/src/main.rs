@@ -15,10 +15,10 @@ fn main() -> Result<(), Refused> {
         }
     }
     println!("600000 words: {:?}", metaspace.alloc(1, 3, 600000).err());
-    println!("committed: {}, granules {:?}", metaspace.committed(), metaspace.granules(0, 2));
+    println!("committed granules: {}, {:?}", metaspace.counts().granules, metaspace.granules(0, 2));
     metaspace.unload(2)?;
-    println!("committed: {}, used by loader 1: {}", metaspace.committed(), metaspace.used_by(1));
+    println!("committed granules: {}, used by loader 1: {}", metaspace.counts().granules, metaspace.used_by(1));
     metaspace.unload(1)?;
-    println!("committed: {}, nodes given back: {}", metaspace.committed(), metaspace.purge()?);
+    println!("committed granules: {}, nodes given back: {}", metaspace.counts().granules, metaspace.purge()?);
     Ok(())
 }

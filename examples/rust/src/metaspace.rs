@@ -33,7 +33,7 @@ mod ffi {
         pub fn nizgrabul_unload(handle: *mut Handle, loader: u16) -> Answer;
         pub fn nizgrabul_alloc(handle: *mut Handle, loader: u16, block: u32, words: u64) -> Answer;
         pub fn nizgrabul_purge(handle: *mut Handle) -> Answer;
-        pub fn nizgrabul_committed(handle: *mut Handle) -> u64;
+        pub fn nizgrabul_counts(handle: *mut Handle, out: *mut super::Counts) -> u32;
         pub fn nizgrabul_used_by(handle: *mut Handle, loader: u16) -> u64;
         pub fn nizgrabul_granules(handle: *mut Handle, first: u32, out: *mut bool, places: usize);
     }
@@ -45,6 +45,19 @@ pub struct Settings {
     pub nodes: u32,
     pub class_nodes: u32,
     pub max_granules: u64,
+}
+
+/// What is committed and reserved, beside what may be, as nizgrabul.h has it.
+#[allow(dead_code)]
+#[repr(C)]
+#[derive(Clone, Copy, Default)]
+pub struct Counts {
+    pub granules: u64,
+    pub granule_limit: u64,
+    pub granule_words: u64,
+    pub nodes: u64,
+    pub node_limit: u64,
+    pub class_nodes: u64,
 }
 
 /// Kinds of loaders.
@@ -108,8 +121,12 @@ impl Metaspace {
         served(unsafe { ffi::nizgrabul_purge(&mut self.0) })
     }
 
-    pub fn committed(&mut self) -> u64 {
-        unsafe { ffi::nizgrabul_committed(&mut self.0) }
+    /// What is committed and reserved, beside what may be.
+    pub fn counts(&mut self) -> Counts {
+        let mut counts = Counts::default();
+        // A wrapper always has a system, so the status is always DONE.
+        unsafe { ffi::nizgrabul_counts(&mut self.0, &mut counts) };
+        counts
     }
 
     pub fn used_by(&mut self, loader: u16) -> u64 {
