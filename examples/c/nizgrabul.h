@@ -12,7 +12,8 @@
  * What a program owes, since nothing checks it:
  * - A handle is filled with zeros before its first use. After that only these calls read or write it; it
  *   may be moved, but of a handle and its copy only one is used again.
- * - One call at a time has a handle, and a handle stays on its thread. Two handles serve two threads.
+ * - One call at a time has a handle. Between calls it may move to another thread, under a lock of the
+ *   program's own. Two handles serve two threads at once.
  * - Pointers are not null, are aligned, and lead to room for their type that nobody else touches during
  *   the call; `options` and `out` do not overlap the handle.
  * - `malloc`, `realloc` and `free` are of one allocator, and align to 16. No call comes from a signal

@@ -72,3 +72,6 @@ impl Slot {
         let Slot { at: _, alloc: _ } = self;
     }
 }
+
+// A slot owns what its box would, and a system may cross threads.
+unsafe impl Send for Slot {}

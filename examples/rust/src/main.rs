@@ -2,6 +2,7 @@
 mod metaspace;
 
 use metaspace::{Kind, Metaspace, Refused, Settings};
+use std::thread;
 
 fn main() -> Result<(), Refused> {
     let settings = Settings { nodes: 64, class_nodes: 1, max_granules: 8192 };
@@ -16,7 +17,9 @@ fn main() -> Result<(), Refused> {
     }
     println!("600000 words: {:?}", metaspace.alloc(1, 3, 600000).err());
     println!("committed granules: {}, {:?}", metaspace.counts().granules, metaspace.granules(0, 2));
-    metaspace.unload(2)?;
+    // The system goes to another thread, which ends a loader, and comes back.
+    let unloading = thread::spawn(move || metaspace.unload(2).map(|()| metaspace));
+    let mut metaspace = unloading.join().expect("the thread ends")?;
     println!("committed granules: {}, used by loader 1: {}", metaspace.counts().granules, metaspace.used_by(1));
     metaspace.unload(1)?;
     println!("committed granules: {}, nodes given back: {}", metaspace.counts().granules, metaspace.purge()?);

@@ -79,8 +79,11 @@ pub struct Refused {
     pub need: u64,
 }
 
-/// A system, which gives its memory back when it is dropped. It stays on its thread, as its pointer says.
+/// A system, which gives its memory back when it is dropped.
 pub struct Metaspace(ffi::Handle);
+
+// SAFETY: between calls a handle may move to another thread, as nizgrabul.h says.
+unsafe impl Send for Metaspace {}
 
 fn served(answer: ffi::Answer) -> Result<u64, Refused> {
     let ffi::Answer { status, value, limit, need } = answer;
