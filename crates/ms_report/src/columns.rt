@@ -1,10 +1,11 @@
-//! Columns of numbers that are appended in one piece.
+//! Numbers that are appended in one piece with what stands beside them.
 //!
-//!     |        12       400|      written from the right: digits, then the spaces before them
+//!     |        12       400|      columns, from the right: digits, and the spaces before them
+//!     |         3 ok       |      a number, and what stands after its room of twenty bytes
 //!
-//! Kept true: what stands before the columns written so far is blank. Takes memory for the text
+//! Kept true: what stands before the digits written so far is blank. Takes memory for the text
 //! alone.
-ghost use Rattle.std.specs.Prelude.{◌≡◌, ◌≤◌, ◌+◌, ◌++◌, OnOk, IsAscii, string_bytes, decimal, drop, take, replicate};
+ghost use Rattle.std.specs.Prelude.{◌≡◌, ◌≤◌, ◌+◌, ◌++◌, OnOk, IsAscii, string_bytes, decimal, length, drop, take, replicate};
 ghost use Rattle.ms_report.specs.Cells.{four_placed};
 ghost use Rattle.ms_report.specs.Layout.{right_in};
 
@@ -38,8 +39,7 @@ pub fn push_four(
     let after = put_right(&mut bytes, after, third.0, third.1);
     let after = put_right(&mut bytes, after, second.0, second.1);
     let from = put_right(&mut bytes, after, first.0, first.1);
-    text.push_str(unsafe { from_utf8_unchecked(&bytes[from..]) })?;
-    Ok(())
+    push_ascii(text, &bytes[from..])
 }
 
 /// Writes a number right in its places, so that they end there, and tells where they begin.
@@ -57,4 +57,24 @@ fn put_right(bytes: &mut [u8; ROOM], end: usize, places: usize, number: u64) -> 
 {
     let start = write_digits(number, bytes, end);
     start.min(end - places)
+}
+
+/// Appends a number and what stands after the first twenty bytes, which are its room.
+pub fn push_before(text: &mut String, number: u64, room: &mut [u8]) -> Result<(), AllocError>
+    requires room { 20 ≤ length room.old }
+    requires ascii { IsAscii (drop 20 room.old) }
+    ensures { OnOk result (string_bytes text.new
+        ≡ string_bytes text.old ++ (decimal number ++ drop 20 room.old)) }
+{
+    let from = write_digits(number, room, 20);
+    push_ascii(text, &room[from..])
+}
+
+/// Appends bytes that are ASCII, and so a text.
+#[inline(always)]
+fn push_ascii(text: &mut String, bytes: &[u8]) -> Result<(), AllocError>
+    requires { IsAscii bytes.now }
+    ensures { OnOk result (string_bytes text.new ≡ string_bytes text.old ++ bytes.now) }
+{
+    text.push_str(unsafe { from_utf8_unchecked(bytes) })
 }

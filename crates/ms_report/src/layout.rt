@@ -21,15 +21,6 @@ const SPACES: &str = "            ";
 /// A column of a table: its heading, and its places.
 pub type Column = (&'static str, usize);
 
-/// Appends a number in decimal.
-pub fn push_number(text: &mut String, number: u64) -> Result<(), AllocError>
-    ensures { OnOk result (string_bytes text.new ≡ string_bytes text.old ++ decimal number) }
-{
-    let mut buffer = Buffer::new();
-    text.push_str(buffer.format(number))?;
-    Ok(())
-}
-
 /// Appends so many spaces, a column of them in one go.
 fn push_spaces(text: &mut String, count: usize) -> Result<(), AllocError>
     ensures { OnOk result (string_bytes text.new ≡ string_bytes text.old ++ replicate count 32) }

@@ -10,7 +10,7 @@ ghost use Rattle.std.specs.Prelude.{◌≡◌, ◌++◌, IfOk, OnOk, OnErr, stri
 ghost use Rattle.ms_base.specs.ReplyText.{name_of, reply_text, reply_line};
 ghost use Rattle.ms_report.specs.ReplyLines.{report_after, answer_text, answers_text};
 
-use crate::layout::push_number;
+use crate::columns::push_before;
 use crate::sections::push_report;
 use ms_base::{Refusal, Reply};
 use ms_loaders::{Answer, Replies, Totals};
@@ -53,39 +53,59 @@ fn push_reply_line(
     ensures { OnOk result (string_bytes text.new
         ≡ string_bytes text.old ++ reply_line addresses number reply) }
 {
-    push_number(text, number)?;
-    push_reply(text, addresses, reply)
-}
-
-/// Appends a space, a reply's text, and the line's end.
-fn push_reply(text: &mut String, addresses: bool, reply: Reply) -> Result<(), AllocError>
-    ensures { OnOk result (string_bytes text.new
-        ≡ string_bytes text.old ++ codes " " ++ reply_text addresses reply ++ codes "\n") }
-{
     match reply {
-        Reply::At(start) if addresses => push_numbered(text, " at ", start),
-        Reply::Ok | Reply::At(_) => text.push_str(" ok\n"),
-        Reply::Value(value) => push_numbered(text, " value ", value),
-        Reply::Refused(refusal) => push_refusal(text, refusal),
+        Reply::At(start) if addresses => push_at(text, number, start),
+        Reply::Ok | Reply::At(_) => push_ok(text, number),
+        Reply::Value(value) => push_value(text, number, value),
+        Reply::Refused(refusal) => push_refusal(text, number, refusal),
     }
 }
 
-/// Appends a word, a number, and the line's end.
-fn push_numbered(text: &mut String, word: &str, number: u64) -> Result<(), AllocError>
+/// Appends the line that says that a command is done.
+fn push_ok(text: &mut String, number: u64) -> Result<(), AllocError>
     ensures { OnOk result (string_bytes text.new
-        ≡ string_bytes text.old ++ word.now ++ decimal number ++ codes "\n") }
+        ≡ string_bytes text.old ++ (decimal number ++ codes " ok\n")) }
 {
-    text.push_str(word)?;
-    push_number(text, number)?;
-    text.push_str("\n")
+    let mut room = *b"                     ok\n";
+    push_before(text, number, &mut room)
 }
 
-/// Appends the name of a refusal, and the line's end.
-fn push_refusal(text: &mut String, refusal: Refusal) -> Result<(), AllocError>
+/// Appends the line that tells where a block starts.
+fn push_at(text: &mut String, number: u64, start: u64) -> Result<(), AllocError>
     ensures { OnOk result (string_bytes text.new
-        ≡ string_bytes text.old ++ codes " refused " ++ name_of refusal ++ codes "\n") }
+        ≡ string_bytes text.old ++ (decimal number ++ (codes " at " ++ (decimal start ++ codes "\n")))) }
 {
-    text.push_str(" refused ")?;
+    let mut room = *b"                     at ";
+    push_before(text, number, &mut room)?;
+    push_last(text, start)
+}
+
+/// Appends the line that tells a word's value.
+fn push_value(text: &mut String, number: u64, value: u64) -> Result<(), AllocError>
+    ensures { OnOk result (string_bytes text.new
+        ≡ string_bytes text.old ++ (decimal number ++ (codes " value " ++ (decimal value ++ codes "\n")))) }
+{
+    let mut room = *b"                     value ";
+    push_before(text, number, &mut room)?;
+    push_last(text, value)
+}
+
+/// Appends a number and the line's end.
+fn push_last(text: &mut String, number: u64) -> Result<(), AllocError>
+    ensures { OnOk result (string_bytes text.new
+        ≡ string_bytes text.old ++ (decimal number ++ codes "\n")) }
+{
+    let mut room = *b"                    \n";
+    push_before(text, number, &mut room)
+}
+
+/// Appends the line that names a refusal.
+fn push_refusal(text: &mut String, number: u64, refusal: Refusal) -> Result<(), AllocError>
+    ensures { OnOk result (string_bytes text.new
+        ≡ string_bytes text.old ++ (decimal number ++ (codes " refused " ++ (name_of refusal ++ codes "\n")))) }
+{
+    let mut room = *b"                     refused ";
+    push_before(text, number, &mut room)?;
     text.push_str(name(refusal))?;
     text.push_str("\n")
 }
