@@ -14,7 +14,7 @@ use Rattle.ms_base.specs.declared.refusal.Refusal.{Refusal}
 use Rattle.ms_base.specs.Live.{block_words}
 use Rattle.ms_base.specs.Place.{placed, current}
 use Rattle.ms_base.specs.Asks.{asks_growth, total_asked, may_enlarge}
-use Rattle.ms_base.specs.State.{ArenaState}
+use Rattle.ms_base.specs.State.{ArenaState, Limits}
 use Rattle.ms_pool.specs.Account.{AccountState}
 use Rattle.ms_pool.specs.Ledger.{Ledger, with_both_closed, Serves as ServesIn}
 use Rattle.ms_pool.specs.Source.{ServesBoth}
@@ -23,7 +23,7 @@ use Rattle.ms_shared.proofs.LockCloseLemmas.{both_served_by_pool}
 use Rattle.ms_pool.proofs.ledger.KeepsLemmas.{serves_where_tallied}
 use Rattle.ms_pool.proofs.ledger.GrewLemmas.{grow_refused_raises}
 use Rattle.ms_arena.specs.Arena.{ArenaView, account_of}
-use Rattle.ms_arena.specs.Alloc.{Takes, Grows, AfterGrow, AsksChunk, Serves, Allocates}
+use Rattle.ms_arena.specs.Alloc.{with_grown, Takes, Grows, AfterTake, AfterGrow, AsksChunk, Serves, Allocates}
 use Rattle.ms_loaders.specs.Loader.{LoaderView, account_in, AllocatesBlock}
 use Rattle.ms_shared.specs.History.{Event}
 use Rattle.ms_shared.specs.SeatView.{SeatState, ServesBy, OverLock}
@@ -97,14 +97,19 @@ module _ (policy : Policy) (was : ArenaView) (n : ℕ) (answer : Result Block Re
   served_then before middle its serves = served_by_pool its.before before.knows (account_of was) its.known serves
 
   abbrev WholeTakes : Ledger → Ledger → Type 0
-  WholeTakes before later = Takes Took policy was n before answer is later
+  WholeTakes before later = Takes Took before.limits.policy was n before answer is later
 
   took : (before : SeatState) → Takes TookOver policy was n before answer is after
-      → ServesBy before.knows (account_of was) → MadeBy WholeTakes before
-  took before its serves =
+      → policy ≡ before.knows.limits.policy → ServesBy before.knows (account_of was) → MadeBy WholeTakes before
+  took before its same serves =
       made_one before after its.asked.event (AskedBy (account_of was) WholeTakes) (
         served_then before after its.asked.event serves,
-        record { lent = its.lent; asked = its.asked.event.called; follows = its.follows },
+        record {
+          lent = its.lent;
+          asked = its.asked.event.called;
+          follows = subst (λ (p : Policy). AfterTake p was n its.lent answer is)
+              (same ∙ ap (λ (l : Limits). l.policy) (sym its.asked.event.known.limits)) its.follows;
+        },
       )
 
   -- A growth that was refused leaves the account served.
@@ -121,14 +126,15 @@ module _ (policy : Policy) (was : ArenaView) (n : ℕ) (answer : Result Block Re
       (served_by_pool event.before before.knows (account_of was) event.known serves))
 
   abbrev WholeGrows : Chunk → Ledger → Ledger → Type 0
-  WholeGrows chunk before later = Grows GrewSeen Took policy was chunk n before answer is later
+  WholeGrows chunk before later = Grows GrewSeen Took before.limits.policy was chunk n before answer is later
 
   grew : (chunk : Chunk) (grown : Result Span Refusal) (before middle : SeatState)
       → GrewOver before (account_of was) chunk.start (total_asked was.books n)
       (may_enlarge was.kind was.space was.books chunk) grown middle
-      → AfterGrow TookOver policy was chunk n grown middle answer is after → ServesBy before.knows (account_of was)
+      → AfterGrow TookOver policy was chunk n grown middle answer is after → policy ≡ before.knows.limits.policy
+      → ServesBy before.knows (account_of was)
       → MadeBy (WholeGrows chunk) before
-  grew chunk (Ok span) before middle its follows serves =
+  grew chunk (Ok span) before middle its follows same serves =
       subst (λ (s : SeatState). HasMade before s (AskedBy (account_of was) (WholeGrows chunk))) (sym follows.0)
       (made_one before middle its.event (AskedBy (account_of was) (WholeGrows chunk)) (
         served_then before middle its.event serves,
@@ -136,10 +142,15 @@ module _ (policy : Policy) (was : ArenaView) (n : ℕ) (answer : Result Block Re
           middle = its.event.after;
           grown = Ok span;
           asked = its.event.called;
-          follows = (refl, follows.1, follows.2);
+          follows = (
+            refl,
+            follows.1,
+            subst (λ (p : Policy). is ≡ with_grown p was chunk n)
+                (same ∙ ap (λ (l : Limits). l.policy) (sym its.event.known.limits)) follows.2,
+          );
         },
       ))
-  grew chunk (Err refusal) before middle its follows serves =
+  grew chunk (Err refusal) before middle its follows same serves =
       let event = its.event in let other = follows.asked.event in
       made_two before middle after event other (AskedBy (account_of was) (WholeGrows chunk)) (
         (
@@ -159,43 +170,53 @@ module _ (policy : Policy) (was : ArenaView) (n : ℕ) (answer : Result Block Re
           middle = other.before;
           grown = Err refusal;
           asked = refl;
-          follows = record { lent = follows.lent; asked = other.called; follows = follows.follows };
+          follows = record {
+            lent = follows.lent;
+            asked = other.called;
+            follows = subst (λ (p : Policy). AfterTake p was n follows.lent answer is)
+                (same ∙ sym (ap (λ (s : SeatState). s.knows.limits.policy) event.left)
+                ∙ ap (λ (l : Limits). l.policy) (sym other.known.limits)) follows.follows;
+          };
         },
       )
 
   abbrev WholeAsks : Option Chunk → Bool → Ledger → Ledger → Type 0
-  WholeAsks o b before later = AsksChunk GrewSeen Took policy was n o b before answer is later
+  WholeAsks o b before later = AsksChunk GrewSeen Took before.limits.policy was n o b before answer is later
 
   asked : (o : Option Chunk) (b : Bool) (before : SeatState)
-      → AsksChunk GrewOver TookOver policy was n o b before answer is after → ServesBy before.knows (account_of was)
+      → AsksChunk GrewOver TookOver policy was n o b before answer is after → policy ≡ before.knows.limits.policy
+      → ServesBy before.knows (account_of was)
       → MadeBy (WholeAsks o b) before
-  asked (Some chunk) true before its serves = grew chunk its.grown before its.middle its.asked its.follows serves
-  asked (Some chunk) false before its serves = took before its serves
-  asked None true before its serves = took before its serves
-  asked None false before its serves = took before its serves
+  asked (Some chunk) true before its same serves =
+      grew chunk its.grown before its.middle its.asked its.follows same serves
+  asked (Some chunk) false before its same serves = took before its same serves
+  asked None true before its same serves = took before its same serves
+  asked None false before its same serves = took before its same serves
 
   abbrev WholeServes : Option (ℕ × ArenaState) → Ledger → Ledger → Type 0
-  WholeServes o before later = Serves GrewSeen Took policy was n o before answer is later
+  WholeServes o before later = Serves GrewSeen Took before.limits.policy was n o before answer is later
 
   served : (o : Option (ℕ × ArenaState)) (before : SeatState)
-      → Serves GrewOver TookOver policy was n o before answer is after → ServesBy before.knows (account_of was)
+      → Serves GrewOver TookOver policy was n o before answer is after → policy ≡ before.knows.limits.policy
+      → ServesBy before.knows (account_of was)
       → MadeBy (WholeServes o) before
-  served (Some place) before its serves =
+  served (Some place) before its same serves =
       subst (λ (s : SeatState). HasMade before s (AskedBy (account_of was) (WholeServes (Some place)))) (sym its.2)
       (made_none before (AskedBy (account_of was) (WholeServes (Some place))) (λ pool. (its.0, its.1, refl)))
-  served None before its serves =
-      asked (current was.books) (asks_growth was.kind was.space was.books (current was.books) n) before its serves
+  served None before its same serves =
+      asked (current was.books) (asks_growth was.kind was.space was.books (current was.books) n) before its same serves
 
 arena_made : (policy : Policy) (was : ArenaView) (words : ℕ) (before : SeatState) (answer : Result Block Refusal)
     (is : ArenaView) (after : SeatState)
-    → Allocates GrewOver TookOver policy was words before answer is after → ServesBy before.knows (account_of was)
+    → Allocates GrewOver TookOver policy was words before answer is after → policy ≡ before.knows.limits.policy
+    → ServesBy before.knows (account_of was)
     → HasMade before after
-    (AskedBy (account_of was) (λ pool later. Allocates GrewSeen Took policy was words pool answer is later))
-arena_made policy was words before answer is after (inl refused) serves =
+    (AskedBy (account_of was) (λ pool later. Allocates GrewSeen Took pool.limits.policy was words pool answer is later))
+arena_made policy was words before answer is after (inl refused) same serves =
     subst (λ (s : SeatState). HasMade before s
-    (AskedBy (account_of was) (λ pool later. Allocates GrewSeen Took policy was words pool answer is later)))
+    (AskedBy (account_of was) (λ pool later. Allocates GrewSeen Took pool.limits.policy was words pool answer is later)))
     (sym refused.source)
-    (made_none before (AskedBy (account_of was) (λ pool later. Allocates GrewSeen Took policy was words pool answer is later))
+    (made_none before (AskedBy (account_of was) (λ pool later. Allocates GrewSeen Took pool.limits.policy was words pool answer is later))
     (λ pool. inl (record {
       refusal = refused.refusal;
       answer_is = refused.answer_is;
@@ -203,23 +224,23 @@ arena_made policy was words before answer is after (inl refused) serves =
       arena = refused.arena;
       source = refl;
     })))
-arena_made policy was words before answer is after (inr its) serves =
+arena_made policy was words before answer is after (inr its) same serves =
     made_weaker before after (account_of was)
-    (λ pool later. Serves GrewSeen Took policy was (block_words words) (placed was.books (block_words words)) pool answer is later)
-    (λ pool later. Allocates GrewSeen Took policy was words pool answer is later) (λ pool later whole. inr (its.0, whole))
-    (served policy was (block_words words) answer is after (placed was.books (block_words words)) before its.1 serves)
+    (λ pool later. Serves GrewSeen Took pool.limits.policy was (block_words words) (placed was.books (block_words words)) pool answer is later)
+    (λ pool later. Allocates GrewSeen Took pool.limits.policy was words pool answer is later) (λ pool later whole. inr (its.0, whole))
+    (served policy was (block_words words) answer is after (placed was.books (block_words words)) before its.1 same serves)
 
 block_asked : (space : Space) (policy : Policy) (was is : LoaderView) (name words : ℕ) (old new : SeatState)
     (answer : Result Block Refusal)
     → AllocatesBlock GrewOver TookOver policy space was name words old answer is new
-    → ServesBy old.knows (account_in space was)
+    → policy ≡ old.knows.limits.policy → ServesBy old.knows (account_in space was)
     → HasMade old new (AskedBy (account_in space was)
-    (λ pool later. AllocatesBlock GrewSeen Took policy space was name words pool answer is later))
-block_asked space policy was is name words old new answer (inl refused) serves =
+    (λ pool later. AllocatesBlock GrewSeen Took pool.limits.policy space was name words pool answer is later))
+block_asked space policy was is name words old new answer (inl refused) same serves =
     subst (λ (s : SeatState). HasMade old s (AskedBy (account_in space was)
-    (λ pool later. AllocatesBlock GrewSeen Took policy space was name words pool answer is later))) (sym refused.source)
+    (λ pool later. AllocatesBlock GrewSeen Took pool.limits.policy space was name words pool answer is later))) (sym refused.source)
     (made_none old (AskedBy (account_in space was)
-    (λ pool later. AllocatesBlock GrewSeen Took policy space was name words pool answer is later))
+    (λ pool later. AllocatesBlock GrewSeen Took pool.limits.policy space was name words pool answer is later))
     (λ pool. inl (record {
       refusal = refused.refusal;
       answer_is = refused.answer_is;
@@ -227,10 +248,10 @@ block_asked space policy was is name words old new answer (inl refused) serves =
       loader = refused.loader;
       source = refl;
     })))
-block_asked space policy was is name words old new answer (inr asks) serves =
+block_asked space policy was is name words old new answer (inr asks) same serves =
     made_weaker old new (account_in space was)
-    (λ pool later. Allocates GrewSeen Took policy asks.was words pool answer asks.is later)
-    (λ pool later. AllocatesBlock GrewSeen Took policy space was name words pool answer is later)
+    (λ pool later. Allocates GrewSeen Took pool.limits.policy asks.was words pool answer asks.is later)
+    (λ pool later. AllocatesBlock GrewSeen Took pool.limits.policy space was name words pool answer is later)
     (λ pool later whole. inr (record {
       unused = asks.unused;
       was = asks.was;
@@ -240,8 +261,8 @@ block_asked space policy was is name words old new answer (inr asks) serves =
       follows = asks.follows;
     }))
     (subst (λ (account : AccountState). HasMade old new (AskedBy account
-    (λ pool later. Allocates GrewSeen Took policy asks.was words pool answer asks.is later))) account_is
-    (arena_made policy asks.was words old answer asks.is new asks.allocates
+    (λ pool later. Allocates GrewSeen Took pool.limits.policy asks.was words pool answer asks.is later))) account_is
+    (arena_made policy asks.was words old answer asks.is new asks.allocates same
     (subst (ServesBy old.knows) (sym account_is) serves)))
   where
     account_is : account_of asks.was ≡ account_in space was
@@ -262,13 +283,13 @@ asks_from space was is name words answer (e ∷ f ∷ g ∷ es) asked = asked
 pub block_made : (space : Space) (policy : Policy) (was is : LoaderView) (name words : ℕ) (old new : SeatState)
     (answer : Result Block Refusal)
     → AllocatesBlock GrewOver TookOver policy space was name words old answer is new
-    → ServesBy old.knows (account_in space was) → HasMade old new (Asks space was is name words (start_of answer))
-block_made space policy was is name words old new answer allocates serves =
+    → policy ≡ old.knows.limits.policy → ServesBy old.knows (account_in space was) → HasMade old new (Asks space was is name words (start_of answer))
+block_made space policy was is name words old new answer allocates same serves =
     let made = made_weaker old new (account_in space was)
-    (λ pool later. AllocatesBlock GrewSeen Took policy space was name words pool answer is later)
+    (λ pool later. AllocatesBlock GrewSeen Took pool.limits.policy space was name words pool answer is later)
     (λ pool later. IsAllocation space was is name words (start_of answer) pool later)
-    (λ pool later whole. record { policy = policy; made = answer; answer_is = refl; allocates = whole })
-    (block_asked space policy was is name words old new answer allocates serves) in
+    (λ pool later whole. record { made = answer; answer_is = refl; allocates = whole })
+    (block_asked space policy was is name words old new answer allocates same serves) in
     record {
       made = made.made;
       events = made.events;

@@ -3,7 +3,6 @@ use Rattle.std.specs.Prelude.{◌≡◌, ◌≢◌, ℕ, ◌⊎◌, ⊤, Bool, L
 use Rattle.ms_base.specs.declared.kind.Kind.{Kind}
 use Rattle.ms_base.specs.declared.kind.Space.{Space}
 use Rattle.ms_base.specs.declared.kind.Space.TheVariants.{NonClass, Class}
-use Rattle.ms_base.specs.declared.policy.Policy.{Policy}
 use Rattle.ms_base.specs.declared.span.Span.{Span}
 use Rattle.ms_base.specs.declared.span.Block.{Block}
 use Rattle.ms_arena.specs.Alloc.{GrowRelation}
@@ -74,10 +73,9 @@ GrewSeen old account start total enlarges (Err refusal) new = new ≡ old
 -- pool before and after.
 pub record IsAllocation (space : Space) (old new : LoaderView) (name words : ℕ) (answer : Result ℕ Refusal)
     (before after : Ledger) : Type 0 where
-  pub policy : Policy
   pub made : Result Block Refusal
   pub answer_is : answer ≡ start_of made
-  pub allocates : AllocatesBlock GrewSeen Took policy space old name words before made new after
+  pub allocates : AllocatesBlock GrewSeen Took before.limits.policy space old name words before made new after
 
 abbrev pub LacksGrowth : AccountState → Event → Type 0
 LacksGrowth account event = (refusal : Refusal) × IsGrowing account (Err refusal) event

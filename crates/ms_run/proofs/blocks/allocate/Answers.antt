@@ -76,7 +76,7 @@ returns-in-Ok-clause-made g c =
     (subst (λ (answer : Result Block Refusal). HasMade c.args.pool.now c.allocate.new.source
     (Asks c.args.space c.in-Some.loader.now c.allocate.new.self c.args.block c.args.words (start_of answer))) c.in-Ok.is
     (block_made c.args.space c.args.pool.now.knows.limits.policy c.in-Some.loader.now c.allocate.new.self c.args.block
-    c.args.words c.args.pool.now c.allocate.new.source c.allocate.result c.allocate.ensures.allocates
+    c.args.words c.args.pool.now c.allocate.new.source c.allocate.result c.allocate.ensures.allocates refl
     (own_is_served c.args.space c.args.pool.now.knows c.args.loaders.now c.args.name c.in-Some.loader.now
     (sym c.in-Some.ensures.found) c.requires))))
 
@@ -92,6 +92,6 @@ returns-in-Err-clause-made g c =
     (subst (λ (answer : Result Block Refusal). HasMade c.args.pool.now c.allocate.new.source
     (Asks c.args.space c.in-Some.loader.now c.allocate.new.self c.args.block c.args.words (start_of answer))) c.in-Err.is
     (block_made c.args.space c.args.pool.now.knows.limits.policy c.in-Some.loader.now c.allocate.new.self c.args.block
-    c.args.words c.args.pool.now c.allocate.new.source c.allocate.result c.allocate.ensures.allocates
+    c.args.words c.args.pool.now c.allocate.new.source c.allocate.result c.allocate.ensures.allocates refl
     (own_is_served c.args.space c.args.pool.now.knows c.args.loaders.now c.args.name c.in-Some.loader.now
     (sym c.in-Some.ensures.found) c.requires))))
