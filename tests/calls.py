@@ -11,9 +11,8 @@ from program import Program
 from workbench import ROOT
 
 CRATE = os.path.join(ROOT, "crates", "refusals")
-TAKING = ("carve", "take", "reserve", "place", "alloc", "pool", "insert", "new_loader", "run", "totals",
-          "parse", "print", "text", "lines", "shared", "meter", "replay", "retire")
-QUIET = ("quiet_pool", "quiet_lock", "quiet_blocks", "quiet_arena", "quiet_loader", "quiet_system", "quiet_meter")
+TAKING = ("carve", "reserve", "parse")
+QUIET = ()
 OUTSIDE = b"refused outside a call\n"
 
 
@@ -93,8 +92,6 @@ def takes_nothing(bench, row):
 
 
 def tests():
-    if not os.path.isdir(CRATE):
-        return
     for row in TAKING:
         yield Test(f"a call refuses each growth: {row}", refuses_each_growth, (row,))
     for row in QUIET:

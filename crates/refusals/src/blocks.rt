@@ -1,0 +1,43 @@
+//! The row of free blocks.
+use crate::row::{Answer, Row, told, unprepared};
+use ms_base::Block;
+use ms_blocks::FreeBlocks;
+use std::alloc::Global;
+use std::io;
+
+/// Free blocks, for more of which room is to be made.
+#[derive(Drop)]
+pub struct Reserving {
+    blocks: FreeBlocks,
+}
+
+impl Reserving {
+    /// Prepares two free blocks and room for one more.
+    pub fn prepared(alloc: Global) -> io::Result<Reserving> {
+        let mut blocks = FreeBlocks::new(alloc);
+        match blocks.reserve(2) {
+            Ok(()) => {
+                blocks.add(Block {
+                    start: 10,
+                    words: 4,
+                });
+                Ok(Reserving { blocks })
+            }
+            Err(_) => Err(unprepared()),
+        }
+    }
+}
+
+impl Row for Reserving {
+    fn tell_state(&self, rt: &HostRuntime) -> io::Result<()> {
+        let (count, total) = (self.blocks.len(), self.blocks.total());
+        print!(rt;
+            "{count} blocks, {total} words, room {}",
+            self.blocks.room()
+        )
+    }
+
+    fn call(&mut self, rt: &HostRuntime) -> io::Result<Answer> {
+        told(rt, self.blocks.reserve(5))
+    }
+}
