@@ -18,7 +18,7 @@ sys.dont_write_bytecode = True
 from workbench import Workbench, build
 from claims import Skipped, Wrong
 
-SUBJECTS = ("hostile", "growths", "limits", "devices", "texts", "examples", "rows", "schedules",
+SUBJECTS = ("hostile", "growths", "limits", "devices", "texts", "examples", "rows", "schedules", "orders",
             "scripts", "calls", "library")
 PASSED, FAILED, SKIPPED = "ok", "FAILED", "skipped"
 bench = None
