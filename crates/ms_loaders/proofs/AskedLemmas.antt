@@ -6,7 +6,6 @@ use Rattle.ms_base.specs.declared.span.Chunk.{Chunk}
 use Rattle.ms_base.specs.declared.span.Span.{Span}
 use Rattle.ms_base.specs.declared.span.Block.{Block}
 use Rattle.ms_base.specs.declared.refusal.Refusal.{Refusal}
-use Rattle.ms_base.specs.declared.refusal.Refusal.TheVariants.{CommitLimit, ReserveLimit, OutOfMemory, NoRoom}
 use Rattle.ms_base.specs.Interval.{are_apart}
 use Rattle.ms_base.specs.Level.{level_that_holds}
 use Rattle.ms_base.specs.Held.{words_of}
@@ -18,11 +17,11 @@ use Rattle.ms_base.specs.PoolSteps.{grown}
 use Rattle.ms_pool.specs.Lending.{chunk_at}
 use Rattle.ms_pool.specs.Tallies.{Tallies}
 use Rattle.ms_pool.specs.Ledger.{Ledger, state_in}
-use Rattle.ms_pool.specs.Calls.{tallied, Took, Grew, GrewFrom}
+use Rattle.ms_pool.specs.Calls.{tallied}
 use Rattle.ms_arena.specs.Arena.{ArenaView, IsAskable, account_of}
 use Rattle.ms_arena.specs.Alloc.{AfterTake, Takes, AfterGrow, AsksChunk, Serves, Allocates}
 use Rattle.ms_loaders.proofs.OutcomeLemmas.{IsMade, IsNotMade, Outcome, front_is, grown_is, one_there, retired_chunks}
-use Rattle.ms_loaders.proofs.OutcomeLemmas.{placed_chunks}
+use Rattle.ms_loaders.proofs.OutcomeLemmas.{placed_chunks, TookAtAll, GrewAtAll}
 
 module _ (was : ArenaView) (words : ℕ) (ledger : Ledger) (answer : Result Block Refusal) (is : ArenaView)
     (after : Ledger) (apart : are_apart (map words_of was.books.chunks) ≡ true) (askable : IsAskable words) where
@@ -37,7 +36,7 @@ module _ (was : ArenaView) (words : ℕ) (ledger : Ledger) (answer : Result Bloc
 
   -- A chunk is asked for, from the pool as it was but for tallies.
   from_take : (tallies : Tallies) (lent : Result Span Refusal)
-      → Took (tallied ledger tallies) (account_of was) (wanted_level was.kind was.space was.books (block_words words))
+      → TookAtAll (tallied ledger tallies) (account_of was) (wanted_level was.kind was.space was.books (block_words words))
       (level_that_holds (block_words words)) (block_words words) lent after
       → AfterTake ledger.limits.policy was (block_words words) lent answer is → Outcome was words ledger answer is after
   from_take tallies (Ok span) lends follows = made _ follows.0 refl (record {
@@ -59,72 +58,61 @@ module _ (was : ArenaView) (words : ℕ) (ledger : Ledger) (answer : Result Bloc
       ledger = lends.after;
     }));
   })
-  from_take tallies (Err (CommitLimit committed limit need)) its follows =
-      not_made (CommitLimit committed limit need) follows.0
-      (record { ledger = record { tallies = _; is = its.1 }; cause = inr (askable, its.0) })
-  from_take tallies (Err (ReserveLimit nodes limit)) its follows =
-      not_made (ReserveLimit nodes limit) follows.0
-      (record { ledger = record { tallies = _; is = its.1 }; cause = inr (askable, its.0) })
-  from_take tallies (Err OutOfMemory) its follows =
-      not_made OutOfMemory follows.0
-      (record { ledger = record { tallies = tallies; is = its.1 }; cause = inr (askable, tt) })
-  from_take tallies (Err _) its follows = absurd its
+  from_take tallies (Err refusal) its follows = not_made refusal follows.0
+      (record { ledger = record { tallies = its.1.tallies; is = its.1.is }; cause = inr (askable, its.0) })
 
   from_takes : (tallies : Tallies) (before : Ledger) → before ≡ tallied ledger tallies
-      → Takes Took ledger.limits.policy was (block_words words) before answer is after
+      → Takes TookAtAll ledger.limits.policy was (block_words words) before answer is after
       → Outcome was words ledger answer is after
   from_takes tallies before same its = from_take tallies its.lent
-      (subst (λ (l : Ledger). Took l (account_of was) (wanted_level was.kind was.space was.books (block_words words))
+      (subst (λ (l : Ledger). TookAtAll l (account_of was) (wanted_level was.kind was.space was.books (block_words words))
       (level_that_holds (block_words words)) (block_words words) its.lent after) same its.asked) its.follows
 
   -- The current chunk is asked to grow.
-  from_grow : (chunk other : Chunk) (place : ℕ) (g : Result Span Refusal) (middle : Ledger)
-      → current was.books ≡ Some chunk → other ≡ chunk
-      → GrewFrom ledger (account_of was) other (total_asked was.books (block_words words))
+  from_grow : (chunk : Chunk) (g : Result Span Refusal) (middle : Ledger) → current was.books ≡ Some chunk
+      → GrewAtAll ledger (account_of was) chunk.start (total_asked was.books (block_words words))
       (may_enlarge was.kind was.space was.books chunk) g middle
-      → AfterGrow Took ledger.limits.policy was chunk (block_words words) g middle answer is after
+      → AfterGrow TookAtAll ledger.limits.policy was chunk (block_words words) g middle answer is after
       → Outcome was words ledger answer is after
-  from_grow chunk other place (Ok span) middle at_it same its follows = made _ follows.1 refl (record {
+  from_grow chunk (Ok span) middle at_it its follows = made _ follows.1 refl (record {
     askable = askable;
     words_are = refl;
     how = inr (inl (record {
       chunk = chunk;
-      greater = its.0;
+      greater = its.after.0;
       total = total_asked was.books (block_words words);
       may = may_enlarge was.kind was.space was.books chunk;
       at_it = at_it;
       grows = grows;
       chunks = ap (λ (v : ArenaView). v.books.chunks) follows.2
           ∙ ap (λ (c : Chunk). slice_set was.books.chunks (last_place was.books) c)
-          (sym (grown_is (state_in was.space ledger) chunk its.0 (total_asked was.books (block_words words))
+          (sym (grown_is (state_in was.space ledger) chunk its.after.0 (total_asked was.books (block_words words))
           (may_enlarge was.kind was.space was.books chunk) grows));
-      ledger = follows.0 ∙ its.3;
+      ledger = follows.0 ∙ its.after.3;
     }));
   })
     where
+      same : its.chunk ≡ chunk
+      same = one_there was.books.chunks its.place (last_place was.books) its.chunk chunk apart its.found at_it
+          its.starts
+
       grows : grown (state_in was.space ledger) chunk (total_asked was.books (block_words words))
-          (may_enlarge was.kind was.space was.books chunk) ≡ Ok its.0
+          (may_enlarge was.kind was.space was.books chunk) ≡ Ok its.after.0
       grows = subst
           (λ (c : Chunk). grown (state_in was.space ledger) c (total_asked was.books (block_words words))
-          (may_enlarge was.kind was.space was.books chunk) ≡ Ok its.0) same its.1
-  from_grow chunk other place (Err (CommitLimit committed limit need)) middle at_it same its follows =
-      from_takes _ middle its.1 follows
-  from_grow chunk other place (Err (NoRoom level)) middle at_it same its follows = from_takes _ middle its.1 follows
-  from_grow chunk other place (Err _) middle at_it same its follows = absurd its
+          (may_enlarge was.kind was.space was.books chunk) ≡ Ok its.after.0) same its.after.1
+  from_grow chunk (Err refusal) middle at_it its follows = from_takes its.tallies middle its.is follows
 
   from_asks : (o : Option Chunk) (b : Bool) → current was.books ≡ o
-      → AsksChunk Grew Took ledger.limits.policy was (block_words words) o b ledger answer is after
+      → AsksChunk GrewAtAll TookAtAll ledger.limits.policy was (block_words words) o b ledger answer is after
       → Outcome was words ledger answer is after
-  from_asks (Some chunk) true at_it its =
-      from_grow chunk its.asked.chunk its.asked.place its.grown its.middle at_it
-      (one_there was.books.chunks its.asked.place (last_place was.books) its.asked.chunk chunk apart its.asked.found
-      at_it its.asked.starts) its.asked.after its.follows
+  from_asks (Some chunk) true at_it its = from_grow chunk its.grown its.middle at_it its.asked its.follows
   from_asks (Some chunk) false at_it its = from_takes ledger.tallies ledger refl its
   from_asks None true at_it its = from_takes ledger.tallies ledger refl its
   from_asks None false at_it its = from_takes ledger.tallies ledger refl its
 
   from_place : (o : Option (ℕ × ArenaState)) → placed was.books (block_words words) ≡ o
-      → Serves Grew Took ledger.limits.policy was (block_words words) o ledger answer is after
+      → Serves GrewAtAll TookAtAll ledger.limits.policy was (block_words words) o ledger answer is after
       → Outcome was words ledger answer is after
   from_place (Some place) at_it its = made _ its.0 refl (record {
     askable = askable;
@@ -138,7 +126,7 @@ module _ (was : ArenaView) (words : ℕ) (ledger : Ledger) (answer : Result Bloc
 
 pub outcome : (was : ArenaView) (words : ℕ) (ledger : Ledger) (answer : Result Block Refusal) (is : ArenaView)
     (after : Ledger) → are_apart (map words_of was.books.chunks) ≡ true
-    → Allocates Grew Took ledger.limits.policy was words ledger answer is after
+    → Allocates GrewAtAll TookAtAll ledger.limits.policy was words ledger answer is after
     → Outcome was words ledger answer is after
 outcome was words ledger answer is after apart (inl refused) =
     subst (λ (a : Result Block Refusal). Outcome was words ledger a is after) (sym refused.answer_is)

@@ -27,12 +27,11 @@ use Rattle.ms_base.specs.Transition.{LacksBlock, IsServable, AllocCause, Transit
 use Rattle.ms_base.proofs.free.AlikeLemmas.{permuted_are_alike}
 use Rattle.ms_base.proofs.free.OrderLemmas.{taken_alike}
 use Rattle.ms_pool.specs.Ledger.{Ledger, held_in, state_in}
-use Rattle.ms_pool.specs.Calls.{Took, Grew}
 use Rattle.ms_arena.specs.Arena.{IsAskable, PlaceRefused}
 use Rattle.ms_loaders.specs.Loader.{LoaderView, IsSoundView, NameRefused, AllocatesBlock}
 use Rattle.ms_base.specs.Request.{alloc_in}
 use Rattle.ms_loaders.specs.System.{states_of, machine_of, AreTogether}
-use Rattle.ms_loaders.proofs.OutcomeLemmas.{SameBut, IsNotMade, TakeCause}
+use Rattle.ms_loaders.proofs.OutcomeLemmas.{GrewAtAll, TookAtAll, SameBut, IsNotMade, TakeCause}
 use Rattle.ms_loaders.proofs.AskedLemmas.{outcome}
 use Rattle.ms_loaders.proofs.FitLemmas.{fits}
 use Rattle.ms_loaders.proofs.ServedLemmas.{apart_of, own_sound}
@@ -168,8 +167,8 @@ same_refusal a b e = cc
 
 alloc_is_refused : (space : Space) (old new : Ledger) (loaders : List (ℕ × LoaderView)) (name block words : ℕ)
     (was is : LoaderView) (refusal : Refusal) → named loaders name ≡ Some was
-    → AllocatesBlock Grew Took old.limits.policy space was block words old (Err refusal) is new → IsSoundView was
-    → AreTogether old loaders
+    → AllocatesBlock GrewAtAll TookAtAll old.limits.policy space was block words old (Err refusal) is new
+    → IsSoundView was → AreTogether old loaders
     → AllocCause (machine_of old loaders) space name block words refusal
     × (machine_of new (with_changed loaders name is) ≡ machine_of old loaders)
 alloc_is_refused space old new loaders name block words was is refusal found (inl not) sound its = (
@@ -209,15 +208,16 @@ alloc_refuses Class old new name block words refusal its = its
 pub alloc_answers_why : (space : Space) (old new : Ledger) (loaders : List (ℕ × LoaderView)) (name block words : ℕ)
     (was is : LoaderView) (answer : Result Block Refusal) (refusal : Refusal)
     → answer ≡ Err refusal → named loaders name ≡ Some was
-    → AllocatesBlock Grew Took old.limits.policy space was block words old answer is new → AreTogether old loaders
+    → AllocatesBlock GrewAtAll TookAtAll old.limits.policy space was block words old answer is new
+    → AreTogether old loaders
     → Transition (machine_of old loaders) (alloc_in space name block words) (Refused refusal)
     (machine_of new (with_changed loaders name is))
 alloc_answers_why space old new loaders name block words was is answer refusal err found allocates its =
     alloc_refuses space (machine_of old loaders) (machine_of new (with_changed loaders name is)) name block words
     refusal
     (alloc_is_refused space old new loaders name block words was is refusal found
-    (subst (λ (a : Result Block Refusal). AllocatesBlock Grew Took old.limits.policy space was block words old a is
-    new) err allocates)
+    (subst (λ (a : Result Block Refusal).
+    AllocatesBlock GrewAtAll TookAtAll old.limits.policy space was block words old a is new) err allocates)
     (own_sound old loaders name was found its) its)
 
 pub alloc_finds_none : (space : Space) (ledger : Ledger) (loaders : List (ℕ × LoaderView)) (name block words : ℕ)

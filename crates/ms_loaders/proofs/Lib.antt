@@ -6,7 +6,8 @@ mod ViewLemmas
 mod MadeLemmas
 mod LoaderSpaceLemmas
 mod LoaderAllocLemmas
-mod OutcomeLemmas
+pub mod OutcomeLemmas
+pub mod AlikeLemmas
 mod AskedLemmas
 pub mod FitLemmas
 pub mod ServedLemmas

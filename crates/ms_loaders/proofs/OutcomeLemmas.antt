@@ -8,6 +8,7 @@ use Rattle.std.proofs.lemmas.Bool.{and_parts, or_parts, both_ways, lt-ltb, and_f
 use Rattle.std.proofs.lemmas.Nat.{pow_pos}
 use Rattle.ms_base.specs.declared.kind.Space.{Space}
 use Rattle.ms_base.specs.declared.span.Chunk.{Chunk}
+use Rattle.ms_base.specs.declared.span.Span.{Span}
 use Rattle.ms_base.specs.declared.span.Block.{Block}
 use Rattle.ms_base.specs.declared.refusal.Refusal.{Refusal}
 use Rattle.ms_base.specs.declared.refusal.Refusal.TheVariants.{CommitLimit, ReserveLimit, OutOfMemory, NoRoom}
@@ -26,13 +27,55 @@ use Rattle.ms_base.specs.PoolSteps.{taken, grown, within_limit, with_front, pare
 use Rattle.ms_pool.specs.Lending.{span_of, chunk_at, reaching, parent_of}
 use Rattle.ms_pool.specs.Tallies.{Tallies}
 use Rattle.ms_pool.specs.Ledger.{Ledger, state_in, with_lent, with_grown}
-use Rattle.ms_pool.specs.Calls.{tallied}
+use Rattle.ms_pool.specs.Account.{AccountState}
+use Rattle.ms_pool.specs.Calls.{tallied, Lends, Took, Grew}
+use Rattle.ms_pool.proofs.ledger.GrewLemmas.{grow_refused_raises}
 use Rattle.ms_arena.specs.Arena.{ArenaView, IsAskable, PlaceRefused}
+use Rattle.ms_arena.specs.Alloc.{TakeRelation, GrowRelation}
 
 -- The pool is as it was, tallies aside.
 pub record SameBut (old new : Ledger) : Type 0 where
   pub tallies : Tallies
   pub is : new ≡ tallied old tallies
+
+-- Why the pool lends no chunk.
+abbrev pub TakeCause : PoolState → ℕ → ℕ → ℕ → Refusal → Type 0
+TakeCause pool p m words (CommitLimit committed limit need) =
+    taken pool p m words ≡ Err (CommitLimit committed limit need)
+TakeCause pool p m words (ReserveLimit nodes limit) = taken pool p m words ≡ Err (ReserveLimit nodes limit)
+TakeCause pool p m words OutOfMemory = ⊤
+TakeCause pool p m words _ = ⊥
+
+-- What a chunk that is lent, or that grows, makes of the pool, tallies aside.
+abbrev pub TookAtAll : TakeRelation Ledger
+TookAtAll old account wanted most words (Ok span) new = Lends old account wanted most words span new
+TookAtAll old account wanted most words (Err refusal) new =
+    TakeCause (state_in account.space old) wanted most words refusal × SameBut old new
+
+abbrev pub GrewAtAll : GrowRelation Ledger
+GrewAtAll old account start total may_enlarge (Ok span) new = Grew old account start total may_enlarge (Ok span) new
+GrewAtAll old account start total may_enlarge (Err refusal) new = SameBut old new
+
+-- So it is of the pool's own calls.
+pub took_at_all : (old : Ledger) (account : AccountState) (wanted most words : ℕ) (answer : Result Span Refusal)
+    (new : Ledger) → Took old account wanted most words answer new
+    → TookAtAll old account wanted most words answer new
+took_at_all old account wanted most words (Ok span) new lends = lends
+took_at_all old account wanted most words (Err (CommitLimit committed limit need)) new refused =
+    (refused.0, record { tallies = _; is = refused.1 })
+took_at_all old account wanted most words (Err (ReserveLimit nodes limit)) new refused =
+    (refused.0, record { tallies = _; is = refused.1 })
+took_at_all old account wanted most words (Err OutOfMemory) new refused =
+    (tt, record { tallies = old.tallies; is = refused.1 })
+took_at_all old account wanted most words (Err _) new refused = absurd refused
+
+pub grew_at_all : (old : Ledger) (account : AccountState) (start total : ℕ) (may_enlarge : Bool)
+    (answer : Result Span Refusal) (new : Ledger) → Grew old account start total may_enlarge answer new
+    → GrewAtAll old account start total may_enlarge answer new
+grew_at_all old account start total may_enlarge (Ok span) new grew = grew
+grew_at_all old account start total may_enlarge (Err refusal) new grew =
+    let raises = grow_refused_raises old account grew.chunk total may_enlarge refusal new grew.after in
+    record { tallies = raises.tallies; is = raises.is }
 
 -- The current chunk grew.
 pub record GrownBy (space : Space) (old new : Ledger) (before after : ArenaState) : Type 0 where
@@ -62,14 +105,6 @@ pub record IsMade (was : ArenaView) (words : ℕ) (old : Ledger) (block : Block)
   pub words_are : block.words ≡ block_words words
   pub how : ((is.books.chunks ≡ was.books.chunks) × (new ≡ old)) ⊎ GrownBy was.space old new was.books is.books
       ⊎ LentBy was.space was.owner (block_words words) old new was.books is.books
-
--- Why the pool lends no chunk.
-abbrev pub TakeCause : PoolState → ℕ → ℕ → ℕ → Refusal → Type 0
-TakeCause pool p m words (CommitLimit committed limit need) =
-    taken pool p m words ≡ Err (CommitLimit committed limit need)
-TakeCause pool p m words (ReserveLimit nodes limit) = taken pool p m words ≡ Err (ReserveLimit nodes limit)
-TakeCause pool p m words OutOfMemory = ⊤
-TakeCause pool p m words _ = ⊥
 
 -- No block was made.
 pub record IsNotMade (was : ArenaView) (words : ℕ) (old : Ledger) (refusal : Refusal) (new : Ledger) : Type 0 where

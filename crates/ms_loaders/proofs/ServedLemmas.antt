@@ -30,12 +30,11 @@ use Rattle.ms_base.proofs.runs.ApartLemmas.{list_any-with}
 use Rattle.ms_base.proofs.arena.BlockLemmas.{arena_elsewhere}
 use Rattle.ms_pool.specs.Account.{AccountState}
 use Rattle.ms_pool.specs.Ledger.{Loan, Ledger, Serves, IsSoundLedger, opened_in, with_loan}
-use Rattle.ms_pool.specs.Calls.{Took, Grew}
 use Rattle.ms_arena.specs.Arena.{ArenaView}
 use Rattle.ms_arena.specs.Alloc.{TakeRelation, GrowRelation}
 use Rattle.ms_loaders.specs.Loader.{LoaderView, account_in, IsSoundView, AllocatesBlock, AfterAlloc, IsArenaOf}
 use Rattle.ms_loaders.specs.System.{accounts_of, owners_of, AreDistinct, AreServed, AreTogether}
-use Rattle.ms_loaders.proofs.OutcomeLemmas.{Outcome}
+use Rattle.ms_loaders.proofs.OutcomeLemmas.{GrewAtAll, TookAtAll, Outcome}
 use Rattle.ms_loaders.proofs.AskedLemmas.{outcome}
 use Rattle.ms_loaders.proofs.FitLemmas.{HasOwner, owner_of}
 
@@ -261,7 +260,7 @@ apart_of space v arena sound its =
 
 block_has : (owners : List ℕ) (space : Space) (was is : LoaderView) (name words : ℕ) (old new : Ledger)
     (answer : Result Block Refusal) → IsSoundView was
-    → AllocatesBlock Grew Took old.limits.policy space was name words old answer is new
+    → AllocatesBlock GrewAtAll TookAtAll old.limits.policy space was name words old answer is new
     → is_among owners (by_space space was.owner was.class_owner) ≡ true
     → AllByRecursion (HasOwner owners) old.loans → AllByRecursion (HasOwner owners) new.loans
 block_has owners space was is name words old new answer sound (inl refused) own all =
@@ -291,7 +290,8 @@ own_sound ledger loaders name v found its =
 
 pub together_after : (space : Space) (old new : Ledger) (loaders : List (ℕ × LoaderView)) (name block words : ℕ)
     (was is : LoaderView) (answer : Result Block Refusal)
-    → named loaders name ≡ Some was → AllocatesBlock Grew Took old.limits.policy space was block words old answer is new
+    → named loaders name ≡ Some was
+    → AllocatesBlock GrewAtAll TookAtAll old.limits.policy space was block words old answer is new
     → Serves new (account_in space is)
     → ((other : AccountState) → other.owner ≢ (account_in space was).owner → Serves old other → Serves new other)
     → opened_in new ≡ opened_in old → IsSoundLedger new → IsSoundView is → AreTogether old loaders
@@ -327,7 +327,7 @@ together_after space old new loaders name block words was is answer found alloca
     split = split_at loaders name was found
 
     keeps : KeepsOther space was is
-    keeps = block_keeps Grew Took old.limits.policy space was is block words old new answer allocates
+    keeps = block_keeps GrewAtAll TookAtAll old.limits.policy space was is block words old new answer allocates
 
     now : accounts_of (with_changed loaders name is)
         ≡ accounts_of split.before ++ account_in NonClass is ∷ account_in Class is ∷ accounts_of split.after

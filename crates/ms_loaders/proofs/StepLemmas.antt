@@ -32,13 +32,13 @@ use Rattle.ms_base.proofs.machine.GoodLemmas.{chunks_split}
 use Rattle.ms_base.proofs.machine.ChangeLemmas.{slots_same, unchanged_pools}
 use Rattle.ms_base.proofs.granules.GranuleGrowingLemmas.{growing_keeps_the_limit}
 use Rattle.ms_pool.specs.Ledger.{Loan, Ledger, held_in, state_in, with_loan}
-use Rattle.ms_pool.specs.Calls.{tallied, Took, Grew}
+use Rattle.ms_pool.specs.Calls.{tallied}
 use Rattle.ms_arena.specs.Arena.{ArenaView}
 use Rattle.ms_loaders.specs.Loader.{LoaderView, IsSoundView, IsArenaOf, AllocatesBlock}
 use Rattle.ms_base.specs.Request.{alloc_in}
 use Rattle.ms_loaders.specs.System.{states_of, machine_of, AreTogether}
 use Rattle.ms_loaders.proofs.MappedLemmas.{found-mapped, missing-mapped, changed-mapped}
-use Rattle.ms_loaders.proofs.OutcomeLemmas.{GrownBy, LentBy, IsMade, picked_is}
+use Rattle.ms_loaders.proofs.OutcomeLemmas.{GrewAtAll, TookAtAll, GrownBy, LentBy, IsMade, picked_is}
 use Rattle.ms_loaders.proofs.AskedLemmas.{outcome}
 use Rattle.ms_loaders.proofs.FitLemmas.{fits, machine_is_good, recommitted_machine}
 use Rattle.ms_loaders.proofs.ServedLemmas.{apart_of, own_sound}
@@ -239,8 +239,8 @@ made_is_step space old new loaders name words was is made arena after found its 
 
 alloc_is_served : (space : Space) (old new : Ledger) (loaders : List (ℕ × LoaderView)) (name block words : ℕ)
     (was is : LoaderView) (made : Block) → named loaders name ≡ Some was
-    → AllocatesBlock Grew Took old.limits.policy space was block words old (Ok made) is new → IsSoundView was
-    → AreTogether old loaders → AreTogether new (with_changed loaders name is)
+    → AllocatesBlock GrewAtAll TookAtAll old.limits.policy space was block words old (Ok made) is new
+    → IsSoundView was → AreTogether old loaders → AreTogether new (with_changed loaders name is)
     → Allocates (machine_of old loaders) space name block words made.start
     (machine_of new (with_changed loaders name is))
 alloc_is_served space old new loaders name block words was is made found (inl refused) sound before now =
@@ -280,15 +280,15 @@ alloc_serves Class old new name block words start its good = (its, good)
 pub alloc_answers_at : (space : Space) (old new : Ledger) (loaders : List (ℕ × LoaderView)) (name block words : ℕ)
     (was is : LoaderView) (answer : Result Block Refusal) (made : Block)
     → answer ≡ Ok made → named loaders name ≡ Some was
-    → AllocatesBlock Grew Took old.limits.policy space was block words old answer is new → AreTogether old loaders
-    → AreTogether new (with_changed loaders name is)
+    → AllocatesBlock GrewAtAll TookAtAll old.limits.policy space was block words old answer is new
+    → AreTogether old loaders → AreTogether new (with_changed loaders name is)
     → Transition (machine_of old loaders) (alloc_in space name block words) (At made.start)
     (machine_of new (with_changed loaders name is))
 alloc_answers_at space old new loaders name block words was is answer made ok found allocates before now =
     alloc_serves space (machine_of old loaders) (machine_of new (with_changed loaders name is)) name block words
     made.start
     (alloc_is_served space old new loaders name block words was is made found
-    (subst (λ (a : Result Block Refusal). AllocatesBlock Grew Took old.limits.policy space was block words old a is
-    new) ok allocates)
+    (subst (λ (a : Result Block Refusal).
+    AllocatesBlock GrewAtAll TookAtAll old.limits.policy space was block words old a is new) ok allocates)
     (own_sound old loaders name was found before) before now)
     (machine_is_good new (with_changed loaders name is) now)

@@ -1,5 +1,6 @@
 use Rattle.std.proofs.Common.{sym, ap, ◌∙◌}
 use Rattle.ms_base.specs.State.{Limits}
+use Rattle.ms_loaders.proofs.AlikeLemmas.{allocates_at_all}
 use Rattle.ms_loaders.proofs.ServedLemmas.{together_after, own_served}
 use Rattle.ms_loaders.proofs.StepLemmas.{alloc_answers_at}
 use Rattle.ms_loaders.proofs.CauseLemmas.{alloc_answers_why, alloc_finds_none}
@@ -24,8 +25,8 @@ invariant_of-self-2 c =
       together =
           together_after c.args.space c.self.inside.pool answer.new.source c.self.inside.loaders c.args.name
           c.args.block c.args.words c.in-Some.loader.now answer.new.self answer.result
-          (sym c.in-Some.ensures.found) answer.ensures.allocates answer.ensures.served answer.ensures.rest.others
-          answer.ensures.rest.counted c.committed.ensures.sound answer.ensures.sound c.self.invariant.together;
+          (sym c.in-Some.ensures.found) (allocates_at_all _ _ _ _ _ _ _ _ _ answer.ensures.allocates)
+          answer.ensures.served answer.ensures.rest.others answer.ensures.rest.counted c.committed.ensures.sound answer.ensures.sound c.self.invariant.together;
       policy_is =
           c.self.invariant.policy_is ∙ ap (λ (limits : Limits). limits.policy) (sym answer.ensures.rest.limits_stay);
     }
@@ -36,14 +37,14 @@ returns-clause-served c =
     let together =
     together_after c.args.space c.self.inside.pool answer.new.source c.self.inside.loaders c.args.name c.args.block
     c.args.words c.in-Some.loader.now answer.new.self answer.result
-    (sym c.in-Some.ensures.found) answer.ensures.allocates answer.ensures.served answer.ensures.rest.others
-    answer.ensures.rest.counted c.committed.ensures.sound answer.ensures.sound c.self.invariant.together in
+    (sym c.in-Some.ensures.found) (allocates_at_all _ _ _ _ _ _ _ _ _ answer.ensures.allocates)
+    answer.ensures.served answer.ensures.rest.others answer.ensures.rest.counted c.committed.ensures.sound answer.ensures.sound c.self.invariant.together in
     elim c.match-answer.branch [
       | in-Ok w ↦ rw (w.result-is, ← c.self.view_is)
           (alloc_answers_at c.args.space c.self.inside.pool answer.new.source c.self.inside.loaders c.args.name
           c.args.block c.args.words
           c.in-Some.loader.now answer.new.self answer.result w.in-Ok.made w.in-Ok.is (sym c.in-Some.ensures.found)
-          answer.ensures.allocates c.self.invariant.together together)
+          (allocates_at_all _ _ _ _ _ _ _ _ _ answer.ensures.allocates) c.self.invariant.together together)
       | in-Err w ↦ rw w.result-is tt
     ]
 
@@ -54,5 +55,6 @@ returns-clause-refused c = elim c.match-answer.branch [
       (alloc_answers_why c.args.space c.self.inside.pool c.allocate-answer.new.source c.self.inside.loaders c.args.name
       c.args.block c.args.words
       c.in-Some.loader.now c.allocate-answer.new.self c.allocate-answer.result w.in-Err.refusal w.in-Err.is
-      (sym c.in-Some.ensures.found) c.allocate-answer.ensures.allocates c.self.invariant.together)
+      (sym c.in-Some.ensures.found) (allocates_at_all _ _ _ _ _ _ _ _ _ c.allocate-answer.ensures.allocates)
+      c.self.invariant.together)
 ]
