@@ -11,7 +11,7 @@ ghost use Rattle.std.specs.Prelude.{◌≡◌, ◌+◌, ◌*◌, ◌≤◌, ◌�
 ghost use Rattle.ms_base.specs.declared.refusal.Refusal.TheVariants.{Unsettled};
 ghost use Rattle.ms_base.specs.Good.{IsGood};
 ghost use Rattle.ms_base.specs.Names.{AreNamed};
-ghost use Rattle.ms_loaders.specs.System.{machine_of};
+ghost use Rattle.ms_loaders.specs.System.{machine_of, AreTogether};
 ghost use Rattle.ms_loaders.specs.Settles.{MaySettle, open_accounts, accounts_in};
 
 use super::System;
@@ -60,6 +60,7 @@ impl System {
     /// Takes no memory. This project's choice.
     pub fn into_parts(self) -> (Pool, Loaders)
         ensures machine { machine_of result.0 result.1 ≡ self }
+        ensures together { AreTogether result.0 result.1 }
         ensures fits { MaySettle result.0 result.1 }
         ensures all { open_accounts result.0 ≡ accounts_in result.1 }
         ensures names { AreNamed result.1 }
