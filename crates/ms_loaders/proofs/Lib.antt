@@ -13,6 +13,7 @@ pub mod FitLemmas
 pub mod ServedLemmas
 mod StepLemmas
 mod CauseLemmas
+pub mod AllocStepLemmas
 mod RunLemmas
 pub mod CallLemmas
 pub mod CloseLemmas

@@ -1,9 +1,9 @@
 use Rattle.std.proofs.Common.{sym, ap, ◌∙◌}
 use Rattle.ms_base.specs.State.{Limits}
 use Rattle.ms_loaders.proofs.AlikeLemmas.{allocates_at_all}
-use Rattle.ms_loaders.proofs.ServedLemmas.{together_after, own_served}
-use Rattle.ms_loaders.proofs.StepLemmas.{alloc_answers_at}
-use Rattle.ms_loaders.proofs.CauseLemmas.{alloc_answers_why, alloc_finds_none}
+use Rattle.ms_loaders.proofs.ServedLemmas.{own_served}
+use Rattle.ms_loaders.proofs.CauseLemmas.{alloc_finds_none}
+use Rattle.ms_loaders.proofs.AllocStepLemmas.{alloc_goes}
 use Rattle.ms_loaders.proofs.system.System.allocate.Goals as goal
 use Rattle.ms_loaders.proofs.system.System.allocate.Goals.{in-Ok, in-Err}
 
@@ -22,11 +22,10 @@ pub invariant_of-self-2 : goal.invariant_of-self-2
 invariant_of-self-2 c =
     let answer = c.allocate-answer in
     record {
-      together =
-          together_after c.args.space c.self.inside.pool answer.new.source c.self.inside.loaders c.args.name
-          c.args.block c.args.words c.in-Some.loader.now answer.new.self answer.result
-          (sym c.in-Some.ensures.found) (allocates_at_all _ _ _ _ _ _ _ _ _ answer.ensures.allocates)
-          answer.ensures.served answer.ensures.rest.others answer.ensures.rest.counted c.committed.ensures.sound answer.ensures.sound c.self.invariant.together;
+      together = (alloc_goes c.args.space c.self.inside.pool answer.new.source c.self.inside.loaders c.args.name
+          c.args.block c.args.words c.in-Some.loader.now answer.new.self answer.result (sym c.in-Some.ensures.found)
+          (allocates_at_all _ _ _ _ _ _ _ _ _ answer.ensures.allocates) c.committed.ensures.sound answer.ensures.sound
+          c.self.invariant.together).0;
       policy_is =
           c.self.invariant.policy_is ∙ ap (λ (limits : Limits). limits.policy) (sym answer.ensures.rest.limits_stay);
     }
@@ -34,27 +33,23 @@ invariant_of-self-2 c =
 pub returns-clause-served : goal.returns-clause-served
 returns-clause-served c =
     let answer = c.allocate-answer in
-    let together =
-    together_after c.args.space c.self.inside.pool answer.new.source c.self.inside.loaders c.args.name c.args.block
-    c.args.words c.in-Some.loader.now answer.new.self answer.result
-    (sym c.in-Some.ensures.found) (allocates_at_all _ _ _ _ _ _ _ _ _ answer.ensures.allocates)
-    answer.ensures.served answer.ensures.rest.others answer.ensures.rest.counted c.committed.ensures.sound answer.ensures.sound c.self.invariant.together in
     elim c.match-answer.branch [
-      | in-Ok w ↦ rw (w.result-is, ← c.self.view_is)
-          (alloc_answers_at c.args.space c.self.inside.pool answer.new.source c.self.inside.loaders c.args.name
-          c.args.block c.args.words
-          c.in-Some.loader.now answer.new.self answer.result w.in-Ok.made w.in-Ok.is (sym c.in-Some.ensures.found)
-          (allocates_at_all _ _ _ _ _ _ _ _ _ answer.ensures.allocates) c.self.invariant.together together)
+      | in-Ok w ↦ rw (w.result-is, ← c.self.view_is) (rw w.in-Ok.is at ((alloc_goes c.args.space c.self.inside.pool
+          answer.new.source c.self.inside.loaders c.args.name c.args.block c.args.words c.in-Some.loader.now
+          answer.new.self answer.result (sym c.in-Some.ensures.found)
+          (allocates_at_all _ _ _ _ _ _ _ _ _ answer.ensures.allocates) c.committed.ensures.sound answer.ensures.sound
+          c.self.invariant.together).1))
       | in-Err w ↦ rw w.result-is tt
     ]
 
 pub returns-clause-refused : goal.returns-clause-refused
-returns-clause-refused c = elim c.match-answer.branch [
-  | in-Ok w ↦ rw w.result-is tt
-  | in-Err w ↦ rw (w.result-is, ← c.self.view_is)
-      (alloc_answers_why c.args.space c.self.inside.pool c.allocate-answer.new.source c.self.inside.loaders c.args.name
-      c.args.block c.args.words
-      c.in-Some.loader.now c.allocate-answer.new.self c.allocate-answer.result w.in-Err.refusal w.in-Err.is
-      (sym c.in-Some.ensures.found) (allocates_at_all _ _ _ _ _ _ _ _ _ c.allocate-answer.ensures.allocates)
-      c.self.invariant.together)
-]
+returns-clause-refused c =
+    let answer = c.allocate-answer in
+    elim c.match-answer.branch [
+      | in-Ok w ↦ rw w.result-is tt
+      | in-Err w ↦ rw (w.result-is, ← c.self.view_is) (rw w.in-Err.is at ((alloc_goes c.args.space c.self.inside.pool
+          answer.new.source c.self.inside.loaders c.args.name c.args.block c.args.words c.in-Some.loader.now
+          answer.new.self answer.result (sym c.in-Some.ensures.found)
+          (allocates_at_all _ _ _ _ _ _ _ _ _ answer.ensures.allocates) c.committed.ensures.sound answer.ensures.sound
+          c.self.invariant.together).1))
+    ]
