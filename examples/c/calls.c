@@ -53,6 +53,9 @@ int main(void) {
     nizgrabul_granules(&handle, 0, bits, 3);
     printf("granules 0 to 2: %d %d %d\n", bits[0], bits[1], bits[2]);
     printf("granule 8192: %d\n", nizgrabul_is_committed(&handle, 8192));
+    tell("holder of word 4100", nizgrabul_holder(&handle, 4100));
+    tell("holder of word 67108864", nizgrabul_holder(&handle, 67108864));
+    tell("holder of word 1000", nizgrabul_holder(&handle, 1000));
     tell("free", nizgrabul_free(&handle, 1, 1));
     tell("free again", nizgrabul_free(&handle, 1, 1));
     printf("sums: %" PRIu32 "\n", nizgrabul_totals(&handle, &sums));
@@ -69,6 +72,7 @@ int main(void) {
     tell("purge", nizgrabul_purge(&handle));
     tell("unload", nizgrabul_unload(&handle, 1));
     tell("unload again", nizgrabul_unload(&handle, 1));
+    tell("holder of word 4100", nizgrabul_holder(&handle, 4100));
     tell("purge", nizgrabul_purge(&handle));
     tell_counts(&handle, &counts);
     nizgrabul_delete(&handle);

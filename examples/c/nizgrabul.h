@@ -22,7 +22,7 @@
 #ifndef NIZGRABUL_H
 #define NIZGRABUL_H
 
-#define NIZGRABUL_VERSION 2
+#define NIZGRABUL_VERSION 3
 
 #include <stdbool.h>
 #include <stddef.h>
@@ -180,6 +180,11 @@ uint32_t nizgrabul_counts(nizgrabul_handle *handle, nizgrabul_limit_counts *out)
 
 /* Tells the words in use of one loader, in both spaces, and 0 where none has the name. Takes no memory. */
 uint64_t nizgrabul_used_by(nizgrabul_handle *handle, uint16_t loader);
+
+/* Tells whose a word is: `value` is the number of the loader in whose chunk the word lies, in use or not.
+ * Answers NO_LOADER where it lies in nobody's. Takes no memory, and looks at each loader and each chunk
+ * until it is found. */
+nizgrabul_answer nizgrabul_holder(nizgrabul_handle *handle, uint64_t word);
 
 /* Tells whether a granule is committed: the words from its number times a granule's words on, which
  * are 8192, or 2048 under the policy aggressive. With no system none is. Takes no memory. */

@@ -42,6 +42,14 @@ impl Answer {
         need: 0,
     };
 
+    /// No loader is meant.
+    pub const NO_LOADER: Answer = Answer {
+        status: 8,
+        value: 0,
+        limit: 0,
+        need: 0,
+    };
+
     /// No kind of loader has the number.
     pub const BAD_KIND: Answer = Answer {
         status: 23,

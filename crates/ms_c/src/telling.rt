@@ -1,13 +1,15 @@
 //! The exports that tell of a system and change nothing.
-ghost use Rattle.std.specs.Prelude.{◌≡◌, ◌≢◌, ◌↔◌, ◌++◌, false, None, IfSome, length, map};
+ghost use Rattle.std.specs.Prelude.{◌≡◌, ◌≢◌, ◌↔◌, ◌++◌, false, None, IfSome, IfNone, length, map};
 ghost use Rattle.std.specs.List.{range_with_len};
 ghost use Rattle.ms_base.specs.Committed.{is_among};
 ghost use Rattle.ms_base.specs.Names.{named};
 ghost use Rattle.ms_base.specs.Transition.{LacksLoader};
 ghost use Rattle.ms_loaders.specs.Used.{used_if};
+ghost use Rattle.ms_c.specs.Answers.{numbers};
+ghost use Rattle.ms_c.specs.Holder.{TellsHolder};
 ghost use Rattle.ms_c.specs.Sums.{AreTotals, AreBits, bit_at, counts_of, TellsLoader};
 
-use crate::answer::{DONE, NO_LOADER, NO_SYSTEM, OUT_OF_MEMORY};
+use crate::answer::{Answer, DONE, NO_LOADER, NO_SYSTEM, OUT_OF_MEMORY};
 use crate::handle::Handle;
 use crate::totals::{Counts, LoaderSums, Totals, tell_counts, tell_loader, tell_sums};
 use ms_loaders::System;
@@ -46,6 +48,35 @@ pub extern "C" fn nizgrabul_used_by(alloc: Global, handle: &mut Handle, loader: 
             handle.put(system);
             words
         }
+    }
+}
+
+/// Tells whose a word is: `value` is the number of the loader in whose chunk the word lies, in use or not.
+/// Answers NO_LOADER where it lies in nobody's. Takes no memory, and looks at each loader and each chunk
+/// until it is found.
+#[unsafe(no_mangle)]
+pub extern "C" fn nizgrabul_holder(alloc: Global, handle: &mut Handle, word: u64) -> Answer
+    ensures holder { TellsHolder handle.old.slot.held word result }
+    ensures unchanged { handle.new.slot.held ≡ handle.old.slot.held }
+{
+    match handle.take(alloc) {
+        None => Answer::NO_SYSTEM,
+        Some(system) => {
+            let holder = system.holder(word);
+            handle.put(system);
+            tell_holder(holder)
+        }
+    }
+}
+
+/// Tells a loader's name, where there is one.
+fn tell_holder(holder: Option<u16>) -> Answer
+    ensures some { IfSome holder (λ name. result ≡ numbers 0 name 0 0) }
+    ensures none { IfNone holder (result ≡ numbers 8 0 0 0) }
+{
+    match holder {
+        Some(name) => Answer::of(u64::from(name)),
+        None => Answer::NO_LOADER,
     }
 }
 

@@ -10,6 +10,7 @@ pub mod OutcomeLemmas
 pub mod AlikeLemmas
 mod AskedLemmas
 pub mod FitLemmas
+mod HolderLemmas
 pub mod ServedLemmas
 mod StepLemmas
 mod CauseLemmas

@@ -9,3 +9,4 @@ pub mod Sums
 pub mod Collecting
 pub mod Used
 pub mod LoaderSums
+pub mod Holder

@@ -20,6 +20,7 @@ ghost use Rattle.ms_loaders.specs.Used.{used_if};
 
 mod counts;
 mod granules;
+mod holding;
 mod settling;
 mod sums;
 

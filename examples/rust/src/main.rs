@@ -15,6 +15,7 @@ fn main() -> Result<(), Refused> {
             println!("loader {loader}, {words} words: at {}", metaspace.alloc(loader, block, words)?);
         }
     }
+    println!("word 8200 is loader {:?}'s, word 100000 {:?}", metaspace.holder(8200), metaspace.holder(100000));
     println!("600000 words: {:?}", metaspace.alloc(1, 3, 600000).err());
     println!("committed granules: {}, {:?}", metaspace.counts().granules, metaspace.granules(0, 2));
     // The system goes to another thread, which ends a loader, and comes back.

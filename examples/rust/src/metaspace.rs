@@ -34,6 +34,7 @@ mod ffi {
         pub fn nizgrabul_alloc(handle: *mut Handle, loader: u16, block: u32, words: u64) -> Answer;
         pub fn nizgrabul_purge(handle: *mut Handle) -> Answer;
         pub fn nizgrabul_counts(handle: *mut Handle, out: *mut super::Counts) -> u32;
+        pub fn nizgrabul_holder(handle: *mut Handle, word: u64) -> Answer;
         pub fn nizgrabul_used_by(handle: *mut Handle, loader: u16) -> u64;
         pub fn nizgrabul_granules(handle: *mut Handle, first: u32, out: *mut bool, places: usize);
     }
@@ -130,6 +131,11 @@ impl Metaspace {
         // A wrapper always has a system, so the status is always DONE.
         unsafe { ffi::nizgrabul_counts(&mut self.0, &mut counts) };
         counts
+    }
+
+    /// The loader in whose chunk a word lies, if it lies in one.
+    pub fn holder(&mut self, word: u64) -> Option<u64> {
+        served(unsafe { ffi::nizgrabul_holder(&mut self.0, word) }).ok()
     }
 
     pub fn used_by(&mut self, loader: u16) -> u64 {
