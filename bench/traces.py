@@ -13,6 +13,8 @@ Without a name it writes all of them. Each has at most 100,000 lines, and depend
   free_blocks    8 standard loaders of 150 blocks each; then up to 8 are freed and as many allocated
   hidden         24,000 hidden loaders of two blocks each, 1,000 of them loaded at a time
   boot           one boot loader, blocks of up to 16,384 words, a third of them freed
+  reports        1,000 standard loaders, 40,000 blocks among them, 500 unloaded, and 200 reports
+  purges         100,000 purges of nothing
 """
 import pathlib
 import random
@@ -171,7 +173,25 @@ def boot(chance):
     yield 'purge'
 
 
-TRACES = [mixed, words, one_size, short_lived, exchange, one_loader, many_loaders, churn, free_blocks, hidden, boot]
+def reports(chance):
+    loaders = list(range(1000))
+    for loader in loaders:
+        yield f'new {loader} standard'
+    for block in range(40000):
+        yield f'alloc {chance.choice(loaders)} {block} {words_of(chance)}'
+        if block % 80 == 79:
+            yield f'unload {taken(chance, loaders)}'
+        if block % 200 == 199:
+            yield 'report'
+
+
+def purges(chance):
+    for _ in range(100000):
+        yield 'purge'
+
+
+TRACES = [mixed, words, one_size, short_lived, exchange, one_loader, many_loaders, churn, free_blocks, hidden, boot,
+          reports, purges]
 
 
 def main():

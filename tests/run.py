@@ -19,7 +19,7 @@ from workbench import Workbench, build
 from claims import Skipped, Wrong
 
 SUBJECTS = ("hostile", "growths", "limits", "devices", "texts", "examples", "rows", "schedules", "orders",
-            "scripts", "calls", "library")
+            "scripts", "calls", "library", "twin")
 PASSED, FAILED, SKIPPED = "ok", "FAILED", "skipped"
 bench = None
 
