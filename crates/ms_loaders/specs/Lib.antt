@@ -1,6 +1,7 @@
 pub mod Loader
 pub mod LoaderInside
 pub mod Naming
+pub mod Boxed
 pub mod Loaders
 pub mod System
 pub mod Settles

@@ -23,7 +23,7 @@ mod system;
 mod totals;
 
 pub use loader::Loader;
-pub use loaders::Loaders;
+pub use loaders::{Iter, Loaders, Values};
 pub use ms_base::{Reply, Step};
 pub use replies::{Answer, Replies};
 pub use system::{LoaderTotals, System};

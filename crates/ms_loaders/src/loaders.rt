@@ -1,5 +1,8 @@
 //! Loaders in order of name.
 //!
+//!     5 ──── box of a loader        the map moves a number and a pointer; a loader stays where it is,
+//!     7 ──── box of a loader        from `insert` until it is taken out
+//!
 //! Apart from the system so that loaders can be handed to workers and gathered again. Only `insert`
 //! takes memory.
 ghost use Rattle.std.specs.Prelude.{◌≡◌, ◌<◌, ◌^◌, ◌∷◌, None, IfSome, OnOk, IfErr, OnErr, [], length};
@@ -12,17 +15,23 @@ ghost use Rattle.ms_loaders.specs.Loader.{IsSoundView};
 ghost use Rattle.ms_loaders.specs.Loaders.{LendsLoader, InsertRefused};
 ghost use Rattle.ms_loaders.specs.Used.{used_at};
 
+mod boxed;
+mod walks;
+
 use crate::loader::Loader;
+use boxed::Boxed;
 use ms_base::Refusal;
 use std::alloc::Global;
 use std::collections::BTreeMap;
-use std::collections::btree_map::{Iter, Values};
 use std::marker::Model;
+pub use walks::{Iter, Values};
 
 /// Loaders by name. This project's choice; HotSpot's class loader data hang in a list.
 #[derive(Drop)]
 pub struct Loaders {
-    by_name: BTreeMap<u16, Loader>,
+    // Where the boxes come from.
+    alloc: Global,
+    by_name: BTreeMap<u16, Boxed>,
 }
 
 impl Model for Loaders {
@@ -40,6 +49,7 @@ impl Loaders {
         ensures { result ≡ [] }
     {
         Loaders {
+            alloc,
             by_name: BTreeMap::new(alloc),
         }
     }
@@ -56,11 +66,15 @@ impl Loaders {
         if self.by_name.contains_key(&name) {
             return Err((Refusal::LoaderExists, loader));
         }
-        match self.by_name.insert(name, loader) {
+        let boxed = match Boxed::new(self.alloc, loader) {
+            Ok(boxed) => boxed,
+            Err(loader) => return Err((Refusal::OutOfMemory, loader)),
+        };
+        match self.by_name.insert(name, boxed) {
             Ok(_) => Ok(()),
             Err(failed) => {
-                let (_, loader) = failed.value;
-                Err((Refusal::OutOfMemory, loader))
+                let (_, boxed) = failed.value;
+                Err((Refusal::OutOfMemory, boxed.into_loader()))
             }
         }
     }
@@ -70,7 +84,10 @@ impl Loaders {
         ensures found { result ≡ named self.old name }
         ensures rest { self.new ≡ without self.old name }
     {
-        self.by_name.remove(&name)
+        match self.by_name.remove(&name) {
+            Some(boxed) => Some(boxed.into_loader()),
+            None => None,
+        }
     }
 
     /// Takes the loader of the least name out, with its name, where there is any. Takes no memory.
@@ -78,7 +95,10 @@ impl Loaders {
         ensures first { IfSome result (λ taken. self.old ≡ taken ∷ self.new) }
         ensures none { result ≡ None → (self.old ≡ []) × (self.new ≡ []) }
     {
-        self.by_name.pop_first()
+        match self.by_name.pop_first() {
+            Some((name, boxed)) => Some((name, boxed.into_loader())),
+            None => None,
+        }
     }
 
     /// Lends the loader of a name, where there is one; the others stay as they are. Takes no memory.
@@ -86,14 +106,20 @@ impl Loaders {
         ensures* writes_back { sem 𝓛 (LendsLoader self.entry name result) }
         ensures found { option_copied_mut result ≡ named self.old name }
     {
-        self.by_name.get_mut(&name)
+        match self.by_name.get_mut(&name) {
+            Some(boxed) => Some(boxed.loader_mut()),
+            None => None,
+        }
     }
 
     /// Lends the loader of a name to read, where there is one. Takes no memory.
     pub fn get(&self, name: u16) -> Option<&Loader>
         ensures { option_copied result ≡ named self.now name }
     {
-        self.by_name.get(&name)
+        match self.by_name.get(&name) {
+            Some(boxed) => Some(boxed.loader()),
+            None => None,
+        }
     }
 
     /// Tells whether a loader has the name. Takes no memory.
@@ -108,7 +134,7 @@ impl Loaders {
     pub fn used_by(&self, name: u16) -> u64
         ensures { result ≡ used_at (named self.now name) }
     {
-        match self.by_name.get(&name) {
+        match self.get(name) {
             Some(loader) => loader.used(),
             None => 0,
         }
@@ -130,21 +156,26 @@ impl Loaders {
         ensures sound { All IsSoundView (values_of self.now) }
     {
         let _ = &self.by_name;
-        for loader in self.by_name.values() {
-            let _ = loader.accounts();
+        for boxed in self.by_name.values() {
+            let _ = boxed.loader().accounts();
         }
     }
 
     /// Goes over the loaders in order of name. Takes no memory.
-    pub fn values(&self) -> Values<'_, u16, Loader>
+    pub fn values(&self) -> Values<'_>
         ensures { result ≡ values_of self.now }
     {
-        self.by_name.values()
+        Values {
+            boxes: self.by_name.values(),
+        }
     }
+
     /// Goes over the loaders with their names, in order of name. Takes no memory.
-    pub fn iter(&self) -> Iter<'_, u16, Loader>
+    pub fn iter(&self) -> Iter<'_>
         ensures { result ≡ self.now }
     {
-        self.by_name.iter()
+        Iter {
+            boxes: self.by_name.iter(),
+        }
     }
 }

@@ -1,0 +1,9 @@
+-- A loader in a box, as the list of loaders sees it.
+use Rattle.std.specs.Borrow.{Lends, MutBor, Fml}
+use Rattle.ms_loaders.specs.Loader.{LoaderView}
+use Rattle.ms_loaders.specs.contracts.loader.Loader.{the_row as loader_row}
+use Rattle.ms_loaders.specs.contracts.loaders.boxed.Boxed.{the_row}
+
+-- The box ends with the last value behind the loader that was lent.
+abbrev pub LendsBoxed : MutBor LoaderView → MutBor LoaderView → Fml
+LendsBoxed boxed lent = Lends the_row loader_row boxed lent (λ loader. loader)
