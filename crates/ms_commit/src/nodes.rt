@@ -15,7 +15,8 @@
 //! Nothing here takes memory.
 //! After HotSpot's virtualSpaceNode.hpp and commitLimiter.hpp; there each node has a mask of its
 //! own, and here one mask has all slots. The class space's slots are this project's choice.
-ghost use Rattle.std.specs.Prelude.{◌≡◌, ◌≤◌, ◌+◌, ◌^◌, ◌<◌, ◌↔◌, IsTrue, IsErr, IfOk, IfErr, OnOk, OnErr, length};
+ghost use Rattle.std.specs.Prelude.{◌≡◌, ℕ, ◌≤◌, ◌+◌, ◌^◌, ◌<◌, ◌↔◌, false, IsTrue, IsErr, IfOk, IfErr, IfSome, IfNone};
+ghost use Rattle.std.specs.Prelude.{OnOk, OnErr, length};
 ghost use Rattle.ms_base.specs.Part.{is_reserved};
 ghost use Rattle.ms_base.specs.declared.sizes.TheConstants.{SLOTS, CLASS_SLOTS};
 ghost use Rattle.ms_base.specs.Pick.{lowest_unreserved};
@@ -227,6 +228,23 @@ impl Nodes {
         ensures { result ≡ is_reserved (all_slots self.now) slot }
     {
         self.slots.contains(slot as usize) || SLOTS <= slot && slot < SLOTS + self.class_slots
+    }
+
+    /// Finds the lowest reserved slot from a number on, 0 to 63, never a class slot; none where no slot
+    /// from there on is reserved. Takes no memory, and looks at the slots' bits alone.
+    pub fn next_reserved(&self, from: u32) -> Option<u32>
+        ensures reserved { IfSome result (λ slot. IsTrue (is_reserved (all_slots self.now) slot)) }
+        ensures from { IfSome result (λ slot. from ≤ slot) }
+        ensures below { IfSome result (λ slot. slot < SLOTS) }
+        ensures lowest { IfSome result
+            (λ slot. (k : ℕ) → from ≤ k → k < slot → is_reserved self.now.slots k ≡ false) }
+        ensures none { IfNone result ((k : ℕ) → from ≤ k → is_reserved self.now.slots k ≡ false) }
+    {
+        let left = SLOTS.saturating_sub(from);
+        match self.slots.lowest_within(from as usize, left as usize) {
+            Some(slot) => Some(slot as u32),
+            None => None,
+        }
     }
 
     /// Tells how many slots below 64 are reserved.

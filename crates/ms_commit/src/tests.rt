@@ -281,6 +281,8 @@ fn everything_is_committed_and_taken_back(rt: HostRuntime) {
         );
     }
     assert_eq!(rt; nodes.reserved(), 64);
+    assert_eq!(rt; nodes.next_reserved(63), Some(63));
+    assert_eq!(rt; nodes.next_reserved(64), None);
     assert_eq!(rt; nodes.committed(), 8192);
     assert_eq!(rt;
         nodes.reserve(),
@@ -293,6 +295,7 @@ fn everything_is_committed_and_taken_back(rt: HostRuntime) {
         unreserve(&rt, &mut nodes, slot);
     }
     assert_eq!(rt; nodes.reserved(), 0);
+    assert_eq!(rt; nodes.next_reserved(0), None);
     assert_eq!(rt; nodes.committed(), 0);
 }
 

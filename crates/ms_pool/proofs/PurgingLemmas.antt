@@ -1,6 +1,6 @@
 -- The slots that hold no chunk go one after the other, and their granules with them. The proof of
 -- `purge` uses them.
-use Rattle.std.proofs.Common.{◌≡◌, ◌<◌, ◌≤◌, ℕ, ◌+◌, ◌*◌, ◌/◌, Bool, true, false, cond, not, ◌&&◌, ◌||◌, ◌==◌, List, []}
+use Rattle.std.proofs.Common.{◌≡◌, ◌<◌, ◌≤◌, ℕ, zero, suc, ◌+◌, ◌-◌, ◌*◌, ◌/◌, Bool, true, false, cond, not, ◌&&◌, ◌||◌, ◌==◌, List, []}
 use Rattle.std.proofs.Common.{◌∷◌, length, refl, sym, ap, ap₂, subst, ◌∙◌, arith}
 use Rattle.std.specs.Prelude.{nat_le}
 use Rattle.std.specs.List.{AllByRecursion, filter, All}
@@ -108,6 +108,24 @@ skips_unreserved old mid at_ before none =
     among : (a b : Bool) → a ≡ true → (a && b) ≡ false → b ≡ false
     among true b e f = f
     among false b e f = absurd (cc)
+
+-- Up to the next reserved slot nothing changes.
+pub skips_up_to : (old mid : Ledger) (from n : ℕ) → mid ≡ purged_to from old
+    → ((k : ℕ) → from ≤ k → k < from + n → is_reserved mid.slots k ≡ false) → mid ≡ purged_to (from + n) old
+skips_up_to old mid from zero before none = subst (λ (at_ : ℕ). mid ≡ purged_to at_ old) (omega arith) before
+skips_up_to old mid from (suc n) before none =
+    subst (λ (at_ : ℕ). mid ≡ purged_to at_ old) (omega arith)
+    (skips_unreserved old mid (from + n)
+    (skips_up_to old mid from n before (λ k low high. none k low (omega arith))) (none (from + n) (omega arith) (omega arith)))
+
+pub skips_to : (old mid : Ledger) (from to : ℕ) → from ≤ to → mid ≡ purged_to from old
+    → ((k : ℕ) → from ≤ k → k < to → is_reserved mid.slots k ≡ false) → mid ≡ purged_to to old
+skips_to old mid from to up before none =
+    subst (λ (at_ : ℕ). mid ≡ purged_to at_ old) there
+    (skips_up_to old mid from (to - from) before (λ k low high. none k low (omega arith)))
+  where
+    there : from + (to - from) ≡ to
+    there = omega arith
 
 held_alike : (at_ : ℕ) (held : List Chunk) (slot : ℕ) → has_chunk_in held at_ ≡ true
     → stays_at at_ held slot ≡ stays_at (at_ + 1) held slot
@@ -255,6 +273,17 @@ pub record IsPurgedTo (old mid : Lender) (at_ : ℕ) : Type 0 where
   pub limits : mid.nodes.limits ≡ old.nodes.limits
   pub policy : mid.policy ≡ old.policy
   pub purged : ledger_of mid ≡ purged_to at_ (ledger_of old)
+
+pub skipped_to : (old mid : Lender) (from to : ℕ) → from ≤ to → IsPurgedTo old mid from
+    → ((k : ℕ) → from ≤ k → k < to → is_reserved mid.nodes.slots k ≡ false) → IsPurgedTo old mid to
+skipped_to old mid from to up before none =
+    record {
+      trees = before.trees;
+      lent = before.lent;
+      limits = before.limits;
+      policy = before.policy;
+      purged = skips_to (ledger_of old) (ledger_of mid) from to up before.purged none;
+    }
 
 pub passes : (old mid : Lender) (at_ : ℕ) → IsPurgedTo old mid at_ → ledger_of mid ≡ purged_to (at_ + 1) (ledger_of old)
     → IsPurgedTo old mid (at_ + 1)

@@ -171,10 +171,12 @@ impl Lender {
         ensures counted { IsCounted self.new }
     {
         let before = self.nodes.reserved();
-        for slot in 0..SLOTS {
-            if self.nodes.is_reserved(slot) && self.is_whole(slot) {
+        let mut from = 0;
+        while let Some(slot) = self.nodes.next_reserved(from) {
+            if self.is_whole(slot) {
                 self.nodes.unreserve(slot);
             }
+            from = slot + 1;
         }
         before - self.nodes.reserved()
     }
