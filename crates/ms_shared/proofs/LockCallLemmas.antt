@@ -38,6 +38,7 @@ use Rattle.ms_shared.proofs.StrandLemmas.{first_extended}
 -- The seat before and after a call on the pool that it found.
 pub record IsCall (old new : SeatState) (before later : Ledger) : Type 0 where
   pub sound : IsSoundLedger before
+  pub sound_after : IsSoundLedger later
   pub known : IsKnown before old.knows
   pub left : new
       ≡ record old { events = old.events ++ (before, later) ∷ []; knows = view_after before later old.knows }
@@ -63,12 +64,13 @@ seat_then id id' view old new me end one has back same =
 
 pub is_call : (id id' : TableId) (view : LockView) (old : SeatState) (before later : Ledger) (me end : Sat)
     → IsOne view.strands → seat_of id view ≡ old → IsKnown before view.knows
-    → IsSoundLedger before
+    → IsSoundLedger before → IsSoundLedger later
     → me ≡ (with_pool view before, (0, None) ∷ []) → end ≡ (after me.0 (taken_of me.0) later, []) → id' ≡ id
     → IsCall old (seat_of id' end.0) before later
-is_call id id' view old before later me end one is known sound has back same =
+is_call id id' view old before later me end one is known sound sound_after has back same =
     subst (λ (s : SeatState). IsCall s (seat_of id' end.0) before later) is (record {
       sound = sound;
+      sound_after = sound_after;
       known = known;
       left = seat_then id id' view before later me end one has back same;
     })
@@ -77,7 +79,15 @@ pub over_lock : (event : Ledger → Ledger → Type 0) (old new : SeatState) (be
     → IsCall old new before later → event before later
     → OverLock event old new
 over_lock event old new before later call called =
-    record { before = before; after = later; sound = call.sound; known = call.known; called = called; left = call.left }
+    record {
+      before = before;
+      after = later;
+      sound = call.sound;
+      sound_after = call.sound_after;
+      known = call.known;
+      called = called;
+      left = call.left;
+    }
 
 -- An account that the seat serves is served by the pool that it finds.
 pub served_by_pool : (pool : Ledger) (view : SeatView) (account : AccountState) → IsKnown pool view

@@ -200,13 +200,14 @@ pub record IsHistory (first : Ledger) (seats : List SeatState) (pool : Ledger) :
   pub own : All (λ seat. seat.events ≡ events_of seat.number log) seats
   pub once : (number : ℕ) → number < length seats → sum_by (λ seat. one_if (seat.number == number)) seats ≡ 1
 
--- A call over the lock is one event on the pool that the seat finds: by its relation the pool becomes
--- another. The event is the seat's last one, and the seat knows then what its records, counts and
+-- A call over the lock is one event on the sound pool that the seat finds: by its relation the pool
+-- becomes another sound one. The event is the seat's last one, and the seat knows then what its records, counts and
 -- tallies have become.
 pub record OverLock (event : Ledger → Ledger → Type 0) (old new : SeatState) : Type 0 where
   pub before : Ledger
   pub after : Ledger
   pub sound : IsSoundLedger before
+  pub sound_after : IsSoundLedger after
   pub known : IsKnown before old.knows
   pub called : event before after
   pub left : new

@@ -202,7 +202,7 @@ impl SharedPool {
         unreachable!()
     }
 
-    /// Puts the pool back. Does not wait.
+    /// Puts the pool back. A caller also learns here what is true of every pool. Does not wait.
     pub(crate) fn let_go(&self, seat: &mut Seat<Option<Pool>, LockView>, pool: Pool)
         requires own { seat.old.table_id ≡ self.now.id }
         requires live { 0 < seat.old.me.0.parts }
@@ -212,8 +212,11 @@ impl SharedPool {
         requires moves { Moves seat.old.me.0.knows (taken_of seat.old.me.0) pool }
         ensures own { seat.new.table_id ≡ seat.old.table_id }
         ensures seat { seat.new.me ≡ (after seat.old.me.0 (taken_of seat.old.me.0) pool, []) }
+        ensures sound { IsSoundLedger pool }
     {
         let shared = &self.table.shared;
+        // What is true of every pool is learnt here.
+        let _ = pool.committed();
         drop(shared.exchange(seat, 0, Some(pool)));
         shared.store::<LetsGo>(seat, 0, 0);
     }

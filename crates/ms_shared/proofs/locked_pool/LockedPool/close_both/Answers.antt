@@ -41,7 +41,7 @@ returns g c =
     let pool = c.seize-pool.ensures in let closed = c.close_both.ensures in
     let call =
     is_call _ _ c.self.inside.seat.me.0 _ c.seize-pool.result c.close_both.new.self _ _ c.self.invariant.4 c.self.view_is pool.known
-    pool.sound pool.seat c.let_go.ensures.seat (c.let_go.ensures.own ∙ pool.own) in
+    pool.sound c.let_go.ensures.sound pool.seat c.let_go.ensures.seat (c.let_go.ensures.own ∙ pool.own) in
     let well =
     closes_both _ _ c.args.account c.args.class_account c.close_both.new.self call.sound call.known
     c.requires.counted closed in

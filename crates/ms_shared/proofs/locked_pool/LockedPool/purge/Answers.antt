@@ -17,7 +17,7 @@ returns g c =
     let pool = c.seize-pool.ensures in let purged = c.purge-gone.ensures in
     let call =
     is_call _ _ c.self.inside.seat.me.0 _ c.seize-pool.result c.purge-gone.new.self _ _ c.self.invariant.4 c.self.view_is pool.known
-    pool.sound pool.seat c.let_go.ensures.seat (c.let_go.ensures.own ∙ pool.own) in
+    pool.sound c.let_go.ensures.sound pool.seat c.let_go.ensures.seat (c.let_go.ensures.own ∙ pool.own) in
     record {
       event = over_lock _ _ _ _ _ call purged;
       served = λ account its. serves_then _ _ _ _ call account account its refl

@@ -28,7 +28,7 @@ pub returns : goal.returns
 returns g c =
     let v = c.self.inside.seat.me.0 in let pool = c.seize-pool.ensures in
     let call =
-    is_call _ _ v _ c.seize-pool.result c.close.new.self _ _ c.self.invariant.4 c.self.view_is pool.known pool.sound pool.seat
+    is_call _ _ v _ c.seize-pool.result c.close.new.self _ _ c.self.invariant.4 c.self.view_is pool.known pool.sound c.let_go.ensures.sound pool.seat
     c.let_go.ensures.seat (c.let_go.ensures.own ∙ pool.own) in
     let some = c.requires.counted in let most = call.known.opened c.args.account.space in
     let well =
