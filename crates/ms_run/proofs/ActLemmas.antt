@@ -34,7 +34,7 @@ use Rattle.ms_run.specs.Acts.{IsClosing, LacksGrowth, GrewSeen, IsAllocation, As
 use Rattle.ms_run.specs.Acts.{IsOwnStep, said_of, events_by, Works, HasActed}
 
 pub made_none : (seat : SeatState) (are : List Event → Type 0) → are [] → HasMade seat seat are
-made_none seat are so = record { made = []; events = sym (append-nil seat.events); number = refl; are_so = so }
+made_none seat are so = record { made = []; events = sym (append-nil seat.events); number = refl; sound = tt; are_so = so }
 
 pub made_one : {call : Ledger → Ledger → Type 0} (old new : SeatState) (its : OverLock call old new)
     (are : List Event → Type 0) → are ((its.before, its.after) ∷ []) → HasMade old new are
@@ -42,6 +42,7 @@ made_one old new its are so = record {
   made = (its.before, its.after) ∷ [];
   events = ap (λ (s : SeatState). s.events) its.left;
   number = ap (λ (s : SeatState). s.number) its.left;
+  sound = ((its.sound, its.sound_after), tt);
   are_so = so;
 }
 
@@ -54,6 +55,7 @@ made_two old mid new first second are so = record {
       ∙ ap (λ (s : SeatState). s.events ++ (second.before, second.after) ∷ []) first.left
       ∙ append_assoc old.events ((first.before, first.after) ∷ []) ((second.before, second.after) ∷ []);
   number = ap (λ (s : SeatState). s.number) second.left ∙ ap (λ (s : SeatState). s.number) first.left;
+  sound = ((first.sound, first.sound_after), ((second.sound, second.sound_after), tt));
   are_so = so;
 }
 
@@ -83,6 +85,7 @@ made_weaker old new account whole other weaker made = record {
   made = made.made;
   events = made.events;
   number = made.number;
+  sound = made.sound;
   are_so = asked_weaker account whole other weaker made.made made.are_so;
 }
 
@@ -118,7 +121,12 @@ module _ (policy : Policy) (was : ArenaView) (n : ℕ) (answer : Result Block Re
       → ServesBy before.knows (account_of was) → ServesBy middle.knows (account_of was)
   served_still start total may refusal before middle its serves =
       let event = its.event in let call : IsCall before middle event.before event.after =
-      record { sound = event.sound; known = event.known; left = event.left } in
+      record {
+        sound = event.sound;
+        sound_after = event.sound_after;
+        known = event.known;
+        left = event.left;
+      } in
       serves_then before middle event.before event.after call (account_of was) (account_of was) serves refl
       (serves_where_tallied event.before event.after (account_of was)
       (grow_refused_raises event.before (account_of was) event.called.chunk total may refusal event.after
@@ -294,6 +302,7 @@ block_made space policy was is name words old new answer allocates same serves =
       made = made.made;
       events = made.events;
       number = made.number;
+      sound = made.sound;
       are_so = asks_from space was is name words (start_of answer) made.made made.are_so;
     }
 
@@ -346,7 +355,7 @@ acted_more first old new before mid after said step reply acted more own =
     let act : Act = ((step, reply), more.made) in record {
       acts = acted.acts ++ act ∷ [];
       works = works_more before acted.acts mid act after acted.works
-          (record { loaders = own; made = more.are_so });
+          (record { loaders = own; made = more.are_so; sound = more.sound });
       said_are = said_more acted.acts act ∙ ap (λ (l : List Said). l ++ (step, reply) ∷ []) acted.said_are;
       events = more.events ∙ ap (λ (l : List Event). l ++ more.made) acted.events
           ∙ append_assoc first.events (events_by acted.acts) more.made

@@ -27,7 +27,7 @@ use Rattle.ms_shared.specs.Weaving.{IsStill, Spread, of, Works as WorksOf, Runs}
 use Rattle.ms_shared.proofs.WeaveLemmas.{weaves}
 use Rattle.ms_run.specs.Own.{Said}
 use Rattle.ms_run.specs.Acts.{IsGrowing, IsOpening, IsClosing, AsksOf, Makes, Act, IsAct, Works, said_of, events_by}
-use Rattle.ms_run.specs.Acts.{seen, IsDoneBy, IsOwnStep, IsStep}
+use Rattle.ms_run.specs.Acts.{seen, IsSoundEvent, AreSound, IsDoneBy, IsOwnStep, IsStep}
 use Rattle.ms_run.specs.Shares.{Place}
 use Rattle.ms_run.proofs.DealLemmas.{none_left}
 
@@ -83,9 +83,10 @@ abbrev SpreadOf : List (ℕ × LoaderView) → Step → Reply → List (ℕ × L
 SpreadOf old step reply new events = Spread seen (λ before after. IsStep before old (step, reply) after new) events
 
 step_at : (old : List (ℕ × LoaderView)) (step : Step) (reply : Reply) (new : List (ℕ × LoaderView)) (event : Event)
-    → IsOwnStep old (step, reply) new → IsDoneBy old step reply new event
+    → IsOwnStep old (step, reply) new → IsSoundEvent event → IsDoneBy old step reply new event
     → IsStep (seen event.0) old (step, reply) (seen event.1) new
-step_at old step reply new event own done = record { loaders = own; pool = inr (event, refl, refl, done) }
+step_at old step reply new event own sound done =
+    record { loaders = own; pool = inr (event, sound, refl, refl, done) }
 
 asks_two : (old new : Option LoaderView) (space : Space) (block words : ℕ) (answer : Result ℕ Refusal) (e f : Event)
     (es : List Event) → AsksOf old new space block words answer (e ∷ f ∷ es)
@@ -100,47 +101,48 @@ asks_two None None space block words answer e f es made =
 
 asks_spread : (old : List (ℕ × LoaderView)) (step : Step) (reply : Reply) (new : List (ℕ × LoaderView)) (name : ℕ)
     (space : Space) (block words : ℕ) (answer : Result ℕ Refusal) (e f : Event) (es : List Event)
-    → IsOwnStep old (step, reply) new
+    → IsOwnStep old (step, reply) new → IsSoundEvent f
     → (AsksOf (named old name) (named new name) space block words answer (f ∷ []) → Makes old step reply new (f ∷ []))
     → AsksOf (named old name) (named new name) space block words answer (e ∷ f ∷ es)
     → SpreadOf old step reply new (e ∷ f ∷ es)
-asks_spread old step reply new name space block words answer e f es own makes made =
+asks_spread old step reply new name space block words answer e f es own sound makes made =
     let two = asks_two (named old name) (named new name) space block words answer e f es made in
     subst (λ (l : List Event). SpreadOf old step reply new (e ∷ f ∷ l)) (sym two.0)
-    (inr (two.1, inl (step_at old step reply new f own (inl (makes two.2)), tt)))
+    (inr (two.1, inl (step_at old step reply new f own sound (inl (makes two.2)), tt)))
 
 none_long : (e f : Event) (es : List Event) → (e ∷ f ∷ es) ≡ [] → ⊥
 none_long e f es none = let long : length (e ∷ f ∷ es) ≡ 0 = ap length none in absurd (omega arith)
 
 spread_two : (old : List (ℕ × LoaderView)) (step : Step) (reply : Reply) (new : List (ℕ × LoaderView)) (e f : Event)
-    (es : List Event) → IsOwnStep old (step, reply) new → Makes old step reply new (e ∷ f ∷ es)
+    (es : List Event) → IsOwnStep old (step, reply) new → AreSound (e ∷ f ∷ es) → Makes old step reply new (e ∷ f ∷ es)
     → SpreadOf old step reply new (e ∷ f ∷ es)
-spread_two old (New name kind) (Refused refusal) new e f [] own made =
+spread_two old (New name kind) (Refused refusal) new e f [] own sound made =
     inl (
-      step_at old (New name kind) (Refused refusal) new e own (inr (made.0, made.1)),
-      (vain_still kind made.0 e f made.1 made.2, tt),
+      step_at old (New name kind) (Refused refusal) new e own sound.0 (inr (made.0, made.1, made.2)),
+      (vain_still kind made.1 e f made.2 made.3, tt),
     )
-spread_two old (New name kind) (Refused refusal) new e f (g ∷ es) own made = absurd made
-spread_two old (Alloc name block words) (At start) new e f es own made =
-    asks_spread old (Alloc name block words) (At start) new name NonClass block words (Ok start) e f es own (λ m. m) made
-spread_two old (Alloc name block words) (Refused refusal) new e f es own made =
-    asks_spread old (Alloc name block words) (Refused refusal) new name NonClass block words (Err refusal) e f es own (λ m. m) made
-spread_two old (Calloc name block words) (At start) new e f es own made =
-    asks_spread old (Calloc name block words) (At start) new name Class block words (Ok start) e f es own (λ m. m) made
-spread_two old (Calloc name block words) (Refused refusal) new e f es own made =
-    asks_spread old (Calloc name block words) (Refused refusal) new name Class block words (Err refusal) e f es own (λ m. m) made
-spread_two old (Write name block index value) reply new e f es own made = absurd (none_long e f es made)
-spread_two old (Read name block index) reply new e f es own made = absurd (none_long e f es made)
-spread_two old (Free name block) reply new e f es own made = absurd (none_long e f es made)
-spread_two old (Unload name) (Refused refusal) new e f es own made = absurd (none_long e f es made)
-spread_two old Purge Done new e f es own made = absurd made
-spread_two old _ _ new e f es own made = absurd made
+spread_two old (New name kind) (Refused refusal) new e f (g ∷ es) own sound made = absurd made
+spread_two old (Alloc name block words) (At start) new e f es own sound made =
+    asks_spread old (Alloc name block words) (At start) new name NonClass block words (Ok start) e f es own sound.1.0 (λ m. m) made
+spread_two old (Alloc name block words) (Refused refusal) new e f es own sound made =
+    asks_spread old (Alloc name block words) (Refused refusal) new name NonClass block words (Err refusal) e f es own sound.1.0 (λ m. m) made
+spread_two old (Calloc name block words) (At start) new e f es own sound made =
+    asks_spread old (Calloc name block words) (At start) new name Class block words (Ok start) e f es own sound.1.0 (λ m. m) made
+spread_two old (Calloc name block words) (Refused refusal) new e f es own sound made =
+    asks_spread old (Calloc name block words) (Refused refusal) new name Class block words (Err refusal) e f es own sound.1.0 (λ m. m) made
+spread_two old (Write name block index value) reply new e f es own sound made = absurd (none_long e f es made)
+spread_two old (Read name block index) reply new e f es own sound made = absurd (none_long e f es made)
+spread_two old (Free name block) reply new e f es own sound made = absurd (none_long e f es made)
+spread_two old (Unload name) (Refused refusal) new e f es own sound made = absurd (none_long e f es made)
+spread_two old Purge Done new e f es own sound made = absurd made
+spread_two old _ _ new e f es own sound made = absurd made
 
 spread : (old : List (ℕ × LoaderView)) (step : Step) (reply : Reply) (new : List (ℕ × LoaderView)) (events : List Event)
     → IsAct old ((step, reply), events) new → SpreadOf old step reply new events
 spread old step reply new [] its = λ view. record { loaders = its.loaders; pool = inl (refl, its.made) }
-spread old step reply new (e ∷ []) its = inl (step_at old step reply new e its.loaders (inl its.made), tt)
-spread old step reply new (e ∷ f ∷ es) its = spread_two old step reply new e f es its.loaders its.made
+spread old step reply new (e ∷ []) its =
+    inl (step_at old step reply new e its.loaders its.sound.0 (inl its.made), tt)
+spread old step reply new (e ∷ f ∷ es) its = spread_two old step reply new e f es its.loaders its.sound its.made
 
 spread_works : (old : List (ℕ × LoaderView)) (acts : List Act) (new : List (ℕ × LoaderView)) → Works old acts new
     → WorksOf seen IsStep old acts new

@@ -22,7 +22,7 @@ use Rattle.ms_run.proofs.TouchLemmas.{named_states}
 use Rattle.ms_loaders.proofs.UnloadLemmas.{state_of}
 use Rattle.ms_shared.specs.MeterRule.{MeterSeatState}
 use Rattle.ms_shared.specs.SeatView.{SeatState}
-use Rattle.ms_run.specs.Acts.{HasMade, Makes, HasActed}
+use Rattle.ms_run.specs.Acts.{HasMade, Makes, Touches, HasActed}
 use Rattle.ms_run.proofs.ActLemmas.{acted_none, acted_more}
 use Rattle.ms_run.specs.Answering.{IsAnswered}
 use Rattle.ms_run.specs.Manned.{IsManned}
@@ -172,12 +172,13 @@ pub work_goes_on : (share : Share) (pool new_pool : SeatState) (counted mid_coun
     → IsWorkedTo share pool counted loaders tasks index replies → index < length tasks → new_pool.id ≡ pool.id
     → IsAnswered loaders (get_or tasks index d).step reply new_pool.knows new_loaders
     → HasMade pool new_pool (Makes loaders (get_or tasks index d).step reply new_loaders)
+    → Touches loaders (get_or tasks index d).step reply new_loaders
     → IsMoved counted (used_in loaders) mid_counted (used_in new_loaders) → new_counted ≡ mid_counted
     → new_replies.items ≡ replies.items ++ reply ∷ [] → vec_len new_replies ≡ vec_len replies + 1
     → vec_capacity new_replies ≡ vec_capacity replies
     → IsWorkedTo share new_pool new_counted new_loaders tasks (index + 1) new_replies
 work_goes_on share pool new_pool counted mid_counted new_counted loaders new_loaders tasks index replies new_replies d
-    reply its within id answered made moved looked items count capacity = record {
+    reply its within id answered made touches moved looked items count capacity = record {
       manned = answered.manned;
       id = id ∙ its.id;
       count = let before = its.count in omega arith;
@@ -190,7 +191,7 @@ work_goes_on share pool new_pool counted mid_counted new_counted loaders new_loa
       acted = subst (λ (l : List Said). HasActed share.seat new_pool share.loaders l new_loaders) (sym said)
           (acted_more share.seat pool new_pool share.loaders loaders new_loaders (said_in tasks replies.items)
           (get_or tasks index d).step reply its.acted made
-          (record { own = answered.own; others = answered.others }));
+          (record { own = answered.own; others = answered.others; touches = touches }));
       moved = moved_then share.meter counted new_counted (used_in share.loaders) (used_in loaders)
           (used_in new_loaders) its.moved
           (subst (λ (s : MeterSeatState). IsMoved counted (used_in loaders) s (used_in new_loaders)) (sym looked) moved);

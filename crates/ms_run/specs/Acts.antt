@@ -18,13 +18,24 @@ use Rattle.ms_pool.specs.Tallies.{no_tallies}
 use Rattle.ms_pool.specs.Ledger.{Ledger, Serves, IsSoundLedger}
 use Rattle.ms_pool.specs.Source.{ServesBoth}
 use Rattle.ms_pool.specs.Calls.{OpenedBoth, ClosedBoth, Took, Grew, Purged}
-use Rattle.ms_loaders.specs.Loader.{LoaderView, account_in, new_loader, AllocatesBlock}
+use Rattle.ms_base.specs.State.{LoaderState}
+use Rattle.ms_base.specs.declared.refusal.Refusal.TheVariants.{OutOfMemory, LoaderExists}
+use Rattle.ms_loaders.specs.Loader.{LoaderView, account_in, new_loader, with_state, IsSoundView, AllocatesBlock}
+use Rattle.ms_loaders.specs.Loader.{WritesWord, FreesBlock}
 use Rattle.ms_shared.specs.History.{Event}
 use Rattle.ms_shared.specs.Weaving.{events_of as events_in_acts, said_of as said_in_acts}
 use Rattle.ms_shared.specs.SeatView.{SeatState}
 use Rattle.ms_base.specs.Alone.{OwnReply}
 use Rattle.ms_loaders.specs.System.{states_of}
 use Rattle.ms_run.specs.Own.{Said, own_in}
+
+-- An event from a sound pool to a sound one, and events that are all so.
+abbrev pub IsSoundEvent : Event → Type 0
+IsSoundEvent event = IsSoundLedger event.0 × IsSoundLedger event.1
+
+abbrev pub AreSound : List Event → Type 0
+AreSound [] = ⊤
+AreSound (event ∷ events) = IsSoundEvent event × AreSound events
 
 -- A chunk of an account that the pool serves is asked to grow.
 pub record IsGrowing (account : AccountState) (answer : Result Span Refusal) (event : Event) : Type 0 where
@@ -97,13 +108,13 @@ AsksOf (Some old) (Some new) space name words answer events = Asks space old new
 AsksOf None None space name words answer events = events ≡ []
 AsksOf _ _ space name words answer events = ⊥
 
--- A New that is refused is no event; or an opening that is refused; or an opening, and the closing of
--- what it opened where memory is wanting then.
+-- A New that is refused is no event where the name is used; or an opening that is refused; or an
+-- opening, and the closing of what it opened, where memory is wanting then.
 abbrev pub LacksLoader : Kind → Refusal → List Event → Type 0
-LacksLoader kind refusal [] = ⊤
+LacksLoader kind refusal [] = refusal ≡ LoaderExists
 LacksLoader kind refusal (event ∷ []) = OpenedBoth event.0 (Err refusal) event.1
 LacksLoader kind refusal (event ∷ other ∷ []) =
-    (loader : LoaderView) × IsOpening kind loader event × IsClosing loader other
+    (refusal ≡ OutOfMemory) × (loader : LoaderView) × IsOpening kind loader event × IsClosing loader other
 LacksLoader kind refusal _ = ⊥
 
 -- The events that a step with this reply is, for accounts of the loader that it names. An Unload that
@@ -132,6 +143,7 @@ pub record HasMade (old new : SeatState) (are : List Event → Type 0) : Type 0 
   pub made : List Event
   pub events : new.events ≡ old.events ++ made
   pub number : new.number ≡ old.number
+  pub sound : AreSound made
   pub are_so : are made
 
 -- A step and its reply, with the events that it is.
@@ -144,17 +156,43 @@ said_of = said_in_acts
 abbrev pub events_by : List Act → List Event
 events_by = events_in_acts
 
+-- One loader changes so, and keeps its owners.
+pub record ChangesLoader (old : List (ℕ × LoaderView)) (name : ℕ) (is_so : LoaderState → LoaderState → Type 0)
+    (new : List (ℕ × LoaderView)) : Type 0 where
+  pub was : LoaderView
+  pub is : LoaderView
+  pub found : named old name ≡ Some was
+  pub after : named new name ≡ Some is
+  pub owners : is ≡ with_state was is.state
+  pub sound : IsSoundView is
+  pub so : is_so was.state is.state
+
+-- What a step changes of loaders where the pool has no part in it: a refused one, one that reads and a
+-- purge nothing, one that writes or frees just that; an allocation leaves a sound loader.
+abbrev pub Touches : List (ℕ × LoaderView) → Step → Reply → List (ℕ × LoaderView) → Type 0
+Touches old step (Refused refusal) new = new ≡ old
+Touches old (Alloc name block words) reply new = (is : LoaderView) × (named new name ≡ Some is) × IsSoundView is
+Touches old (Calloc name block words) reply new = (is : LoaderView) × (named new name ≡ Some is) × IsSoundView is
+Touches old (Write name block index value) reply new =
+    ChangesLoader old name (λ was is. WritesWord was block index value is) new
+Touches old (Read name block index) reply new = new ≡ old
+Touches old (Free name block) reply new = ChangesLoader old name (λ was is. FreesBlock was block is) new
+Touches old Purge reply new = new ≡ old
+Touches old _ reply new = ⊤
+
 -- The reply to a step is its own loader's, by what that loader was and is then; the loaders that the
 -- step doesn't name stay.
 pub record IsOwnStep (old : List (ℕ × LoaderView)) (said : Said) (new : List (ℕ × LoaderView)) : Type 0 where
   pub own : (name : ℕ) → loader_of said.0 ≡ Some name
       → (refused : Bool) × OwnReply (own_in (states_of old) name) said.0 refused said.1 (own_in (states_of new) name)
   pub others : (name : ℕ) → loader_of said.0 ≢ Some name → named new name ≡ named old name
+  pub touches : Touches old said.0 said.1 new
 
 -- A worker's act: a step on its own loaders, by the events that the step is.
 pub record IsAct (old : List (ℕ × LoaderView)) (act : Act) (new : List (ℕ × LoaderView)) : Type 0 where
   pub loaders : IsOwnStep old act.0 new
   pub made : Makes old act.0.0 act.0.1 new act.1
+  pub sound : AreSound act.1
 
 -- What a step of the whole sees of a pool: neither counts of open accounts nor tallies.
 abbrev pub seen : Ledger → Ledger
@@ -163,7 +201,8 @@ seen pool = record pool { opened = 0; class_opened = 0; tallies = no_tallies }
 -- The one event at which a step is done. A New that lacks memory is done where accounts were opened in
 -- vain.
 abbrev pub OpensInVain : Step → Reply → Event → Type 0
-OpensInVain (New name kind) (Refused refusal) event = (loader : LoaderView) × IsOpening kind loader event
+OpensInVain (New name kind) (Refused refusal) event =
+    (refusal ≡ OutOfMemory) × (loader : LoaderView) × IsOpening kind loader event
 OpensInVain _ _ event = ⊥
 
 abbrev pub IsDoneBy : List (ℕ × LoaderView) → Step → Reply → List (ℕ × LoaderView) → Event → Type 0
@@ -175,7 +214,8 @@ pub record IsStep (before : Ledger) (old : List (ℕ × LoaderView)) (said : Sai
     (new : List (ℕ × LoaderView)) : Type 0 where
   pub loaders : IsOwnStep old said new
   pub pool : ((after ≡ before) × Makes old said.0 said.1 new [])
-      ⊎ ((event : Event) × (seen event.0 ≡ before) × (seen event.1 ≡ after) × IsDoneBy old said.0 said.1 new event)
+      ⊎ ((event : Event) × IsSoundEvent event × (seen event.0 ≡ before) × (seen event.1 ≡ after)
+      × IsDoneBy old said.0 said.1 new event)
 
 -- Acts follow one another, over a worker's own loaders.
 abbrev pub Works : List (ℕ × LoaderView) → List Act → List (ℕ × LoaderView) → Type 0

@@ -1,12 +1,13 @@
 //! A loader's blocks in a worker's hands: allocated over the lock, and written, read and freed without
 //! it.
-ghost use Rattle.std.specs.Prelude.{◌≡◌, ◌≢◌, IfOk, OnOk, IfErr, ℕ, true, false, Bool};
+ghost use Rattle.std.specs.Prelude.{◌≡◌, ◌≢◌, IfOk, OnOk, IfErr, OnErr, Some, ℕ, true, false, Bool};
 ghost use Rattle.ms_base.specs.Names.{named};
 ghost use Rattle.ms_base.specs.Alone.{OwnReply};
 ghost use Rattle.ms_base.specs.Request.{alloc_in};
+ghost use Rattle.ms_loaders.specs.Loader.{LoaderView, IsSoundView, WritesWord, FreesBlock};
 ghost use Rattle.ms_loaders.specs.System.{states_of};
 ghost use Rattle.ms_loaders.specs.Used.{used_at};
-ghost use Rattle.ms_run.specs.Acts.{HasMade, AsksOf};
+ghost use Rattle.ms_run.specs.Acts.{HasMade, AsksOf, ChangesLoader};
 ghost use Rattle.ms_run.specs.Own.{own_in};
 ghost use Rattle.ms_run.specs.Manned.{IsManned, KeepsSeats};
 
@@ -35,6 +36,9 @@ pub fn allocate<R: Wait>(
     ensures others { (other : ℕ) → other ≢ name → named loaders.new other ≡ named loaders.old other }
     ensures made { HasMade pool.old pool.new
         (AsksOf (named loaders.old name) (named loaders.new name) space block words result) }
+    ensures sound { OnOk result
+        ((loader : LoaderView) × (named loaders.new name ≡ Some loader) × IsSoundView loader) }
+    ensures unchanged { OnErr result (loaders.new ≡ loaders.old) }
 {
     let Some(loader) = loaders.get_mut(name) else {
         return Err(Refusal::NoLoader);
@@ -61,6 +65,9 @@ pub fn write(
         (Step.Write name block index value) false (Reply.Refused refusal)
         (own_in (states_of loaders.new) name)) }
     ensures others { (other : ℕ) → other ≢ name → named loaders.new other ≡ named loaders.old other }
+    ensures touches { OnOk result
+        (ChangesLoader loaders.old name (λ was is. WritesWord was block index value is) loaders.new) }
+    ensures unchanged { OnErr result (loaders.new ≡ loaders.old) }
 {
     match loaders.get_mut(name) {
         None => Err(Refusal::NoLoader),
@@ -95,6 +102,9 @@ pub fn free(loaders: &mut Loaders, name: u16, block: u32) -> Result<(), Refusal>
         (Step.Free name block) false (Reply.Refused refusal)
         (own_in (states_of loaders.new) name)) }
     ensures others { (other : ℕ) → other ≢ name → named loaders.new other ≡ named loaders.old other }
+    ensures touches { OnOk result
+        (ChangesLoader loaders.old name (λ was is. FreesBlock was block is) loaders.new) }
+    ensures unchanged { OnErr result (loaders.new ≡ loaders.old) }
 {
     match loaders.get_mut(name) {
         None => Err(Refusal::NoLoader),

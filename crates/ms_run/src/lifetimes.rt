@@ -1,6 +1,6 @@
 //! A loader's beginning and end in a worker's hands: both its accounts are opened by one event, and
 //! closed by one.
-ghost use Rattle.std.specs.Prelude.{◌≡◌, ◌≢◌, IfOk, OnOk, IfErr, ℕ, true, false, Bool, List, []};
+ghost use Rattle.std.specs.Prelude.{◌≡◌, ◌≢◌, IfOk, OnOk, IfErr, OnErr, ℕ, true, false, Bool, List, []};
 ghost use Rattle.ms_base.specs.Names.{named};
 ghost use Rattle.ms_base.specs.Alone.{OwnReply};
 ghost use Rattle.ms_loaders.specs.System.{states_of};
@@ -39,6 +39,7 @@ pub fn new_loader<R: Wait>(
         (HasMade pool.old pool.new (Once (OfLoader (named loaders.new name) (IsOpening kind)))) }
     ensures not_made { IfErr result
         (λ refusal. HasMade pool.old pool.new (LacksLoader kind refusal)) }
+    ensures unchanged { OnErr result (loaders.new ≡ loaders.old) }
 {
     if loaders.contains(name) {
         return Err(Refusal::LoaderExists);
@@ -76,6 +77,7 @@ pub fn unload<R: Wait>(
         (HasMade pool.old pool.new (Once (OfLoader (named loaders.old name) IsClosing))) }
     ensures not_made { IfErr result
         (λ refusal. HasMade pool.old pool.new (λ (events : List Event). events ≡ [])) }
+    ensures unchanged { OnErr result (loaders.new ≡ loaders.old) }
 {
     // That names differ is learnt here.
     let _ = loaders.len();

@@ -6,7 +6,7 @@ ghost use Rattle.std.specs.Prelude.{◌≡◌, ◌+◌, Some};
 ghost use Rattle.ms_base.specs.Names.{AreNamed, named};
 ghost use Rattle.ms_base.specs.Request.{loader_of};
 ghost use Rattle.ms_loaders.specs.Used.{used_at, used_in};
-ghost use Rattle.ms_run.specs.Acts.{HasMade, Makes};
+ghost use Rattle.ms_run.specs.Acts.{HasMade, Makes, Touches};
 ghost use Rattle.ms_run.specs.Answering.{IsAnswered};
 ghost use Rattle.ms_run.specs.Manned.{IsManned};
 ghost use Rattle.ms_run.specs.Metering.{MovesNoTop};
@@ -33,6 +33,7 @@ pub fn answer_metered<R: Wait>(
     ensures lock { pool.new.id ≡ pool.old.id }
     ensures answered { IsAnswered loaders.old step result pool.new.knows loaders.new }
     ensures made { HasMade pool.old pool.new (Makes loaders.old step result loaders.new) }
+    ensures touches { Touches loaders.old step result loaders.new }
     ensures moved { IsMoved seat.old (used_in loaders.old) seat.new (used_in loaders.new) }
 {
     match step {
@@ -67,6 +68,7 @@ fn answer_rise<R: Wait>(
     ensures lock { pool.new.id ≡ pool.old.id }
     ensures answered { IsAnswered loaders.old step result pool.new.knows loaders.new }
     ensures made { HasMade pool.old pool.new (Makes loaders.old step result loaders.new) }
+    ensures touches { Touches loaders.old step result loaders.new }
     ensures moved { IsMoved seat.old (used_in loaders.old) seat.new (used_in loaders.new) }
 {
     let before = used_by(loaders, name);
@@ -89,6 +91,7 @@ fn answer_unload<R: Wait>(
     ensures answered { IsAnswered loaders.old (Step.Unload name) result pool.new.knows loaders.new }
     ensures made { HasMade pool.old pool.new
         (Makes loaders.old (Step.Unload name) result loaders.new) }
+    ensures touches { Touches loaders.old (Step.Unload name) result loaders.new }
     ensures used { used_in loaders.new + used_at (named loaders.old name) ≡ used_in loaders.old }
 {
     // That names rise is learnt here, of the loaders before and after.
@@ -110,6 +113,7 @@ fn answer_still<R: Wait>(
     ensures lock { pool.new.id ≡ pool.old.id }
     ensures answered { IsAnswered loaders.old step result pool.new.knows loaders.new }
     ensures made { HasMade pool.old pool.new (Makes loaders.old step result loaders.new) }
+    ensures touches { Touches loaders.old step result loaders.new }
     ensures used { used_in loaders.new ≡ used_in loaders.old }
 {
     // That names rise is learnt here, of the loaders before and after.

@@ -9,7 +9,7 @@ ghost use Rattle.ms_base.specs.Names.{named};
 ghost use Rattle.ms_base.specs.Request.{loader_of};
 ghost use Rattle.ms_base.specs.Alone.{OwnReply};
 ghost use Rattle.ms_loaders.specs.System.{states_of, reply_of};
-ghost use Rattle.ms_run.specs.Acts.{HasMade, Makes};
+ghost use Rattle.ms_run.specs.Acts.{HasMade, Makes, Touches};
 ghost use Rattle.ms_run.specs.Own.{own_in};
 ghost use Rattle.ms_run.specs.Manned.{IsManned};
 ghost use Rattle.ms_loaders.specs.Used.{used_at};
@@ -40,6 +40,7 @@ pub fn answer<R: Wait>(
         → named loaders.new name ≡ named loaders.old name }
     ensures purge { step ≡ Step.Purge → result ≡ Reply.Ok }
     ensures made { HasMade pool.old pool.new (Makes loaders.old step result loaders.new) }
+    ensures touches { Touches loaders.old step result loaders.new }
     ensures used { MovesNoTop step → (name : ℕ)
         → used_at (named loaders.new name) ≡ used_at (named loaders.old name) }
 {
@@ -66,6 +67,7 @@ fn serve<R: Wait>(
         → named loaders.new name ≡ named loaders.old name }
     ensures purge { step ≡ Step.Purge → reply_of result ≡ Reply.Ok }
     ensures made { HasMade pool.old pool.new (Makes loaders.old step (reply_of result) loaders.new) }
+    ensures touches { Touches loaders.old step (reply_of result) loaders.new }
     ensures used { MovesNoTop step → (name : ℕ)
         → used_at (named loaders.new name) ≡ used_at (named loaders.old name) }
 {

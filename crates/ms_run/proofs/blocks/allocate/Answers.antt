@@ -1,4 +1,5 @@
 use Rattle.std.proofs.Common.{◌≡◌, List, [], Option, Some, Result, Ok, Err, false, refl, sym, subst}
+use Rattle.std.specs.Prelude.{OnErr}
 use Rattle.ms_base.specs.declared.span.Block.{Block}
 use Rattle.ms_base.specs.declared.refusal.Refusal.{Refusal}
 use Rattle.ms_base.specs.declared.refusal.Refusal.TheVariants.{NoLoader}
@@ -8,6 +9,7 @@ use Rattle.ms_run.specs.Acts.{HasMade, Asks, AsksOf, start_of}
 use Rattle.ms_loaders.specs.Loader.{LoaderView}
 use Rattle.ms_shared.specs.History.{Event}
 use Rattle.ms_run.proofs.ActLemmas.{made_none, block_made}
+use Rattle.ms_loaders.proofs.CallLemmas.{same_loaders}
 use Rattle.ms_run.proofs.SeatStaysLemmas.{others_stay, own_is_served, manned_after}
 use Rattle.ms_run.proofs.GrantLemmas.{replies_without, replies_at, replies_why}
 use Rattle.ms_run.proofs.blocks.allocate.Goals as goal
@@ -95,3 +97,17 @@ returns-in-Err-clause-made g c =
     c.args.words c.args.pool.now c.allocate.new.source c.allocate.result c.allocate.ensures.allocates refl
     (own_is_served c.args.space c.args.pool.now.knows c.args.loaders.now c.args.name c.in-Some.loader.now
     (sym c.in-Some.ensures.found) c.requires))))
+
+pub returns-in-Ok-clause-sound : goal.returns-in-Ok-clause-sound
+returns-in-Ok-clause-sound g c = (
+  c.allocate.new.self,
+  named_changed_same c.args.loaders.now c.args.name c.in-Some.loader.now c.allocate.new.self
+      (sym c.in-Some.ensures.found),
+  c.allocate.ensures.sound,
+)
+
+pub returns-in-Err-clause-unchanged : goal.returns-in-Err-clause-unchanged
+returns-in-Err-clause-unchanged g c =
+    same_loaders c.args.loaders.now c.args.name c.in-Some.loader.now c.allocate.new.self (sym c.in-Some.ensures.found)
+    (subst (λ (answer : Result Block Refusal). OnErr answer (c.allocate.new.self ≡ c.in-Some.loader.now)) c.in-Err.is
+    c.allocate.ensures.unchanged)

@@ -1,6 +1,8 @@
 use Rattle.std.proofs.Common.{sym, refl}
 use Rattle.ms_run.proofs.TouchLemmas.{own_missing, own_freed_in, own_not_freed, others_stay, freed_keeps_seats}
 use Rattle.ms_run.proofs.TouchLemmas.{same_keeps, freed_uses, same_uses}
+use Rattle.ms_base.proofs.entries.LookupLemmas.{named_changed_same}
+use Rattle.ms_loaders.proofs.CallLemmas.{same_loaders}
 use Rattle.ms_run.proofs.blocks.free.Goals as goal
 
 pub returns-in-None-clause-refused : goal.returns-in-None-clause-refused
@@ -42,3 +44,20 @@ returns-in-Err-clause-refused c =
 
 pub returns-in-Err-clause-others : goal.returns-in-Err-clause-others
 returns-in-Err-clause-others c = others_stay c.args.loaders.now c.args.name c.free.new.self
+
+pub returns-in-Ok-clause-touches : goal.returns-in-Ok-clause-touches
+returns-in-Ok-clause-touches c = record {
+  was = c.in-Some.loader.now;
+  is = c.free.new.self;
+  found = sym c.in-Some.ensures.found;
+  after = named_changed_same c.args.loaders.now c.args.name c.in-Some.loader.now c.free.new.self
+      (sym c.in-Some.ensures.found);
+  owners = c.free.ensures.owners;
+  sound = c.free.ensures.sound;
+  so = c.in-Ok.ensures.freed;
+}
+
+pub returns-in-Err-clause-unchanged : goal.returns-in-Err-clause-unchanged
+returns-in-Err-clause-unchanged c =
+    same_loaders c.args.loaders.now c.args.name c.in-Some.loader.now c.free.new.self (sym c.in-Some.ensures.found)
+    c.in-Err.ensures.unchanged

@@ -1,6 +1,8 @@
 use Rattle.std.proofs.Common.{sym, refl}
 use Rattle.ms_run.proofs.TouchLemmas.{own_missing, own_written, own_not_written, others_stay, written_keeps, same_keeps}
 use Rattle.ms_run.proofs.TouchLemmas.{written_uses, same_uses}
+use Rattle.ms_base.proofs.entries.LookupLemmas.{named_changed_same}
+use Rattle.ms_loaders.proofs.CallLemmas.{same_loaders}
 use Rattle.ms_run.proofs.blocks.write.Goals as goal
 
 pub returns-in-None-clause-refused : goal.returns-in-None-clause-refused
@@ -43,3 +45,20 @@ returns-in-Err-clause-refused c =
 
 pub returns-in-Err-clause-others : goal.returns-in-Err-clause-others
 returns-in-Err-clause-others c = others_stay c.args.loaders.now c.args.name c.write.new.self
+
+pub returns-in-Ok-clause-touches : goal.returns-in-Ok-clause-touches
+returns-in-Ok-clause-touches c = record {
+  was = c.in-Some.loader.now;
+  is = c.write.new.self;
+  found = sym c.in-Some.ensures.found;
+  after = named_changed_same c.args.loaders.now c.args.name c.in-Some.loader.now c.write.new.self
+      (sym c.in-Some.ensures.found);
+  owners = c.write.ensures.owners;
+  sound = c.write.ensures.sound;
+  so = c.in-Ok.ensures.written;
+}
+
+pub returns-in-Err-clause-unchanged : goal.returns-in-Err-clause-unchanged
+returns-in-Err-clause-unchanged c =
+    same_loaders c.args.loaders.now c.args.name c.in-Some.loader.now c.write.new.self (sym c.in-Some.ensures.found)
+    c.in-Err.ensures.unchanged

@@ -8,6 +8,7 @@ use Rattle.ms_loaders.specs.Loader.{LoaderView, account_in, new_loader}
 use Rattle.ms_base.specs.declared.kind.Space.TheVariants.{NonClass, Class}
 use Rattle.ms_loaders.specs.System.{states_of}
 use Rattle.ms_loaders.proofs.CallLemmas.{found, unused_name}
+use Rattle.ms_loaders.proofs.UnloadLemmas.{insert_is_refused}
 use Rattle.ms_loaders.specs.Used.{used_at}
 use Rattle.ms_run.specs.Own.{own_in}
 use Rattle.ms_run.specs.Manned.{IsManned}
@@ -102,7 +103,7 @@ returns-in-Err-insert-clause-refused g c =
     (own_missing c.args.loaders.now c.args.name unused) c.in-Err-insert.ensures.refused)
 
 pub returns-then-contains-clause-not_made : goal.returns-then-contains-clause-not_made
-returns-then-contains-clause-not_made g c = made_none c.args.pool.now (LacksLoader c.args.kind LoaderExists) tt
+returns-then-contains-clause-not_made g c = made_none c.args.pool.now (LacksLoader c.args.kind LoaderExists) refl
 
 pub returns-in-Err-clause-not_made : goal.returns-in-Err-clause-not_made
 returns-in-Err-clause-not_made g c =
@@ -122,12 +123,14 @@ returns-in-Ok-insert-clause-made g c =
 pub returns-in-Err-insert-clause-not_made : goal.returns-in-Err-insert-clause-not_made
 returns-in-Err-insert-clause-not_made g c =
     let v = new_loader c.in-Ok.accounts.0 c.in-Ok.accounts.1 c.args.kind in
+    let unused = unused_name c.args.loaders.now c.args.name c.contains.result c.contains.ensures c.if-contains.false in
     let same = c.in-Err-insert.ensures.back ∙ c.new-loader.ensures.made in
     let both : ServesBoth ServesBy c.open_both.new.self.knows c.into_accounts-account.result.0
     c.into_accounts-account.result.1 =
     search rules in
     made_two c.args.pool.now c.open_both.new.self c.close_both.new.self c.in-Ok.ensures.event c.close_both.ensures.event
     (LacksLoader c.args.kind c.in-Err-insert.refusal) (
+      insert_is_refused c.args.loaders.now c.args.name c.in-Err-insert.refusal unused c.in-Err-insert.ensures.refused,
       v,
       (c.in-Ok.accounts, refl, c.in-Ok.ensures.event.called),
       is_closing v c.open_both.new.self c.close_both.new.self c.into_accounts-account.result.0

@@ -93,3 +93,8 @@ returns-in-Some-clause-made g c =
 
 pub returns-in-None-clause-not_made : goal.returns-in-None-clause-not_made
 returns-in-None-clause-not_made g c = made_none c.args.pool.now (λ (events : List Event). events ≡ []) refl
+
+pub returns-in-None-clause-unchanged : goal.returns-in-None-clause-unchanged
+returns-in-None-clause-unchanged g c =
+    c.remove.ensures.rest
+    ∙ without_missing c.args.loaders.now c.args.name (sym c.remove.ensures.found ∙ c.in-None.is)

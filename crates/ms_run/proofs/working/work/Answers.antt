@@ -17,7 +17,7 @@ loop-task-preserved g c = let answered = c.answer_metered-reply in let pushed = 
     c.loop-task.loaders answered.new.loaders c.deref-task-items.result.now
     c.loop-task.task-index c.loop-task.replies c.push_reserved.new.self _ answered.result c.loop-task.invariant
     c.loop-task-test.true answered.ensures.lock answered.ensures.answered answered.ensures.made
-    answered.ensures.moved c.now.ensures.unchanged pushed.items pushed.len pushed.capacity
+    answered.ensures.touches answered.ensures.moved c.now.ensures.unchanged pushed.items pushed.len pushed.capacity
 
 pub returns : goal.returns
 returns g c =
