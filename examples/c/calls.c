@@ -58,6 +58,11 @@ int main(void) {
     tell("holder of word 1000", nizgrabul_holder(&handle, 1000));
     tell("free", nizgrabul_free(&handle, 1, 1));
     tell("free again", nizgrabul_free(&handle, 1, 1));
+    tell("free 3999 words at 4096", nizgrabul_free_block(&handle, 1, 4096, 3999));
+    tell("free 4000 words at 4096", nizgrabul_free_block(&handle, 1, 4096, 4000));
+    tell("the same again", nizgrabul_free_block(&handle, 1, 4096, 4000));
+    tell("of loader 2", nizgrabul_free_block(&handle, 2, 4096, 4000));
+    tell("its number again, 4000 words", nizgrabul_alloc(&handle, 1, 2, 4000));
     printf("sums: %" PRIu32 "\n", nizgrabul_totals(&handle, &sums));
     printf("loaders: %" PRIu64 "\n", sums.loaders);
     tell_sums("outside the class space", &sums.space);

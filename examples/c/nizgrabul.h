@@ -41,7 +41,7 @@ enum nizgrabul_status {
     NIZGRABUL_TOO_LARGE = 3,      /* more words were asked for than a root chunk has, 524288 */
     NIZGRABUL_COMMIT_LIMIT = 4,   /* value granules of limit are committed, and need more are needed */
     NIZGRABUL_RESERVE_LIMIT = 5,  /* value nodes of limit are reserved, and none has room */
-    NIZGRABUL_NOT_LIVE = 6,
+    NIZGRABUL_NOT_LIVE = 6,       /* the loader has no live block there with so many words */
     NIZGRABUL_OUT_OF_RANGE = 7,
     NIZGRABUL_NO_LOADER = 8,      /* no loader has the number */
     NIZGRABUL_LOADER_EXISTS = 9,  /* a loader has the number already */
@@ -168,6 +168,12 @@ nizgrabul_answer nizgrabul_calloc(nizgrabul_handle *handle, uint16_t loader, uin
 /* Frees a block, whose words become a free block of its loader; its number may be used anew. Refused
  * with NO_LOADER, and with NO_BLOCK where the loader has no live block of the number. Takes no memory. */
 nizgrabul_answer nizgrabul_free(nizgrabul_handle *handle, uint16_t loader, uint32_t block);
+
+/* Frees the live block of a loader that starts there and has so many words, at least two, as
+ * nizgrabul_free does by its number, which may then be used anew. Refused with NO_LOADER, and with
+ * NOT_LIVE where the loader has no such live block. Takes no memory, and looks at each of the loader's
+ * numbers until it is found. */
+nizgrabul_answer nizgrabul_free_block(nizgrabul_handle *handle, uint16_t loader, uint64_t start, uint64_t words);
 
 /* Gives back the nodes in which no chunk is held; `value` is how many they were. Those of the class
  * space stay. Takes no memory. */

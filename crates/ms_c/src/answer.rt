@@ -1,5 +1,5 @@
 //! What a call answers, in numbers.
-ghost use Rattle.std.specs.Prelude.{◌≡◌};
+ghost use Rattle.std.specs.Prelude.{◌≡◌, OnOk, IfErr};
 ghost use Rattle.ms_c.specs.Answers.{told, refused_as, numbers};
 
 use ms_base::{Refusal, Reply};
@@ -142,5 +142,16 @@ pub fn tell(reply: Reply) -> Answer
         Reply::Ok => plain(0),
         Reply::At(value) | Reply::Value(value) => Answer::of(value),
         Reply::Refused(refusal) => refused(refusal),
+    }
+}
+
+/// Tells in numbers what was done with no answer but that, or why it was not.
+pub fn tell_done(answer: Result<(), Refusal>) -> Answer
+    ensures done { OnOk answer (result ≡ numbers 0 0 0 0) }
+    ensures refused { IfErr answer (λ refusal. result ≡ refused_as refusal) }
+{
+    match answer {
+        Ok(()) => plain(0),
+        Err(refusal) => refused(refusal),
     }
 }

@@ -1,11 +1,12 @@
 //! The exports that change a system: each is one step of the machine.
 ghost use Rattle.std.specs.Prelude.{◌≡◌};
 ghost use Rattle.ms_c.specs.Answers.{Steps, MakesLoader, Purges};
+ghost use Rattle.ms_c.specs.Freeing.{FreesBlock};
 
-use crate::answer::{Answer, tell};
+use crate::answer::{Answer, tell, tell_done};
 use crate::handle::Handle;
 use crate::kinds::kind_of;
-use ms_base::Step;
+use ms_base::{Block, Step};
 use std::alloc::Global;
 
 /// Makes a loader with nothing of its own. The kind is 0 standard, 1 boot, 2 reflection or 3 hidden;
@@ -92,6 +93,30 @@ pub extern "C" fn nizgrabul_free(
     ensures { Steps handle.old.slot.held (Step.Free loader block) result handle.new.slot.held }
 {
     step(alloc, handle, Step::Free { loader, block })
+}
+
+/// Frees the live block of a loader that starts there and has so many words, at least two, as
+/// `nizgrabul_free` does by its number, which may then be used anew. Refused with NO_LOADER, and with
+/// NOT_LIVE where the loader has no such live block. Takes no memory, and looks at each of the loader's
+/// numbers until it is found.
+#[unsafe(no_mangle)]
+pub extern "C" fn nizgrabul_free_block(
+    alloc: Global,
+    handle: &mut Handle,
+    loader: u16,
+    start: u64,
+    words: u64,
+) -> Answer
+    ensures { FreesBlock handle.old.slot.held loader start words result handle.new.slot.held }
+{
+    match handle.take(alloc) {
+        None => Answer::NO_SYSTEM,
+        Some(mut system) => {
+            let answer = system.free_block(loader, Block { start, words });
+            handle.put(system);
+            tell_done(answer)
+        }
+    }
 }
 
 /// Gives back the nodes in which no chunk is held; `value` is how many they were. Those of the class

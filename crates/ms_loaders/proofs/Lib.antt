@@ -11,6 +11,8 @@ pub mod AlikeLemmas
 mod AskedLemmas
 pub mod FitLemmas
 mod HolderLemmas
+mod OneHolderLemmas
+mod FindingLemmas
 pub mod ServedLemmas
 mod StepLemmas
 mod CauseLemmas

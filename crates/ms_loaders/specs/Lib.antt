@@ -11,3 +11,5 @@ pub mod Collecting
 pub mod Used
 pub mod LoaderSums
 pub mod Holder
+pub mod Finding
+pub mod Freeing

@@ -17,6 +17,8 @@ ghost use Rattle.ms_loaders.specs.Loader.{owner_in, account_in, new_loader, with
 ghost use Rattle.ms_loaders.specs.Loader.{HasWord, WritesWord, FreesBlock, LacksWord, LacksName};
 ghost use Rattle.ms_loaders.specs.Sums.{AreSumsIn};
 
+mod finding;
+
 use crate::naming::{Names, allocate_in};
 use ms_arena::{Arena, ArenaTotals};
 use ms_base::{Block, Kind, NODE_WORDS, Refusal, SLOTS, Space};

@@ -15,6 +15,8 @@ ghost use Rattle.ms_arena.specs.Arena.{IsSoundArena, PlaceRefused, account_of};
 ghost use Rattle.ms_pool.specs.Source.{LeavesRest};
 ghost use Rattle.ms_loaders.specs.Naming.{AllocatesNamed};
 
+mod finding;
+
 use ms_arena::Arena;
 use ms_base::{Block, ROOT_WORDS, Refusal};
 use ms_pool::ChunkSource;

@@ -19,6 +19,7 @@ ghost use Rattle.ms_loaders.specs.Sums.{sums_in};
 ghost use Rattle.ms_loaders.specs.Used.{used_if};
 
 mod counts;
+mod freeing;
 mod granules;
 mod holding;
 mod settling;

@@ -16,6 +16,8 @@ fn main() -> Result<(), Refused> {
         }
     }
     println!("word 8200 is loader {:?}'s, word 100000 {:?}", metaspace.holder(8200), metaspace.holder(100000));
+    metaspace.free_block(1, 0, 100)?;
+    println!("100 words at 0 once more: {:?}", metaspace.free_block(1, 0, 100).err().map(|refused| refused.status));
     println!("600000 words: {:?}", metaspace.alloc(1, 3, 600000).err());
     println!("committed granules: {}, {:?}", metaspace.counts().granules, metaspace.granules(0, 2));
     // The system goes to another thread, which ends a loader, and comes back.

@@ -32,6 +32,7 @@ mod ffi {
         pub fn nizgrabul_new_loader(handle: *mut Handle, loader: u16, kind: u32) -> Answer;
         pub fn nizgrabul_unload(handle: *mut Handle, loader: u16) -> Answer;
         pub fn nizgrabul_alloc(handle: *mut Handle, loader: u16, block: u32, words: u64) -> Answer;
+        pub fn nizgrabul_free_block(handle: *mut Handle, loader: u16, start: u64, words: u64) -> Answer;
         pub fn nizgrabul_purge(handle: *mut Handle) -> Answer;
         pub fn nizgrabul_counts(handle: *mut Handle, out: *mut super::Counts) -> u32;
         pub fn nizgrabul_holder(handle: *mut Handle, word: u64) -> Answer;
@@ -118,6 +119,11 @@ impl Metaspace {
     /// Allocates a block, and answers the word where it starts.
     pub fn alloc(&mut self, loader: u16, block: u32, words: u64) -> Result<u64, Refused> {
         served(unsafe { ffi::nizgrabul_alloc(&mut self.0, loader, block, words) })
+    }
+
+    /// Frees the block that starts there and has so many words.
+    pub fn free_block(&mut self, loader: u16, start: u64, words: u64) -> Result<(), Refused> {
+        served(unsafe { ffi::nizgrabul_free_block(&mut self.0, loader, start, words) }).map(|_| ())
     }
 
     /// Gives back unused nodes, and answers how many.

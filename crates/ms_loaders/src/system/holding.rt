@@ -14,6 +14,8 @@ impl System {
     /// it is found. This project's choice.
     pub fn holder(&self, word: u64) -> Option<u16>
         ensures held { IfSome result (λ name. IsTrue (holds self.now name word)) }
+        ensures only { IfSome result
+            (λ name. (other : ℕ) → IsTrue (holds self.now other word) → other ≡ name) }
         ensures none { IfNone result ((name : ℕ) → IsFalse (holds self.now name word)) }
     {
         for (name, loader) in self.loaders.iter() {
