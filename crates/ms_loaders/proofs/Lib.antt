@@ -8,14 +8,14 @@ mod LoaderSpaceLemmas
 mod LoaderAllocLemmas
 pub mod OutcomeLemmas
 pub mod AlikeLemmas
-mod AskedLemmas
+pub mod AskedLemmas
 pub mod FitLemmas
 mod HolderLemmas
 mod OneHolderLemmas
 mod FindingLemmas
 pub mod ServedLemmas
-mod StepLemmas
-mod CauseLemmas
+pub mod StepLemmas
+pub mod CauseLemmas
 pub mod AllocStepLemmas
 mod RunLemmas
 pub mod CallLemmas

@@ -12,6 +12,7 @@ mod GatherLemmas
 mod PhaseSettleLemmas
 mod MergeLemmas
 mod OrderLemmas
+mod machine
 mod PhaseLemmas
 mod OwnStepLemmas
 mod AloneLemmas

@@ -15,7 +15,7 @@ use Rattle.ms_base.specs.declared.step.Step.{Step}
 use Rattle.ms_base.specs.declared.step.Step.TheVariants.{Purge}
 use Rattle.ms_base.specs.declared.step.Reply.{Reply}
 use Rattle.ms_base.specs.declared.step.Reply.TheVariants.{Ok as Done}
-use Rattle.ms_base.specs.Names.{named}
+use Rattle.ms_base.specs.Names.{named, AreNamed}
 use Rattle.ms_base.specs.Request.{loader_of, is_name}
 use Rattle.ms_base.specs.State.{LoaderState, Machine}
 use Rattle.ms_base.specs.Good.{IsGood}
@@ -23,8 +23,7 @@ use Rattle.ms_base.specs.Alone.{OwnLoader, OwnReplies}
 use Rattle.ms_trace.specs.declared.trace.Line.{Line}
 use Rattle.ms_loaders.specs.declared.replies.Answer.{Answer}
 use Rattle.ms_loaders.specs.Loader.{LoaderView}
-use Rattle.ms_loaders.specs.System.{states_of, machine_of}
-use Rattle.ms_loaders.specs.Settles.{MaySettle}
+use Rattle.ms_loaders.specs.System.{states_of, machine_of, AreTogether}
 use Rattle.std.proofs.lemmas.List.{length-map}
 use Rattle.ms_shared.specs.History.{Event, Logged, events_of, AreBelow}
 use Rattle.ms_shared.specs.SeatView.{LockState, SeatState}
@@ -32,8 +31,9 @@ use Rattle.ms_run.specs.Acts.{events_by}
 use Rattle.ms_run.specs.Joined.{IsMadeFrom, seat_of}
 use Rattle.ms_run.specs.Own.{Said, own_said, own_of, own_in, OwnRun, ArePurged}
 use Rattle.ms_run.specs.Manned.{IsManned}
-use Rattle.ms_run.specs.Replay.{AreSaid, IsPhase, GoesOn, runs, by_workers}
+use Rattle.ms_run.specs.Replay.{AreSaid, IsOneRun, IsPhase, GoesOn, runs}
 use Rattle.ms_run.proofs.OrderLemmas.{HasPart, IsOrdered, ordered}
+use Rattle.ms_run.proofs.machine.WholeLemmas.{one_run}
 use Rattle.ms_run.specs.Shares.{AreAt}
 use Rattle.std.specs.Prelude.{slice_index_or}
 use Rattle.ms_run.proofs.AloneLemmas.{AddsFirst}
@@ -258,30 +258,21 @@ pub phase_of : (place : Place) (shared : LockState) (shares others : List Share)
     (loaders : List (ℕ × LoaderView)) (old new : Machine)
     → old.loaders ≡ states_of loaders → AreDealt place shared shares lines loaders → AllWorked shares others
     → AreSaid lines added said → AreMerged place others said → IsGathered place others new.loaders → IsGood new
-    → old ≡ machine_of shared.first loaders → MaySettle shared.first loaders → IsMadeFrom shared.first others new
+    → old ≡ machine_of shared.first loaders → AreTogether shared.first loaders → IsMadeFrom shared.first others new
     → new.limits ≡ old.limits
     → IsPhase old lines added new
 phase_of place shared shares others lines added said loaders old new old_is dealt all said_are merged gathered good
-    machine fits made limits = record {
+    machine together made limits = record {
       said = said;
       said_are = said_are;
       own = own;
       purges = purges;
-      leads = by_workers said new (record {
-        first = shared.first;
-        last = made.last;
-        begins = record { loaders = loaders; machine = machine; fits = fits };
-        ends = made.ends;
-        place = place;
-        before = before;
-        after = after;
-        within = λ name. omega (arith, many, same_count shares others all, dealt.within name);
-        begins_at = λ at less. begins_at at (done_at at less);
-        ends_at = λ at less. ends_at at (done_at at less);
-        order = woven.order;
-        runs = woven.runs;
-        keeps = woven.keeps;
-      });
+      one_run = subst (λ (m : Machine). IsOneRun m said new) (sym machine)
+          (subst (λ (m : Machine). IsOneRun (machine_of shared.first loaders) said m) (sym made.ends.machine)
+          (one_run place shared.first made.last before after loaders made.ends.loaders said woven.order together
+          (λ name. omega (arith, many, same_count shares others all, dealt.within name))
+          (λ at less. begins_at at (done_at at less)) (λ at less. ends_at at (done_at at less)) woven.runs woven.keeps
+          (subst (λ (m : Machine). AreNamed m.loaders) made.ends.machine good.names)));
       good = good;
       limits = limits;
     }
@@ -418,13 +409,13 @@ pub ended : (place : Place) (shared : LockState) (shares others : List Share) (l
     → old.loaders ≡ states_of loaders → AreDealt place shared shares lines loaders → AllWorked shares others
     → Merges place others lines before after
     → ((where_to : Place) → AreApart where_to others → IsGathered where_to others new.loaders) → IsGood new
-    → old ≡ machine_of shared.first loaders → MaySettle shared.first loaders → IsMadeFrom shared.first others new
+    → old ≡ machine_of shared.first loaders → AreTogether shared.first loaders → IsMadeFrom shared.first others new
     → new.limits ≡ shared.first.limits → shared.first.limits ≡ old.limits → Adds lines before after old new
-ended place shared shares others lines before after loaders old new old_is dealt all merges gathered good machine fits made
+ended place shared shares others lines before after loaders old new old_is dealt all merges gathered good machine together made
     limits same = (
       merges.0,
       merges.2,
       goes_on lines merges.0 old new
           (phase_of place shared shares others lines merges.0 merges.1 loaders old new old_is dealt all merges.3 merges.4
-          (gathered place (still_apart place shares others lines dealt.apart dealt.tasks all)) good machine fits made (limits ∙ same)),
+          (gathered place (still_apart place shares others lines dealt.apart dealt.tasks all)) good machine together made (limits ∙ same)),
     )

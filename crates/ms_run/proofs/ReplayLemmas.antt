@@ -42,7 +42,7 @@ use Rattle.ms_loaders.specs.declared.replies.Answer.{Answer}
 use Rattle.ms_run.specs.Own.{Said, own_said, own_in, OwnRun}
 use Rattle.ms_run.specs.Metering.{used_words_of}
 use Rattle.ms_run.specs.Replay.{Advances, Reports, Answers, IsPhase, IsEnd, GoesOn, IsReplay, Replays, starts}
-use Rattle.ms_run.specs.Replay.{runs, ends, by_step}
+use Rattle.ms_run.specs.Replay.{runs, ends}
 use Rattle.ms_run.specs.Shares.{AreSteps}
 use Rattle.ms_run.proofs.OwnStepLemmas.{IsOwn, transition_own, transition_others, transition_limits, transition_good}
 use Rattle.ms_run.proofs.OwnStepLemmas.{purge_done}
@@ -96,7 +96,14 @@ phase_of_step old new line answer step asks number told report good = record {
       (transition_own old new step answer.reply good told name) (transition_others old new step answer.reply told name);
   purges = All-from_recursion (λ (s : Said). s.0 ≡ Purge → s.1 ≡ Done) ((step, answer.reply) ∷ [])
       (purge_done old new step answer.reply told, tt);
-  leads = by_step step answer.reply new told;
+  one_run = record {
+    place = λ name. 0;
+    workers = 1;
+    within = λ name. omega arith;
+    order = (step, answer.reply) ∷ [];
+    keeps = λ at less. refl;
+    run = (new, told, refl);
+  };
   good = transition_good old new step answer.reply told good;
   limits = transition_limits old new step answer.reply told;
 }

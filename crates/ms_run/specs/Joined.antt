@@ -8,7 +8,8 @@ use Rattle.ms_loaders.specs.Loader.{LoaderView}
 use Rattle.ms_base.specs.State.{Machine}
 use Rattle.ms_pool.specs.Ledger.{Ledger}
 use Rattle.ms_shared.specs.SeatView.{SeatState, IsHistory}
-use Rattle.ms_run.specs.Replay.{IsMachineOf}
+use Rattle.ms_loaders.specs.System.{machine_of}
+use Rattle.ms_loaders.specs.Settles.{MaySettle}
 use Rattle.ms_run.specs.Shares.{Place, AreApart, AreHere}
 use Rattle.ms_run.specs.declared.share.Share.{Share}
 
@@ -30,6 +31,12 @@ AreJoined old (share ∷ shares) new =
 
 abbrev pub seat_of : Share → SeatState
 seat_of share = share.seat
+
+-- The state is this pool's and of loaders that it serves.
+pub record IsMachineOf (pool : Ledger) (state : Machine) : Type 0 where
+  pub loaders : List (ℕ × LoaderView)
+  pub machine : state ≡ machine_of pool loaders
+  pub fits : MaySettle pool loaders
 
 -- A state whose pool the one history of all shares' events makes of a first one, with their loaders.
 pub record IsMadeFrom (first : Ledger) (shares : List Share) (state : Machine) : Type 0 where

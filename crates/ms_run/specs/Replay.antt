@@ -1,7 +1,6 @@
 -- What a replay answers, whatever the number of workers and their order (this project's choice).
 use Rattle.std.specs.List.{filter}
-use Rattle.std.specs.Prelude.{length, slice_index_or}
-use Rattle.std.specs.Prelude.{◌≡◌, ◌<◌, ◌==◌, ℕ, ⊤, List, [], ◌∷◌, ◌++◌, Option, Some, None, Box}
+use Rattle.std.specs.Prelude.{◌≡◌, ◌<◌, ◌==◌, ℕ, ⊤, List, [], ◌∷◌, ◌++◌, Option, Some, None, Box, map}
 use Rattle.std.specs.declared.alloc.Global.{Global}
 use Rattle.ms_base.specs.declared.step.Step.{Step}
 use Rattle.ms_base.specs.declared.step.Reply.{Reply}
@@ -10,6 +9,7 @@ use Rattle.ms_base.specs.State.{Limits, Machine, empty_machine}
 use Rattle.ms_base.specs.Good.{IsGood}
 use Rattle.ms_base.specs.Totals.{sums_of}
 use Rattle.ms_base.specs.Transition.{Transition}
+use Rattle.ms_base.specs.Run.{Run}
 use Rattle.ms_trace.specs.declared.trace.Command.{Command}
 use Rattle.ms_trace.specs.declared.trace.Command.TheVariants.{Step as Asks, Sync, Report}
 use Rattle.ms_trace.specs.declared.trace.Line.{Line}
@@ -17,14 +17,8 @@ use Rattle.ms_trace.specs.Steps.{step_of}
 use Rattle.ms_loaders.specs.declared.totals.Totals.{Totals}
 use Rattle.ms_loaders.specs.declared.replies.Answer.{Answer}
 use Rattle.ms_loaders.specs.Sums.{sums_in}
-use Rattle.ms_pool.specs.Ledger.{Ledger}
-use Rattle.ms_loaders.specs.Loader.{LoaderView}
-use Rattle.ms_loaders.specs.System.{machine_of}
-use Rattle.ms_loaders.specs.Settles.{MaySettle}
-use Rattle.ms_shared.specs.Weaving.{of, Runs}
 use Rattle.ms_base.specs.Request.{loader_of}
-use Rattle.ms_run.specs.Acts.{seen, IsStep}
-use Rattle.ms_run.specs.Shares.{Place, AreWithin, AreAt}
+use Rattle.ms_run.specs.Shares.{Place, AreWithin}
 use Rattle.ms_run.specs.Own.{Said, own_said, own_in, OwnRun, ArePurged}
 use Rattle.ms_run.specs.declared.fault.RunFault.{RunFault}
 use Rattle.ms_run.specs.declared.fault.RunFault.TheVariants.{Unsettled}
@@ -62,47 +56,28 @@ AreSaid (line ∷ lines) (answer ∷ answers) (s ∷ said) =
     × AreSaid lines answers said
 AreSaid _ _ _ = ⊥
 
--- The state is this pool's and of loaders that it serves.
-pub record IsMachineOf (pool : Ledger) (state : Machine) : Type 0 where
-  pub loaders : List (ℕ × LoaderView)
-  pub machine : state ≡ machine_of pool loaders
-  pub fits : MaySettle pool loaders
-
--- Some workers said it, each what its loaders or a purge were asked. There is one order of all that was
--- said, which keeps each worker's, and in which each line is one step on what is seen of the pool, from
--- the pool of the old state and each worker's loaders to those of the new one.
-pub record HasOrder (old : Machine) (said : List Said) (new : Machine) : Type 0 where
-  pub first : Ledger
-  pub last : Ledger
-  pub begins : IsMachineOf first old
-  pub ends : IsMachineOf last new
+-- Some workers said it, each what its place's loaders or a purge were asked. All that was said has one
+-- order, in which each worker's lines stand as they were said, and in that order it is one run of the
+-- machine.
+pub record IsOneRun (old : Machine) (said : List Said) (new : Machine) : Type 0 where
   pub place : Place
-  pub before : List (List (ℕ × LoaderView))
-  pub after : List (List (ℕ × LoaderView))
-  pub within : AreWithin place (length before)
-  pub begins_at : (at : ℕ) → at < length before → AreAt place at begins.loaders (slice_index_or before at [])
-  pub ends_at : (at : ℕ) → at < length before → AreAt place at ends.loaders (slice_index_or after at [])
-  pub order : List (ℕ × Said)
-  pub runs : Runs IsStep [] (seen first, before) order (seen last, after)
-  pub keeps : (at : ℕ) → at < length before
-      → of at order ≡ filter (λ (s : Said). place (loader_of s.0) == at) said
-
--- What was said leads from one state to another: one step is a transition of the machine, and steps of
--- several workers have one order.
-pub data Leads (old : Machine) : List Said → Machine → Type 0 where
-  by_step : (step : Step) (reply : Reply) (new : Machine) → Transition old step reply new
-      → Leads old ((step, reply) ∷ []) new
-  by_workers : (said : List Said) (new : Machine) → HasOrder old said new → Leads old said new
+  pub workers : ℕ
+  pub within : AreWithin place workers
+  pub order : List Said
+  pub keeps : (at : ℕ) → at < workers
+      → filter (λ (s : Said). place (loader_of s.0) == at) order
+      ≡ filter (λ (s : Said). place (loader_of s.0) == at) said
+  pub run : Run old (map (λ (s : Said). s.0) order) (map (λ (s : Said). s.1) order) new
 
 -- A phase from one good state to another with the same limits. The replies to each loader's lines
 -- are its own: they follow from its lines and from which of them were refused for want, and leave
--- what the new state has of it. Each purge is done. What was said leads from the old pool to the new.
+-- what the new state has of it. Each purge is done. All of it, in some order, is one run of the machine.
 pub record IsPhase (old : Machine) (lines : List Line) (answers : List Answer) (new : Machine) : Type 0 where
   pub said : List Said
   pub said_are : AreSaid lines answers said
   pub own : (name : ℕ) → OwnRun (own_in old.loaders name) (own_said name said) (own_in new.loaders name)
   pub purges : ArePurged said
-  pub leads : Leads old said new
+  pub one_run : IsOneRun old said new
   pub good : IsGood new
   pub limits : new.limits ≡ old.limits
 

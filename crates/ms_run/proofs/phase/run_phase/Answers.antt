@@ -3,8 +3,7 @@ use Rattle.std.proofs.lemmas.List.{length-map}
 use Rattle.ms_base.specs.State.{Machine}
 use Rattle.ms_pool.specs.Ledger.{Ledger}
 use Rattle.ms_run.specs.Metering.{used_words_of, meter_of}
-use Rattle.ms_loaders.specs.System.{machine_of}
-use Rattle.ms_loaders.specs.Settles.{MaySettle}
+use Rattle.ms_loaders.specs.System.{machine_of, AreTogether}
 use Rattle.ms_run.specs.Turn.{place_in}
 use Rattle.ms_run.specs.Shares.{place_for}
 use Rattle.ms_run.proofs.StandByLemmas.{same_tasks}
@@ -77,8 +76,8 @@ returns-clause-phase g c =
     c.in_ok-system.ensures.gathered c.in_ok-system.ensures.good
     (sym c.into_parts-pool.ensures.machine
     ∙ ap (λ (l : Ledger). machine_of l c.into_parts-pool.result.1) (sym c.in_ok-shared.ensures.first))
-    (subst (λ (l : Ledger). MaySettle l c.into_parts-pool.result.1) (sym c.in_ok-shared.ensures.first)
-    c.into_parts-pool.ensures.fits)
+    (subst (λ (l : Ledger). AreTogether l c.into_parts-pool.result.1) (sym c.in_ok-shared.ensures.first)
+    c.into_parts-pool.ensures.together)
     c.in_ok-system.ensures.history c.in_ok-system.ensures.limits
     (ap (λ (l : Ledger). l.limits) c.in_ok-shared.ensures.first
     ∙ ap (λ (m : Machine). m.limits) c.into_parts-pool.ensures.machine)
