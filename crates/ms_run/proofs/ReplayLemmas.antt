@@ -23,6 +23,7 @@ use Rattle.ms_base.specs.Spaces.{class_slots, IsSlotOf}
 use Rattle.ms_base.specs.Committed.{is_committed_now, granules_of}
 use Rattle.std.proofs.Math.Seq.{take-add, take-length}
 use Rattle.std.proofs.lemmas.List.{append-nil, take_more, take_rest, length-drop, get_or-drop}
+use Rattle.std.proofs.lemmas.List.Sorted.{IsPermutation-refl}
 use Rattle.std.proofs.lemmas.List.Elements.{All-from_recursion, All-nil, All-append}
 use Rattle.std.proofs.lemmas.Option.{get_or_from_slice_get, slice_get_past, slice_get-get_or}
 use Rattle.ms_base.specs.declared.step.Step.{Step}
@@ -101,6 +102,7 @@ phase_of_step old new line answer step asks number told report good = record {
     workers = 1;
     within = λ name. omega arith;
     order = (step, answer.reply) ∷ [];
+    permutes = IsPermutation-refl ((step, answer.reply) ∷ []);
     keeps = λ at less. refl;
     run = (new, told, refl);
   };

@@ -5,4 +5,5 @@ pub mod EventGoesLemmas
 pub mod AllocFilledLemmas
 pub mod AllocGoesLemmas
 pub mod StepGoesLemmas
+pub mod PartsLemmas
 pub mod WholeLemmas

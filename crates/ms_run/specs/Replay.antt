@@ -1,5 +1,6 @@
 -- What a replay answers, whatever the number of workers and their order (this project's choice).
 use Rattle.std.specs.List.{filter}
+use Rattle.std.specs.List.Sorted.{IsPermutation}
 use Rattle.std.specs.Prelude.{◌≡◌, ◌<◌, ◌==◌, ℕ, ⊤, List, [], ◌∷◌, ◌++◌, Option, Some, None, Box, map}
 use Rattle.std.specs.declared.alloc.Global.{Global}
 use Rattle.ms_base.specs.declared.step.Step.{Step}
@@ -64,6 +65,7 @@ pub record IsOneRun (old : Machine) (said : List Said) (new : Machine) : Type 0 
   pub workers : ℕ
   pub within : AreWithin place workers
   pub order : List Said
+  pub permutes : IsPermutation order said
   pub keeps : (at : ℕ) → at < workers
       → filter (λ (s : Said). place (loader_of s.0) == at) order
       ≡ filter (λ (s : Said). place (loader_of s.0) == at) said

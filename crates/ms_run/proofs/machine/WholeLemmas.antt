@@ -34,6 +34,7 @@ use Rattle.ms_run.specs.Replay.{IsOneRun}
 use Rattle.ms_run.proofs.machine.FilledLemmas.{filled, filled_sound, AreWhole}
 use Rattle.ms_run.proofs.machine.GoesLemmas.{GoesTo}
 use Rattle.ms_run.proofs.machine.StepGoesLemmas.{step_goes}
+use Rattle.ms_run.proofs.machine.PartsLemmas.{same_elements}
 
 -- A new loader is sound.
 no_chunks : (space : Space) → AreChunks space []
@@ -262,6 +263,9 @@ module _ (place : Place) (first last : Ledger)
         workers = length before;
         within = within;
         order = without_numbers order;
+        permutes =
+            same_elements (λ (s : Said). place (loader_of s.0)) (length before) (λ s. within (loader_of s.0))
+            (without_numbers order) said (λ at less. kept_there place at order placed ∙ keeps at less);
         keeps = λ at less. kept_there place at order placed ∙ keeps at less;
         run = subst (λ (l : List (ℕ × LoaderState)). Run (machine_of first loaders)
             (map (λ (s : Said). s.0) (without_numbers order)) (map (λ (s : Said). s.1) (without_numbers order))
