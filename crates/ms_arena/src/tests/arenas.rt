@@ -186,3 +186,16 @@ fn an_allocation_that_is_refused_leaves_the_arena(rt: HostRuntime) {
     assert_eq!(&rt; arena.used(), 8192);
     assert_eq!(&rt; arena.account().held(), 1);
 }
+
+/// Each call is asked once, so want of memory where there is some fails here.
+#[test]
+fn calls_that_find_memory_are_served_at_once(rt: HostRuntime) {
+    let mut pool = pool_of(&rt, Settings::DEFAULT);
+    let mut arena = first_arena(&rt, &mut pool, Kind::Standard, Settings::DEFAULT);
+    assert_eq!(&rt; arena.place(10), Ok(None));
+    assert_eq!(&rt; arena.alloc(&mut pool, 10), Ok(block(0, 10)));
+    assert_eq!(&rt; arena.place(10), Ok(Some(block(10, 10))));
+    assert_eq!(&rt; arena.free(block(0, 10)), Ok(()));
+    assert_eq!(&rt; arena.place(4), Ok(Some(block(0, 4))));
+    assert_eq!(&rt; arena.place(600), Ok(None));
+}
