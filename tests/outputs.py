@@ -3,6 +3,8 @@ from typing import NamedTuple
 
 from claims import expect
 
+AMOUNTS = ("reserved", "committed", "used", "live", "free blocks", "waste")
+USAGES = (b"Usage", b"Class usage", b"Usage of both")
 LABELS = ("loaders", "nodes", "reserved", "granules", "committed", "chunks", "capacity", "fronts", "used", "live",
           "free blocks", "waste")
 NODE_WORDS = 1048576
@@ -24,10 +26,12 @@ class Space(NamedTuple):
 
 
 class Report(NamedTuple):
-    """A report: its spaces, the class space second where there is one, and the loaders' rows."""
+    """A report: its spaces, the class space second where there is one, the loaders' rows, and of a full report the usages:
+    each amount's words, size and share by its label, of the space, the class space and both."""
 
     spaces: list
     loaders: list
+    usages: list
 
 
 def answers_of(output):
@@ -63,6 +67,20 @@ def level_lines(lines, title):
     return [row[1:] for row in table]
 
 
+def usages_of(lines):
+    """Reads the usages of a full report."""
+    usages = []
+    while lines:
+        expect(lines.pop(0) == USAGES[len(usages)], "a usage has another title")
+        expect(lines.pop(0).split() == [b"words", b"size", b"per", b"cent"], "a usage has other headings")
+        usages.append({})
+        for label in AMOUNTS:
+            line = lines.pop(0).decode()
+            expect(line[:14].strip() == label, "a usage's line of", label, "is", line)
+            usages[-1][label] = line[14:].split()
+    return usages
+
+
 def report_of(lines):
     """Reads a report."""
     lines = list(lines)
@@ -73,8 +91,11 @@ def report_of(lines):
         spaces.append(Space(number_lines(lines, LABELS[1:]), level_lines(lines, b"Class chunks by level")))
     expect(lines.pop(0) == b"Loaders", "no line Loaders")
     lines.pop(0)
-    rows = [line.decode().split() for line in lines]
-    return Report(spaces, [(int(name), kind, *map(int, rest)) for name, kind, *rest in rows])
+    rows = []
+    while lines and lines[0] != USAGES[0]:
+        rows.append(lines.pop(0).decode().split())
+    loaders = [(int(name), kind, *map(int, rest)) for name, kind, *rest in rows]
+    return Report(spaces, loaders, usages_of(lines))
 
 
 def reports_of(answers):

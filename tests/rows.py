@@ -2,7 +2,8 @@
 
 In a file of rows/ a line without indent is a test's name; the indented lines below it are its commands in their order.
 Two spaces or more stand before the answer. Behind `report` stand the numbers that the report must have, by their
-labels, with `class` before those of the class space. A line `with ..` has options, and `#` begins a remark. Where the
+labels, with `class` before those of the class space; or, where it is a full one, amounts of a usage, each with its
+words, size and share: `usage used 10 0.0 KB 0.1`, with `class` or `both` before it. A line `with ..` has options, and `#` begins a remark. Where the
 options ask for workers, the answers are the same for each number of them.
 """
 import os
@@ -36,11 +37,23 @@ def rows_of(file):
 def expect_numbers(report, told):
     """Fails the test where the report lacks a number of those told, as in `nodes 1, class used 10`."""
     for fact in told.split(", "):
+        if "usage " in fact:
+            expect_amount(report, fact)
+            continue
         label, _, number = fact.rpartition(" ")
         of_class = label.startswith("class ")
         numbers = report.spaces[1 if of_class else 0].numbers
         found = numbers[label.removeprefix("class ")]
         expect(found == int(number), label, "is", found, "and not", number)
+
+
+def expect_amount(report, fact):
+    """Fails the test where a full report lacks an amount that is told, as in `class usage used 10 0.0 KB 0.1`."""
+    whose, _, amount = fact.rpartition("usage ")
+    expect(len(report.usages) == (3 if len(report.spaces) > 1 else 1), "so many usages:", len(report.usages))
+    *label, words, size, unit, share = amount.split()
+    found = report.usages[("", "class ", "both ").index(whose)][" ".join(label)]
+    expect(found == [words, size, unit, share], fact, "is", found)
 
 
 def is_answered_so(bench, options, rows):

@@ -1,6 +1,6 @@
 -- The command line is one of which `clap` says what it finds and what it refuses; and what it finds
 -- where there is no option. Used by `options_of`.
-use Rattle.std.proofs.Common.{◌≡◌, ◌≤◌, ◌⊎◌, List, [], ◌∷◌, Some, None, true, refl, sym, ap, ◌∙◌, arith, inl, inr}
+use Rattle.std.proofs.Common.{◌≡◌, ◌≤◌, ◌⊎◌, List, [], ◌∷◌, Some, None, true, refl, sym, ap, ap₂, ◌∙◌, arith, inl, inr}
 use Rattle.std.proofs.Common.{codes, length, subst, Result, Ok, Err}
 use Rattle.std.specs.Prelude.{IfOk, map}
 use Rattle.std.specs.Borrow.{Bor}
@@ -8,30 +8,34 @@ use Rattle.clap.specs.Words.{App, Row, Text, IsAmong, fault_of, first_of, is_sim
 use Rattle.clap.specs.Words.{one_of}
 use Rattle.clap.specs.declared.error.kind.ErrorKind.{ErrorKind}
 use Rattle.clap.specs.declared.error.kind.ErrorKind.TheVariants.{DisplayHelp, DisplayVersion, OutOfMemory}
-use Rattle.metarun.proofs.OptionLemmas.{number_unasked, policy_unasked}
+use Rattle.metarun.proofs.OptionLemmas.{detail_unasked, number_unasked, policy_unasked}
 use Rattle.clap.proofs.OnLiterals.{clap_on_literals}
 use Rattle.metarun.specs.declared.options.Options.{Options}
 use Rattle.metarun.specs.declared.options.Refused.{Refused}
 use Rattle.metarun.specs.Asked.{AreAsked, AreRead, IsAllowed, IsDefault}
-use Rattle.metarun.specs.CommandLine.{AskToBeTold, IsCommandLine, IsShown, Policies, line_with, policy_rule}
+use Rattle.metarun.specs.CommandLine.{AskToBeTold, Choices, IsCommandLine, IsShown, choice_rule, line_with}
 
-line_is_simple : (policies : Policies) → is_simple (line_with (policy_rule policies)) ≡ true
+-- The command line with the words of its choices.
+abbrev line_of : Choices → Choices → App
+line_of policies reports = line_with (choice_rule (codes "policy") policies) (choice_rule (codes "report") reports)
+
+line_is_simple : (policies reports : Choices) → is_simple (line_of policies reports) ≡ true
 unfolding clap_on_literals
-line_is_simple policies = refl
+line_is_simple policies reports = refl
 
-line_is_free : (policies : Policies) → is_simple_and_free (line_with (policy_rule policies)) ≡ true
+line_is_free : (policies reports : Choices) → is_simple_and_free (line_of policies reports) ≡ true
 unfolding clap_on_literals
-line_is_free policies = refl
+line_is_free policies reports = refl
 
-is_line : (app : App) (line : IsCommandLine app) → app ≡ line_with (policy_rule line.policy_is.policies)
-is_line app line = line.is ∙ ap line_with line.policy_is.is
+is_line : (app : App) (line : IsCommandLine app) → app ≡ line_of line.policy_is.choices line.report_is.choices
+is_line app line = line.is ∙ ap₂ line_with line.policy_is.is line.report_is.is
 
 -- Its matches are known, and so are its faults.
 pub is_matched : (app : App) → IsCommandLine app → is_simple app ≡ true
-is_matched app line = ap is_simple (is_line app line) ∙ line_is_simple line.policy_is.policies
+is_matched app line = ap is_simple (is_line app line) ∙ line_is_simple line.policy_is.choices line.report_is.choices
 
 pub is_judged : (app : App) → IsCommandLine app → is_simple_and_free app ≡ true
-is_judged app line = ap is_simple_and_free (is_line app line) ∙ line_is_free line.policy_is.policies
+is_judged app line = ap is_simple_and_free (is_line app line) ∙ line_is_free line.policy_is.choices line.report_is.choices
 
 -- A kind that is for standard output is no want of memory, so it is the first fault.
 pub first_is_shown : (words : List Text) (app : App) (kind : ErrorKind) → IsCommandLine app → IsShown kind
@@ -44,18 +48,18 @@ first_is_shown words app kind line shown (inr first) =
     record { app = app; line = line; kind = kind; shown = shown; first = first }
 
 -- What is found without an option: that addresses are not asked for.
-found_nowhere : {X : Type 0} (policies : Policies) (text : X → Text) (words : List X) → length words ≤ 1
-    → (one_of (codes "workers") (matches_of (line_with (policy_rule policies)) (map text words)) ≡ None)
-    × (one_of (codes "nodes") (matches_of (line_with (policy_rule policies)) (map text words)) ≡ None)
-    × (one_of (codes "max-granules") (matches_of (line_with (policy_rule policies)) (map text words)) ≡ None)
-    × (one_of (codes "class-nodes") (matches_of (line_with (policy_rule policies)) (map text words)) ≡ None)
-    × (first_of (codes "policy") (matches_of (line_with (policy_rule policies)) (map text words)) ≡ None)
-    × (one_of (codes "addresses") (matches_of (line_with (policy_rule policies)) (map text words))
-    ≡ Some (codes "false"))
+found_nowhere : {X : Type 0} (policies reports : Choices) (text : X → Text) (words : List X) → length words ≤ 1
+    → (one_of (codes "workers") (matches_of (line_of policies reports) (map text words)) ≡ None)
+    × (one_of (codes "nodes") (matches_of (line_of policies reports) (map text words)) ≡ None)
+    × (one_of (codes "max-granules") (matches_of (line_of policies reports) (map text words)) ≡ None)
+    × (one_of (codes "class-nodes") (matches_of (line_of policies reports) (map text words)) ≡ None)
+    × (first_of (codes "policy") (matches_of (line_of policies reports) (map text words)) ≡ None)
+    × (first_of (codes "report") (matches_of (line_of policies reports) (map text words)) ≡ None)
+    × (one_of (codes "addresses") (matches_of (line_of policies reports) (map text words)) ≡ Some (codes "false"))
 unfolding clap_on_literals
-found_nowhere policies text [] few = (refl, refl, refl, refl, refl, refl)
-found_nowhere policies text (name ∷ []) few = (refl, refl, refl, refl, refl, refl)
-found_nowhere policies text (name ∷ word ∷ words) few = absurd (omega (arith, few))
+found_nowhere policies reports text [] few = (refl, refl, refl, refl, refl, refl, refl)
+found_nowhere policies reports text (name ∷ []) few = (refl, refl, refl, refl, refl, refl, refl)
+found_nowhere policies reports text (name ∷ word ∷ words) few = absurd (omega (arith, few))
 
 -- A value that is kept somewhere.
 abbrev somewhere : {X : Type 0} → X → Bor X
@@ -66,13 +70,16 @@ pub default_is_asked : {X : Type 0} (text : X → Text) (words : List X) (option
     → IsDefault options → IsAllowed options → AreAsked (map text words) options
 default_is_asked text words options few default allowed =
     let policies = somewhere (map somewhere (codes "balanced" ∷ codes "aggressive" ∷ codes "none" ∷ [])) in
-    let rows = matches_of (line_with (policy_rule policies)) (map text words) in
-    let found = found_nowhere policies text words few in
+    let reports = somewhere (map somewhere (codes "basic" ∷ codes "full" ∷ [])) in
+    let rows = matches_of (line_of policies reports) (map text words) in
+    let found = found_nowhere policies reports text words few in
     record {
-      app = line_with (policy_rule policies);
+      app = line_of policies reports;
       line = record {
-        policy = policy_rule policies;
-        policy_is = record { policies = policies; words = refl; is = refl };
+        policy = choice_rule (codes "policy") policies;
+        policy_is = record { choices = policies; told = refl; is = refl };
+        report = choice_rule (codes "report") reports;
+        report_is = record { choices = reports; told = refl; is = refl };
         is = refl;
       };
       allowed = allowed;
@@ -85,8 +92,9 @@ default_is_asked text words options few default allowed =
         addresses = record {
           absent = λ _. default.addresses;
           unused = λ _. default.addresses;
-          used = λ used. let both : Some (codes "false") ≡ Some (codes "true") = sym found.5 ∙ used in absurd (cc);
+          used = λ used. let both : Some (codes "false") ≡ Some (codes "true") = sym found.6 ∙ used in absurd (cc);
         };
+        detail = detail_unasked rows _ found.5 default.detail;
       };
     }
 

@@ -1,15 +1,15 @@
 -- What was read is the beginning of the input, and all of it where it reads as a trace. Used by
 -- `answer_to`.
-use Rattle.std.proofs.Common.{◌≡◌, ◌≤◌, ◌<◌, ℕ, Bool, List, ◌++◌, Option, Some, None, length, sym, subst, ap, ◌∙◌}
+use Rattle.std.proofs.Common.{◌≡◌, ◌≤◌, ◌<◌, ℕ, List, ◌++◌, Option, Some, None, length, sym, subst, ap, ◌∙◌}
 use Rattle.std.proofs.Common.{arith, inl, inr}
 use Rattle.std.specs.Prelude.{IfSome}
 use Rattle.std.specs.Io.KnownBytes.{Consumes, IsAtEnd}
 use Rattle.std.proofs.lemmas.Bool.{cases_lt}
 use Rattle.std.proofs.lemmas.List.{append-nil}
-use Rattle.ms_base.specs.declared.settings.Settings.{Settings}
 use Rattle.ms_trace.specs.declared.fault.ParseFault.{ParseFault}
 use Rattle.ms_trace.specs.declared.fault.ParseFault.TheVariants.{Trace, OutOfMemory}
 use Rattle.ms_trace.specs.Faults.{BlamesText, HasFault}
+use Rattle.metarun.specs.declared.options.Options.{Options}
 use Rattle.metarun.specs.Failure.{Blames, failure_of_parsing}
 use Rattle.metarun.specs.Session.{IsOutput}
 use Rattle.metarun.proofs.FaultLemmas.{fault_stays}
@@ -44,10 +44,10 @@ blames_whole (Some xs) (Some ys) text (Trace fault) read blames = elim (cases_lt
 ]
 
 -- The output for all of the input.
-pub outputs_whole : (old new : Option (List ℕ)) (addresses : Bool) (settings : Settings) (text written : List ℕ)
+pub outputs_whole : (old new : Option (List ℕ)) (options : Options) (text written : List ℕ)
     → IsRead old new text
-    → IsOutput addresses settings text written → IfSome old (λ bytes. IsOutput addresses settings bytes written)
-outputs_whole None new addresses settings text written read output = tt
-outputs_whole (Some xs) new addresses settings text written read output =
-    subst (λ (bytes : List ℕ). IsOutput addresses settings bytes written)
+    → IsOutput options text written → IfSome old (λ bytes. IsOutput options bytes written)
+outputs_whole None new options text written read output = tt
+outputs_whole (Some xs) new options text written read output =
+    subst (λ (bytes : List ℕ). IsOutput options bytes written)
     (sym (reads_whole (Some xs) new text read (omega (arith, reads_short text output.trace output.reads)))) output

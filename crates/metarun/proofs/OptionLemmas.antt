@@ -13,7 +13,9 @@ use Rattle.clap.specs.Words.{Row, Text, first_of, one_of}
 use Rattle.ms_base.specs.declared.policy.Policy.{Policy}
 use Rattle.ms_base.specs.declared.policy.Policy.TheVariants.{Balanced, Aggressive, None as NonePolicy}
 use Rattle.metarun.specs.declared.options.Options.{Options}
-use Rattle.metarun.specs.Asked.{IsDefault, ReadsNumber, ReadsPolicy}
+use Rattle.ms_report.specs.declared.detail.Detail.{Detail}
+use Rattle.ms_report.specs.declared.detail.Detail.TheVariants.{Basic, Full}
+use Rattle.metarun.specs.Asked.{IsDefault, ReadsDetail, ReadsNumber, ReadsPolicy}
 use Rattle.metarun.specs.Session.{IsOutput}
 
 -- The digits of a number are read as that number.
@@ -58,11 +60,28 @@ policy_given rows word chosen found balanced aggressive none = record {
   none = λ text. none (ap (λ (given : Option (List ℕ)). unwrap_or given []) (sym found ∙ text));
 }
 
+-- The same of a report's detail.
+pub detail_unasked : (rows : List Row) (chosen : Detail) → first_of (codes "report") rows ≡ None
+    → chosen ≡ Basic → ReadsDetail rows chosen
+detail_unasked rows chosen none is = record {
+  absent = λ _. is;
+  basic = λ _. is;
+  full = λ text. let both : None ≡ Some (codes "full") = sym none ∙ text in absurd (cc);
+}
+
+pub detail_given : (rows : List Row) (word : List ℕ) (chosen : Detail) → first_of (codes "report") rows ≡ Some word
+    → (word ≡ codes "basic" → chosen ≡ Basic) → (word ≡ codes "full" → chosen ≡ Full) → ReadsDetail rows chosen
+detail_given rows word chosen found basic full = record {
+  absent = λ empty. let both : None ≡ Some word = sym empty ∙ found in absurd (cc);
+  basic = λ text. basic (ap (λ (given : Option (List ℕ)). unwrap_or given []) (sym found ∙ text));
+  full = λ text. full (ap (λ (given : Option (List ℕ)). unwrap_or given []) (sym found ∙ text));
+}
+
 -- The options are the default ones.
 pub answered_by_default : (remaining old new : Option (List ℕ)) (options : Options) → IsDefault options
     → IfSome remaining
-    (λ bytes. (written : List ℕ) × IsOutput options.addresses options.settings bytes written × Appends old new written)
+    (λ bytes. (written : List ℕ) × IsOutput options bytes written × Appends old new written)
     → IfSome remaining (λ bytes. (chosen : Options) × (written : List ℕ) × IsDefault chosen
-    × IsOutput chosen.addresses chosen.settings bytes written × Appends old new written)
+    × IsOutput chosen bytes written × Appends old new written)
 answered_by_default None old new options default told = tt
 answered_by_default (Some bytes) old new options default told = (options, told.0, default, told.1, told.2)

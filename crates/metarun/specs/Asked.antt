@@ -4,6 +4,8 @@ use Rattle.std.specs.Fmt.{decimal}
 use Rattle.clap.specs.Words.{App, Row, Text, first_of, matches_of, one_of}
 use Rattle.ms_base.specs.declared.policy.Policy.{Policy}
 use Rattle.ms_base.specs.declared.policy.Policy.TheVariants as policy
+use Rattle.ms_report.specs.declared.detail.Detail.{Detail}
+use Rattle.ms_report.specs.declared.detail.Detail.TheVariants.{Basic, Full}
 use Rattle.metarun.specs.CommandLine.{IsCommandLine}
 use Rattle.metarun.specs.declared.options.Options.{Options}
 use Rattle.metarun.specs.declared.options.Refused.{Refused}
@@ -20,7 +22,8 @@ pub record IsAllowed (options : Options) : Type 0 where
   pub granules_few : options.settings.max_granules ≤ 40960
   pub class_few : options.settings.class_nodes ≤ 16
 
--- Nothing was asked for: one worker, 64 nodes, 8192 granules, policy balanced, no class space, no addresses.
+-- Nothing was asked for: one worker, 64 nodes, 8192 granules, policy balanced, no class space, no addresses,
+-- basic reports.
 pub record IsDefault (options : Options) : Type 0 where
   pub workers : options.settings.workers ≡ 1
   pub nodes : options.settings.nodes ≡ 64
@@ -28,6 +31,7 @@ pub record IsDefault (options : Options) : Type 0 where
   pub policy : options.settings.policy ≡ policy.Balanced
   pub class_nodes : options.settings.class_nodes ≡ 0
   pub addresses : options.addresses ≡ false
+  pub detail : options.detail ≡ Basic
 
 -- A number is the one given to an option where that lies in its range, and the default where none
 -- was.
@@ -48,6 +52,12 @@ pub record ReadsPolicy (rows : List Row) (chosen : Policy) : Type 0 where
   pub aggressive : first_of (codes "policy") rows ≡ Some (codes "aggressive") → chosen ≡ policy.Aggressive
   pub none : first_of (codes "policy") rows ≡ Some (codes "none") → chosen ≡ policy.None
 
+-- A report's detail is the one whose word was given, basic where none was.
+pub record ReadsDetail (rows : List Row) (chosen : Detail) : Type 0 where
+  pub absent : first_of (codes "report") rows ≡ None → chosen ≡ Basic
+  pub basic : first_of (codes "report") rows ≡ Some (codes "basic") → chosen ≡ Basic
+  pub full : first_of (codes "report") rows ≡ Some (codes "full") → chosen ≡ Full
+
 -- The options are those that the rows give, in which `clap` has what it found for each option.
 pub record AreRead (rows : List Row) (options : Options) : Type 0 where
   pub workers : ReadsNumber rows (codes "workers") 1 8 1 options.settings.workers
@@ -56,6 +66,7 @@ pub record AreRead (rows : List Row) (options : Options) : Type 0 where
   pub class_nodes : ReadsNumber rows (codes "class-nodes") 0 16 0 options.settings.class_nodes
   pub policy : ReadsPolicy rows options.settings.policy
   pub addresses : ReadsFlag rows (codes "addresses") options.addresses
+  pub detail : ReadsDetail rows options.detail
 
 -- The options are allowed, and are those that the words of a command line ask for.
 pub record AreAsked (words : List Text) (options : Options) : Type 0 where

@@ -22,41 +22,51 @@ addresses_rule = record (new_rule (codes "addresses")) {
   action = Some SetTrue;
 }
 
--- `--policy P`, one of the words of the three policies, wherever they are kept.
-abbrev pub Policies : Type 0
-Policies = Bor (List (Bor (List ℕ)))
+-- `--name WORD`, one of some words, wherever they are kept.
+abbrev pub Choices : Type 0
+Choices = Bor (List (Bor (List ℕ)))
 
-abbrev pub policy_rule : Policies → Rule
-policy_rule policies = record (new_rule (codes "policy")) {
-  long = Some (codes "policy");
+abbrev pub choice_rule : Text → Choices → Rule
+choice_rule name choices = record (new_rule name) {
+  long = Some name;
   value_names = 1;
-  parser = Some (Names policies);
+  parser = Some (Names choices);
 }
 
-pub record IsPolicyRule (rule : Rule) : Type 0 where
-  pub policies : Policies
-  pub words : map (λ policy. policy.now) policies.now ≡ codes "balanced" ∷ codes "aggressive" ∷ codes "none" ∷ []
-  pub is : rule ≡ policy_rule policies
+pub record IsChoiceRule (name : Text) (words : List Text) (rule : Rule) : Type 0 where
+  pub choices : Choices
+  pub told : map (λ choice. choice.now) choices.now ≡ words
+  pub is : rule ≡ choice_rule name choices
+
+-- `--policy P`, the words of the three policies, and `--report R`, those of the two reports.
+abbrev pub IsPolicyRule : Rule → Type 0
+IsPolicyRule = IsChoiceRule (codes "policy") (codes "balanced" ∷ codes "aggressive" ∷ codes "none" ∷ [])
+
+abbrev pub IsReportRule : Rule → Type 0
+IsReportRule = IsChoiceRule (codes "report") (codes "basic" ∷ codes "full" ∷ [])
 
 -- A program with a name and a version, which is told at `--version`; help is told at `--help`.
 abbrev pub named : Text → App
 named name = record { top = record (new_app name).top { has_version = true }; subs = [] }
 
--- The command line with its six options.
-abbrev pub line_with : Rule → App
-line_with policy =
-    with_rule (with_rule (with_rule (with_rule (with_rule (with_rule (named (codes "metarun"))
+-- The command line with its seven options.
+abbrev pub line_with : Rule → Rule → App
+line_with policy report =
+    with_rule (with_rule (with_rule (with_rule (with_rule (with_rule (with_rule (named (codes "metarun"))
     (number_rule (codes "workers") 1 8))
     (number_rule (codes "max-granules") 1 40960))
     (number_rule (codes "nodes") 1 64))
     addresses_rule)
     policy)
-    (number_rule (codes "class-nodes") 0 16)
+    (number_rule (codes "class-nodes") 0 16))
+    report
 
 pub record IsCommandLine (app : App) : Type 0 where
   pub policy : Rule
   pub policy_is : IsPolicyRule policy
-  pub is : app ≡ line_with policy
+  pub report : Rule
+  pub report_is : IsReportRule report
+  pub is : app ≡ line_with policy report
 
 -- What an error of these kinds says is for standard output: the help, or the version.
 abbrev pub IsShown : ErrorKind → Type 0

@@ -1,8 +1,7 @@
 -- What a session writes for a trace (this project's choice).
-use Rattle.std.specs.Prelude.{◌≡◌, ◌⊎◌, ℕ, Bool, List, [], ◌∷◌, ◌++◌, Option, IfSome, take}
+use Rattle.std.specs.Prelude.{◌≡◌, ◌⊎◌, ℕ, List, [], ◌∷◌, ◌++◌, Option, IfSome, take}
 use Rattle.std.specs.Io.KnownBytes.{Appends, Keeps}
 use Rattle.ms_base.specs.declared.step.Reply.{Reply}
-use Rattle.ms_base.specs.declared.settings.Settings.{Settings}
 use Rattle.ms_base.specs.State.{Machine, empty_machine, limits_of}
 use Rattle.ms_base.specs.ReplyText.{reply_line}
 use Rattle.ms_base.specs.Totals.{sums_of}
@@ -13,40 +12,41 @@ use Rattle.ms_trace.specs.declared.trace.Trace.{Trace}
 use Rattle.ms_trace.specs.Spelling.{ReadsAs}
 use Rattle.ms_trace.specs.Steps.{step_of}
 use Rattle.ms_loaders.specs.declared.replies.Answer.{Answer}
-use Rattle.ms_report.specs.Sections.{report_text}
+use Rattle.ms_report.specs.Detailed.{detailed_text}
 use Rattle.ms_report.specs.ReplyLines.{answers_text}
 use Rattle.ms_run.specs.Replay.{Advances, IsReplay}
 use Rattle.metarun.specs.declared.options.Options.{Options}
 
--- What follows the reply to a command: the report of the machine where one is asked for.
-abbrev pub report_of : Command → Machine → List ℕ
-report_of Report m = report_text (sums_of m)
-report_of _ m = []
+-- What follows the reply to a command: the report of the machine where one is asked for, with as much
+-- detail as the options say.
+abbrev pub report_of : Options → Command → Machine → List ℕ
+report_of options Report m = detailed_text options.detail options.settings (sums_of m)
+report_of options _ m = []
 
 -- The output for the lines of a trace: the machine runs from old to new, and each command has its
 -- reply's line, a report after it.
-abbrev pub Outputs : Bool → Machine → List Line → List ℕ → Machine → Type 0
-Outputs addresses old [] output new = (output ≡ []) × (new ≡ old)
-Outputs addresses old (line ∷ lines) output new =
+abbrev pub Outputs : Options → Machine → List Line → List ℕ → Machine → Type 0
+Outputs options old [] output new = (output ≡ []) × (new ≡ old)
+Outputs options old (line ∷ lines) output new =
     (reply : Reply) × (rest : List ℕ) × (mid : Machine)
     × Advances (step_of line.command) old reply mid
-    × (output ≡ reply_line addresses line.number reply ++ report_of line.command mid ++ rest)
-    × Outputs addresses mid lines rest new
+    × (output ≡ reply_line options.addresses line.number reply ++ report_of options line.command mid ++ rest)
+    × Outputs options mid lines rest new
 
--- The output is what a session with these settings writes for the text: the text reads as a trace,
+-- The output is what a session with these options writes for the text: the text reads as a trace,
 -- each loader of which is answered by its own lines, and a report by the totals of a good state; with
 -- one worker the machine runs through all commands from the empty state.
-pub record IsOutput (addresses : Bool) (settings : Settings) (text output : List ℕ) : Type 0 where
+pub record IsOutput (options : Options) (text output : List ℕ) : Type 0 where
   pub trace : Trace
   pub answers : List Answer
   pub reads : ReadsAs text trace
-  pub own : IsReplay (limits_of settings) trace.lines answers
-  pub output_is : output ≡ answers_text addresses answers
-  pub run : settings.workers ≡ 1
-      → (last : Machine) × Outputs addresses (empty_machine (limits_of settings)) trace.lines output last
+  pub own : IsReplay (limits_of options.settings) trace.lines answers
+  pub output_is : output ≡ answers_text options.addresses options.detail options.settings answers
+  pub run : options.settings.workers ≡ 1
+      → (last : Machine) × Outputs options (empty_machine (limits_of options.settings)) trace.lines output last
 
 -- What a session leaves on an output where a device fails: the output as it was, or with the
 -- beginning of what it writes for the text.
 abbrev pub IsBrokenOff : Options → Option (List ℕ) → Option (List ℕ) → Option (List ℕ) → Type 0
 IsBrokenOff options remaining old new = Keeps old new ⊎ IfSome remaining (λ text. (written : List ℕ) × (count : ℕ)
-    × IsOutput options.addresses options.settings text written × Appends old new (take count written))
+    × IsOutput options text written × Appends old new (take count written))

@@ -9,7 +9,7 @@ use Rattle.metarun.specs.declared.options.Options.{Options}
 -- A session with the options that were asked for wrote its output for the text that was there to be read.
 abbrev pub IsObeyed : List Text → Option (List ℕ) → Option (List ℕ) → Option (List ℕ) → Type 0
 IsObeyed words remaining old new = (options : Options) × AreAsked words options
-    × IfSome remaining (λ text. (written : List ℕ) × IsOutput options.addresses options.settings text written
+    × IfSome remaining (λ text. (written : List ℕ) × IsOutput options text written
     × Appends old new written)
 
 -- Such a session was broken off by a device.

@@ -1,6 +1,6 @@
 //! What a run is asked to be, and the command line that asks for it.
 //!
-//!     metarun --max-granules 1 --addresses   ->   Options { settings, addresses }
+//!     metarun --max-granules 1 --addresses   ->   Options { settings, addresses, detail }
 //!
 //! Kept true: what is accepted lies within the ranges that `Settings` has, and what is not asked
 //! for is the default. `clap` reads the words and writes the texts of refusals and of the help.
@@ -9,29 +9,33 @@ ghost use Rattle.std.specs.Prelude.{◌≡◌, ◌≢◌, ◌≤◌, ◌<◌, �
 ghost use Rattle.std.specs.Prelude.{length, map, false};
 ghost use Rattle.clap.specs.Words.{app_of, found_of, kind_of, one_of, rows_of, rule_of};
 ghost use Rattle.metarun.specs.Asked.{IsAllowed, IsDefault, IsTold, AreRead, AreAsked};
-ghost use Rattle.metarun.specs.Asked.{ReadsFlag, ReadsNumber, ReadsPolicy};
-ghost use Rattle.metarun.specs.CommandLine.{IsCommandLine, IsShown, AskToBeTold, IsPolicyRule};
+ghost use Rattle.metarun.specs.Asked.{ReadsDetail, ReadsFlag, ReadsNumber, ReadsPolicy};
+ghost use Rattle.metarun.specs.CommandLine.{IsCommandLine, IsShown, AskToBeTold, IsPolicyRule, IsReportRule};
 ghost use Rattle.metarun.specs.CommandLine.{number_rule, addresses_rule};
 
 use clap::error::ErrorKind;
 use clap::{Arg, ArgAction, ArgMatches, Command, value_parser};
 use ms_base::{Policy, Settings};
+use ms_report::Detail;
 use std::alloc::{AllocError, Global};
 use std::convert::AsStr;
 
-/// The options of a run: its settings, and whether an accepted `alloc` tells where its block
-/// starts. This project's choice.
+/// The options of a run: its settings, whether an accepted `alloc` tells where its block starts, and
+/// how much a report tells. This project's choice.
 #[derive(Clone, Copy, Debug, PartialEq, Eq)]
 pub struct Options {
     pub settings: Settings,
     pub addresses: bool,
+    pub detail: Detail,
 }
 
 impl Options {
-    /// What `metarun` runs with where no option is given: the default settings, and no addresses.
+    /// What `metarun` runs with where no option is given: the default settings, no addresses, and
+    /// basic reports.
     pub const DEFAULT: Options = Options {
         settings: Settings::DEFAULT,
         addresses: false,
+        detail: Detail::Basic,
     };
 }
 
@@ -109,6 +113,7 @@ fn chosen(matches: &ArgMatches) -> Result<Options, Refused>
             class_nodes: number_in(matches, "class-nodes", 0, 16, 0) as u32,
         },
         addresses,
+        detail: detail_in(matches),
     })
 }
 
@@ -167,6 +172,27 @@ fn policy_named(word: &str) -> Policy
     }
 }
 
+/// Tells how much a report shall tell, or the default.
+fn detail_in(matches: &ArgMatches) -> Detail
+    ensures { ReadsDetail (rows_of (found_of matches.now)) result }
+{
+    match matches.get_str("report") {
+        Some(word) => detail_named(word),
+        None => Detail::Basic,
+    }
+}
+
+/// Tells the detail of that word: `clap` accepts no other than the two.
+fn detail_named(word: &str) -> Detail
+    ensures full { word.now ≡ codes "full" → result ≡ Detail.Full }
+    ensures basic { word.now ≡ codes "basic" → result ≡ Detail.Basic }
+{
+    match word {
+        "full" => Detail::Full,
+        _ => Detail::Basic,
+    }
+}
+
 /// The version, and the toolchain that all is proved with.
 const VERSION: &str = "1.0.0 (proved with rattle-kit-13b logic dac8208d650f15bf)";
 
@@ -204,7 +230,8 @@ fn command<'a>(alloc: Global) -> Result<Command<'a>, AllocError>
         .arg(nodes(alloc))?
         .arg(addresses(alloc))?
         .arg(policy(alloc))?
-        .arg(class_nodes(alloc))
+        .arg(class_nodes(alloc))?
+        .arg(report(alloc))
 }
 
 /// Describes `--workers`.
@@ -279,4 +306,17 @@ fn class_nodes<'a>(alloc: Global) -> Arg<'a>
         .value_name("N")
         .value_parser(value_parser!(u64).range(0..=16))
         .help("Give the class space N nodes of 1048576 words: 0 to 16 [default: 0]")
+}
+
+/// Describes `--report`.
+fn report<'a>(alloc: Global) -> Arg<'a>
+    ensures rule { IsReportRule (rule_of result) }
+    ensures own { result.global ≡ false }
+{
+    let reports = ["basic", "full"].as_slice();
+    Arg::new(alloc, "report")
+        .long("report")
+        .value_name("R")
+        .value_parser(reports)
+        .help("How much a report tells [default: basic]")
 }

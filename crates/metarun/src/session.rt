@@ -32,7 +32,7 @@ pub fn session<T: Threads + Wait + Sync, R: Read, W: Write, E: Write>(
     errors: &mut E,
 ) -> u8
     ensures answered { result ≡ 0 → IfSome (R.remaining input.old) (λ bytes. (written : List ℕ)
-        × IsOutput options.now.addresses options.now.settings bytes written
+        × IsOutput options.now bytes written
         × Appends (W.contents output.old) (W.contents output.new) written) }
     ensures faulty { result ≡ 1 → IfSome (R.remaining input.old) (λ bytes. (line : ℕ)
         × (kind : FaultKind) × HasFault bytes line kind) }
@@ -60,7 +60,7 @@ fn answer_to<T: Threads + Wait + Sync, R: Read>(
     input: &mut R,
 ) -> Result<String, Failure>
     ensures ok { IfOk result (λ text. IfSome (R.remaining input.old)
-        (λ bytes. IsOutput options.now.addresses options.now.settings bytes (string_bytes text))) }
+        (λ bytes. IsOutput options.now bytes (string_bytes text))) }
     ensures err { IfErr result (λ failure. IfSome (R.remaining input.old)
         (λ bytes. Blames bytes failure)) }
     ensures settled { IfErr result IsSettled }
@@ -70,7 +70,13 @@ fn answer_to<T: Threads + Wait + Sync, R: Read>(
     drop(text);
     let replies = replay(rt, alloc, &trace, options.settings, &NoGate)?;
     drop(trace);
-    Ok(lines(alloc, &replies, options.addresses)?)
+    Ok(lines(
+        alloc,
+        &replies,
+        options.addresses,
+        options.detail,
+        &options.settings,
+    )?)
 }
 
 #[cfg(test)]

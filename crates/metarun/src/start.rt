@@ -36,7 +36,7 @@ pub fn start<T: Threads + Wait + Sync, S: AsStr, R: Read, W: Write, E: Write>(
 ) -> u8
     ensures answered { result ≡ 0 → length words.now ≤ 1 → IfSome (R.remaining input.old)
         (λ bytes. (options : Options) × (written : List ℕ) × IsDefault options
-        × IsOutput options.addresses options.settings bytes written
+        × IsOutput options bytes written
         × Appends (W.contents output.old) (W.contents output.new) written) }
     ensures obeyed { result ≡ 0
         → (AskToBeTold (map S.text words.now) × (R.remaining input.new ≡ R.remaining input.old))

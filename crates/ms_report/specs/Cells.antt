@@ -2,6 +2,7 @@
 use Rattle.std.specs.Prelude.{ℕ, List, ◌++◌, map}
 use Rattle.std.specs.Fmt.{decimal}
 use denote.Ref.{Bor}
+use Rattle.ms_report.specs.declared.usage.Amount.{Amount}
 use Rattle.ms_report.specs.Layout.{right_in}
 
 -- A text beside a number.
@@ -10,6 +11,13 @@ pair_in pair = (pair.0.now, pair.1)
 
 abbrev pub pairs_in : List (Bor (List ℕ) × ℕ) → List (List ℕ × ℕ)
 pairs_in pairs = map pair_in pairs
+
+-- A text beside an amount.
+abbrev pub row_in : Bor (List ℕ) × Amount → List ℕ × Amount
+row_in row = (row.0.now, row.1)
+
+abbrev pub rows_in : List (Bor (List ℕ) × Amount) → List (List ℕ × Amount)
+rows_in rows = map row_in rows
 
 -- A number, right in its places.
 abbrev pub placed : ℕ × ℕ → List ℕ

@@ -1,5 +1,7 @@
 pub mod Layout
 pub mod Cells
 pub mod Sections
+pub mod Usage
+pub mod Detailed
 pub mod ReplyLines
 pub mod LayoutLaws

@@ -6,7 +6,7 @@
 //! Kept true: a line is the bytes that `specs/Layout.antt` gives for its texts and numbers. All
 //! calls append to a text, and take memory for it alone.
 ghost use Rattle.std.specs.Prelude.{◌≡◌, ◌++◌, OnOk, string_bytes, decimal, replicate};
-ghost use Rattle.ms_report.specs.Layout.{number_line, number_lines, right_in, header, headings};
+ghost use Rattle.ms_report.specs.Layout.{number_line, left_in, number_lines, right_in, header, headings};
 ghost use Rattle.ms_report.specs.Cells.{pairs_in};
 
 use itoa::Buffer;
@@ -68,6 +68,24 @@ pub fn push_right(text: &mut String, places: usize, number: u64) -> Result<(), A
 {
     let mut buffer = Buffer::new();
     push_word(text, places, buffer.format(number))
+}
+
+/// Appends a number of 128 bits with spaces before it to so many places.
+pub fn push_wide(text: &mut String, places: usize, number: u128) -> Result<(), AllocError>
+    ensures { OnOk result (string_bytes text.new
+        ≡ string_bytes text.old ++ right_in places (decimal number)) }
+{
+    let mut buffer = Buffer::new();
+    push_word(text, places, buffer.format(number))
+}
+
+/// Appends a label with spaces after it to the places of a column.
+pub fn push_label(text: &mut String, label: &str) -> Result<(), AllocError>
+    ensures { OnOk result (string_bytes text.new ≡ string_bytes text.old ++ left_in 12 label.now) }
+{
+    text.push_str(label)?;
+    push_spaces(text, COLUMN.saturating_sub(label.len()))?;
+    Ok(())
 }
 
 /// Appends a text with spaces before it to so many places.

@@ -1,24 +1,31 @@
 //! Reports of a metaspace, and the replies to a trace, as texts.
 //!
 //!     System -- collecting --> Totals -- sections, layout --> the report's text
+//!                              Totals -- usage, detailed ---> the full report's text
 //!                              Replies -- reply_lines ------> a line each, and reports
 //!
 //! Kept true: each text is exactly the bytes that `specs/` gives for its numbers, and the totals
 //! of a system are the sums over the machine that it stands for. Apart because the text is a file
 //! format of its own: whoever reads reports needs no more than this crate. Stands on `ms_base` and
-//! `ms_loaders`. All three calls take memory; nothing waits.
+//! `ms_loaders`. All calls but `weigh` take memory; nothing waits.
 #![tactic(auto)]
 
 mod collecting;
 mod columns;
+mod detail;
+mod detailed;
 pub mod laws;
 mod layout;
 mod reply_lines;
 mod sections;
+mod usage;
 
 pub use collecting::totals;
+pub use detail::Detail;
+pub use detailed::full_text;
 pub use reply_lines::lines;
 pub use sections::text;
+pub use usage::{Amount, Usage, Usages, weigh};
 
 #[cfg(test)]
 mod tests;

@@ -11,34 +11,48 @@ ghost use Rattle.ms_base.specs.ReplyText.{name_of, reply_text, reply_line};
 ghost use Rattle.ms_report.specs.ReplyLines.{report_after, answer_text, answers_text};
 
 use crate::columns::push_before;
-use crate::sections::push_report;
-use ms_base::{Refusal, Reply};
+use crate::detail::Detail;
+use crate::detailed::push_detailed;
+use ms_base::{Refusal, Reply, Settings};
 use ms_loaders::{Answer, Replies, Totals};
 use std::alloc::{AllocError, Global};
 
 /// Writes a line for each answer, in their order: the number of the trace's line, a space, the
 /// reply. Where a block starts, a word number, is told only if addresses are asked for. After an
-/// answer with totals comes their report. Takes memory for the text; an error means that a growth
-/// was refused. This project's choice.
-pub fn lines(alloc: Global, replies: &Replies, addresses: bool) -> Result<String, AllocError>
-    ensures { IfOk result (λ text.
-        string_bytes text ≡ answers_text addresses replies.now.answers.items) }
+/// answer with totals comes their report, with as much detail as is asked for; the settings are
+/// those of the run. Takes memory for the text; an error means that a growth was refused. This
+/// project's choice.
+pub fn lines(
+    alloc: Global,
+    replies: &Replies,
+    addresses: bool,
+    detail: Detail,
+    settings: &Settings,
+) -> Result<String, AllocError>
+    ensures { IfOk result (λ text. string_bytes text
+        ≡ answers_text addresses detail settings.now replies.now.answers.items) }
 {
     let mut text = String::new(alloc);
     for answer in &replies.answers {
-        push_answer(&mut text, addresses, answer)?;
+        push_answer(&mut text, addresses, detail, settings, answer)?;
     }
     Ok(text)
 }
 
 /// Appends the line of an answer, and its report.
-fn push_answer(text: &mut String, addresses: bool, answer: &Answer) -> Result<(), AllocError>
+fn push_answer(
+    text: &mut String,
+    addresses: bool,
+    detail: Detail,
+    settings: &Settings,
+    answer: &Answer,
+) -> Result<(), AllocError>
     ensures { OnOk result (string_bytes text.new
-        ≡ string_bytes text.old ++ answer_text addresses answer.now) }
+        ≡ string_bytes text.old ++ answer_text addresses detail settings.now answer.now) }
 {
     push_reply_line(text, addresses, u64::from(answer.line), answer.reply)?;
     if let Some(totals) = &answer.report {
-        push_report(text, totals)?;
+        push_detailed(text, detail, settings, totals)?;
     }
     Ok(())
 }

@@ -18,6 +18,7 @@ fn expect(
     let options = Options {
         settings: Options::DEFAULT.settings,
         addresses,
+        detail: Options::DEFAULT.detail,
     };
     let mut input = text;
     let mut out = Vec::new(rt.alloc());

@@ -6,6 +6,7 @@ ghost use Rattle.std.specs.Prelude.{◌≡◌, ◌*◌, ◌≤◌};
 use super::*;
 use crate::options::Options;
 use ms_base::{Policy, Settings};
+use ms_report::Detail;
 use std::io;
 use std::process::Abort;
 use std::test::Fail;
@@ -109,6 +110,10 @@ fn a_bad_command_line_is_refused_before_anything_is_read(rt: HostRuntime) {
             "error: invalid value 'lazy' for '--policy <P>'\n",
         ),
         (
+            ["metarun", "--report", "short"].as_slice(),
+            "error: invalid value 'short' for '--report <R>'\n",
+        ),
+        (
             ["metarun", "--nodes", "4", "--nodes", "4"].as_slice(),
             "error: the argument '--nodes <N>' cannot be used multiple times\n",
         ),
@@ -161,6 +166,7 @@ fn options(
             class_nodes,
         },
         addresses,
+        detail: Detail::Basic,
     }
 }
 
@@ -185,6 +191,13 @@ fn options_are_as_they_are_asked_for(rt: HostRuntime) {
         "--class-nodes=0",
     ];
     expect_options(&rt, &words, least);
+    let full = Options {
+        settings: Settings::DEFAULT,
+        addresses: false,
+        detail: Detail::Full,
+    };
+    expect_options(&rt, &["metarun", "--report", "full"], full);
+    expect_options(&rt, &["metarun", "--report=basic"], Options::DEFAULT);
     let most = options(8, 64, 40960, Policy::Aggressive, 16, false);
     let words = [
         "metarun",
@@ -226,6 +239,8 @@ fn help_goes_to_standard_output(rt: HostRuntime) -> Result<(), Fail> {
             "[default: balanced] [possible values: balanced, aggressive, none]",
             "--class-nodes <N>",
             "0 to 16 [default: 0]",
+            "--report <R>",
+            "[default: basic] [possible values: basic, full]",
             "--help",
             "--version",
             "Exit status:",

@@ -21,8 +21,13 @@ returns c =
     ∙ ap₂ with_rule with_nodes c.addresses.ensures.rule in
     let with_policy = c.in_ok-arg-5.ensures.shape c.policy.ensures.own
     ∙ ap (λ (app : App). with_rule app (rule_of c.policy.result)) with_addresses in
-    IfOk-weaker c.arg-6.result _ _ (λ command adds. record {
+    let with_class_nodes = c.in_ok-arg-6.ensures.shape c.class_nodes.ensures.own
+    ∙ ap₂ with_rule with_policy c.class_nodes.ensures.rule in
+    IfOk-weaker c.arg-7.result _ _ (λ command adds. record {
       policy = rule_of c.policy.result;
       policy_is = c.policy.ensures.rule;
-      is = adds.shape c.class_nodes.ensures.own ∙ ap₂ with_rule with_policy c.class_nodes.ensures.rule;
-    }) c.arg-6.ensures
+      report = rule_of c.report.result;
+      report_is = c.report.ensures.rule;
+      is = adds.shape c.report.ensures.own
+          ∙ ap (λ (app : App). with_rule app (rule_of c.report.result)) with_class_nodes;
+    }) c.arg-7.ensures

@@ -22,7 +22,7 @@ returns-in_err-trace-clause-err g c =
 pub returns-clause-ok : goal.returns-clause-ok
 returns-clause-ok g c =
     let length_is = c.in_ok-text.text.ok.0 in
-    outputs_whole _ _ _ _ c.in_ok-text.text.items _ (record {
+    outputs_whole _ _ _ c.in_ok-text.text.items _ (record {
       beginning = c.in_ok-text.ensures.bytes;
       most = omega (arith, length_is, c.in_ok-text.ensures.most);
       whole = λ short. c.in_ok-text.ensures.whole (omega (arith, length_is, short));
@@ -33,5 +33,5 @@ returns-clause-ok g c =
           c.in_ok-trace.ensures.reads;
       own = c.in_ok-replies.ensures.own;
       output_is = c.in_ok-lines.ensures;
-      run = run_outputs _ _ _ _ _ _ c.in_ok-lines.ensures c.in_ok-replies.ensures.run;
+      run = run_outputs _ c.args.options.now _ _ _ _ c.in_ok-lines.ensures c.in_ok-replies.ensures.run;
     })

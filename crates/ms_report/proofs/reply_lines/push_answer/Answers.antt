@@ -1,13 +1,14 @@
 use Rattle.std.proofs.Common.{ℕ, List, ◌++◌, ◌∙◌, ap, append_assoc, string_bytes}
 use Rattle.ms_base.specs.ReplyText.{reply_line}
 use Rattle.ms_loaders.specs.Sums.{sums_in}
-use Rattle.ms_report.specs.Sections.{report_text}
+use Rattle.ms_report.specs.Detailed.{detailed_text}
 use Rattle.ms_report.proofs.reply_lines.push_answer.Goals as goal
 
-pub returns-in_ok-push_report : goal.returns-in_ok-push_report
-returns-in_ok-push_report c = rw (c.in-Some.is, ← c.deref.ensures, ← c.from.ensures)
-    (c.in_ok-push_report.ensures
-    ∙ ap (λ (t : List ℕ). t ++ report_text (sums_in c.deref.result.now)) c.in_ok-push_reply_line.ensures
+pub returns-in_ok-push_detailed : goal.returns-in_ok-push_detailed
+returns-in_ok-push_detailed c =
+    let report : List ℕ = detailed_text c.args.detail c.args.settings.now (sums_in c.deref.result.now) in
+    rw (c.in-Some.is, ← c.deref.ensures, ← c.from.ensures)
+    (c.in_ok-push_detailed.ensures
+    ∙ ap (λ (t : List ℕ). t ++ report) c.in_ok-push_reply_line.ensures
     ∙ append_assoc (string_bytes c.args.text.now)
-    (reply_line c.args.addresses c.from.result c.args.answer.now.reply)
-    (report_text (sums_in c.deref.result.now)))
+    (reply_line c.args.addresses c.from.result c.args.answer.now.reply) report)

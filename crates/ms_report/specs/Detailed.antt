@@ -1,0 +1,85 @@
+-- The text of a full report: the fixed text, then the part Usage (this project's choice).
+use Rattle.std.specs.Prelude.{ℕ, ◌*◌, ◌/◌, ◌%◌, ◌==◌, List, [], ◌∷◌, ◌++◌, Option, Some, None, codes}
+use Rattle.std.specs.Prelude.{nat_lt, if◌then◌else◌}
+use Rattle.std.specs.Fmt.{decimal}
+use Rattle.ms_base.specs.declared.settings.Settings.{Settings}
+use Rattle.ms_base.specs.Totals.{Sums}
+use Rattle.ms_report.specs.declared.detail.Detail.{Detail}
+use Rattle.ms_report.specs.declared.detail.Detail.TheVariants.{Basic, Full}
+use Rattle.ms_report.specs.declared.usage.Amount.{Amount}
+use Rattle.ms_report.specs.declared.usage.Usage.{Usage}
+use Rattle.ms_report.specs.declared.usage.Usages.{Usages}
+use Rattle.ms_report.specs.Layout.{left_in, right_in}
+use Rattle.ms_report.specs.Sections.{report_text}
+use Rattle.ms_report.specs.Usage.{usages_of}
+
+-- A number with one digit after its point: what is whole right in its places, and the tenths.
+abbrev pub pointed : ℕ → ℕ → ℕ → List ℕ
+pointed places whole tenths = right_in places (decimal whole) ++ codes "." ++ right_in 1 (decimal tenths)
+
+-- How many units of so many words there are, cut off after one digit.
+abbrev pub units_in : ℕ → ℕ → List ℕ
+units_in unit words = pointed 7 (words / unit) (words % unit * 10 / unit)
+
+-- A size in KB of 128 words where it is less than a MB of 131072 words, else in MB.
+abbrev pub size_in : ℕ → List ℕ
+size_in words = if nat_lt words 131072 then units_in 128 words ++ codes " KB" else units_in 131072 words ++ codes " MB"
+
+-- A share in per cent, and a dash where there is none.
+abbrev pub share_in : Option ℕ → List ℕ
+share_in None = codes "         -"
+share_in (Some tenths) = pointed 8 (tenths / 10) (tenths % 10)
+
+-- The line of an amount: its label, its words, the size that they make, its share.
+abbrev pub amount_line : List ℕ → Amount → List ℕ
+amount_line label amount =
+    codes "  " ++ left_in 12 label ++ right_in 12 (decimal amount.words) ++ size_in amount.words
+    ++ share_in amount.share
+    ++ codes "\n"
+
+-- Such a line for each label with its amount.
+abbrev pub amount_lines : List (List ℕ × Amount) → List ℕ
+amount_lines [] = []
+amount_lines (row ∷ rows) = amount_line row.0 row.1 ++ amount_lines rows
+
+-- The six amounts of a usage, with their labels.
+abbrev pub usage_rows : Usage → List (List ℕ × Amount)
+usage_rows usage =
+    (codes "reserved", usage.reserved)
+    ∷ (codes "committed", usage.committed)
+    ∷ (codes "used", usage.used)
+    ∷ (codes "live", usage.live)
+    ∷ (codes "free blocks", usage.free_blocks)
+    ∷ (codes "waste", usage.waste)
+    ∷ []
+
+-- The line of their headings.
+abbrev pub usage_headings : List ℕ
+usage_headings = codes "                     words        size  per cent\n"
+
+-- A usage under a title.
+abbrev pub titled_usage : List ℕ → Usage → List ℕ
+titled_usage title usage = title ++ usage_headings ++ amount_lines (usage_rows usage)
+
+-- That of the class space, and that of both; left out where the class space has no nodes.
+abbrev pub class_usages : Usages → List ℕ
+class_usages usages =
+    titled_usage (codes "Class usage\n") usages.class_space ++ titled_usage (codes "Usage of both\n") usages.both
+
+abbrev pub class_usage : ℕ → Usages → List ℕ
+class_usage nodes usages = if nodes == 0 then [] else class_usages usages
+
+-- The usage of the space that is not the class space comes first.
+abbrev pub usage_part : Settings → Sums → List ℕ
+usage_part settings sums =
+    titled_usage (codes "Usage\n") (usages_of settings sums).space
+    ++ class_usage sums.class_space.nodes (usages_of settings sums)
+
+-- A full report.
+abbrev pub full_text : Settings → Sums → List ℕ
+full_text settings sums = report_text sums ++ usage_part settings sums
+
+-- A report with as much detail as is asked for.
+abbrev pub detailed_text : Detail → Settings → Sums → List ℕ
+detailed_text Basic settings sums = report_text sums
+detailed_text Full settings sums = full_text settings sums
