@@ -24,21 +24,21 @@ first_of {X} test (x ∷ xs) y rest found =
     elim (test x) as (λ b. test x ≡ b → cond b (x ∷ filter test xs) (filter test xs) ≡ y ∷ rest
     → IsFirst test (x ∷ xs) y rest) [
       | true ↦ λ is its. let same : x ≡ y = cc in let more : filter test xs ≡ rest = cc in record {
-          before = [];
-          behind = xs;
-          is = ap (λ (z : X). z ∷ xs) same;
-          none = refl;
-          others = more;
-          passes = subst (λ (z : X). test z ≡ true) same is;
-        }
+        before = [];
+        behind = xs;
+        is = ap (λ (z : X). z ∷ xs) same;
+        none = refl;
+        others = more;
+        passes = subst (λ (z : X). test z ≡ true) same is;
+      }
       | false ↦ λ is its. let later = first_of test xs y rest its in record {
-          before = x ∷ later.before;
-          behind = later.behind;
-          is = ap (λ (l : List X). x ∷ l) later.is;
-          none = rw is later.none;
-          others = later.others;
-          passes = later.passes;
-        }
+        before = x ∷ later.before;
+        behind = later.behind;
+        is = ap (λ (l : List X). x ∷ l) later.is;
+        none = rw is later.none;
+        others = later.others;
+        passes = later.passes;
+      }
     ] refl found
 
 no_more : {X : Type 0} (b : Bool) (y : X) (ys : List X) → b ≡ true → cond b (y ∷ ys) ys ≡ [] → ⊥
