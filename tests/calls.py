@@ -11,7 +11,7 @@ from program import Program
 from workbench import ROOT
 
 CRATE = os.path.join(ROOT, "crates", "refusals")
-TAKING = ("carve", "reserve", "parse")
+TAKING = ("carve", "reserve", "pool", "take", "place", "alloc", "new_loader", "run", "totals", "parse")
 QUIET = ()
 OUTSIDE = b"refused outside a call\n"
 

@@ -11,14 +11,26 @@
 //! tests compare what it tells with a run in which nothing was refused.
 #![tactic(auto)]
 
+mod arenas;
 mod blocks;
+mod loaders;
+mod pools;
+mod reports;
 mod row;
+mod shared;
+mod systems;
 mod texts;
 mod tree;
 
+use crate::arenas::{Allocating, Placing};
 use crate::blocks::Reserving;
+use crate::loaders::Inserting;
+use crate::pools::{Making, Taking};
+use crate::reports::{Replying, Reporting};
 use crate::row::tell;
-use crate::texts::Parsing;
+use crate::shared::{Metering, Sharing};
+use crate::systems::{NewLoader, Running, Totalling};
+use crate::texts::{Parsing, Printing};
 use crate::tree::Carving;
 use std::env;
 use std::io::{self, ErrorKind};
@@ -46,7 +58,20 @@ fn tell_row(rt: &HostRuntime) -> io::Result<()> {
     match name.as_str() {
         "carve" => tell(rt, "carve", &mut Carving::prepared(rt.alloc())?),
         "reserve" => tell(rt, "reserve", &mut Reserving::prepared(rt.alloc())?),
+        "pool" => tell(rt, "pool", &mut Making::prepared(rt.alloc())),
+        "take" => tell(rt, "take", &mut Taking::prepared(rt.alloc())?),
+        "place" => tell(rt, "place", &mut Placing::prepared(rt.alloc())?),
+        "alloc" => tell(rt, "alloc", &mut Allocating::prepared(rt.alloc())?),
+        "insert" => tell(rt, "insert", &mut Inserting::prepared(rt.alloc())?),
+        "new_loader" => tell(rt, "new_loader", &mut NewLoader::prepared(rt.alloc())?),
+        "run" => tell(rt, "run", &mut Running::prepared(rt.alloc())?),
+        "totals" => tell(rt, "totals", &mut Totalling::prepared(rt.alloc())?),
+        "shared" => tell(rt, "shared", &mut Sharing::prepared(rt.alloc())?),
+        "meter" => tell(rt, "meter", &mut Metering::prepared(rt.alloc())),
         "parse" => tell(rt, "parse", &mut Parsing::prepared(rt.alloc())),
+        "print" => tell(rt, "print", &mut Printing::prepared(rt.alloc())?),
+        "text" => tell(rt, "text", &mut Reporting::prepared(rt.alloc())?),
+        "lines" => tell(rt, "lines", &mut Replying::prepared(rt.alloc())?),
         _ => Err(ErrorKind::InvalidInput.into()),
     }
 }

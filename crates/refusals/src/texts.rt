@@ -1,6 +1,6 @@
-//! The rows of texts: a trace is read and printed, a report and replies are written.
-use crate::row::{Answer, Row};
-use ms_trace::{ParseFault, parse};
+//! The rows of traces: one is read, and one is printed.
+use crate::row::{Answer, Row, unprepared};
+use ms_trace::{ParseFault, Trace, parse, print};
 use std::alloc::Global;
 use std::io;
 
@@ -50,6 +50,43 @@ impl Row for Parsing {
                 print!(rt; "{fault}")?;
                 Ok(Answer::Served)
             }
+        }
+    }
+}
+
+/// A trace to be printed.
+#[derive(Drop)]
+pub struct Printing {
+    alloc: Global,
+    trace: Trace,
+}
+
+impl Printing {
+    /// Prepares a trace.
+    pub fn prepared(alloc: Global) -> io::Result<Printing> {
+        match parse(alloc, TRACE.as_bytes()) {
+            Ok(trace) => Ok(Printing { alloc, trace }),
+            Err(_) => Err(unprepared()),
+        }
+    }
+}
+
+impl Row for Printing {
+    fn tell_state(&self, rt: &HostRuntime) -> io::Result<()> {
+        print!(rt; "{} lines", self.trace.lines.as_slice().len())
+    }
+
+    fn call(&mut self, rt: &HostRuntime) -> io::Result<Answer> {
+        if !self.trace.rises() {
+            print!(rt; "no rising lines")?;
+            return Ok(Answer::Served);
+        }
+        match print(self.alloc, &self.trace) {
+            Ok(text) => {
+                print!(rt; "ok {:?}", text.as_slice())?;
+                Ok(Answer::Served)
+            }
+            Err(_) => Ok(Answer::Refused),
         }
     }
 }

@@ -1,0 +1,91 @@
+//! The rows of an arena over a pool: it places a block, and allocates one.
+use crate::pools::{SETTINGS, tell_account, tell_pool};
+use crate::row::{Answer, Row, told, unprepared};
+use ms_arena::Arena;
+use ms_base::{Kind, Refusal, Space};
+use ms_pool::Pool;
+use std::alloc::Global;
+use std::io;
+use std::marker::Model;
+
+/// Tells a pool and an arena over it: its sums and its chunks.
+fn tell_both(rt: &HostRuntime, pool: &Pool, arena: &Arena) -> io::Result<()> {
+    tell_pool(rt, pool)?;
+    print!(rt; " {:?} {:?}", arena.kind(), arena.totals())?;
+    tell_account(rt, arena.account())
+}
+
+/// An arena over a pool, in which a block is to be allocated.
+#[derive(Drop)]
+pub struct Allocating {
+    pool: Pool,
+    arena: Arena,
+}
+
+impl Model for Allocating {
+    ghost use Rattle.ms_pool.specs.Ledger.{Ledger, Serves};
+    ghost use Rattle.ms_arena.specs.Arena.{ArenaView, account_of};
+
+    ghost Value = { Ledger × ArenaView };
+
+    ghost view = { λ row. (row.pool, row.arena) };
+
+    ghost invariant = { λ row. Serves row.pool (account_of row.arena) };
+}
+
+impl Allocating {
+    /// Prepares an arena of two chunks, with a live block and two free ones.
+    pub fn prepared(alloc: Global) -> io::Result<Allocating> {
+        let pool = Pool::new(alloc, SETTINGS)?;
+        match filled(alloc, pool) {
+            Ok(row) => Ok(row),
+            Err(_) => Err(unprepared()),
+        }
+    }
+}
+
+/// Fills an arena over a pool.
+fn filled(alloc: Global, pool: Pool) -> Result<Allocating, Refusal> {
+    let mut pool = pool;
+    let account = pool.open(Space::NonClass)?;
+    let mut arena = Arena::new(alloc, account, Kind::Reflection);
+    let first = arena.alloc(&mut pool, 2)?;
+    arena.alloc(&mut pool, 509)?;
+    arena.free(first)?;
+    Ok(Allocating { pool, arena })
+}
+
+impl Row for Allocating {
+    fn tell_state(&self, rt: &HostRuntime) -> io::Result<()> {
+        tell_both(rt, &self.pool, &self.arena)
+    }
+
+    fn call(&mut self, rt: &HostRuntime) -> io::Result<Answer> {
+        told(rt, self.arena.alloc(&mut self.pool, 500))
+    }
+}
+
+/// An arena over a pool, in which a block is to be placed.
+#[derive(Drop)]
+pub struct Placing {
+    pool: Pool,
+    arena: Arena,
+}
+
+impl Placing {
+    /// Prepares an arena whose current chunk has room.
+    pub fn prepared(alloc: Global) -> io::Result<Placing> {
+        let Allocating { pool, arena } = Allocating::prepared(alloc)?;
+        Ok(Placing { pool, arena })
+    }
+}
+
+impl Row for Placing {
+    fn tell_state(&self, rt: &HostRuntime) -> io::Result<()> {
+        tell_both(rt, &self.pool, &self.arena)
+    }
+
+    fn call(&mut self, rt: &HostRuntime) -> io::Result<Answer> {
+        told(rt, self.arena.place(100))
+    }
+}

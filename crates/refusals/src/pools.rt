@@ -1,0 +1,120 @@
+//! The rows of a pool: it is made, and lends a chunk.
+use crate::row::{Answer, Row, told, unprepared};
+use ms_base::{Level, Policy, Settings, Space};
+use ms_pool::{Account, ChunkSource, Pool};
+use std::alloc::Global;
+use std::io;
+use std::marker::Model;
+
+/// The settings of all rows: two nodes, and one of the class space.
+pub const SETTINGS: Settings = Settings {
+    workers: 2,
+    nodes: 2,
+    max_granules: 100,
+    policy: Policy::Balanced,
+    class_nodes: 1,
+};
+
+/// How many granules there are at most, of 8192 words: 128 in each of 80 nodes.
+pub const GRANULES: u64 = 10240;
+
+/// Tells a pool: the sums over each space, what counts beside the limits, and which granules are
+/// committed.
+pub fn tell_pool(rt: &HostRuntime, pool: &Pool) -> io::Result<()> {
+    let sums = pool.all_totals(Space::NonClass);
+    let class_sums = pool.all_totals(Space::Class);
+    print!(rt; "{sums:?} {class_sums:?} {:?} granules", pool.counts())?;
+    for granule in 0..GRANULES {
+        if pool.is_committed(granule) {
+            print!(rt; " {granule}")?;
+        }
+    }
+    Ok(())
+}
+
+/// Tells an account: its space, and its chunks in the order taken.
+pub fn tell_account(rt: &HostRuntime, account: &Account) -> io::Result<()> {
+    print!(rt; " account {:?}", account.space())?;
+    for place in 0..account.held() {
+        print!(rt; " {:?}", account.chunk(place))?;
+    }
+    Ok(())
+}
+
+/// A pool that is to be made.
+#[derive(Drop)]
+pub struct Making {
+    alloc: Global,
+    pool: Option<Pool>,
+}
+
+impl Making {
+    /// Prepares nothing.
+    pub fn prepared(alloc: Global) -> Making {
+        Making { alloc, pool: None }
+    }
+}
+
+impl Row for Making {
+    fn tell_state(&self, rt: &HostRuntime) -> io::Result<()> {
+        match &self.pool {
+            Some(pool) => tell_pool(rt, pool),
+            None => print!(rt; "no pool"),
+        }
+    }
+
+    fn call(&mut self, rt: &HostRuntime) -> io::Result<Answer> {
+        match Pool::new(self.alloc, SETTINGS) {
+            Ok(pool) => {
+                self.pool = Some(pool);
+                print!(rt; "ok")?;
+                Ok(Answer::Served)
+            }
+            Err(_) => Ok(Answer::Refused),
+        }
+    }
+}
+
+/// A pool and an account of it, to which a chunk is to be lent.
+#[derive(Drop)]
+pub struct Taking {
+    pool: Pool,
+    account: Account,
+}
+
+impl Model for Taking {
+    ghost use Rattle.ms_pool.specs.Account.{AccountState};
+    ghost use Rattle.ms_pool.specs.Ledger.{Ledger, Serves};
+
+    ghost Value = { Ledger × AccountState };
+
+    ghost view = { λ row. (row.pool, row.account) };
+
+    ghost invariant = { λ row. Serves row.pool row.account };
+}
+
+impl Taking {
+    /// Prepares a pool with no node but the class space's, and an account that holds no chunk.
+    pub fn prepared(alloc: Global) -> io::Result<Taking> {
+        let mut pool = Pool::new(alloc, SETTINGS)?;
+        match pool.open(Space::NonClass) {
+            Ok(account) => Ok(Taking { pool, account }),
+            Err(_) => Err(unprepared()),
+        }
+    }
+}
+
+impl Row for Taking {
+    fn tell_state(&self, rt: &HostRuntime) -> io::Result<()> {
+        tell_pool(rt, &self.pool)?;
+        tell_account(rt, &self.account)
+    }
+
+    fn call(&mut self, rt: &HostRuntime) -> io::Result<Answer> {
+        let level = Level::new(12);
+        told(
+            rt,
+            ChunkSource::take(&mut self.pool, &mut self.account, level, level, 10),
+        )
+    }
+}

@@ -1,0 +1,92 @@
+//! The rows of what threads share: a pool is put behind a lock, and a meter is made.
+use crate::pools::{SETTINGS, tell_pool};
+use crate::row::{Answer, Row};
+use ms_pool::Pool;
+use ms_shared::{MeterSeat, PoolSeat, SharedPool, UsedMeter};
+use std::alloc::Global;
+use std::io;
+
+/// How many seats are made.
+const SEATS: usize = 3;
+
+/// A pool that is to be put behind a lock.
+#[derive(Drop)]
+pub struct Sharing {
+    alloc: Global,
+    pool: Option<Pool>,
+    made: Option<(SharedPool, Vec<PoolSeat>)>,
+}
+
+impl Sharing {
+    /// Prepares a pool.
+    pub fn prepared(alloc: Global) -> io::Result<Sharing> {
+        let pool = Some(Pool::new(alloc, SETTINGS)?);
+        let made = None;
+        Ok(Sharing { alloc, pool, made })
+    }
+}
+
+impl Row for Sharing {
+    fn tell_state(&self, rt: &HostRuntime) -> io::Result<()> {
+        match &self.pool {
+            Some(pool) => tell_pool(rt, pool)?,
+            None => print!(rt; "no pool")?,
+        }
+        match &self.made {
+            Some((_, seats)) => print!(rt; " a lock of {} seats", seats.len()),
+            None => print!(rt; " no lock"),
+        }
+    }
+
+    fn call(&mut self, rt: &HostRuntime) -> io::Result<Answer> {
+        let Some(pool) = self.pool.take() else {
+            print!(rt; "no pool was handed back")?;
+            return Ok(Answer::Served);
+        };
+        match SharedPool::new(self.alloc, pool, SEATS) {
+            Ok(made) => {
+                self.made = Some(made);
+                print!(rt; "ok")?;
+                Ok(Answer::Served)
+            }
+            Err((_, pool)) => {
+                self.pool = Some(pool);
+                Ok(Answer::Refused)
+            }
+        }
+    }
+}
+
+/// A meter that is to be made.
+#[derive(Drop)]
+pub struct Metering {
+    alloc: Global,
+    made: Option<(UsedMeter, Vec<MeterSeat>)>,
+}
+
+impl Metering {
+    /// Prepares nothing.
+    pub fn prepared(alloc: Global) -> Metering {
+        Metering { alloc, made: None }
+    }
+}
+
+impl Row for Metering {
+    fn tell_state(&self, rt: &HostRuntime) -> io::Result<()> {
+        match &self.made {
+            Some((_, seats)) => print!(rt; "a meter of {} seats", seats.len()),
+            None => print!(rt; "no meter"),
+        }
+    }
+
+    fn call(&mut self, rt: &HostRuntime) -> io::Result<Answer> {
+        match UsedMeter::new(self.alloc, SEATS) {
+            Ok(made) => {
+                self.made = Some(made);
+                print!(rt; "ok")?;
+                Ok(Answer::Served)
+            }
+            Err(_) => Ok(Answer::Refused),
+        }
+    }
+}
