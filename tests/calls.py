@@ -11,7 +11,8 @@ from program import Program
 from workbench import ROOT
 
 CRATE = os.path.join(ROOT, "crates", "refusals")
-TAKING = ("carve", "reserve", "pool", "take", "place", "alloc", "new_loader", "run", "totals", "parse")
+TAKING = ("carve", "reserve", "pool", "take", "place", "alloc", "insert", "new_loader", "run", "totals", "shared", "meter",
+          "parse", "print", "text", "lines")
 QUIET = ()
 OUTSIDE = b"refused outside a call\n"
 
