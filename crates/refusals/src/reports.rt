@@ -1,9 +1,9 @@
 //! The rows of reports: the sums of a system are written as a text, and so are replies.
 use crate::row::{Answer, Row};
 use crate::systems::{filled, tell_totals};
-use ms_base::{Refusal, Reply};
+use ms_base::{Refusal, Reply, Settings};
 use ms_loaders::{Answer as Answered, Replies, Totals};
-use ms_report::{lines, text};
+use ms_report::{Detail, lines, text};
 use std::alloc::{AllocError, Global};
 use std::io;
 
@@ -95,6 +95,15 @@ impl Row for Replying {
     }
 
     fn call(&mut self, rt: &HostRuntime) -> io::Result<Answer> {
-        tell_text(rt, lines(self.alloc, &self.replies, true))
+        tell_text(
+            rt,
+            lines(
+                self.alloc,
+                &self.replies,
+                true,
+                Detail::Full,
+                &Settings::DEFAULT,
+            ),
+        )
     }
 }
