@@ -11,12 +11,12 @@ returns-in-None-clause-refused c = rw (own_missing c.args.loaders.now c.args.nam
 pub returns-in-Ok-clause-manned : goal.returns-in-Ok-clause-manned
 returns-in-Ok-clause-manned c =
     written_keeps c.args.loaders.now c.args.name c.in-Some.loader.now c.write.new.self (sym c.in-Some.ensures.found)
-    c.args.block c.args.index c.args.value c.write.ensures.owners c.in-Ok.ensures.written
+    c.args.block c.args.index _ c.write.ensures.owners c.in-Ok.ensures.written
 
 pub returns-in-Ok-clause-used : goal.returns-in-Ok-clause-used
 returns-in-Ok-clause-used c =
     written_uses c.args.loaders.now c.args.name c.in-Some.loader.now c.write.new.self (sym c.in-Some.ensures.found)
-    c.args.block c.args.index c.args.value c.in-Ok.ensures.written
+    c.args.block c.args.index _ c.in-Ok.ensures.written
 
 pub returns-in-Ok-clause-served : goal.returns-in-Ok-clause-served
 returns-in-Ok-clause-served c =
