@@ -10,3 +10,5 @@ pub mod MachineExamples
 pub mod EventExamples
 pub mod SpreadExamples
 pub mod FollowExamples
+pub mod HistoryExamples
+pub mod MomentExamples

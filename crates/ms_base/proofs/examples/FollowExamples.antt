@@ -1,7 +1,5 @@
 -- A worked example: the moments of a spread follow one another, each event as it may happen.
 use Rattle.std.proofs.Common.{◌≡◌, ℕ, Option, Some, [], ◌∷◌, refl, ap, ◌∙◌, subst, arith}
-use Rattle.std.specs.List.Sorted.{IsStrictlyIncreasing, IsStrictlySortedBy}
-use Rattle.std.proofs.lemmas.Map.Keys.{IsStrictlyIncreasing-from_sorted}
 use Rattle.ms_base.specs.declared.kind.Kind.TheVariants.{Standard}
 use Rattle.ms_base.specs.declared.kind.Space.{Space}
 use Rattle.ms_base.specs.declared.kind.Space.TheVariants.{NonClass, Class}
@@ -13,23 +11,15 @@ use Rattle.ms_base.specs.Live.{runs_in}
 use Rattle.ms_base.specs.Good.{IsSound, IsSoundLoader}
 use Rattle.ms_base.specs.Event.{acting, replied, Happens, emptied}
 use Rattle.ms_base.specs.Spread.{Follow}
+use Rattle.ms_base.proofs.examples.StepExamples.{none_rise, one_rises}
 use Rattle.ms_base.proofs.examples.SpreadExamples.{arena_with, chunk, full, with_its_chunk, with_its_block, two}
 use Rattle.ms_base.proofs.examples.SpreadExamples.{at_the_end, moments, chunk_is_taken, loader_is_closed}
 
--- Rising numbers, by the test that computes.
-none_rise : IsStrictlyIncreasing []
-unfolding IsStrictlySortedBy
-none_rise = IsStrictlyIncreasing-from_sorted [] tt
-
-one_rises : (x : ℕ) → IsStrictlyIncreasing (x ∷ [])
-unfolding IsStrictlySortedBy
-one_rises x = IsStrictlyIncreasing-from_sorted (x ∷ []) (tt, tt)
-
 -- The loader that a machine has under a name is one.
-abbrev some_loader : LoaderState → Option LoaderState
+abbrev pub some_loader : LoaderState → Option LoaderState
 some_loader loader = Some loader
 
-is_sound : (one : LoaderState) → IsSoundLoader one → (loader : LoaderState) → some_loader one ≡ some_loader loader
+pub is_sound : (one : LoaderState) → IsSoundLoader one → (loader : LoaderState) → some_loader one ≡ some_loader loader
     → IsSoundLoader loader
 is_sound one sound loader e = let same : one ≡ loader = cc in subst IsSoundLoader same sound
 
@@ -46,7 +36,7 @@ block_arenas NonClass =
 block_arenas Class =
     record { apart = refl; long = refl; inside = refl; few = omega arith; tops = refl; kept = none_rise }
 
-abbrev some_name : ℕ → Option ℕ
+abbrev pub some_name : ℕ → Option ℕ
 some_name name = Some name
 
 is_emptied : Happens (two full (empty_loader Standard)) (acting (Unload 1)) (replied Done)

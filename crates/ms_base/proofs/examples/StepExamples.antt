@@ -26,11 +26,11 @@ rising : (xs : List ℕ) → IsStrictlySortedBy nat_cmp xs → IsStrictlyIncreas
 rising xs sorted = IsStrictlyIncreasing-from_sorted xs sorted
 
 -- Rising numbers, by the test that computes.
-none_rise : IsStrictlyIncreasing []
+pub none_rise : IsStrictlyIncreasing []
 unfolding IsStrictlySortedBy
 none_rise = rising [] tt
 
-one_rises : (x : ℕ) → IsStrictlyIncreasing (x ∷ [])
+pub one_rises : (x : ℕ) → IsStrictlyIncreasing (x ∷ [])
 unfolding IsStrictlySortedBy
 one_rises x = rising (x ∷ []) (tt, tt)
 
@@ -43,13 +43,13 @@ start = empty_machine limits
 abbrev one_loader : Machine
 one_loader = record start { loaders = (1, empty_loader Standard) ∷ []; given = 2 }
 
-abbrev chunk : ℕ → ℕ → ℕ → Chunk
+abbrev pub chunk : ℕ → ℕ → ℕ → Chunk
 chunk at level front = record { start = at; level = level; front = front }
 
 abbrev arena : ArenaState
 arena = record { chunks = chunk 0 10 512 ∷ []; tops = 10 ∷ []; kept = [] }
 
-abbrev with_one_block : LoaderState
+abbrev pub with_one_block : LoaderState
 with_one_block = record { kind = Standard; arena = arena; class_arena = empty_arena; blocks = (1, zeroed 0 10) ∷ [] }
 
 abbrev allocated : Machine
@@ -59,13 +59,13 @@ allocated = record one_loader {
   committed = 0 ∷ [];
 }
 
-abbrev first_chunk : Chunk
+abbrev pub first_chunk : Chunk
 first_chunk = record { start = 0; level = 10; front = 512 }
 
-chunk_is_part : IsPart 0 10
+pub chunk_is_part : IsPart 0 10
 chunk_is_part = (omega arith, refl)
 
-chunk_has_front : HasFront Balanced (record { start = 0; level = 10; front = 512 })
+pub chunk_has_front : HasFront Balanced (record { start = 0; level = 10; front = 512 })
 chunk_has_front =
     record {
       some = omega arith;
@@ -75,7 +75,7 @@ chunk_has_front =
       full = λ h. absurd (cc);
     }
 
-arenas_are_sound : (space : Space) → IsSound (arena_of space with_one_block) (runs_in space with_one_block.blocks)
+pub arenas_are_sound : (space : Space) → IsSound (arena_of space with_one_block) (runs_in space with_one_block.blocks)
 arenas_are_sound NonClass =
     record { apart = refl; long = refl; inside = refl; few = omega arith; tops = refl; kept = none_rise }
 arenas_are_sound Class =
