@@ -5,6 +5,7 @@ from claims import expect
 
 AMOUNTS = ("reserved", "committed", "used", "live", "free blocks", "waste")
 USAGES = (b"Usage", b"Class usage", b"Usage of both")
+SETTINGS = ("policy", "granule", "max granules", "nodes", "class nodes", "workers")
 LABELS = ("loaders", "nodes", "reserved", "granules", "committed", "chunks", "capacity", "fronts", "used", "live",
           "free blocks", "waste")
 NODE_WORDS = 1048576
@@ -26,11 +27,12 @@ class Space(NamedTuple):
 
 
 class Report(NamedTuple):
-    """A report: its spaces, the class space second where there is one, the loaders' rows, and of a full report the usages:
-    each amount's words, size and share by its label, of the space, the class space and both."""
+    """A report: its spaces, the class space second where there is one, and the loaders' rows. Of a full report the settings
+    by their labels, and the usages: each amount's words, size and share by its label, of the space, the class space and both."""
 
     spaces: list
     loaders: list
+    settings: dict
     usages: list
 
 
@@ -67,6 +69,19 @@ def level_lines(lines, title):
     return [row[1:] for row in table]
 
 
+def settings_of(lines):
+    """Reads the settings of a full report, as they stand there."""
+    if not lines:
+        return {}
+    expect(lines.pop(0) == b"Settings", "no line Settings")
+    settings = {}
+    for label in SETTINGS:
+        line = lines.pop(0).decode()
+        expect(line[:14].strip() == label, "a line of the setting", label, "is", line)
+        settings[label] = line[14:].strip()
+    return settings
+
+
 def usages_of(lines):
     """Reads the usages of a full report."""
     usages = []
@@ -92,10 +107,10 @@ def report_of(lines):
     expect(lines.pop(0) == b"Loaders", "no line Loaders")
     lines.pop(0)
     rows = []
-    while lines and lines[0] != USAGES[0]:
+    while lines and lines[0] != b"Settings":
         rows.append(lines.pop(0).decode().split())
     loaders = [(int(name), kind, *map(int, rest)) for name, kind, *rest in rows]
-    return Report(spaces, loaders, usages_of(lines))
+    return Report(spaces, loaders, settings_of(lines), usages_of(lines))
 
 
 def reports_of(answers):

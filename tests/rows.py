@@ -2,9 +2,10 @@
 
 In a file of rows/ a line without indent is a test's name; the indented lines below it are its commands in their order.
 Two spaces or more stand before the answer. Behind `report` stand the numbers that the report must have, by their
-labels, with `class` before those of the class space; or, where it is a full one, amounts of a usage, each with its
-words, size and share: `usage used 10 0.0 KB 0.1`, with `class` or `both` before it. A line `with ..` has options, and `#` begins a remark. Where the
-options ask for workers, the answers are the same for each number of them.
+labels, with `class` before those of the class space; or, where it is a full one, settings, as `setting nodes 64`, and
+amounts of a usage, each with its words, size and share: `usage used 10 0.0 KB 0.1`, with `class` or `both` before it.
+A line `with ..` has options, and `#` begins a remark. Where the options ask for workers, the answers are the same for
+each number of them.
 """
 import os
 import re
@@ -37,6 +38,9 @@ def rows_of(file):
 def expect_numbers(report, told):
     """Fails the test where the report lacks a number of those told, as in `nodes 1, class used 10`."""
     for fact in told.split(", "):
+        if fact.startswith("setting "):
+            expect_setting(report, fact)
+            continue
         if "usage " in fact:
             expect_amount(report, fact)
             continue
@@ -45,6 +49,12 @@ def expect_numbers(report, told):
         numbers = report.spaces[1 if of_class else 0].numbers
         found = numbers[label.removeprefix("class ")]
         expect(found == int(number), label, "is", found, "and not", number)
+
+
+def expect_setting(report, fact):
+    """Fails the test where a full report lacks a setting that is told, as in `setting class nodes 0`."""
+    label, _, wanted = fact.removeprefix("setting ").rpartition(" ")
+    expect(report.settings.get(label) == wanted, fact, "is", report.settings)
 
 
 def expect_amount(report, fact):

@@ -1,4 +1,4 @@
--- The text of a full report: the fixed text, then the part Usage (this project's choice).
+-- The text of a full report: the fixed text, then the parts Settings and Usage (this project's choice).
 use Rattle.std.specs.Prelude.{ℕ, ◌*◌, ◌/◌, ◌%◌, ◌==◌, List, [], ◌∷◌, ◌++◌, Option, Some, None, codes}
 use Rattle.std.specs.Prelude.{nat_lt, if◌then◌else◌}
 use Rattle.std.specs.Fmt.{decimal}
@@ -11,6 +11,7 @@ use Rattle.ms_report.specs.declared.usage.Usage.{Usage}
 use Rattle.ms_report.specs.declared.usage.Usages.{Usages}
 use Rattle.ms_report.specs.Layout.{left_in, right_in}
 use Rattle.ms_report.specs.Sections.{report_text}
+use Rattle.ms_report.specs.Setup.{settings_part}
 use Rattle.ms_report.specs.Usage.{usages_of}
 
 -- A number with one digit after its point: what is whole right in its places, and the tenths.
@@ -77,7 +78,7 @@ usage_part settings sums =
 
 -- A full report.
 abbrev pub full_text : Settings → Sums → List ℕ
-full_text settings sums = report_text sums ++ usage_part settings sums
+full_text settings sums = report_text sums ++ settings_part settings ++ usage_part settings sums
 
 -- A report with as much detail as is asked for.
 abbrev pub detailed_text : Detail → Settings → Sums → List ℕ

@@ -1,5 +1,7 @@
-//! The full report: the fixed text, and then how much of the memory is what.
+//! The full report: the fixed text, then the settings, and then how much of the memory is what.
 //!
+//!     Settings
+//!       policy          balanced
 //!     Usage
 //!                         words        size  per cent
 //!      committed           8192     64.0 KB       0.0
@@ -16,6 +18,7 @@ ghost use Rattle.ms_report.specs.Detailed.{size_in, titled_usage, units_in, usag
 use crate::detail::Detail;
 use crate::layout::{push_label, push_wide};
 use crate::sections::push_report;
+use crate::setup::push_settings;
 use crate::usage::{Amount, Usage, Usages, weigh};
 use ms_base::Settings;
 use ms_loaders::Totals;
@@ -30,8 +33,9 @@ const MB: u128 = 131_072;
 const HEADINGS: &str = "                     words        size  per cent\n";
 
 /// Writes the full report of these totals of a run with these settings: the text that `text` writes,
-/// and then the usage of the space, and where the class space has nodes its usage, and that of both.
-/// Takes memory for the text; an error means that a growth was refused. This project's choice.
+/// then the settings, then the usage of the space, and where the class space has nodes its usage, and
+/// that of both. Takes memory for the text; an error means that a growth was refused. This project's
+/// choice.
 pub fn full_text(alloc: Global, totals: &Totals, settings: &Settings) -> Result<String, AllocError>
     ensures { IfOk result (λ text.
         string_bytes text ≡ full_text settings.now (sums_in totals.now)) }
@@ -63,6 +67,7 @@ fn push_full(text: &mut String, settings: &Settings, totals: &Totals) -> Result<
         ≡ string_bytes text.old ++ full_text settings.now (sums_in totals.now)) }
 {
     push_report(text, totals)?;
+    push_settings(text, settings)?;
     push_usages(text, settings, totals)?;
     Ok(())
 }

@@ -1,7 +1,7 @@
 //! Reports of a metaspace, and the replies to a trace, as texts.
 //!
 //!     System -- collecting --> Totals -- sections, layout --> the report's text
-//!                              Totals -- usage, detailed ---> the full report's text
+//!                    Totals, Settings -- usage, detailed ---> the full report's text
 //!                              Replies -- reply_lines ------> a line each, and reports
 //!
 //! Kept true: each text is exactly the bytes that `specs/` gives for its numbers, and the totals
@@ -18,6 +18,7 @@ pub mod laws;
 mod layout;
 mod reply_lines;
 mod sections;
+mod setup;
 mod usage;
 
 pub use collecting::totals;

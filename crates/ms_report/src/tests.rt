@@ -555,7 +555,17 @@ fn a_report_follows_its_ok(rt: HostRuntime) -> Result<(), Fail> {
     Ok(())
 }
 
-/// The part of the report of one block that a full one has more, with the default settings: 67108864
+/// The default settings.
+const SETTINGS: &str = "Settings
+  policy          balanced
+  granule             8192
+  max granules        8192
+  nodes                 64
+  class nodes            0
+  workers                1
+";
+
+/// The usage in the full report of one block, with the default settings: 67108864
 /// words may be committed. 8192 words are 65536 bytes, 64 KB, and one in 8192 of that; ten are 80
 /// bytes, 0.07 KB, and 0.12 per cent of 8192.
 const USAGE: &str = "Usage
@@ -572,7 +582,7 @@ const USAGE: &str = "Usage
 fn a_full_report_tells_the_usage(rt: HostRuntime) -> Result<(), Fail> {
     let totals = of_one_block(rt.alloc())?;
     let report = full_text(rt.alloc(), &totals, &Settings::DEFAULT)?;
-    let wanted = format!(in rt.alloc(); "{ONE_BLOCK}{USAGE}")?;
+    let wanted = format!(in rt.alloc(); "{ONE_BLOCK}{SETTINGS}{USAGE}")?;
     assert_eq!(rt; report.as_str(), wanted.as_str());
     Ok(())
 }
@@ -597,7 +607,7 @@ fn no_share_is_told_of_nothing(rt: HostRuntime) -> Result<(), Fail> {
         rows: Vec::new(rt.alloc()),
     };
     let report = full_text(rt.alloc(), &totals, &Settings::DEFAULT)?;
-    let wanted = format!(in rt.alloc(); "{NOTHING}{UNUSED}")?;
+    let wanted = format!(in rt.alloc(); "{NOTHING}{SETTINGS}{UNUSED}")?;
     assert_eq!(rt; report.as_str(), wanted.as_str());
     Ok(())
 }
@@ -746,7 +756,66 @@ fn a_full_report_follows_its_ok(rt: HostRuntime) -> Result<(), Fail> {
     })?;
     let replies = Replies { answers };
     let written = lines(rt.alloc(), &replies, true, Detail::Full, &Settings::DEFAULT)?;
-    let wanted = format!(in rt.alloc(); "3 ok\n{ONE_BLOCK}{USAGE}")?;
+    let wanted = format!(in rt.alloc(); "3 ok\n{ONE_BLOCK}{SETTINGS}{USAGE}")?;
     assert_eq!(rt; written.as_str(), wanted.as_str());
+    Ok(())
+}
+
+/// Settings at the other ends of their ranges.
+const LARGEST_SETTINGS: &str = "Settings
+  policy        aggressive
+  granule             2048
+  max granules       40960
+  nodes                 64
+  class nodes           16
+  workers                8
+";
+
+/// The settings of policy none, each number as small as it may be.
+const LEAST_SETTINGS: &str = "Settings
+  policy              none
+  granule             8192
+  max granules           1
+  nodes                  1
+  class nodes            0
+  workers                1
+";
+
+/// Finds the settings in the full report of nothing.
+fn expect_settings(
+    rt: &(impl Abort + AllocGlobal),
+    settings: &Settings,
+    wanted: &str,
+) -> Result<(), AllocError> {
+    let totals = Totals {
+        loaders: 0,
+        space: unreserved(),
+        class_space: unreserved(),
+        rows: Vec::new(rt.alloc()),
+    };
+    let report = full_text(rt.alloc(), &totals, settings)?;
+    assert!(rt; report.as_str().contains(wanted), "{wanted}");
+    Ok(())
+}
+
+#[test]
+fn settings_are_told_as_they_are(rt: HostRuntime) -> Result<(), Fail> {
+    expect_settings(&rt, &Settings::DEFAULT, SETTINGS)?;
+    let largest = Settings {
+        workers: 8,
+        nodes: 64,
+        max_granules: 40_960,
+        policy: Policy::Aggressive,
+        class_nodes: 16,
+    };
+    expect_settings(&rt, &largest, LARGEST_SETTINGS)?;
+    let least = Settings {
+        workers: 1,
+        nodes: 1,
+        max_granules: 1,
+        policy: Policy::None,
+        class_nodes: 0,
+    };
+    expect_settings(&rt, &least, LEAST_SETTINGS)?;
     Ok(())
 }
