@@ -79,7 +79,7 @@ pub record Settles (new : BooksView) (kind : Kind) (live : List (ℕ × List ℕ
 
 pub settles : (kind : Kind) (old made new : BooksView) (live rows : List (ℕ × List ℕ)) (start n : ℕ) (contents : List ℕ)
     (room : ℕ)
-    → IsArena (arena_over old kind live) room → made ≡ record old { room = made.room; places = made.places }
+    → IsArena (arena_over old kind live) room → made ≡ record old { room = made.room; came = made.came; places = made.places }
     → rows ≡ live
     → AwaitsBlock made.state new.state start n → contents ≡ replicate n 0 → AreChunks new.space new.state.chunks
     → length rows + 1 ≤ new.room

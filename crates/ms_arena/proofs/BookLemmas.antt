@@ -21,10 +21,11 @@ use Rattle.ms_base.proofs.arena.KeptLemmas.{sound_with_kept}
 use Rattle.ms_base.proofs.arena.RaisedLemmas.{top_within, place_within}
 use Rattle.ms_base.proofs.arena.TopLemmas.{tops_pushed}
 use Rattle.ms_base.proofs.granules.FrontLemmas.{front_reaches}
-use Rattle.ms_blocks.specs.FreeBlocks.{KeptBlocks, MayBeKept}
+use Rattle.ms_blocks.specs.FreeBlocks.{MayBeKept}
 use Rattle.ms_pool.specs.Account.{AccountState, AreChunks}
 use Rattle.ms_pool.specs.Lending.{Adds, Grows, MayBeParent, chunk_at, reaching}
 use Rattle.ms_arena.specs.Alloc.{with_current}
+use Rattle.ms_arena.specs.Kept.{KeptView}
 use Rattle.ms_arena.specs.Books.{BooksView, AreBooks, Awaits, AwaitsBlock, IsCurrent, PlacesFree, MayRetire}
 use Rattle.ms_arena.specs.Books.{tops_retired, kept_retired}
 use Rattle.ms_arena.proofs.ChunkLemmas.{Reaches, bounded_at, one_place, reaches, used_small, in_use_below}
@@ -372,22 +373,22 @@ taken_books policy space state counted wanted most n former old span new tops to
         ∙ ap (λ (s : ArenaState). with_top (with_chunk s chunk) n) was
 
 -- Books with free blocks that are the same.
-pub same_books : (space : Space) (chunks : List Chunk) (tops : List ℕ) (counted : ℕ) (old new : KeptBlocks) → new ≡ old
+pub same_books : (space : Space) (chunks : List Chunk) (tops : List ℕ) (counted : ℕ) (old new : KeptView) → new ≡ old
     → AreBooks space (record { chunks = chunks; tops = tops; kept = old.kept }) counted
     → AreBooks space (record { chunks = chunks; tops = tops; kept = new.kept }) counted
 same_books space chunks tops counted old new same books =
-    subst (λ (k : KeptBlocks). AreBooks space (record { chunks = chunks; tops = tops; kept = k.kept }) counted)
+    subst (λ (k : KeptView). AreBooks space (record { chunks = chunks; tops = tops; kept = k.kept }) counted)
     (sym same) books
 
-pub same_sound : (chunks : List Chunk) (tops : List ℕ) (live : List (ℕ × ℕ)) (old new : KeptBlocks) → new ≡ old
+pub same_sound : (chunks : List Chunk) (tops : List ℕ) (live : List (ℕ × ℕ)) (old new : KeptView) → new ≡ old
     → IsSound (record { chunks = chunks; tops = tops; kept = old.kept }) live
     → IsSound (record { chunks = chunks; tops = tops; kept = new.kept }) live
 same_sound chunks tops live old new same sound =
-    subst (λ (k : KeptBlocks). IsSound (record { chunks = chunks; tops = tops; kept = k.kept }) live) (sym same) sound
+    subst (λ (k : KeptView). IsSound (record { chunks = chunks; tops = tops; kept = k.kept }) live) (sym same) sound
 
 -- A view of books, with its parts.
 pub grown_view : (policy : Policy) (state : ArenaState) (total : ℕ) (chunk : Chunk) (owner : ℕ) (space : Space)
-    (new : AccountState) (tops : List ℕ) (place room places places' : ℕ)
+    (new : AccountState) (tops : List ℕ) (place room came places places' : ℕ)
     → GrowsCurrent policy state chunk total (record { owner = owner; space = space; chunks = state.chunks }) new
     → place ≡ last_place state
     → tops ≡ tops_with state.tops place total → places' ≡ places
@@ -397,6 +398,7 @@ pub grown_view : (policy : Policy) (state : ArenaState) (total : ℕ) (chunk : C
       space = new.space;
       state = record { chunks = new.chunks; tops = tops; kept = state.kept };
       room = room;
+      came = came;
       places = places';
     })
     (record {
@@ -404,9 +406,10 @@ pub grown_view : (policy : Policy) (state : ArenaState) (total : ℕ) (chunk : C
       space = space;
       state = with_top (with_current state (reaching policy chunk total)) total;
       room = room;
+      came = came;
       places = places;
     })
-grown_view policy state total chunk owner space new tops place room places places' grows last is same =
+grown_view policy state total chunk owner space new tops place room came places places' grows last is same =
     ap (λ (a : AccountState).
     let v : BooksView =
     record {
@@ -414,6 +417,7 @@ grown_view policy state total chunk owner space new tops place room places place
       space = a.space;
       state = record { chunks = a.chunks; tops = tops; kept = state.kept };
       room = room;
+      came = came;
       places = places';
     } in v) grows.after
     ∙ ap (λ (l : List ℕ).
@@ -427,6 +431,7 @@ grown_view policy state total chunk owner space new tops place room places place
         kept = state.kept;
       };
       room = room;
+      came = came;
       places = places';
     } in v)
     (is ∙ ap (λ (p : ℕ). tops_with state.tops p total)
@@ -438,6 +443,7 @@ grown_view policy state total chunk owner space new tops place room places place
       space = space;
       state = with_top (with_current state (reaching policy chunk total)) total;
       room = room;
+      came = came;
       places = n;
     } in v) same
 

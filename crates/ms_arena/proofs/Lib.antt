@@ -3,6 +3,7 @@ mod CountLemmas
 mod PutLemmas
 mod ChunkLemmas
 mod AwaitLemmas
+mod KeptLemmas
 mod BookLemmas
 mod AllocLemmas
 mod ArenaLemmas

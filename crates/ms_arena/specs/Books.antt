@@ -23,13 +23,14 @@ use Rattle.ms_pool.specs.Source.{LeavesRest}
 use Rattle.ms_arena.specs.Arena.{ArenaView, IsSoundArena, with_books, with_zeros, block_at}
 use Rattle.ms_arena.specs.Alloc.{TakeRelation, GrowRelation, with_current}
 
--- An account's owner and space, the state that the model sees, and how many more free blocks and
--- tops there is room for.
+-- An account's owner and space, the state that the model sees, how many more free blocks and tops
+-- there is room for, and how many free blocks came since the others were put in order.
 pub record BooksView : Type 0 where
   pub owner : ℕ
   pub space : Space
   pub state : ArenaState
   pub room : ℕ
+  pub came : ℕ
   pub places : ℕ
 
 -- The account of the books.

@@ -223,10 +223,15 @@ fn asked(words: u64) -> Result<u64, Refusal>
 /// that retires.
 fn made_room(books: &mut Books, live: &mut Rows, alloc: Global, n: u64) -> Result<(), Refusal>
     ensures room { OnOk result (length live.new.blocks + 2 ≤ books.new.room) }
+    ensures ordered { OnOk result (books.new.came ≡ 0) }
     ensures places { OnOk result (0 < books.new.places) }
     ensures row { OnOk result (n ≤ live.new.room) }
     ensures more { books.old.room ≤ books.new.room }
-    ensures books { books.new ≡ record books.old { room = books.new.room; places = books.new.places } }
+    ensures books { books.new ≡ record books.old {
+      room = books.new.room;
+      came = books.new.came;
+      places = books.new.places;
+    } }
     ensures blocks { live.new.blocks ≡ live.old.blocks }
     ensures refused { IfErr result (λ refusal. refusal ≡ Refusal.OutOfMemory) }
 {
@@ -244,7 +249,8 @@ fn start_of<S: ChunkSource>(
     kind: Kind,
     n: u64,
 ) -> Result<u64, Refusal>
-    requires { MayLook S.serves source.old books.old n }
+    requires may { MayLook S.serves source.old books.old n }
+    requires ordered { books.old.came ≡ 0 }
     ensures looked { HasLooked S.serves S.opened S.limits books.old n source.old result books.new source.new }
     ensures serves { ForAllLive books.old kind n result books.new.state (λ arena answer new.
         Serves S.grew S.took (S.limits source.old).policy arena n (placed books.old.state n)

@@ -23,8 +23,8 @@ ghost use Rattle.ms_arena.specs.Books.{BooksView, Awaits, AwaitsBlock, HasGrown,
 ghost use Rattle.ms_arena.specs.Books.{IsCurrent, PlacesFree, MayRetire, StayCounted, tops_retired, kept_retired};
 ghost use Rattle.ms_arena.specs.Books.{account_in};
 
+use crate::kept::Kept;
 use ms_base::{Block, Chunk, Kind, Level, Refusal, growth};
-use ms_blocks::FreeBlocks;
 use ms_pool::{Account, ChunkSource};
 use std::alloc::Global;
 use std::marker::Model;
@@ -39,7 +39,7 @@ pub struct Books {
     /// The sum of the tops, in words; below 2^52.
     used: u64,
     /// The free blocks, of two words at least.
-    kept: FreeBlocks,
+    kept: Kept,
 }
 
 impl Model for Books {
@@ -53,6 +53,7 @@ impl Model for Books {
       space = b.account.space;
       state = record { chunks = b.account.chunks; tops = b.tops.items; kept = b.kept.kept };
       room = b.kept.room;
+      came = b.kept.came;
       places = vec_capacity b.tops - vec_len b.tops;
     } };
 
@@ -76,7 +77,7 @@ impl Books {
             account,
             tops: Vec::new(alloc),
             used: 0,
-            kept: FreeBlocks::new(alloc),
+            kept: Kept::new(alloc),
         }
     }
 
@@ -112,15 +113,21 @@ impl Books {
         self.kept.total()
     }
 
-    /// Makes room for so many free blocks more, and for one top more; all else stays.
+    /// Puts the free blocks in order, and makes room for so many more, and for one top more; all else
+    /// stays.
     pub fn make_room(&mut self, blocks: usize) -> Result<(), Refusal>
         ensures room { OnOk result (blocks ≤ self.new.room) }
+        ensures ordered { OnOk result (self.new.came ≡ 0) }
         ensures places { OnOk result (1 ≤ self.new.places) }
         ensures more { self.old.room ≤ self.new.room }
-        ensures others { self.new ≡ record self.old { room = self.new.room; places = self.new.places } }
+        ensures others { self.new ≡ record self.old {
+          room = self.new.room;
+          came = self.new.came;
+          places = self.new.places;
+        } }
         ensures refused { IfErr result (λ refusal. refusal ≡ Refusal.OutOfMemory) }
     {
-        self.kept.reserve(blocks)?;
+        self.kept.make_room(blocks)?;
         match self.tops.reserve(1) {
             Ok(()) => Ok(()),
             Err(_) => Err(Refusal::OutOfMemory),
@@ -151,7 +158,11 @@ impl Books {
         ensures kept { self.new.state
             ≡ record self.old.state { kept = with_new self.old.state.kept block.start block.words } }
         ensures room { self.new.room + 1 ≡ self.old.room }
-        ensures others { self.new ≡ record self.old { state = self.new.state; room = self.new.room } }
+        ensures others { self.new ≡ record self.old {
+          state = self.new.state;
+          room = self.new.room;
+          came = self.new.came;
+        } }
     {
         self.kept.add(block);
     }
@@ -161,12 +172,18 @@ impl Books {
     pub fn place(&mut self, n: u64) -> Option<u64>
         requires some { 2 ≤ n }
         requires fits { n ≤ size_of 0 }
+        requires room { 0 < self.old.room }
+        requires ordered { self.old.came ≡ 0 }
         ensures placed { placed self.old.state n
             ≡ option_map (λ start. (start, self.new.state)) result }
         ensures awaits { IfSome result
             (λ start. AwaitsBlock self.old.state self.new.state start n) }
-        ensures room { self.old.room ≤ self.new.room }
-        ensures others { self.new ≡ record self.old { state = self.new.state; room = self.new.room } }
+        ensures room { self.old.room ≤ self.new.room + 1 }
+        ensures others { self.new ≡ record self.old {
+          state = self.new.state;
+          room = self.new.room;
+          came = self.new.came;
+        } }
         ensures unchanged { IfNone result (self.new ≡ self.old) }
     {
         if let Some(start) = place_free(&mut self.kept, n) {
@@ -243,11 +260,13 @@ impl Books {
 }
 
 /// Places a block of n words at the start of the free block that fits best, and keeps its rest.
-fn place_free(kept: &mut FreeBlocks, n: u64) -> Option<u64>
-    requires { 2 ≤ n }
+fn place_free(kept: &mut Kept, n: u64) -> Option<u64>
+    requires some { 2 ≤ n }
+    requires ordered { kept.old.came ≡ 0 }
+    requires room { 0 < kept.old.room }
     ensures placed { IfSome result (λ start. PlacesFree kept.old.kept n start kept.new.kept) }
     ensures none { IfNone result (best_fit kept.old.kept n ≡ None) }
-    ensures room { kept.old.room ≤ kept.new.room }
+    ensures room { kept.old.room ≤ kept.new.room + 1 }
     ensures unchanged { IfNone result (kept.new ≡ kept.old) }
 {
     let block = kept.remove(n)?;
@@ -256,7 +275,7 @@ fn place_free(kept: &mut FreeBlocks, n: u64) -> Option<u64>
 }
 
 /// Keeps a run of at least two words as a free block; a single word is waste.
-fn keep_rest(kept: &mut FreeBlocks, start: u64, words: u64)
+fn keep_rest(kept: &mut Kept, start: u64, words: u64)
     requires room { 0 < kept.old.room }
     requires may { 2 ≤ words → MayBeKept kept.old.kept (start, words) }
     ensures kept { kept.new.kept ≡ with_rest kept.old.kept start words }
@@ -269,7 +288,7 @@ fn keep_rest(kept: &mut FreeBlocks, start: u64, words: u64)
 
 /// Retires the chunk that was current, if there was one: its top rises to its front, and what that
 /// adds becomes a free block.
-fn retire(tops: &mut Vec<u64>, used: &mut u64, kept: &mut FreeBlocks, former: Option<(Chunk, u64)>)
+fn retire(tops: &mut Vec<u64>, used: &mut u64, kept: &mut Kept, former: Option<(Chunk, u64)>)
     requires room { 0 < kept.old.room }
     requires summed { used.old ≡ sum tops.old.items }
     requires small { used.old < 2 ^ 52 }

@@ -8,6 +8,7 @@
 
 mod arena;
 mod books;
+mod kept;
 mod pages;
 mod rows;
 #[cfg(test)]

@@ -48,7 +48,7 @@ returns-clause-grown g c = record {
       (λ (books : BooksView). g.S.ChunkSource.grew c.args.source.now (account_in books) c.args.chunk.start c.args.total
       c.args.may_enlarge (Ok c.in_ok-grow.field-0) c.grow.new.self) c.self.view_is c.in_ok-grow.ensures.grew;
   state = grown_view _ _ c.args.total c.args.chunk _ _ c.grow.new.account c.raise.new.tops.items
-      (c.held.result - 1) _ _ _ (grown g c) (ap (λ (h : ℕ). h - 1) c.held.ensures.count) c.raise.ensures.tops
+      (c.held.result - 1) _ _ _ _ (grown g c) (ap (λ (h : ℕ). h - 1) c.held.ensures.count) c.raise.ensures.tops
       (omega (arith, c.raise.ensures.counted.capacity, c.raise.ensures.counted.len))
       ∙ ap (λ (books : BooksView).
       record books {

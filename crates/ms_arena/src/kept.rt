@@ -1,0 +1,142 @@
+//! The free blocks of one arena: those that are in order, and those that came since.
+//!
+//!     came      | [12, 20) | [64, 66) |   room   |      as they came
+//!     ordered   [30, 42)  [0, 16)  [80, 120)  ..        by size, a fork of a tree for each
+//!
+//! Most blocks are never freed before their loader goes, so no fork is made for a block while it is
+//! live: a block that comes is only noted, in room that was made when it was placed, and put in order
+//! before the next placement. Kept true: each block that came may be kept beside those that were there
+//! before it, and their words are summed. Only `make_room` takes memory.
+ghost use Rattle.std.specs.Prelude.{◌≡◌, ◌+◌, ◌^◌, ◌<◌, ◌≤◌, IsFalse, [], length, OnOk, IfErr, IfSome, IfNone};
+ghost use Rattle.std.specs.Option.{option_map};
+ghost use Rattle.ms_base.specs.Interval.{meets_any};
+ghost use Rattle.ms_base.specs.Names.{with_new, without};
+ghost use Rattle.ms_base.specs.Place.{best_fit};
+ghost use Rattle.ms_blocks.specs.FreeBlocks.{IsBestFit, MayBeKept, run_of, words_in};
+ghost use Rattle.ms_arena.specs.Kept.{MayAllBeKept, with_all};
+
+use ms_base::{Block, Refusal};
+use ms_blocks::FreeBlocks;
+use std::alloc::Global;
+use std::marker::Model;
+
+/// For how many blocks room is made at least.
+const LEAST_ROOM: usize = 16;
+
+/// The free blocks of one arena, and room for more of them. A start is a word number.
+#[derive(Drop)]
+pub struct Kept {
+    /// Those that are in order, of two words at least.
+    ordered: FreeBlocks,
+    /// Those that came since.
+    came: Vec<Block>,
+    /// How many words these have together, modulo 2^64.
+    words: u64,
+}
+
+impl Model for Kept {
+    ghost use Rattle.std.specs.Prelude.{◌-◌, vec_len, vec_capacity};
+    ghost use Rattle.ms_arena.specs.Kept.{KeptView, HaveCome, with_all};
+
+    ghost Value = { KeptView };
+
+    ghost view = { λ k. record {
+      kept = with_all k.ordered.kept k.came.items;
+      room = vec_capacity k.came - vec_len k.came;
+      came = vec_len k.came;
+    } };
+
+    ghost invariant = { λ k. HaveCome k.ordered.kept k.came.items k.words };
+}
+
+impl Kept {
+    /// Makes a collection of no block, which takes its memory from the allocator. Takes none yet.
+    pub fn new(alloc: Global) -> Kept
+        ensures { result.kept ≡ [] }
+    {
+        Kept {
+            ordered: FreeBlocks::new(alloc),
+            came: Vec::new(alloc),
+            words: 0,
+        }
+    }
+
+    /// Puts all blocks in order, and makes room for so many more; the blocks stay.
+    pub fn make_room(&mut self, blocks: usize) -> Result<(), Refusal>
+        ensures room { OnOk result (blocks ≤ self.new.room) }
+        ensures ordered { OnOk result (self.new.came ≡ 0) }
+        ensures more { self.old.room ≤ self.new.room }
+        ensures kept { self.new.kept ≡ self.old.kept }
+        ensures refused { IfErr result (λ refusal. refusal ≡ Refusal.OutOfMemory) }
+    {
+        self.order()?;
+        match self.came.reserve(blocks.max(LEAST_ROOM)) {
+            Ok(()) => Ok(()),
+            Err(_) => Err(Refusal::OutOfMemory),
+        }
+    }
+
+    /// Puts all blocks in order.
+    fn order(&mut self) -> Result<(), Refusal>
+        ensures ordered { OnOk result (self.new.came ≡ 0) }
+        ensures more { self.old.room ≤ self.new.room }
+        ensures kept { self.new.kept ≡ self.old.kept }
+        ensures refused { IfErr result (λ refusal. refusal ≡ Refusal.OutOfMemory) }
+    {
+        if self.came.is_empty() {
+            return Ok(());
+        }
+        self.ordered.reserve(self.came.len())?;
+        add_all(&mut self.ordered, self.came.as_slice());
+        self.came.clear();
+        self.words = 0;
+        Ok(())
+    }
+
+    /// Keeps one block more, of at least two words, in room that there is.
+    pub fn add(&mut self, block: Block)
+        requires room { 0 < self.old.room }
+        requires words { 2 ≤ block.words }
+        requires ends { block.start + block.words < 2 ^ 64 }
+        requires apart { IsFalse (meets_any (run_of block) self.old.kept) }
+        ensures kept { self.new.kept ≡ with_new self.old.kept block.start block.words }
+        ensures room { self.new.room + 1 ≡ self.old.room }
+    {
+        self.came.push_reserved(block);
+        self.words = self.words.wrapping_add(block.words);
+    }
+
+    /// Takes out the best fit whole, where all blocks are in order.
+    pub fn remove(&mut self, words: u64) -> Option<Block>
+        requires { self.old.came ≡ 0 }
+        ensures best { IfSome result (λ block. IsBestFit self.old.kept words (run_of block)) }
+        ensures answer { option_map run_of result ≡ best_fit self.old.kept words }
+        ensures taken { IfSome result (λ block. self.new.kept ≡ without self.old.kept block.start) }
+        ensures back { IfSome result (λ block. MayBeKept self.new.kept (run_of block)) }
+        ensures room { self.new.room ≡ self.old.room }
+        ensures unchanged { IfNone result (self.new ≡ self.old) }
+    {
+        self.ordered.remove(words)
+    }
+
+    /// Tells how many words the blocks have together.
+    pub fn total(&self) -> u64
+        requires { words_in self.now.kept < 2 ^ 64 }
+        ensures { result ≡ words_in self.now.kept }
+    {
+        // That each block in order has two words is learnt here.
+        let _ = self.ordered.len();
+        self.ordered.total().wrapping_add(self.words)
+    }
+}
+
+/// Adds blocks in order, in room that there is.
+fn add_all(ordered: &mut FreeBlocks, blocks: &[Block])
+    requires room { length blocks.now ≤ ordered.old.room }
+    requires may { MayAllBeKept ordered.old.kept blocks.now }
+    ensures { ordered.new.kept ≡ with_all ordered.old.kept blocks.now }
+{
+    for block in blocks {
+        ordered.add(*block);
+    }
+}
