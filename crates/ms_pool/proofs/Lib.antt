@@ -10,6 +10,7 @@ pub mod EmptyPoolLemmas
 pub mod SlotLoopLemmas
 pub mod SkipLemmas
 pub mod CoveringLemmas
+pub mod OwnerLemmas
 pub mod PoolCountLemmas
 pub mod FreeCountLemmas
 pub mod LentCountLemmas

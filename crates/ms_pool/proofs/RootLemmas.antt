@@ -20,7 +20,7 @@ StartsFrom start loan = start ≤ loan.chunk.start
 abbrev InRoot : LentLeaf → Type 0
 InRoot leaf = leaf.start + size_of leaf.level ≤ root_words
 
-ends_in_root : (root : ℕ) (leaves : List LentLeaf) → AllByRecursion InRoot leaves
+pub ends_in_root : (root : ℕ) (leaves : List LentLeaf) → AllByRecursion InRoot leaves
     → AllByRecursion (EndsBy ((root + 1) * root_words)) (map (loan_at root) leaves)
 ends_in_root root [] all = all
 ends_in_root root (leaf ∷ leaves) all = (omega (arith, all.0), ends_in_root root leaves all.1)

@@ -13,3 +13,4 @@ pub mod Releasing
 pub mod Placing
 pub mod Serving
 pub mod LimitCounts
+pub mod Owners

@@ -53,6 +53,13 @@ impl Account {
         self.chunks[place as usize]
     }
 
+    /// Tells the owner's number, 1 to 4294967295. Takes no memory.
+    pub fn owner(&self) -> u32
+        ensures { result ≡ self.now.owner }
+    {
+        self.owner
+    }
+
     /// Tells the space that the chunks lie in. Takes no memory.
     pub fn space(&self) -> Space
         ensures { result ≡ self.now.space }

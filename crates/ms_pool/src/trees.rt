@@ -19,13 +19,14 @@ ghost use Rattle.ms_buddy.specs.Leaves.{AreLeaves, covers, free_of, has_level};
 ghost use Rattle.ms_pool.specs.Growing.{with_greater_loan};
 ghost use Rattle.ms_pool.specs.Keeping.{loans_from};
 ghost use Rattle.ms_pool.specs.Ledger.{with_loan};
+ghost use Rattle.ms_pool.specs.Owners.{owner_at};
 ghost use Rattle.ms_pool.specs.Placing.{MayBeCarved, MayBeRaised};
 ghost use Rattle.ms_pool.specs.Releasing.{TakesBack, is_lent_in, without_loan};
 ghost use Rattle.ms_pool.specs.Trees.{Tells, has_free, place_in, row_bits};
 
 use crate::totals::LEVELS;
 use ms_base::{Chunk, Level, ROOT_WORDS, Span};
-use ms_buddy::SplitTree;
+use ms_buddy::{Leaf, SplitTree};
 use ms_commit::Mask;
 use std::alloc::{AllocError, Global};
 use std::marker::Model;
@@ -91,6 +92,22 @@ impl Trees {
             Some(place) => Some(place - row),
             None => None,
         }
+    }
+}
+
+/// Tells the owner of the chunk in which a word lies, if it lies in one.
+pub(crate) fn holder(trees: &Trees, word: u64) -> Option<u32>
+    requires { All AreLeaves trees.now.items }
+    ensures { result ≡ owner_at (loans_from 0 trees.now.items) word }
+{
+    let root = (word / ROOT_WORDS) as usize;
+    if root >= trees.trees.len() {
+        return None;
+    }
+    let (_, leaf) = trees.tree(root).leaf_at(word % ROOT_WORDS);
+    match leaf {
+        Leaf::Lent { owner, .. } => Some(owner),
+        Leaf::Free => None,
     }
 }
 
