@@ -11,7 +11,7 @@ use Rattle.ms_base.specs.Level.{level_that_holds}
 use Rattle.ms_base.specs.State.{ArenaState}
 use Rattle.ms_base.specs.Asks.{wanted_level}
 use Rattle.ms_arena.specs.Arena.{block_at, with_books, with_zeros}
-use Rattle.ms_arena.specs.Alloc.{GrowRelation, TakeRelation, Takes}
+use Rattle.ms_arena.specs.Alloc.{GrowRelation, TakeRelation, TakesNew}
 use Rattle.ms_arena.specs.Books.{AwaitsBlock, BooksView, HasGrown, HasTaken, Leaves, account_in, arena_over, answer_at}
 use Rattle.ms_arena.specs.Books.{arena_then}
 
@@ -22,7 +22,7 @@ pub takes_from : {S : Type 0} (took : TakeRelation S) (policy : Policy) (old : B
     → wanted ≡ wanted_level kind old.space old.state n → most ≡ level_that_holds n
     → IfOk result (λ start. HasTaken took policy old wanted most n before start new after)
     → IfErr result (λ refusal. took before (account_in old) wanted most n (Err refusal) after)
-    → Takes took policy (arena_over old kind live) n before (answer_at result n)
+    → TakesNew took policy (arena_over old kind live) n before (answer_at result n)
     (arena_then (arena_over old kind live) new result n) after
 takes_from took policy old kind live wanted most n before (Ok start) new after wants holds taken refused = record {
   lent = Ok taken.span;

@@ -28,8 +28,8 @@ abbrev pub with_current : ArenaState → Chunk → ArenaState
 with_current books chunk = record books { chunks = slice_set books.chunks (last_place books) chunk }
 
 -- The arena with a block at the current chunk's top, once that chunk has grown to reach its end.
-abbrev pub with_grown : Policy → ArenaView → Chunk → ℕ → ArenaView
-with_grown policy arena chunk n =
+abbrev pub with_block_grown : Policy → ArenaView → Chunk → ℕ → ArenaView
+with_block_grown policy arena chunk n =
     with_zeros
     (with_books arena (with_top (with_current arena.books (reaching policy chunk (total_asked arena.books n)))
     (total_asked arena.books n)))
@@ -46,7 +46,7 @@ AfterTake policy old n (Ok span) answer new =
 AfterTake policy old n (Err refusal) answer new = (answer ≡ Err refusal) × (new ≡ old)
 
 -- The source is asked for a chunk.
-pub record Takes {S : Type 0} (took : TakeRelation S) (policy : Policy) (old : ArenaView) (n : ℕ)
+pub record TakesNew {S : Type 0} (took : TakeRelation S) (policy : Policy) (old : ArenaView) (n : ℕ)
     (before : S) (answer : Result Block Refusal) (new : ArenaView) (after : S) : Type 0 where
   pub lent : Result Span Refusal
   pub asked : took before (account_of old) (wanted_level old.kind old.space old.books n) (level_that_holds n)
@@ -58,12 +58,12 @@ abbrev pub AfterGrow : {S : Type 0} → TakeRelation S → Policy → ArenaView 
     → S → Result Block Refusal → ArenaView → S → Type 0
 AfterGrow took policy old chunk n (Ok span) middle answer new after =
     (after ≡ middle) × (answer ≡ Ok (block_at (chunk.start + current_top old.books) n))
-    × (new ≡ with_grown policy old chunk n)
+    × (new ≡ with_block_grown policy old chunk n)
 AfterGrow took policy old chunk n (Err refusal) middle answer new after =
-    Takes took policy old n middle answer new after
+    TakesNew took policy old n middle answer new after
 
 -- The source is asked to grow the current chunk.
-pub record Grows {S : Type 0} (grew : GrowRelation S) (took : TakeRelation S) (policy : Policy)
+pub record GrowsCurrent {S : Type 0} (grew : GrowRelation S) (took : TakeRelation S) (policy : Policy)
     (old : ArenaView) (chunk : Chunk) (n : ℕ) (before : S) (answer : Result Block Refusal) (new : ArenaView)
     (after : S) : Type 0 where
   pub middle : S
@@ -76,15 +76,15 @@ pub record Grows {S : Type 0} (grew : GrowRelation S) (took : TakeRelation S) (p
 abbrev pub AsksChunk : {S : Type 0} → GrowRelation S → TakeRelation S → Policy → ArenaView → ℕ → Option Chunk
     → Bool → S → Result Block Refusal → ArenaView → S → Type 0
 AsksChunk grew took policy old n (Some chunk) true before answer new after =
-    Grows grew took policy old chunk n before answer new after
-AsksChunk grew took policy old n _ _ before answer new after = Takes took policy old n before answer new after
+    GrowsCurrent grew took policy old chunk n before answer new after
+AsksChunk grew took policy old n _ _ before answer new after = TakesNew took policy old n before answer new after
 
 -- Whether the block has a place without a chunk: then the source is not asked.
-abbrev pub Serves : {S : Type 0} → GrowRelation S → TakeRelation S → Policy → ArenaView → ℕ
+abbrev pub FindsPlace : {S : Type 0} → GrowRelation S → TakeRelation S → Policy → ArenaView → ℕ
     → Option (ℕ × ArenaState) → S → Result Block Refusal → ArenaView → S → Type 0
-Serves grew took policy old n (Some place) before answer new after =
+FindsPlace grew took policy old n (Some place) before answer new after =
     (answer ≡ Ok (block_at place.0 n)) × (new ≡ with_zeros (with_books old place.1) place.0 n) × (after ≡ before)
-Serves grew took policy old n None before answer new after =
+FindsPlace grew took policy old n None before answer new after =
     AsksChunk grew took policy old n (current old.books)
     (asks_growth old.kind old.space old.books (current old.books) n) before answer new after
 
@@ -102,5 +102,5 @@ abbrev pub Allocates : {S : Type 0} → GrowRelation S → TakeRelation S → Po
     → Result Block Refusal → ArenaView → S → Type 0
 Allocates grew took policy old words before answer new after =
     IsRefused old words before answer new after
-    ⊎ (IsAskable words × Serves grew took policy old (block_words words) (placed old.books (block_words words))
+    ⊎ (IsAskable words × FindsPlace grew took policy old (block_words words) (placed old.books (block_words words))
     before answer new after)

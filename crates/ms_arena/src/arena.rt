@@ -24,7 +24,7 @@ ghost use Rattle.ms_base.specs.Totals.{used_of};
 ghost use Rattle.ms_pool.specs.Source.{LeavesRest};
 ghost use Rattle.ms_arena.specs.Arena.{IsSoundArena, IsNotLive, IsAskable, Places, PlaceRefused, ReadsWord, WritesWord};
 ghost use Rattle.ms_arena.specs.Arena.{WordRefused, FreesBlock, account_of, new_arena};
-ghost use Rattle.ms_arena.specs.Alloc.{Allocates, Serves, AsksChunk, Takes, Grows};
+ghost use Rattle.ms_arena.specs.Alloc.{Allocates, FindsPlace, AsksChunk, TakesNew, GrowsCurrent};
 ghost use Rattle.ms_arena.specs.ArenaSums.{AreSums};
 ghost use Rattle.ms_arena.specs.Books.{AsksFor, ForAllLive, HasLooked, MayLook, arena_over};
 
@@ -253,7 +253,7 @@ fn start_of<S: ChunkSource>(
     requires ordered { books.old.came ≡ 0 }
     ensures looked { HasLooked S.serves S.opened S.limits books.old n source.old result books.new source.new }
     ensures serves { ForAllLive books.old kind n result books.new.state (λ arena answer new.
-        Serves S.grew S.took (S.limits source.old).policy arena n (placed books.old.state n)
+        FindsPlace S.grew S.took (S.limits source.old).policy arena n (placed books.old.state n)
         source.old answer new source.new) }
 {
     match books.place(n) {
@@ -297,7 +297,7 @@ fn start_in_grown<S: ChunkSource>(
     requires asks { AsksFor books.old.state kind books.old.space n chunk total may_enlarge }
     ensures looked { HasLooked S.serves S.opened S.limits books.old n source.old result books.new source.new }
     ensures grows { ForAllLive books.old kind n result books.new.state (λ arena answer new.
-        Grows S.grew S.took (S.limits source.old).policy arena chunk n source.old answer new source.new) }
+        GrowsCurrent S.grew S.took (S.limits source.old).policy arena chunk n source.old answer new source.new) }
 {
     let start = chunk.start + (total - n);
     match books.grow(source, chunk, total, may_enlarge) {
@@ -316,7 +316,7 @@ fn start_in_taken<S: ChunkSource>(
     requires { MayLook S.serves source.old books.old n }
     ensures looked { HasLooked S.serves S.opened S.limits books.old n source.old result books.new source.new }
     ensures takes { ForAllLive books.old kind n result books.new.state (λ arena answer new.
-        Takes S.took (S.limits source.old).policy arena n source.old answer new source.new) }
+        TakesNew S.took (S.limits source.old).policy arena n source.old answer new source.new) }
 {
     let Some(most) = level_for(n) else {
         return Err(Refusal::TooLarge);

@@ -99,7 +99,7 @@ pub record IsAsked (old : Machine) (space : Space) (name start : ℕ) (loader : 
   pub starts : chunk.start ≡ start
 
 -- It does, as the rule for growing says, and the committed granules follow.
-pub record Grows (old : Machine) (space : Space) (name start total : ℕ) (may_enlarge : Bool) (chunk : Chunk)
+pub record GrowsChunk (old : Machine) (space : Space) (name start total : ℕ) (may_enlarge : Bool) (chunk : Chunk)
     (new : Machine) : Type 0 where
   pub loader : LoaderState
   pub place : ℕ
@@ -148,7 +148,7 @@ pub record AddsBlock (space : Space) (block words start : ℕ) (old new : Loader
   pub after : new ≡ with_allocated space old arena block (zeroed start (block_words words))
 
 -- The local event of an allocation that is served.
-pub record Adds (old : Machine) (space : Space) (name block words start : ℕ) (new : Machine) : Type 0 where
+pub record PlacesBlock (old : Machine) (space : Space) (name block words start : ℕ) (new : Machine) : Type 0 where
   pub some : 1 ≤ words
   pub fits : words ≤ root_words
   pub before : LoaderState
@@ -173,8 +173,8 @@ pub record Empties (old : Machine) (name : ℕ) (new : Machine) : Type 0 where
 
 -- What a request's local event changes where it is served, and the reply.
 abbrev pub Acts : Machine → Step → Reply → Machine → Type 0
-Acts old (Alloc name block words) (At start) new = Adds old NonClass name block words start new
-Acts old (Calloc name block words) (At start) new = Adds old Class name block words start new
+Acts old (Alloc name block words) (At start) new = PlacesBlock old NonClass name block words start new
+Acts old (Calloc name block words) (At start) new = PlacesBlock old Class name block words start new
 Acts old (Write name block index value) Done new = Writes old name block index value new
 Acts old (Read name block index) (Value value) new = Reads old name block index value new
 Acts old (Free name block) Done new = Frees old name block new
@@ -203,7 +203,7 @@ Happens old (opening name kind) (refused IdsUsedUp) new = NewCause old name IdsU
 Happens old (taking space name p m words) (lent chunk) new = Takes old space name p m words chunk new
 Happens old (taking space name p m words) (refused refusal) new = TakesNone old space name p m words refusal new
 Happens old (growing space name start total may_enlarge) (lent chunk) new =
-    Grows old space name start total may_enlarge chunk new
+    GrowsChunk old space name start total may_enlarge chunk new
 Happens old (growing space name start total may_enlarge) (refused refusal) new =
     GrowsNone old space name start total may_enlarge refusal new
 Happens old (closing name) accepted new = Closes old name new

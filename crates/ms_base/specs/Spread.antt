@@ -154,8 +154,8 @@ abbrev pub part_of : Moment → Part
 part_of moment = (moment.of, moment.event, moment.answer)
 
 -- All events of a step.
-abbrev pub parts_of : SpreadStep → List Part
-parts_of spread = map (λ (one : Event × Answer). (Some spread, one.0, one.1)) spread.events
+abbrev pub spread_parts : SpreadStep → List Part
+spread_parts spread = map (λ (one : Event × Answer). (Some spread, one.0, one.1)) spread.events
 
 -- The events of a loader's name, taken by themselves.
 abbrev pub parts_by : ℕ → List Moment → List Part
@@ -165,7 +165,7 @@ parts_by name moments = map part_of (filter (λ (moment : Moment). is_name name 
 pub record AreWhole (parts : List Part) : Type 0 where
   pub steps : List SpreadStep
   pub whole : All IsWhole steps
-  pub parts_are : parts ≡ flat_map parts_of steps
+  pub parts_are : parts ≡ flat_map spread_parts steps
 
 -- An event of no loader: a Purge, which is a step by itself, or totals, which are no step's.
 abbrev pub IsByItself : Event × Answer → Option ℕ → Option SpreadStep → Type 0

@@ -163,16 +163,16 @@ abbrev pub purged : Machine → Machine
 purged m = recommitted (record m { slots = filter (has_chunk_in (chunks_held NonClass m.loaders)) m.slots })
 
 -- What each request that is served changes, and what it is answered. No other reply is given.
-abbrev pub Serves : Machine → Step → Reply → Machine → Type 0
-Serves old (New name kind) Done new = Makes old name (empty_loader kind) new
-Serves old (Alloc name block words) (At start) new = Allocates old NonClass name block words start new
-Serves old (Calloc name block words) (At start) new = Allocates old Class name block words start new
-Serves old (Write name block index value) Done new = Writes old name block index value new
-Serves old (Read name block index) (Value value) new = Reads old name block index value new
-Serves old (Free name block) Done new = Frees old name block new
-Serves old (Unload name) Done new = Unloads old name new
-Serves old Purge Done new = new ≡ purged old
-Serves old _ _ new = ⊥
+abbrev pub ServesStep : Machine → Step → Reply → Machine → Type 0
+ServesStep old (New name kind) Done new = Makes old name (empty_loader kind) new
+ServesStep old (Alloc name block words) (At start) new = Allocates old NonClass name block words start new
+ServesStep old (Calloc name block words) (At start) new = Allocates old Class name block words start new
+ServesStep old (Write name block index value) Done new = Writes old name block index value new
+ServesStep old (Read name block index) (Value value) new = Reads old name block index value new
+ServesStep old (Free name block) Done new = Frees old name block new
+ServesStep old (Unload name) Done new = Unloads old name new
+ServesStep old Purge Done new = new ≡ purged old
+ServesStep old _ _ new = ⊥
 
 -- A loader has the name already.
 pub record LoaderIsThere (m : Machine) (name : ℕ) : Type 0 where
@@ -262,4 +262,4 @@ Leaves old _ _ new = new ≡ old
 -- From old, the machine may give this reply to the request and go on to new.
 abbrev pub Transition : Machine → Step → Reply → Machine → Type 0
 Transition old step (Refused refusal) new = Cause old step refusal × Leaves old step refusal new
-Transition old step reply new = Serves old step reply new × IsGood new
+Transition old step reply new = ServesStep old step reply new × IsGood new

@@ -22,7 +22,7 @@ use Rattle.ms_base.proofs.arena.BlockLemmas.{not_in_other}
 use Rattle.ms_loaders.specs.Holder.{is_in_chunk, holds_word, is_holder}
 use Rattle.ms_loaders.specs.Loader.{LoaderView, IsSoundView}
 use Rattle.ms_loaders.specs.System.{states_of}
-use Rattle.ms_loaders.proofs.LoaderSpaceLemmas.{chunk_in_space}
+use Rattle.ms_loaders.proofs.calls.LoaderSpaceLemmas.{chunk_in_space}
 
 -- A chunk that has the word meets each other that has it.
 meets_one : (word : ℕ) (c : Chunk) (cs : List Chunk) → is_in_chunk word c ≡ true

@@ -19,8 +19,8 @@ use Rattle.ms_buddy.proofs.WalkLemmas.{NonePass, find-none}
 use Rattle.ms_pool.specs.Ledger.{Loan}
 use Rattle.ms_pool.specs.Keeping.{loan_at, loans_from}
 use Rattle.ms_pool.specs.Owners.{is_in_loan, owner_at}
-use Rattle.ms_pool.proofs.CoveringLemmas.{covers_both, free_is_clear}
-use Rattle.ms_pool.proofs.RootLemmas.{EndsBy, StartsFrom, ends_in_root, starts_from_first}
+use Rattle.ms_pool.proofs.searches.CoveringLemmas.{covers_both, free_is_clear}
+use Rattle.ms_pool.proofs.searches.RootLemmas.{EndsBy, StartsFrom, ends_in_root, starts_from_first}
 
 -- A run that ends by the word, or starts past it, doesn't have it.
 ends_before : (start size word : ℕ) → start + size ≤ word → meet start size word 1 ≡ false

@@ -29,7 +29,7 @@ use Rattle.ms_buddy.specs.Leaves.{LentLeaf, AreLeaves}
 use Rattle.ms_pool.specs.declared.lender.Lender.{Lender}
 use Rattle.ms_pool.specs.Ledger.{Ledger, IsSoundLedger, held_in, purged, recommitted}
 use Rattle.ms_pool.specs.Keeping.{ledger_of, IsKept}
-use Rattle.ms_pool.proofs.PoolSettleLemmas.{settled_already}
+use Rattle.ms_pool.proofs.returns.PoolSettleLemmas.{settled_already}
 use Rattle.ms_pool.proofs.ledger.PurgeLemmas.{purged_is_sound}
 
 -- A slot stays: it is one of those not looked at yet, or has a chunk.

@@ -15,7 +15,7 @@ use Rattle.ms_buddy.specs.Leaves.{LentLeaf, AreLeaves}
 use Rattle.ms_buddy.proofs.TreeHalvesLemmas.{size_of-some}
 use Rattle.ms_pool.specs.Ledger.{Loan}
 use Rattle.ms_pool.specs.Keeping.{loan_at, loans_from}
-use Rattle.ms_pool.proofs.FreeRootLemmas.{chunks_there}
+use Rattle.ms_pool.proofs.searches.FreeRootLemmas.{chunks_there}
 
 -- A loan lies in the slot.
 abbrev lies_in_slot : ℕ → Loan → Bool

@@ -24,8 +24,8 @@ abbrev pub front_in : Chunk → ℕ
 front_in chunk = chunk.front
 
 -- How many parts have a level.
-unfoldable pub parts_of : ℕ → List Span → ℕ
-parts_of level parts = count_by (λ part. part.level == level) parts
+unfoldable pub count_at_level : ℕ → List Span → ℕ
+count_at_level level parts = count_by (λ part. part.level == level) parts
 
 -- The count of each level can be raised by what is still to be counted, and is raised by it.
 abbrev pub HasRoom : List ℕ → (ℕ → ℕ) → Type 0

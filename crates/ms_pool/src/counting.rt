@@ -11,7 +11,7 @@ ghost use Rattle.ms_pool.specs.Ledger.{held_in, opened_in, state_in};
 ghost use Rattle.ms_pool.specs.Keeping.{IsCounted, IsKept, ledger_of};
 ghost use Rattle.ms_pool.specs.Calls.{sums_in};
 ghost use Rattle.ms_pool.specs.Tallies.{AreTallies};
-ghost use Rattle.ms_pool.specs.Counting.{AreRaised, HasRoom, parts_of};
+ghost use Rattle.ms_pool.specs.Counting.{AreRaised, HasRoom, count_at_level};
 
 use crate::lender::Lender;
 use crate::lent::one_more;
@@ -97,11 +97,11 @@ impl Lender {
         requires high { slot
             < by_space space first_class_slot (first_class_slot + self.now.nodes.class_slots) }
         requires room { HasRoom before.free
-            (λ level. parts_of level
+            (λ level. count_at_level level
             (cond (is_reserved (all_slots self.now.nodes) slot)
             (free_in_slot (held_in space (ledger_of self.now)) slot) [])) }
         ensures { AreRaised before.free
-            (λ level. parts_of level
+            (λ level. count_at_level level
             (cond (is_reserved (all_slots self.now.nodes) slot)
             (free_in_slot (held_in space (ledger_of self.now)) slot) []))
             result.free }
@@ -118,9 +118,9 @@ impl Lender {
     fn free_in_root(&self, root: usize, before: FreeCounted) -> FreeCounted
         requires there { root < length self.now.trees.items }
         requires room { HasRoom before.free
-            (λ level. parts_of level (free_of (get_or self.now.trees.items root []))) }
+            (λ level. count_at_level level (free_of (get_or self.now.trees.items root []))) }
         ensures { AreRaised before.free
-            (λ level. parts_of level (free_of (get_or self.now.trees.items root []))) result.free }
+            (λ level. count_at_level level (free_of (get_or self.now.trees.items root []))) result.free }
     {
         let mut counted = before;
         for leaf in self.trees.tree(root).free_leaves() {

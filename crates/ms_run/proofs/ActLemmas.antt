@@ -23,7 +23,7 @@ use Rattle.ms_shared.proofs.LockCloseLemmas.{both_served_by_pool}
 use Rattle.ms_pool.proofs.ledger.KeepsLemmas.{serves_where_tallied}
 use Rattle.ms_pool.proofs.ledger.GrewLemmas.{grow_refused_raises}
 use Rattle.ms_arena.specs.Arena.{ArenaView, account_of}
-use Rattle.ms_arena.specs.Alloc.{with_grown, Takes, Grows, AfterTake, AfterGrow, AsksChunk, Serves, Allocates}
+use Rattle.ms_arena.specs.Alloc.{with_block_grown, TakesNew, GrowsCurrent, AfterTake, AfterGrow, AsksChunk, FindsPlace, Allocates}
 use Rattle.ms_loaders.specs.Loader.{LoaderView, account_in, AllocatesBlock}
 use Rattle.ms_shared.specs.History.{Event}
 use Rattle.ms_shared.specs.SeatView.{SeatState, ServesBy, OverLock}
@@ -100,9 +100,9 @@ module _ (policy : Policy) (was : ArenaView) (n : ℕ) (answer : Result Block Re
   served_then before middle its serves = served_by_pool its.before before.knows (account_of was) its.known serves
 
   abbrev WholeTakes : Ledger → Ledger → Type 0
-  WholeTakes before later = Takes Took before.limits.policy was n before answer is later
+  WholeTakes before later = TakesNew Took before.limits.policy was n before answer is later
 
-  took : (before : SeatState) → Takes TookOver policy was n before answer is after
+  took : (before : SeatState) → TakesNew TookOver policy was n before answer is after
       → policy ≡ before.knows.limits.policy → ServesBy before.knows (account_of was) → MadeBy WholeTakes before
   took before its same serves =
       made_one before after its.asked.event (AskedBy (account_of was) WholeTakes) (
@@ -134,7 +134,7 @@ module _ (policy : Policy) (was : ArenaView) (n : ℕ) (answer : Result Block Re
       (served_by_pool event.before before.knows (account_of was) event.known serves))
 
   abbrev WholeGrows : Chunk → Ledger → Ledger → Type 0
-  WholeGrows chunk before later = Grows GrewSeen Took before.limits.policy was chunk n before answer is later
+  WholeGrows chunk before later = GrowsCurrent GrewSeen Took before.limits.policy was chunk n before answer is later
 
   grew : (chunk : Chunk) (grown : Result Span Refusal) (before middle : SeatState)
       → GrewOver before (account_of was) chunk.start (total_asked was.books n)
@@ -153,7 +153,7 @@ module _ (policy : Policy) (was : ArenaView) (n : ℕ) (answer : Result Block Re
           follows = (
             refl,
             follows.1,
-            subst (λ (p : Policy). is ≡ with_grown p was chunk n)
+            subst (λ (p : Policy). is ≡ with_block_grown p was chunk n)
                 (same ∙ ap (λ (l : Limits). l.policy) (sym its.event.known.limits)) follows.2,
           );
         },
@@ -202,10 +202,10 @@ module _ (policy : Policy) (was : ArenaView) (n : ℕ) (answer : Result Block Re
   asked None false before its same serves = took before its same serves
 
   abbrev WholeServes : Option (ℕ × ArenaState) → Ledger → Ledger → Type 0
-  WholeServes o before later = Serves GrewSeen Took before.limits.policy was n o before answer is later
+  WholeServes o before later = FindsPlace GrewSeen Took before.limits.policy was n o before answer is later
 
   served : (o : Option (ℕ × ArenaState)) (before : SeatState)
-      → Serves GrewOver TookOver policy was n o before answer is after → policy ≡ before.knows.limits.policy
+      → FindsPlace GrewOver TookOver policy was n o before answer is after → policy ≡ before.knows.limits.policy
       → ServesBy before.knows (account_of was)
       → MadeBy (WholeServes o) before
   served (Some place) before its same serves =
@@ -234,7 +234,7 @@ arena_made policy was words before answer is after (inl refused) same serves =
     })))
 arena_made policy was words before answer is after (inr its) same serves =
     made_weaker before after (account_of was)
-    (λ pool later. Serves GrewSeen Took pool.limits.policy was (block_words words) (placed was.books (block_words words)) pool answer is later)
+    (λ pool later. FindsPlace GrewSeen Took pool.limits.policy was (block_words words) (placed was.books (block_words words)) pool answer is later)
     (λ pool later. Allocates GrewSeen Took pool.limits.policy was words pool answer is later) (λ pool later whole. inr (its.0, whole))
     (served policy was (block_words words) answer is after (placed was.books (block_words words)) before its.1 same serves)
 

@@ -32,7 +32,7 @@ use Rattle.ms_base.specs.Asks.{asks_growth}
 use Rattle.ms_base.specs.State.{ArenaState, arena_of}
 use Rattle.ms_base.specs.Transition.{zeroed}
 use Rattle.ms_base.specs.Request.{alloc_in}
-use Rattle.ms_base.specs.Alone.{OwnLoader, IsAllocWant, CanAlloc, Adds, AnswersAlloc, OwnReply}
+use Rattle.ms_base.specs.Alone.{OwnLoader, IsAllocWant, CanAlloc, AddsOwnBlock, AnswersAlloc, OwnReply}
 use Rattle.ms_base.proofs.entries.EntryLemmas.{Gap, gap_at}
 use Rattle.ms_base.proofs.entries.LookupLemmas.{named_changed_same}
 use Rattle.ms_base.proofs.runs.ApartLemmas.{list_all-rest_of}
@@ -41,7 +41,7 @@ use Rattle.ms_base.proofs.machine.BackedLemmas.{middle_is_clear}
 use Rattle.ms_base.proofs.granules.GranuleLemmas.{ends_in_node}
 use Rattle.ms_pool.specs.Tallies.{Tallies}
 use Rattle.ms_arena.specs.Arena.{ArenaView, IsAskable, PlaceRefused}
-use Rattle.ms_arena.specs.Alloc.{AfterTake, Takes, AfterGrow, AsksChunk, Serves, Allocates}
+use Rattle.ms_arena.specs.Alloc.{AfterTake, TakesNew, AfterGrow, AsksChunk, FindsPlace, Allocates}
 use Rattle.ms_loaders.specs.Loader.{LoaderView, IsSoundView, NameRefused, AllocatesBlock}
 use Rattle.ms_loaders.specs.System.{states_of}
 use Rattle.ms_shared.specs.SeatView.{SeatState}
@@ -77,7 +77,7 @@ module _ (policy : Policy) (was : ArenaView) (words : ℕ) (answer : Result Bloc
   from_take (Ok span) old new tallies follows = made _ follows.0 refl
   from_take (Err refusal) old new tallies follows = wanted refusal follows.0 (take_wants refusal old new tallies)
 
-  from_takes : (before : SeatState) → Takes TookOver policy was (block_words words) before answer is after
+  from_takes : (before : SeatState) → TakesNew TookOver policy was (block_words words) before answer is after
       → Tells words answer
   from_takes before its = from_take its.lent before.knows.tallies after.knows.tallies its.asked.tallies its.follows
 
@@ -94,7 +94,7 @@ module _ (policy : Policy) (was : ArenaView) (words : ℕ) (answer : Result Bloc
   from_asks None false before its = from_takes before its
 
   from_place : (o : Option (ℕ × ArenaState)) (before : SeatState)
-      → Serves GrewOver TookOver policy was (block_words words) o before answer is after → Tells words answer
+      → FindsPlace GrewOver TookOver policy was (block_words words) o before answer is after → Tells words answer
   from_place (Some place) before its = made _ its.0 refl
   from_place None before its =
       from_asks (current was.books) (asks_growth was.kind was.space was.books (current was.books) (block_words words))
@@ -334,7 +334,7 @@ made_block made = Ok made
 is_added : (space : Space) (policy : Policy) (old new : SeatState) (was is : LoaderView) (block words : ℕ)
     (made : Block)
     → AllocatesBlock GrewOver TookOver policy space was block words old (Ok made) is new → IsSoundView is
-    → Adds (own_part was) space block words made.start (Some (own_part is))
+    → AddsOwnBlock (own_part was) space block words made.start (Some (own_part is))
 is_added space policy old new was is block words made (inl refused) sound =
     absurd (let e : made_block made ≡ Err refused.refusal = refused.answer_is in cc)
 is_added space policy old new was is block words made (inr asks) sound = (

@@ -23,10 +23,10 @@ use Rattle.ms_pool.proofs.ledger.FewerLemmas.{none_left, none_still}
 use Rattle.ms_pool.proofs.ledger.LedgerCloseLemmas.{both_closed_keeps_others}
 use Rattle.ms_loaders.specs.Loader.{LoaderView, account_in}
 use Rattle.ms_loaders.specs.System.{accounts_of, owners_of}
-use Rattle.ms_loaders.proofs.FitLemmas.{owner_of}
-use Rattle.ms_loaders.proofs.ServedLemmas.{accounts_split, times, is_it, it_is, times_split, all_parts}
-use Rattle.ms_loaders.proofs.CloseLemmas.{accounts_joined}
-use Rattle.ms_loaders.proofs.UnloadLemmas.{both_all}
+use Rattle.ms_loaders.proofs.sums.FitLemmas.{owner_of}
+use Rattle.ms_loaders.proofs.steps.ServedLemmas.{accounts_split, times, is_it, it_is, times_split, all_parts}
+use Rattle.ms_loaders.proofs.steps.CloseLemmas.{accounts_joined}
+use Rattle.ms_loaders.proofs.steps.UnloadLemmas.{both_all}
 use Rattle.ms_shared.specs.declared.lock_rule.SeatView.{SeatView}
 use Rattle.ms_shared.specs.SeatView.{SeatState, ServesBy, OverLock, opened_by, view_after}
 use Rattle.ms_run.specs.Manned.{IsManned}

@@ -11,8 +11,8 @@ use Rattle.ms_base.specs.Committed.{is_among}
 use Rattle.ms_base.proofs.runs.ApartLemmas.{list_any-with}
 use Rattle.ms_pool.specs.Account.{AccountState}
 use Rattle.ms_pool.specs.Ledger.{Ledger, chunks_of}
-use Rattle.ms_loaders.proofs.FitLemmas.{owner_of}
-use Rattle.ms_loaders.proofs.ServedLemmas.{times, is_it, it_is, one_if}
+use Rattle.ms_loaders.proofs.sums.FitLemmas.{owner_of}
+use Rattle.ms_loaders.proofs.steps.ServedLemmas.{times, is_it, it_is, one_if}
 use Rattle.ms_shared.specs.declared.lock_rule.SeatView.{SeatView}
 use Rattle.ms_shared.specs.Entries.{Entry, Has, refreshed, fresh}
 use Rattle.ms_shared.specs.SeatView.{ServesBy, IsKnown, view_after}

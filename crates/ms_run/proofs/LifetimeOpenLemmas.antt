@@ -20,13 +20,13 @@ use Rattle.ms_pool.specs.Calls.{OpenedBoth, new_account}
 use Rattle.ms_pool.proofs.ledger.ClosedLemmas.{both_opened_keeps}
 use Rattle.ms_loaders.specs.Loader.{LoaderView, new_loader}
 use Rattle.ms_loaders.specs.System.{accounts_of, owners_of}
-use Rattle.ms_loaders.proofs.FitLemmas.{owner_of}
-use Rattle.ms_loaders.proofs.ServedLemmas.{accounts_split, times, is_it, one_if, times_split, all_joined}
-use Rattle.ms_loaders.proofs.CloseLemmas.{accounts_joined, few}
+use Rattle.ms_loaders.proofs.sums.FitLemmas.{owner_of}
+use Rattle.ms_loaders.proofs.steps.ServedLemmas.{accounts_split, times, is_it, one_if, times_split, all_joined}
+use Rattle.ms_loaders.proofs.steps.CloseLemmas.{accounts_joined, few}
 use Rattle.ms_shared.specs.SeatView.{SeatState, ServesBy, OverLock, opened_by, view_after}
 use Rattle.ms_run.specs.Manned.{IsManned}
 use Rattle.ms_run.proofs.LifetimeLemmas.{IsNew, NoOther, no_other_then, all_served, below_given, among_new}
-use Rattle.ms_loaders.proofs.CloseLemmas.{among_more}
+use Rattle.ms_loaders.proofs.steps.CloseLemmas.{among_more}
 
 -- Both accounts refused: all stays.
 pub manned_refused : (old new : SeatState) (loaders : List (ℕ × LoaderView)) (refusal : Refusal)

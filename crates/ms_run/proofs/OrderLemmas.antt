@@ -19,7 +19,7 @@ use Rattle.ms_pool.specs.Account.{AccountState}
 use Rattle.ms_pool.specs.Ledger.{Loan, Ledger, IsSoundLedger, Serves, chunks_of, is_owned_by, others_than, recommitted}
 use Rattle.ms_pool.specs.Ledger.{with_less_open}
 use Rattle.ms_pool.specs.Calls.{ClosedBoth}
-use Rattle.ms_pool.proofs.PoolSettleLemmas.{settled_already}
+use Rattle.ms_pool.proofs.returns.PoolSettleLemmas.{settled_already}
 use Rattle.ms_pool.proofs.ledger.GrewLemmas.{grow_refused_raises}
 use Rattle.ms_loaders.specs.Loader.{LoaderView, account_in, new_loader}
 use Rattle.ms_shared.specs.History.{Event, Logged, Chain, events_in, events_of, AreBelow}
@@ -29,7 +29,7 @@ use Rattle.ms_run.specs.Own.{Said}
 use Rattle.ms_run.specs.Acts.{IsGrowing, IsOpening, IsClosing, AsksOf, Makes, Act, IsAct, Works, said_of, events_by}
 use Rattle.ms_run.specs.Acts.{seen, IsSoundEvent, AreSound, IsDoneBy, IsOwnStep, IsStep}
 use Rattle.ms_run.specs.Shares.{Place}
-use Rattle.ms_run.proofs.DealLemmas.{none_left}
+use Rattle.ms_run.proofs.sharing.DealLemmas.{none_left}
 
 -- An owner without a chunk has no loan.
 none_other : (owner : ℕ) (loans : List Loan)

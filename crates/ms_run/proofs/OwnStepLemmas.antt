@@ -27,7 +27,7 @@ use Rattle.ms_base.specs.Live.{run_of, runs_of, block_words}
 use Rattle.ms_base.specs.State.{LoaderState, Machine, empty_loader}
 use Rattle.ms_base.specs.Good.{IsGood}
 use Rattle.ms_base.specs.Transition.{HasLoader, Transition, Leaves, Cause, NewCause, AllocCause, BlockCause, WordCause}
-use Rattle.ms_base.specs.Transition.{Serves, Makes, Allocates, Writes, Reads, Frees, Unloads, with_allocated}
+use Rattle.ms_base.specs.Transition.{ServesStep, Makes, Allocates, Writes, Reads, Frees, Unloads, with_allocated}
 use Rattle.ms_base.specs.Transition.{with_block, with_freed, zeroed}
 use Rattle.ms_base.specs.Alone.{OwnLoader, OwnReply}
 use Rattle.ms_base.proofs.entries.LookupLemmas.{named_changed_same, named_changed_other, named_new_same}
@@ -348,7 +348,7 @@ module _ (old new : Machine) (name : ℕ) where
       (ap (λ (m : Machine). own_in m.loaders name) made.after
       ∙ ap own_of (named_without_same old.loaders name was.names)) refl
 
-served_own : (old new : Machine) (step : Step) (reply : Reply) → IsGood old → IsGood new → Serves old step reply new
+served_own : (old new : Machine) (step : Step) (reply : Reply) → IsGood old → IsGood new → ServesStep old step reply new
     → AnswersOwn old step reply new
 served_own old new (New name kind) Done was good made =
     at_name old new (New name kind) Done name refl (made_own old new name kind made)
@@ -387,7 +387,7 @@ LeavesOthers old step new = (name : ℕ) → loader_of step ≢ Some name → na
 differs : (mine name : ℕ) → Some mine ≢ Some name → mine ≡ name → ⊥
 differs mine name other e = other (ap (λ (n : ℕ). Some n) e)
 
-pub served_others : (old new : Machine) (step : Step) (reply : Reply) → Serves old step reply new
+pub served_others : (old new : Machine) (step : Step) (reply : Reply) → ServesStep old step reply new
     → LeavesOthers old step new
 served_others old new (New mine kind) Done made = λ name other.
     ap (λ (m : Machine). named m.loaders name) made.after
@@ -426,7 +426,7 @@ pub transition_others : (old new : Machine) (step : Step) (reply : Reply) → Tr
 transition_others old new step reply told name other = ap own_of (transition_leaves old new step reply told name other)
 
 -- The limits stay.
-served_limits : (old new : Machine) (step : Step) (reply : Reply) → Serves old step reply new → new.limits ≡ old.limits
+served_limits : (old new : Machine) (step : Step) (reply : Reply) → ServesStep old step reply new → new.limits ≡ old.limits
 served_limits old new (New mine kind) Done made = ap (λ (m : Machine). m.limits) made.after
 served_limits old new (Alloc mine block words) (At start) made = ap (λ (m : Machine). m.limits) made.after
 served_limits old new (Calloc mine block words) (At start) made = ap (λ (m : Machine). m.limits) made.after

@@ -37,7 +37,7 @@ use Rattle.ms_run.proofs.machine.WholeLemmas.{one_run}
 use Rattle.ms_run.specs.Shares.{AreAt}
 use Rattle.std.specs.Prelude.{slice_index_or}
 use Rattle.ms_run.proofs.AloneLemmas.{AddsFirst}
-use Rattle.ms_run.proofs.StandByLemmas.{same_merged}
+use Rattle.ms_run.proofs.sharing.StandByLemmas.{same_merged}
 use Rattle.ms_run.specs.Shares.{place_for}
 use Rattle.ms_run.proofs.ReplayLemmas.{answers_replay}
 use Rattle.ms_run.specs.declared.share.Task.{Task}

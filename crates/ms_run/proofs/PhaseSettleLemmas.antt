@@ -25,9 +25,9 @@ use Rattle.ms_shared.proofs.RecordLemmas.{has_record, has_times, once_given-le}
 use Rattle.ms_run.specs.declared.share.Share.{Share}
 use Rattle.ms_run.specs.Manned.{IsManned}
 use Rattle.ms_run.specs.Joined.{AreJoined, seat_of}
-use Rattle.ms_run.proofs.GatherLemmas.{Loaders, joined_sum, joined_all}
-use Rattle.ms_loaders.proofs.ServedLemmas.{times, one_if, is_it}
-use Rattle.ms_loaders.proofs.FitLemmas.{chunk_of, owner_of}
+use Rattle.ms_run.proofs.sharing.GatherLemmas.{Loaders, joined_sum, joined_all}
+use Rattle.ms_loaders.proofs.steps.ServedLemmas.{times, one_if, is_it}
+use Rattle.ms_loaders.proofs.sums.FitLemmas.{chunk_of, owner_of}
 
 -- Of loaders, how many accounts are an owner's; and what is true of both accounts of one.
 abbrev owned : ℕ → ℕ × LoaderView → ℕ

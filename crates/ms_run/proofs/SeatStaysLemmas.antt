@@ -30,7 +30,7 @@ use Rattle.ms_pool.proofs.ledger.KeepsLemmas.{Keeps, keeps_where_tallied}
 use Rattle.ms_pool.proofs.ledger.TookLemmas.{took_keeps}
 use Rattle.ms_pool.proofs.ledger.GrewLemmas.{grow_refused_raises}
 use Rattle.ms_arena.specs.Arena.{ArenaView, account_of}
-use Rattle.ms_arena.specs.Alloc.{Takes, Grows, AfterGrow, AsksChunk, Serves, Allocates}
+use Rattle.ms_arena.specs.Alloc.{TakesNew, GrowsCurrent, AfterGrow, AsksChunk, FindsPlace, Allocates}
 use Rattle.ms_loaders.specs.Loader.{LoaderView, account_in, owner_in, AllocatesBlock}
 use Rattle.ms_loaders.specs.System.{accounts_of, owners_of, AreDistinct}
 use Rattle.ms_shared.specs.declared.lock_rule.SeatView.{SeatView}
@@ -39,9 +39,9 @@ use Rattle.ms_shared.specs.SeatView.{SeatState, ServesBy, OverLock, opened_by}
 use Rattle.ms_shared.specs.LockCalls.{TookOver, GrewOver}
 use Rattle.ms_shared.proofs.RecordLemmas.{has_record}
 use Rattle.ms_run.specs.Manned.{IsManned}
-use Rattle.ms_loaders.proofs.ServedLemmas.{KeepsOther, block_keeps, length_changed, served_in, owners_split, all_parts}
-use Rattle.ms_loaders.proofs.ServedLemmas.{own_is_among, accounts_split}
-use Rattle.ms_loaders.proofs.FitLemmas.{chunk_of}
+use Rattle.ms_loaders.proofs.steps.ServedLemmas.{KeepsOther, block_keeps, length_changed, served_in, owners_split, all_parts}
+use Rattle.ms_loaders.proofs.steps.ServedLemmas.{own_is_among, accounts_split}
+use Rattle.ms_loaders.proofs.sums.FitLemmas.{chunk_of}
 
 -- All that the seat knows of an owner is that it holds no chunk.
 abbrev pub HasNone : SeatView → ℕ → Type 0
@@ -160,7 +160,7 @@ grew_stays old new account start total may answer its =
 -- So an arena's allocation, and a loader's.
 module _ (policy : Policy) (was : ArenaView) (n : ℕ) (answer : Result Block Refusal) (is : ArenaView)
     (after : SeatState) where
-  takes_stays : (before : SeatState) → Takes TookOver policy was n before answer is after → Stays was.owner before after
+  takes_stays : (before : SeatState) → TakesNew TookOver policy was n before answer is after → Stays was.owner before after
   takes_stays before its =
       took_stays before after (account_of was) (wanted_level was.kind was.space was.books n)
       (level_that_holds n) n its.lent its.asked
@@ -170,7 +170,7 @@ module _ (policy : Policy) (was : ArenaView) (n : ℕ) (answer : Result Block Re
   after_grow_stays chunk (Ok span) middle its = stays_same was.owner middle after its.0
   after_grow_stays chunk (Err refusal) middle its = takes_stays middle its
 
-  grows_stays : (chunk : Chunk) (before : SeatState) → Grows GrewOver TookOver policy was chunk n before answer is after
+  grows_stays : (chunk : Chunk) (before : SeatState) → GrowsCurrent GrewOver TookOver policy was chunk n before answer is after
       → Stays was.owner before after
   grows_stays chunk before its = stays_on was.owner before its.middle after
       (grew_stays before its.middle (account_of was) chunk.start (total_asked was.books n)
@@ -185,7 +185,7 @@ module _ (policy : Policy) (was : ArenaView) (n : ℕ) (answer : Result Block Re
   asks_stays None false before its = takes_stays before its
 
   serves_stays : (o : Option (ℕ × ArenaState)) (before : SeatState)
-      → Serves GrewOver TookOver policy was n o before answer is after → Stays was.owner before after
+      → FindsPlace GrewOver TookOver policy was n o before answer is after → Stays was.owner before after
   serves_stays (Some place) before its = stays_same was.owner before after its.2
   serves_stays None before its =
       asks_stays (current was.books) (asks_growth was.kind was.space was.books (current was.books) n) before its

@@ -30,9 +30,9 @@ use Rattle.ms_loaders.specs.Used.{used_by, used_at}
 use Rattle.ms_shared.specs.SeatView.{ServesBy}
 use Rattle.ms_run.specs.Own.{own_of, own_in}
 use Rattle.ms_run.specs.Manned.{IsManned, KeepsSeats}
-use Rattle.ms_loaders.proofs.CallLemmas.{write_keeps, free_keeps, same_loaders}
-use Rattle.ms_loaders.proofs.UnloadLemmas.{state_of}
-use Rattle.ms_loaders.proofs.ServedLemmas.{accounts_split, length_changed}
+use Rattle.ms_loaders.proofs.steps.CallLemmas.{write_keeps, free_keeps, same_loaders}
+use Rattle.ms_loaders.proofs.steps.UnloadLemmas.{state_of}
+use Rattle.ms_loaders.proofs.steps.ServedLemmas.{accounts_split, length_changed}
 
 abbrev own_state : LoaderState → OwnLoader
 own_state loader = record { kind = loader.kind; blocks = loader.blocks }

@@ -46,8 +46,8 @@ pub record IsMetered (made : ℕ) (state : State ℕ MeterView) : Type 0 where
 
 -- What the steps on the word leave the seat with: its first operand more, its first operand less, or
 -- what it had.
-abbrev pub Adds : Step ℕ → Me ℕ MeterView → ℕ → Me ℕ MeterView → Type 0
-Adds step old found new = new ≡ (meter_view old.0.parts (added old.0.amount step.first), old.1)
+abbrev pub AddsAmount : Step ℕ → Me ℕ MeterView → ℕ → Me ℕ MeterView → Type 0
+AddsAmount step old found new = new ≡ (meter_view old.0.parts (added old.0.amount step.first), old.1)
 
 abbrev pub Subtracts : Step ℕ → Me ℕ MeterView → ℕ → Me ℕ MeterView → Type 0
 Subtracts step old found new = new ≡ (meter_view old.0.parts (taken_off old.0.amount step.first), old.1)

@@ -8,7 +8,7 @@
 //! Kept true between any two steps: the word is the sum of the amounts, modulo 2^64, the parts are
 //! as many as seats were made, and a seat without a part has no amount. Views, plays, cuts and
 //! joins have no bytes and do nothing when they run. Nothing here takes memory or waits.
-ghost use Rattle.ms_shared.specs.MeterRule.{IsMetered, Adds, Subtracts, Looks, meter_view, less_part, joined};
+ghost use Rattle.ms_shared.specs.MeterRule.{IsMetered, AddsAmount, Subtracts, Looks, meter_view, less_part, joined};
 
 use atomic_table::{Join, Play, Split, TableRule};
 
@@ -31,10 +31,10 @@ impl TableRule<u8, MeterView, usize> for Metered {
 }
 
 // A number is added to the word.
-pub struct Adds;
+pub struct AddsAmount;
 
-impl Play<u8, MeterView> for Adds {
-    ghost then = { Adds };
+impl Play<u8, MeterView> for AddsAmount {
+    ghost then = { AddsAmount };
 }
 
 // A number is taken off the word.

@@ -13,7 +13,7 @@ ghost use Rattle.ms_shared.specs.MeterRule.{added, taken_off, meter_view};
 #[cfg(test)]
 mod tests;
 
-use crate::meter_rule::{Adds, CutSeat, JoinSeats, Looks, MeterView, Metered, Subtracts};
+use crate::meter_rule::{AddsAmount, CutSeat, JoinSeats, Looks, MeterView, Metered, Subtracts};
 use atomic_table::{Seat, Table};
 use ms_base::Refusal;
 use std::alloc::{AllocError, Global};
@@ -88,7 +88,7 @@ impl UsedMeter {
     {
         self.table
             .shared
-            .fetch_add::<Adds>(&mut seat.seat, 0, words);
+            .fetch_add::<AddsAmount>(&mut seat.seat, 0, words);
     }
 
     /// Takes words off the meter and off the seat's amount, modulo 2^64, by one atomic step. Takes

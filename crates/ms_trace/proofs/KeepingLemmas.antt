@@ -7,7 +7,7 @@ use Rattle.ms_trace.specs.declared.fault.ParseFault.TheVariants.{OutOfMemory}
 use Rattle.ms_trace.specs.declared.trace.Command.{Command}
 use Rattle.ms_trace.specs.declared.trace.Line.{Line}
 use Rattle.ms_trace.specs.Grammar.{lines_of, most_lines}
-use Rattle.ms_trace.specs.Keeping.{Adds, BeginsWith, BlamesFirst, KeepsFirst}
+use Rattle.ms_trace.specs.Keeping.{AddsLine, BeginsWith, BlamesFirst, KeepsFirst}
 use Rattle.ms_trace.specs.Spelling.{spelling_of}
 use Rattle.ms_trace.proofs.PrintingLemmas.{lines_of-line, spelling_is_clean}
 use Rattle.ms_trace.proofs.ReadingLemmas.{text_after}
@@ -21,7 +21,7 @@ spelled_cut text rest command begins =
 
 -- It is kept by adding that command under its number.
 pub spelled_first : (number : ℕ) (text rest : List ℕ) (command : Command) (old new : List Line) → number ≤ most_lines
-    → BeginsWith text command rest → Adds number command old new → KeepsFirst number text rest old new
+    → BeginsWith text command rest → AddsLine number command old new → KeepsFirst number text rest old new
 spelled_first number text rest command old new few begins added =
     let line : List ℕ = spelling_of command in
     let shorter : length rest < length (line ++ 10 ∷ rest) = simp length-append (omega arith) in

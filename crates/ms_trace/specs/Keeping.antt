@@ -35,8 +35,8 @@ pub record Keeps (number : ℕ) (line : List ℕ) (old new : List Line) : Type 0
   pub new_is : new ≡ old ++ said
 
 -- A command is added under the number of its line.
-abbrev pub Adds : ℕ → Command → List Line → List Line → Type 0
-Adds number command old new = new ≡ old ++ record { number = number; command = command } ∷ []
+abbrev pub AddsLine : ℕ → Command → List Line → List Line → Type 0
+AddsLine number command old new = new ≡ old ++ record { number = number; command = command } ∷ []
 
 -- The first line of a text is kept, and what stands after it is left.
 pub record KeepsFirst (number : ℕ) (text rest : List ℕ) (old new : List Line) : Type 0 where

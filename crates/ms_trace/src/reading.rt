@@ -4,7 +4,7 @@
 ghost use Rattle.std.specs.Prelude.{◌≡◌, ◌<◌, length, IfOk, IfErr, IsTrue, OnOk};
 ghost use Rattle.ms_trace.specs.Faults.{BlamesText};
 ghost use Rattle.ms_trace.specs.Grammar.{lines_of};
-ghost use Rattle.ms_trace.specs.Keeping.{Adds, Keeps, KeepsFirst, BlamesFirst, BlamesLine};
+ghost use Rattle.ms_trace.specs.Keeping.{AddsLine, Keeps, KeepsFirst, BlamesFirst, BlamesLine};
 ghost use Rattle.ms_trace.specs.Spelling.{ReadsAs, ReadsFrom, rises_above};
 
 use crate::commands::read_line;
@@ -95,7 +95,7 @@ fn add<A: Allocator>(
     number: u32,
     command: Command,
 ) -> Result<(), ParseFault>
-    ensures added { OnOk result (Adds number command lines.old.items lines.new.items) }
+    ensures added { OnOk result (AddsLine number command lines.old.items lines.new.items) }
     ensures fault { IfErr result (λ fault. fault ≡ ParseFault.OutOfMemory) }
 {
     match lines.push(Line { number, command }) {

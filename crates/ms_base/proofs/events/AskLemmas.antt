@@ -21,7 +21,7 @@ use Rattle.ms_base.specs.State.{recommitted}
 use Rattle.ms_base.specs.Good.{IsGood}
 use Rattle.ms_base.specs.Transition.{HasLoader, with_loader, Change, MayChange, IsServable, AllocCause, Transition}
 use Rattle.ms_base.specs.Request.{alloc_in}
-use Rattle.ms_base.specs.Event.{taking, growing, acting, lent, replied, refused, Takes, TakesNone, Grows, with_chunk_at}
+use Rattle.ms_base.specs.Event.{taking, growing, acting, lent, replied, refused, Takes, TakesNone, GrowsChunk, with_chunk_at}
 use Rattle.ms_base.specs.Spread.{SpreadStep, Part, AreWhole, AsksChunk, words_for}
 use Rattle.ms_base.specs.Serial.{is_place}
 use Rattle.ms_base.proofs.granules.NeedLemmas.{taken_is}
@@ -119,7 +119,7 @@ module _ (space : Space) (name block words : ℕ) (spread : SpreadStep)
   pub goes_on_grown : IsGood old → (at total start : ℕ) (enlarges : Bool) (chunk : Chunk) → spread.reply ≡ At start
       → is_place spread.events (growing space name at total enlarges, lent chunk) ≡ true
       → is_place spread.events (acting request, replied (At start)) ≡ false
-      → Grows old space name at total enlarges chunk new
+      → GrowsChunk old space name at total enlarges chunk new
       → GoesOnBy name stage old new (Some spread, growing space name at total enlarges, lent chunk)
       (after_it (At start))
   goes_on_grown good at total start enlarges chunk reply_is here elsewhere grows =

@@ -17,8 +17,8 @@ use Rattle.ms_base.specs.Live.{runs_in}
 use Rattle.ms_base.specs.Good.{IsSoundLoader, IsGood}
 use Rattle.ms_base.specs.Causes.{granules_missing}
 use Rattle.ms_base.specs.Transition.{with_loader, IsGrown}
-use Rattle.ms_base.specs.SumLaws.{GrowsWell, with_grown}
-use Rattle.ms_base.specs.Event.{Grows, with_chunk_at}
+use Rattle.ms_base.specs.SumLaws.{GrowsWell, with_chunk_grown}
+use Rattle.ms_base.specs.Event.{GrowsChunk, with_chunk_at}
 use Rattle.ms_base.proofs.entries.EntryLemmas.{Split, split_at}
 use Rattle.ms_base.proofs.machine.GoodLemmas.{chunks_split, loader_is_sound}
 use Rattle.ms_base.proofs.machine.ChangeLemmas.{changed, slots_same, recommitted_same}
@@ -74,7 +74,7 @@ same_arena Class loader = refl
 
 -- It is one that the pool holds.
 module _ (space : Space) (old : Machine) (name start total : ℕ) (may_enlarge : Bool) (chunk : Chunk) (new : Machine)
-    (good : IsGood old) (grows : Grows old space name start total may_enlarge chunk new) where
+    (good : IsGood old) (grows : GrowsChunk old space name start total may_enlarge chunk new) where
   abbrev split : Split old.loaders name grows.loader
   split = split_at old.loaders name grows.loader grows.asked.has
 
@@ -107,7 +107,7 @@ module _ (space : Space) (old : Machine) (name start total : ℕ) (may_enlarge :
 -- A chunk that grows leaves a good state: it stays, or it is a greater one of this loader's.
 pub good_with_greater : (space : Space) (old : Machine) (name start total : ℕ) (may_enlarge : Bool) (chunk : Chunk)
     (new : Machine)
-    → IsGood old → Grows old space name start total may_enlarge chunk new → IsGood new
+    → IsGood old → GrowsChunk old space name start total may_enlarge chunk new → IsGood new
 good_with_greater space old name start total may_enlarge chunk new good grows = subst IsGood (sym grows.after)
     (elim well.changes [
       | inl same ↦ subst IsGood (sym (unchanged same)) good
@@ -177,7 +177,7 @@ good_with_greater space old name start total may_enlarge chunk new good grows = 
         ∙ recommitted_same old good
 
     count : IsGrown grows.was chunk
-        → length (committed_now (with_grown pool there chunk))
+        → length (committed_now (with_chunk_grown pool there chunk))
         ≡ length (committed_in space old) + granules_missing pool chunk
     count more = growing_commits_the_missing pool there grows.was chunk (good.pools space)
         (at_place space old name start total may_enlarge chunk new good grows) more well.placed well.front_rule.within

@@ -18,7 +18,7 @@ use Rattle.ms_base.specs.Live.{block_words}
 use Rattle.ms_base.specs.Good.{IsGood}
 use Rattle.ms_base.specs.Transition.{HasLoader, with_loader, zeroed}
 use Rattle.ms_base.specs.Event.{Event, opening, taking, growing, closing, purging, telling, acting, Answer, accepted}
-use Rattle.ms_base.specs.Event.{lent, counted, told, replied, refused, Happens, Acts, Adds, AddsBlock, emptied}
+use Rattle.ms_base.specs.Event.{lent, counted, told, replied, refused, Happens, Acts, PlacesBlock, AddsBlock, emptied}
 use Rattle.ms_base.specs.Event.{IsSoundAfter}
 use Rattle.ms_base.specs.SpreadLaws.{LeavesOthers}
 use Rattle.ms_base.proofs.entries.LookupLemmas.{named_changed_same, named_changed_other, named_new_other}
@@ -64,7 +64,7 @@ same_arenas loader blocks NonClass = refl
 same_arenas loader blocks Class = refl
 
 added : (space : Space) (old : Machine) (name block words start : ℕ) (new : Machine) (step : Step)
-    → loader_of step ≡ Some name → Adds old space name block words start new → ChangesOne old step new
+    → loader_of step ≡ Some name → PlacesBlock old space name block words start new → ChangesOne old step new
 added space old name block words start new step its adds = record {
   name = name;
   before = adds.before;

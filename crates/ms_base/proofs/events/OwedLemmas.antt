@@ -12,7 +12,7 @@ use Rattle.ms_base.specs.Request.{alloc_in, loader_of}
 use Rattle.ms_base.specs.State.{LoaderState, Machine, slots_in, with_slots, recommitted}
 use Rattle.ms_base.specs.Good.{IsSoundLoader, IsGood}
 use Rattle.ms_base.specs.Transition.{HasLoader, with_loader, Change, Allocates, IsServable}
-use Rattle.ms_base.specs.Event.{growing, acting, replied, refused, Happens, Adds, ActsNotCause, IsSoundAfter, GrowsNone}
+use Rattle.ms_base.specs.Event.{growing, acting, replied, refused, Happens, PlacesBlock, ActsNotCause, IsSoundAfter, GrowsNone}
 use Rattle.ms_base.specs.Spread.{SpreadStep, Part, AreWhole}
 use Rattle.ms_base.specs.Serial.{is_place}
 use Rattle.ms_base.proofs.entries.LookupLemmas.{named_changed_same}
@@ -45,11 +45,11 @@ goes_on_turned space name spread stage plain old new at total enlarges refusal r
 
 -- What the local event of an allocation says.
 pub record HasAdded (old : Machine) (space : Space) (name block words start : ℕ) (new : Machine) : Type 0 where
-  pub adds : Adds old space name block words start new
+  pub adds : PlacesBlock old space name block words start new
   pub sound : IsSoundLoader adds.with_it
 
 has_added : (old : Machine) (space : Space) (name block words start : ℕ) (new : Machine) (step : Step)
-    → loader_of step ≡ Some name → Adds old space name block words start new → IsSoundAfter new step
+    → loader_of step ≡ Some name → PlacesBlock old space name block words start new → IsSoundAfter new step
     → HasAdded old space name block words start new
 has_added old space name block words start new step its adds sound = record {
   adds = adds;
@@ -93,7 +93,7 @@ pays_block space name block words start spread old new more whole elsewhere adde
           }) refl;
     })
   where
-    adds : Adds old space name block words start new
+    adds : PlacesBlock old space name block words start new
     adds = added.adds
 
 -- A refusal that is owed is given there already.
@@ -159,7 +159,7 @@ goes_on_placed space name block words start spread step_is reply_is stage plain 
           (alloc_in space name block words) (At start) step_is reply_is);
     })
   where
-    adds : Adds old space name block words start new
+    adds : PlacesBlock old space name block words start new
     adds = added.adds
 
     serial : List (ℕ × LoaderState) → Machine

@@ -24,7 +24,7 @@ use Rattle.ms_base.specs.Transition.{HasLoader, with_loader, with_block, with_fr
 use Rattle.ms_base.specs.Request.{alloc_in}
 use Rattle.ms_base.specs.Event.{Event, opening, growing, closing, acting, Answer, accepted, lent, replied, refused}
 use Rattle.ms_base.specs.Event.{Happens}
-use Rattle.ms_base.specs.Spread.{SpreadStep, Spreads, IsWhole, IsAlone, Part, parts_of, AreWhole, HasNoSpan, not_asked}
+use Rattle.ms_base.specs.Spread.{SpreadStep, Spreads, IsWhole, IsAlone, Part, spread_parts, AreWhole, HasNoSpan, not_asked}
 use Rattle.ms_base.specs.Spread.{not_had, GoesOn, SpreadsAlloc}
 use Rattle.ms_base.specs.Serial.{is_place}
 use Rattle.ms_base.proofs.events.StageLemmas.{Stage, idle, turned_down, owes_block, owes_refusal, unloading, retracting}
@@ -289,10 +289,10 @@ first_left name idle old new good was parts left = subst (FirstGoesOn name idle 
     (of_steps left.steps (recursion_from_All IsWhole left.steps left.whole))
   where
     of_steps : (steps : List SpreadStep) → AllByRecursion IsWhole steps
-        → FirstGoesOn name idle old new (flat_map parts_of steps)
+        → FirstGoesOn name idle old new (flat_map spread_parts steps)
     of_steps [] whole = tt
     of_steps (spread ∷ steps) whole =
-        first_whole name old new good spread (flat_map parts_of steps)
+        first_whole name old new good spread (flat_map spread_parts steps)
         (record { steps = steps; whole = All-from_recursion IsWhole steps whole.1; parts_are = refl }) spread.step refl
         whole.0
 first_left name (turned_down spread) old new good was parts left = subst

@@ -11,7 +11,7 @@ use Rattle.ms_base.specs.declared.step.Reply.TheVariants.{Ok as Done, At}
 use Rattle.ms_base.specs.declared.refusal.Refusal.TheVariants.{CommitLimit, ReserveLimit, IdsUsedUp, OutOfMemory}
 use Rattle.ms_base.specs.State.{ArenaState, LoaderState, Machine, Limits, empty_machine, empty_arena, empty_loader}
 use Rattle.ms_base.specs.State.{recommitted}
-use Rattle.ms_base.specs.Transition.{Serves, Cause, Leaves, zeroed, purged}
+use Rattle.ms_base.specs.Transition.{ServesStep, Cause, Leaves, zeroed, purged}
 use Rattle.ms_base.specs.Totals.{SpaceSums, space_sums, sums_of}
 
 abbrev chunk : ℕ → ℕ → ℕ → Chunk
@@ -31,7 +31,7 @@ start = empty_machine (limits Balanced 1)
 abbrev made : Machine
 made = record start { loaders = (1, empty_loader Standard) ∷ []; given = 2 }
 
-loader_is_made : Serves start (New 1 Standard) Done made
+loader_is_made : ServesStep start (New 1 Standard) Done made
 loader_is_made = record { unused = refl; after = refl }
 
 abbrev class_loader : LoaderState
@@ -45,7 +45,7 @@ class_loader = record {
 abbrev with_class_block : Machine
 with_class_block = record made { loaders = (1, class_loader) ∷ []; class_committed = 8192 ∷ [] }
 
-class_block : Serves made (Calloc 1 1 10) (At 67108864) with_class_block
+class_block : ServesStep made (Calloc 1 1 10) (At 67108864) with_class_block
 class_block = record {
   some = omega arith;
   fits = omega arith;
@@ -68,7 +68,7 @@ both_loader = record class_loader {
 abbrev with_both : Machine
 with_both = record with_class_block { loaders = (1, both_loader) ∷ []; slots = 0 ∷ []; committed = 0 ∷ [] }
 
-other_block : Serves with_class_block (Alloc 1 2 10) (At 0) with_both
+other_block : ServesStep with_class_block (Alloc 1 2 10) (At 0) with_both
 other_block = record {
   some = omega arith;
   fits = omega arith;
@@ -126,7 +126,7 @@ class_freed = record both_loader {
   blocks = (2, zeroed 0 10) ∷ [];
 }
 
-freed : Serves with_both (Free 1 1) Done (record with_both { loaders = (1, class_freed) ∷ [] })
+freed : ServesStep with_both (Free 1 1) Done (record with_both { loaders = (1, class_freed) ∷ [] })
 freed = record {
   loader = both_loader;
   found = zeroed 67108864 10;
@@ -139,10 +139,10 @@ freed = record {
 abbrev given_back : Machine
 given_back = record start { slots = 0 ∷ []; given = 2 }
 
-unloaded : Serves with_both (Unload 1) Done given_back
+unloaded : ServesStep with_both (Unload 1) Done given_back
 unloaded = record { loader = both_loader; has = refl; after = refl }
 
-purge_leaves_class_space : Serves given_back Purge Done (record start { given = 2 })
+purge_leaves_class_space : ServesStep given_back Purge Done (record start { given = 2 })
 purge_leaves_class_space = refl
 
 class_space_is_whole : space_sums Class (purged given_back) ≡ record {
@@ -167,7 +167,7 @@ purge_keeps_used_nodes : purged (record with_both { slots = 0 ∷ 1 ∷ [] }) �
 purge_keeps_used_nodes = refl
 
 -- Two owner numbers for each loader: the last pair, and one number left.
-last_pair : Serves (record start { given = 4294967293 }) (New 1 Boot) Done
+last_pair : ServesStep (record start { given = 4294967293 }) (New 1 Boot) Done
     (record start { loaders = (1, empty_loader Boot) ∷ []; given = 4294967295 })
 last_pair = record { unused = refl; after = refl }
 
@@ -235,7 +235,7 @@ class_space_is_full = (
   record { met = refl; nodes_are = refl; limit_is = refl },
 )
 
-full_is_unloaded : Serves full (Unload 1) Done (record start { given = 2 })
+full_is_unloaded : ServesStep full (Unload 1) Done (record start { given = 2 })
 full_is_unloaded = record { loader = boot_loader; has = refl; after = refl }
 
 -- Policy none: a boot loader's root stays committed once it is unloaded, until its node goes. What
@@ -268,10 +268,10 @@ purge_keeps_used_granules = refl
 abbrev root_stays : Machine
 root_stays = record with_root { loaders = [] }
 
-root_is_unloaded : Serves with_root (Unload 1) Done root_stays
+root_is_unloaded : ServesStep with_root (Unload 1) Done root_stays
 root_is_unloaded = record { loader = root_loader; has = refl; after = refl }
 
-root_is_purged : Serves root_stays Purge Done (record keeping { class_committed = range_with_len 8192 16; given = 2 })
+root_is_purged : ServesStep root_stays Purge Done (record keeping { class_committed = range_with_len 8192 16; given = 2 })
 root_is_purged = refl
 
 -- The next loader's chunk is a part of it, and needs nothing.
@@ -283,7 +283,7 @@ next_loader = record {
   blocks = (1, zeroed 0 10) ∷ [];
 }
 
-next_block : Serves (record root_stays { loaders = (2, empty_loader Standard) ∷ []; given = 4 }) (Alloc 2 1 10) (At 0)
+next_block : ServesStep (record root_stays { loaders = (2, empty_loader Standard) ∷ []; given = 4 }) (Alloc 2 1 10) (At 0)
     (record root_stays { loaders = (2, next_loader) ∷ []; given = 4 })
 next_block = record {
   some = omega arith;

@@ -11,7 +11,7 @@ use Rattle.ms_base.specs.State.{PoolState, Limits, committed_now}
 use Rattle.ms_base.specs.Pick.{picked}
 use Rattle.ms_base.specs.Causes.{has_committed_room, granules_missing, granules_needed}
 use Rattle.ms_base.specs.PoolSteps.{taken, grown, slots_with}
-use Rattle.ms_base.specs.SumLaws.{with_grown}
+use Rattle.ms_base.specs.SumLaws.{with_chunk_grown}
 
 abbrev chunk : ℕ → ℕ → ℕ → Chunk
 chunk start level front = record { start = start; level = level; front = front }
@@ -184,7 +184,7 @@ none_needed = refl
 
 -- How many a chunk commits is what its front was missing, also where it grows.
 grown_commits_two : length
-    (committed_now (with_grown (pool Aggressive [] (chunk 0 5 2048 ∷ []) (0 ∷ []) 3) 0 (chunk 0 5 6144))) ≡ 3
+    (committed_now (with_chunk_grown (pool Aggressive [] (chunk 0 5 2048 ∷ []) (0 ∷ []) 3) 0 (chunk 0 5 6144))) ≡ 3
 grown_commits_two = refl
 
 two_were_missing : granules_missing (pool Aggressive [] (chunk 0 5 2048 ∷ []) (0 ∷ []) 3) (chunk 0 5 6144) ≡ 2

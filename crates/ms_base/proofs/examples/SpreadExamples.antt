@@ -18,7 +18,7 @@ use Rattle.ms_base.specs.Transition.{zeroed}
 use Rattle.ms_base.specs.Event.{Event, opening, taking, growing, closing, purging, acting, Answer, accepted, lent}
 use Rattle.ms_base.specs.Event.{counted, replied, refused, Happens, emptied, loader_of_event}
 use Rattle.ms_base.specs.Spread.{SpreadStep, Moment, GoesOn, HasNoSpan, Spreads, IsWhole, IsByItself, IsAskedFor}
-use Rattle.ms_base.specs.Spread.{words_asked, Part, parts_of, AreWhole, IsSpread, not_asked, not_had, parts_by}
+use Rattle.ms_base.specs.Spread.{words_asked, Part, spread_parts, AreWhole, IsSpread, not_asked, not_had, parts_by}
 use Rattle.ms_base.specs.Serial.{is_accepted, is_taking, is_closing, is_acting, is_place, serial}
 
 abbrev pub chunk : ℕ → ℕ → ℕ → Chunk
@@ -320,6 +320,6 @@ unclosed_is_no_step are = of_steps are.steps are.parts_are
         absurd (cc)
     its spread (one ∷ other ∷ events) more has later e = absurd (cc)
 
-    of_steps : (steps : List SpreadStep) → unclosed ≡ flat_map parts_of steps → ⊥
+    of_steps : (steps : List SpreadStep) → unclosed ≡ flat_map spread_parts steps → ⊥
     of_steps [] e = absurd (cc)
-    of_steps (spread ∷ steps) e = its spread spread.events (flat_map parts_of steps) refl (of_steps steps) e
+    of_steps (spread ∷ steps) e = its spread spread.events (flat_map spread_parts steps) refl (of_steps steps) e

@@ -20,7 +20,7 @@ use Rattle.ms_base.specs.Front.{HasFront}
 use Rattle.ms_base.specs.State.{ArenaState, LoaderState, Machine, Limits, empty_machine, empty_arena, empty_loader}
 use Rattle.ms_base.specs.State.{arena_of, pool_of}
 use Rattle.ms_base.specs.Good.{IsGood, IsSound, IsSoundLoader, IsSoundPool}
-use Rattle.ms_base.specs.Transition.{Serves, Cause, Transition, zeroed}
+use Rattle.ms_base.specs.Transition.{ServesStep, Cause, Transition, zeroed}
 
 rising : (xs : List ℕ) → IsStrictlySortedBy nat_cmp xs → IsStrictlyIncreasing xs
 rising xs sorted = IsStrictlyIncreasing-from_sorted xs sorted
@@ -120,10 +120,10 @@ allocated_is_good = record {
   given = omega arith;
 }
 
-made : Serves start (New 1 Standard) Done one_loader
+made : ServesStep start (New 1 Standard) Done one_loader
 made = record { unused = refl; after = refl }
 
-placed : Serves one_loader (Alloc 1 1 10) (At 0) allocated
+placed : ServesStep one_loader (Alloc 1 1 10) (At 0) allocated
 placed = record {
   some = omega arith;
   fits = omega arith;
@@ -173,10 +173,10 @@ read_past = (
 name_is_taken : Transition allocated (New 1 Standard) (Refused LoaderExists) allocated
 name_is_taken = (record { loader = with_one_block; has = refl }, refl)
 
-unloaded : Serves allocated (Unload 1) Done (record start { slots = 0 ∷ []; given = 2 })
+unloaded : ServesStep allocated (Unload 1) Done (record start { slots = 0 ∷ []; given = 2 })
 unloaded = record { loader = with_one_block; has = refl; after = refl }
 
-purged : Serves (record start { slots = 0 ∷ []; given = 2 }) Purge Done (record start { given = 2 })
+purged : ServesStep (record start { slots = 0 ∷ []; given = 2 }) Purge Done (record start { given = 2 })
 purged = refl
 
 -- A used name is told before words of 0 are.

@@ -23,7 +23,7 @@ use Rattle.ms_base.specs.Causes.{committed_count, granules_missing}
 use Rattle.ms_base.specs.PoolSteps.{is_free, may_become_parent, with_front, parent_with_front, within_limit, grown}
 use Rattle.ms_base.specs.Good.{IsSoundPool}
 use Rattle.ms_base.specs.Transition.{IsGrown}
-use Rattle.ms_base.specs.SumLaws.{with_grown, GrowsWell}
+use Rattle.ms_base.specs.SumLaws.{with_chunk_grown, GrowsWell}
 use Rattle.ms_base.proofs.free.HalvesLemmas.{size_of_halves}
 use Rattle.ms_base.proofs.free.RoomLemmas.{listed_is_free}
 use Rattle.ms_base.proofs.arena.GrownLemmas.{GrowsClear}
@@ -72,7 +72,7 @@ meets_further granule was is k same higher meets =
 pub growing_commits_the_missing : (pool : PoolState) (place : ℕ) (was is : Chunk) → IsSoundPool pool
     → slice_get pool.held place ≡ Some was
     → IsGrown was is → IsPart is.start is.level → is.front ≤ size_of is.level
-    → length (committed_now (with_grown pool place is)) ≡ length pool.committed + granules_missing pool is
+    → length (committed_now (with_chunk_grown pool place is)) ≡ length pool.committed + granules_missing pool is
 growing_commits_the_missing pool place was is sound found grows placed within =
     count_with_front pool (slice_set pool.held place is) pool.slots is sound placed (omega (arith, grows.front)) within
     sound.slots

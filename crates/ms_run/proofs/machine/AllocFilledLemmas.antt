@@ -17,12 +17,12 @@ use Rattle.ms_pool.specs.Calls.{Took}
 use Rattle.ms_arena.specs.Arena.{ArenaView}
 use Rattle.ms_loaders.specs.Loader.{LoaderView, IsSoundView, AllocatesBlock}
 use Rattle.ms_loaders.specs.System.{machine_of, AreTogether}
-use Rattle.ms_loaders.proofs.OutcomeLemmas.{Outcome, GrewAtAll, TookAtAll}
-use Rattle.ms_loaders.proofs.AskedLemmas.{outcome}
-use Rattle.ms_loaders.proofs.AlikeLemmas.{allocates_by}
-use Rattle.ms_loaders.proofs.ServedLemmas.{apart_of, own_sound, length_changed}
-use Rattle.ms_loaders.proofs.CallLemmas.{same_loaders}
-use Rattle.ms_loaders.proofs.AllocStepLemmas.{reply_to, alloc_goes}
+use Rattle.ms_loaders.proofs.steps.OutcomeLemmas.{Outcome, GrewAtAll, TookAtAll}
+use Rattle.ms_loaders.proofs.steps.AskedLemmas.{outcome}
+use Rattle.ms_loaders.proofs.steps.AlikeLemmas.{allocates_by}
+use Rattle.ms_loaders.proofs.steps.ServedLemmas.{apart_of, own_sound, length_changed}
+use Rattle.ms_loaders.proofs.steps.CallLemmas.{same_loaders}
+use Rattle.ms_loaders.proofs.steps.AllocStepLemmas.{reply_to, alloc_goes}
 use Rattle.ms_run.specs.Acts.{GrewSeen}
 use Rattle.ms_run.proofs.machine.FilledLemmas.{filled, filled_sound, AreWhole, few_open}
 

@@ -14,7 +14,7 @@ use Rattle.ms_pool.specs.Ledger.{Ledger, IsSoundLedger}
 use Rattle.ms_pool.specs.Calls.{Took}
 use Rattle.ms_loaders.specs.Loader.{LoaderView, IsSoundView, AllocatesBlock}
 use Rattle.ms_loaders.specs.System.{machine_of}
-use Rattle.ms_loaders.proofs.CauseLemmas.{alloc_finds_none}
+use Rattle.ms_loaders.proofs.steps.CauseLemmas.{alloc_finds_none}
 use Rattle.ms_shared.specs.History.{Event}
 use Rattle.ms_run.specs.Acts.{AsksOf, Asks, IsAllocation, GrewSeen, start_of}
 use Rattle.ms_run.proofs.machine.FilledLemmas.{AreWhole}

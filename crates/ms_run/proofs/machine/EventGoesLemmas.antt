@@ -16,8 +16,8 @@ use Rattle.ms_pool.specs.Ledger.{Ledger}
 use Rattle.ms_pool.specs.Calls.{OpenedBoth}
 use Rattle.ms_loaders.specs.Loader.{LoaderView, new_loader, IsSoundView}
 use Rattle.ms_loaders.specs.System.{machine_of}
-use Rattle.ms_loaders.proofs.CloseLemmas.{first_account, second_account}
-use Rattle.ms_loaders.proofs.StepLemmas.{lacks_loader}
+use Rattle.ms_loaders.proofs.steps.CloseLemmas.{first_account, second_account}
+use Rattle.ms_loaders.proofs.steps.StepLemmas.{lacks_loader}
 use Rattle.ms_shared.specs.History.{Event}
 use Rattle.ms_run.specs.Acts.{IsSoundEvent, IsOpening, IsClosing, IsPurging, OfLoader, IsOwnStep}
 use Rattle.ms_run.proofs.machine.FilledLemmas.{AreWhole, whole_purged, purge_goes, whole_made, new_goes}

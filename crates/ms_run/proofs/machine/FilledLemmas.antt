@@ -12,11 +12,11 @@ use Rattle.ms_pool.specs.Tallies.{Tallies, no_tallies}
 use Rattle.ms_pool.specs.Ledger.{Ledger, Serves, IsSoundLedger, with_both_closed, purged}
 use Rattle.ms_loaders.specs.Loader.{LoaderView, account_in, new_loader, IsSoundView}
 use Rattle.ms_loaders.specs.System.{machine_of, accounts_of, AreTogether}
-use Rattle.ms_loaders.proofs.FitLemmas.{machine_is_good}
-use Rattle.ms_loaders.proofs.StepLemmas.{lacks_loader}
-use Rattle.ms_loaders.proofs.CloseLemmas.{with_both, first_account, second_account, served_with, together_made, machine_made}
-use Rattle.ms_loaders.proofs.CloseLemmas.{together_purged, machine_purged_is}
-use Rattle.ms_loaders.proofs.UnloadLemmas.{together_unloaded, is_unloaded}
+use Rattle.ms_loaders.proofs.sums.FitLemmas.{machine_is_good}
+use Rattle.ms_loaders.proofs.steps.StepLemmas.{lacks_loader}
+use Rattle.ms_loaders.proofs.steps.CloseLemmas.{with_both, first_account, second_account, served_with, together_made, machine_made}
+use Rattle.ms_loaders.proofs.steps.CloseLemmas.{together_purged, machine_purged_is}
+use Rattle.ms_loaders.proofs.steps.UnloadLemmas.{together_unloaded, is_unloaded}
 
 -- So many accounts are open in each space, and nothing was counted.
 abbrev pub filled : ℕ → Ledger → Ledger

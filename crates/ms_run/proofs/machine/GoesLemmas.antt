@@ -19,11 +19,11 @@ use Rattle.ms_loaders.specs.Loader.{LoaderView, WritesWord}
 use Rattle.ms_loaders.specs.Loader.{FreesBlock}
 use Rattle.ms_loaders.specs.System.{AreTogether}
 use Rattle.ms_loaders.specs.System.{states_of, machine_of}
-use Rattle.ms_loaders.proofs.FitLemmas.{machine_is_good}
-use Rattle.ms_loaders.proofs.ServedLemmas.{length_changed}
-use Rattle.ms_loaders.proofs.StepLemmas.{has_loader, lacks_loader}
-use Rattle.ms_loaders.proofs.CallLemmas.{read_is_served, word_is_refused, free_is_refused, together_written, is_written}
-use Rattle.ms_loaders.proofs.CallLemmas.{together_freed, is_freed}
+use Rattle.ms_loaders.proofs.sums.FitLemmas.{machine_is_good}
+use Rattle.ms_loaders.proofs.steps.ServedLemmas.{length_changed}
+use Rattle.ms_loaders.proofs.steps.StepLemmas.{has_loader, lacks_loader}
+use Rattle.ms_loaders.proofs.steps.CallLemmas.{read_is_served, word_is_refused, free_is_refused, together_written, is_written}
+use Rattle.ms_loaders.proofs.steps.CallLemmas.{together_freed, is_freed}
 use Rattle.ms_run.specs.Own.{own_in}
 use Rattle.ms_run.specs.Acts.{ChangesLoader, IsOwnStep}
 use Rattle.ms_run.proofs.machine.FilledLemmas.{filled, AreWhole}

@@ -24,7 +24,7 @@ use Rattle.ms_pool.specs.Account.{AccountState, AreChunks}
 use Rattle.ms_pool.specs.Ledger.{Ledger, Serves}
 use Rattle.ms_loaders.specs.Loader.{LoaderView, new_loader, IsSoundView}
 use Rattle.ms_loaders.specs.System.{states_of, machine_of, accounts_of, AreTogether}
-use Rattle.ms_loaders.proofs.CloseLemmas.{served_with}
+use Rattle.ms_loaders.proofs.steps.CloseLemmas.{served_with}
 use Rattle.ms_loaders.proofs.MappedLemmas.{named-mapped, rises-mapped}
 use Rattle.ms_shared.specs.Weaving.{where_so, without_numbers, of, Steps, Runs}
 use Rattle.ms_run.specs.Own.{Said}

@@ -3,7 +3,7 @@ use Rattle.ms_base.specs.declared.kind.Kind.{Kind}
 use Rattle.ms_base.specs.declared.kind.Space.TheVariants.{NonClass, Class}
 use Rattle.ms_loaders.specs.System.{states_of}
 use Rattle.ms_loaders.specs.Collecting.{row_made}
-use Rattle.ms_loaders.proofs.CollectLemmas.{leads_on, row_is, rows_lead_on}
+use Rattle.ms_loaders.proofs.sums.CollectLemmas.{leads_on, row_is, rows_lead_on}
 use Rattle.ms_loaders.proofs.collecting.gather.Goals as goal
 
 pub loop-name-preserved : goal.loop-name-preserved

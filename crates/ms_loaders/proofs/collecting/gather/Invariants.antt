@@ -2,7 +2,7 @@ use Rattle.std.proofs.Common.{◌≤◌, ◌+◌, length, vec_len}
 use Rattle.std.specs.Vec.{vec_capacity}
 use Rattle.ms_base.specs.declared.kind.Space.TheVariants.{NonClass, Class}
 use Rattle.ms_loaders.specs.System.{states_of}
-use Rattle.ms_loaders.proofs.CollectLemmas.{Leads, RowsLead}
+use Rattle.ms_loaders.proofs.sums.CollectLemmas.{Leads, RowsLead}
 use Rattle.ms_loaders.proofs.collecting.gather.Given as goal
 
 -- What is gathered so far and the loaders that are left come to the whole, and there is room for

@@ -1,6 +1,6 @@
 use Rattle.ms_base.proofs.granules.FrontSumLemmas.{nothing_is_left}
 use Rattle.ms_base.proofs.events.SerialLemmas.{spreads_are_serial}
-use Rattle.ms_loaders.proofs.AddableLemmas.{taking_is_addable}
+use Rattle.ms_loaders.proofs.steps.AddableLemmas.{taking_is_addable}
 use Rattle.ms_loaders.proofs.laws.events.Goals as goal
 
 pub returns-clause-serial : goal.returns-clause-serial

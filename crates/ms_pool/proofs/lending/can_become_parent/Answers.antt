@@ -1,7 +1,7 @@
 use Rattle.std.proofs.Common.{◌≤◌, ℕ, ◌*◌, ◌%◌, Bool, ◌&&◌, ◌==◌, sym, ap, ◌∙◌, arith}
 use Rattle.ms_buddy.specs.Leaves.{free_of, span_at}
-use Rattle.ms_pool.proofs.BuddyLemmas.{decided_by_buddy, follower_cannot, leader_there, lent_place, parent_size}
-use Rattle.ms_pool.proofs.BuddyLemmas.{root_cannot}
+use Rattle.ms_pool.proofs.growths.BuddyLemmas.{decided_by_buddy, follower_cannot, leader_there, lent_place, parent_size}
+use Rattle.ms_pool.proofs.growths.BuddyLemmas.{root_cannot}
 use Rattle.ms_pool.proofs.lending.can_become_parent.Goals.{then-number-eq0-via-then-number-eq0}
 use Rattle.ms_pool.proofs.lending.can_become_parent.Goals.{then-number-eq0-via-else-number-eq0+then-start-size-ne0}
 use Rattle.ms_pool.proofs.lending.can_become_parent.Goals as goal

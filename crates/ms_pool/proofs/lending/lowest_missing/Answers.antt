@@ -4,7 +4,7 @@ use Rattle.ms_base.specs.Part.{is_reserved}
 use Rattle.ms_commit.specs.Nodes.{all_slots}
 use Rattle.ms_commit.proofs.NodesLemmas.{reserved_low}
 use Rattle.ms_commit.proofs.MemberOrderLemmas.{length_from_full, lowest_unreserved-is}
-use Rattle.ms_pool.proofs.SlotLoopLemmas.{slots_are}
+use Rattle.ms_pool.proofs.searches.SlotLoopLemmas.{slots_are}
 use Rattle.ms_pool.proofs.lending.lowest_missing.Goals as goal
 
 pub returns-then-not-is_reserved-clause-lowest : goal.returns-then-not-is_reserved-clause-lowest

@@ -1,5 +1,5 @@
 use Rattle.std.proofs.Common.{◌+◌, ℕ, ap, refl}
-use Rattle.ms_pool.proofs.LentCountLemmas.{comes_one}
+use Rattle.ms_pool.proofs.counts.LentCountLemmas.{comes_one}
 use Rattle.ms_pool.proofs.lent.count_chunk.Goals as goal
 
 pub returns : goal.returns

@@ -1,5 +1,5 @@
 use Rattle.std.proofs.Common.{arith}
-use Rattle.ms_pool.proofs.LentCountLemmas.{goes_one}
+use Rattle.ms_pool.proofs.counts.LentCountLemmas.{goes_one}
 use Rattle.ms_pool.proofs.lent.discount_chunk.Goals as goal
 
 pub returns : goal.returns

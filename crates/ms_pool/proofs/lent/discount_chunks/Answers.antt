@@ -4,7 +4,7 @@ use Rattle.std.proofs.lemmas.List.Elements.{All-contains}
 use Rattle.ms_base.specs.declared.span.Chunk.{Chunk}
 use Rattle.ms_base.specs.Part.{IsPart}
 use Rattle.ms_pool.specs.Counting.{Moves}
-use Rattle.ms_pool.proofs.LentCountLemmas.{goes_next, least_next, none_gone}
+use Rattle.ms_pool.proofs.counts.LentCountLemmas.{goes_next, least_next, none_gone}
 use Rattle.ms_pool.proofs.ledger.LoanAtLemmas.{contains_at}
 use Rattle.ms_pool.proofs.lent.discount_chunks.Goals as goal
 

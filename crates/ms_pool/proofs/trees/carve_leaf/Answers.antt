@@ -5,7 +5,7 @@ use Rattle.ms_base.specs.Level.{root_words}
 use Rattle.ms_buddy.specs.Leaves.{LentLeaf, AreLeaves, leaf_of, span_at, with_leaf}
 use Rattle.ms_pool.specs.Ledger.{Loan, with_loan}
 use Rattle.ms_pool.specs.Keeping.{loans_from}
-use Rattle.ms_pool.proofs.CarvedPartLemmas.{leaf_is_loan, loans_with_leaf, offset_is_whole, where_ok}
+use Rattle.ms_pool.proofs.loans.CarvedPartLemmas.{leaf_is_loan, loans_with_leaf, offset_is_whole, where_ok}
 use Rattle.ms_pool.proofs.trees.carve_leaf.Goals as goal
 
 pub carve-requires-clause-aligned : goal.carve-requires-clause-aligned

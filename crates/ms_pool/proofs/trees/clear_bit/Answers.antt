@@ -1,5 +1,5 @@
 use Rattle.std.proofs.Common.{false, sym, ◌∙◌}
-use Rattle.ms_pool.proofs.IndexLemmas.{tells_already, tells_clear}
+use Rattle.ms_pool.proofs.searches.IndexLemmas.{tells_already, tells_clear}
 use Rattle.ms_pool.proofs.trees.clear_bit.Goals as goal
 
 pub returns-then-not-contains : goal.returns-then-not-contains

@@ -1,5 +1,5 @@
 use Rattle.std.proofs.Common.{true, false}
-use Rattle.ms_pool.proofs.IndexLemmas.{bit_clear, bit_set, one_told}
+use Rattle.ms_pool.proofs.searches.IndexLemmas.{bit_clear, bit_set, one_told}
 use Rattle.ms_pool.proofs.trees.note.Goals.{then-levels-level-eq1, else-levels-level-eq1}
 use Rattle.ms_pool.proofs.trees.note.Goals as goal
 

@@ -1,4 +1,4 @@
-use Rattle.ms_pool.proofs.IndexLemmas.{AreTold}
+use Rattle.ms_pool.proofs.searches.IndexLemmas.{AreTold}
 use Rattle.ms_pool.proofs.trees.note.Given as goal
 
 -- The levels passed are told.

@@ -2,7 +2,7 @@ use Rattle.std.proofs.Common.{length, ap, arith}
 use Rattle.std.proofs.lemmas.List.Elements.{recursion_from_All}
 use Rattle.ms_buddy.specs.Leaves.{AreLeaves}
 use Rattle.ms_pool.specs.Trees.{TreesState}
-use Rattle.ms_pool.proofs.ReleasedTreeLemmas.{leaf_there}
+use Rattle.ms_pool.proofs.returns.ReleasedTreeLemmas.{leaf_there}
 use Rattle.ms_pool.proofs.trees.put_back.Goals as goal
 
 pub index-requires : goal.index-requires

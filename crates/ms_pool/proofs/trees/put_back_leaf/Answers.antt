@@ -5,7 +5,7 @@ use Rattle.std.proofs.lemmas.List.Elements.{recursion_from_All}
 use Rattle.ms_base.specs.Level.{root_words}
 use Rattle.ms_buddy.specs.Leaves.{LentLeaf, AreLeaves, covers, free_of, is_lent, without_leaf}
 use Rattle.ms_pool.specs.Keeping.{loans_from}
-use Rattle.ms_pool.proofs.ReleasedTreeLemmas.{leaf_there, place_in, released_loans}
+use Rattle.ms_pool.proofs.returns.ReleasedTreeLemmas.{leaf_there, place_in, released_loans}
 use Rattle.ms_pool.proofs.trees.put_back_leaf.Goals as goal
 
 pub index_mut-tree-requires : goal.index_mut-tree-requires

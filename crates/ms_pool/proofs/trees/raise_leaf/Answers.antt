@@ -6,7 +6,7 @@ use Rattle.std.proofs.lemmas.List.Elements.{recursion_from_All}
 use Rattle.ms_base.specs.Level.{root_words}
 use Rattle.ms_buddy.specs.Leaves.{LentLeaf, AreLeaves, span_at, with_front, with_parent}
 use Rattle.ms_pool.specs.Keeping.{loans_from}
-use Rattle.ms_pool.proofs.RaisedTreeLemmas.{grown_size, loans_with_front, loans_with_parent, parent_level}
+use Rattle.ms_pool.proofs.growths.RaisedTreeLemmas.{grown_size, loans_with_front, loans_with_parent, parent_level}
 use Rattle.ms_pool.proofs.trees.raise_leaf.Goals.{then-eq, else-eq+in-Ok}
 use Rattle.ms_pool.proofs.trees.raise_leaf.Goals as goal
 

@@ -1,5 +1,5 @@
 use Rattle.std.proofs.Common.{true, sym, ◌∙◌}
-use Rattle.ms_pool.proofs.IndexLemmas.{tells_already, tells_set}
+use Rattle.ms_pool.proofs.searches.IndexLemmas.{tells_already, tells_set}
 use Rattle.ms_pool.proofs.trees.set_bit.Goals as goal
 
 pub returns-then-contains : goal.returns-then-contains

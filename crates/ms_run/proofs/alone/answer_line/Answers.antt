@@ -1,5 +1,5 @@
 use Rattle.std.proofs.Common.{refl}
-use Rattle.ms_run.proofs.StepUseLemmas.{counted_on}
+use Rattle.ms_run.proofs.metered.StepUseLemmas.{counted_on}
 use Rattle.ms_run.proofs.alone.answer_line.Goals as goal
 
 pub returns-clause-counted : goal.returns-clause-counted

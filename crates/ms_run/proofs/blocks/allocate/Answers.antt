@@ -9,7 +9,7 @@ use Rattle.ms_run.specs.Acts.{HasMade, Asks, AsksOf, start_of}
 use Rattle.ms_loaders.specs.Loader.{LoaderView}
 use Rattle.ms_shared.specs.History.{Event}
 use Rattle.ms_run.proofs.ActLemmas.{made_none, block_made}
-use Rattle.ms_loaders.proofs.CallLemmas.{same_loaders}
+use Rattle.ms_loaders.proofs.steps.CallLemmas.{same_loaders}
 use Rattle.ms_run.proofs.SeatStaysLemmas.{others_stay, own_is_served, manned_after}
 use Rattle.ms_run.proofs.GrantLemmas.{replies_without, replies_at, replies_why}
 use Rattle.ms_run.proofs.blocks.allocate.Goals as goal

@@ -2,7 +2,7 @@ use Rattle.std.proofs.Common.{sym, refl}
 use Rattle.ms_run.proofs.TouchLemmas.{own_missing, own_freed_in, own_not_freed, others_stay, freed_keeps_seats}
 use Rattle.ms_run.proofs.TouchLemmas.{same_keeps, freed_uses, same_uses}
 use Rattle.ms_base.proofs.entries.LookupLemmas.{named_changed_same}
-use Rattle.ms_loaders.proofs.CallLemmas.{same_loaders}
+use Rattle.ms_loaders.proofs.steps.CallLemmas.{same_loaders}
 use Rattle.ms_run.proofs.blocks.free.Goals as goal
 
 pub returns-in-None-clause-refused : goal.returns-in-None-clause-refused

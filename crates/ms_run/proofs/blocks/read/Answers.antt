@@ -1,7 +1,7 @@
 use Rattle.std.proofs.Common.{sym, refl}
 use Rattle.ms_run.proofs.TouchLemmas.{own_missing, own_read, own_not_read}
-use Rattle.ms_loaders.proofs.LoaderLemmas.{err_then}
-use Rattle.ms_loaders.proofs.LoaderLemmas.{ok_then}
+use Rattle.ms_loaders.proofs.calls.LoaderLemmas.{err_then}
+use Rattle.ms_loaders.proofs.calls.LoaderLemmas.{ok_then}
 use Rattle.ms_run.proofs.blocks.read.Goals as goal
 
 pub returns-in_default-clause-refused : goal.returns-in_default-clause-refused

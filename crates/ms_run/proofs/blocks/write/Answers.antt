@@ -2,7 +2,7 @@ use Rattle.std.proofs.Common.{sym, refl}
 use Rattle.ms_run.proofs.TouchLemmas.{own_missing, own_written, own_not_written, others_stay, written_keeps, same_keeps}
 use Rattle.ms_run.proofs.TouchLemmas.{written_uses, same_uses}
 use Rattle.ms_base.proofs.entries.LookupLemmas.{named_changed_same}
-use Rattle.ms_loaders.proofs.CallLemmas.{same_loaders}
+use Rattle.ms_loaders.proofs.steps.CallLemmas.{same_loaders}
 use Rattle.ms_run.proofs.blocks.write.Goals as goal
 
 pub returns-in-None-clause-refused : goal.returns-in-None-clause-refused

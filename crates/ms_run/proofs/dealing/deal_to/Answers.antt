@@ -3,11 +3,11 @@ use Rattle.ms_shared.specs.SeatView.{SeatState}
 use Rattle.ms_loaders.specs.Used.{used_in}
 use Rattle.ms_run.specs.Turn.{place_in}
 use Rattle.ms_run.specs.Shares.{place_for}
-use Rattle.ms_run.proofs.StandByLemmas.{handed_at, same_tasks}
+use Rattle.ms_run.proofs.sharing.StandByLemmas.{handed_at, same_tasks}
 use Rattle.ms_run.specs.Dealing.{Loaded}
-use Rattle.ms_run.proofs.DealLemmas.{dealing_starts, dealing_on, dealing_ends, next_free, beside_none, none_left}
-use Rattle.ms_run.proofs.DealLemmas.{left_starts, left_more}
-use Rattle.ms_run.proofs.DealtUseLemmas.{shared_starts, shared_on, used_ends, meters_end}
+use Rattle.ms_run.proofs.sharing.DealLemmas.{dealing_starts, dealing_on, dealing_ends, next_free, beside_none, none_left}
+use Rattle.ms_run.proofs.sharing.DealLemmas.{left_starts, left_more}
+use Rattle.ms_run.proofs.metered.DealtUseLemmas.{shared_starts, shared_on, used_ends, meters_end}
 use Rattle.ms_run.proofs.dealing.deal_to.Goals as goal
 
 pub loop-seat-init : goal.loop-seat-init

@@ -1,6 +1,6 @@
 use Rattle.std.proofs.Common.{◌∙◌, sym, subst, refl}
 use Rattle.ms_run.specs.Shares.{names_in}
-use Rattle.ms_run.proofs.DealLemmas.{IsHanding, handing_starts, handing_on, handing_ends, none_left, same_then}
+use Rattle.ms_run.proofs.sharing.DealLemmas.{IsHanding, handing_starts, handing_on, handing_ends, none_left, same_then}
 use Rattle.ms_run.proofs.dealing.hand_all.Goals as goal
 
 pub loop-name-init : goal.loop-name-init

@@ -1,8 +1,8 @@
 use Rattle.std.proofs.Common.{◌∙◌, sym, ap}
 use Rattle.ms_shared.specs.SeatView.{SeatState}
-use Rattle.ms_run.proofs.HandOnLemmas.{beside_after, first_served, second_served, second_counted}
-use Rattle.ms_run.proofs.HandOnLemmas.{beside_still, handed_names, none_handed}
-use Rattle.ms_run.proofs.DealtUseLemmas.{used_handed, used_still}
+use Rattle.ms_run.proofs.sharing.HandOnLemmas.{beside_after, first_served, second_served, second_counted}
+use Rattle.ms_run.proofs.sharing.HandOnLemmas.{beside_still, handed_names, none_handed}
+use Rattle.ms_run.proofs.metered.DealtUseLemmas.{used_handed, used_still}
 use Rattle.ms_run.proofs.dealing.hand_on.Goals as goal
 
 pub returns-in_default-clause-crews : goal.returns-in_default-clause-crews

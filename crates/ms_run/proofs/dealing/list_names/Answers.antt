@@ -1,7 +1,7 @@
 use Rattle.std.proofs.Common.{◌≡◌, ◌∙◌, ap, arith, take, length}
 use Rattle.std.proofs.Math.Seq.{take-length}
 use Rattle.ms_run.specs.Shares.{names_in}
-use Rattle.ms_run.proofs.StandByLemmas.{names_more}
+use Rattle.ms_run.proofs.sharing.StandByLemmas.{names_more}
 use Rattle.ms_run.proofs.dealing.list_names.Goals as goal
 
 pub loop-task-preserved : goal.loop-task-preserved

@@ -6,9 +6,9 @@ use Rattle.ms_shared.specs.SeatView.{SeatState, Gathers, IsHistory}
 use Rattle.ms_run.specs.Joined.{seat_of}
 use Rattle.ms_run.specs.Metering.{used_words_of}
 use Rattle.ms_run.specs.Shares.{IsGathered}
-use Rattle.ms_run.proofs.GatherLemmas.{all_gathered, views_gathered}
+use Rattle.ms_run.proofs.sharing.GatherLemmas.{all_gathered, views_gathered}
 use Rattle.ms_run.proofs.PhaseSettleLemmas.{may_settle, no_more}
-use Rattle.ms_run.proofs.MeterSumLemmas.{used_machine, used_gathered}
+use Rattle.ms_run.proofs.metered.MeterSumLemmas.{used_machine, used_gathered}
 use Rattle.ms_run.proofs.gathering.gather.Goals as goal
 
 pub open-requires-clause-own : goal.open-requires-clause-own

@@ -1,7 +1,7 @@
 use Rattle.std.proofs.Common.{ap, length, arith, subst, sym, refl}
 use Rattle.ms_run.specs.Joined.{IsJoined}
-use Rattle.ms_run.proofs.GatherLemmas.{Loaders, joined_none, joined_more, rest_named, others_more, only_want}
-use Rattle.ms_run.proofs.GatherLemmas.{may_be_told}
+use Rattle.ms_run.proofs.sharing.GatherLemmas.{Loaders, joined_none, joined_more, rest_named, others_more, only_want}
+use Rattle.ms_run.proofs.sharing.GatherLemmas.{may_be_told}
 use Rattle.ms_run.proofs.gathering.insert_all.Goals as goal
 
 pub loop-name-init : goal.loop-name-init

@@ -1,7 +1,7 @@
 use Rattle.std.proofs.Common.{Result, Ok, Err, IfOk}
 use Rattle.ms_run.specs.declared.fault.RunFault.{RunFault}
 use Rattle.ms_run.specs.Joined.{IsJoined}
-use Rattle.ms_run.proofs.GatherLemmas.{Loaders, joined_swapped, other_names}
+use Rattle.ms_run.proofs.sharing.GatherLemmas.{Loaders, joined_swapped, other_names}
 use Rattle.ms_run.proofs.gathering.join.Goals as goal
 
 swapped : (whole part : Loaders) (result : Result Loaders RunFault) → IfOk result (IsJoined part whole)

@@ -1,7 +1,7 @@
 use Rattle.std.proofs.Common.{ap, arith, length, sym, ◌∙◌}
 use Rattle.std.proofs.lemmas.List.{nil_from_length}
-use Rattle.ms_run.proofs.GatherLemmas.{begin_apart, next_differs, still_differ}
-use Rattle.ms_run.proofs.TakenApartLemmas.{taken_none, taken_more, all_taken}
+use Rattle.ms_run.proofs.sharing.GatherLemmas.{begin_apart, next_differs, still_differ}
+use Rattle.ms_run.proofs.sharing.TakenApartLemmas.{taken_none, taken_more, all_taken}
 use Rattle.ms_run.proofs.gathering.take_apart.Goals as goal
 
 pub loop-share-init : goal.loop-share-init

@@ -1,6 +1,6 @@
 use Rattle.std.proofs.Common.{◌+◌, ◌≤◌, length, vec_len, vec_capacity}
-use Rattle.ms_run.proofs.GatherLemmas.{AreOthers}
-use Rattle.ms_run.proofs.TakenApartLemmas.{AreTaken}
+use Rattle.ms_run.proofs.sharing.GatherLemmas.{AreOthers}
+use Rattle.ms_run.proofs.sharing.TakenApartLemmas.{AreTaken}
 use Rattle.ms_run.proofs.gathering.take_apart.Given as goal
 
 -- Both seats and loaders of the shares so far, room for the seats that are left, and other names there.

@@ -7,8 +7,8 @@ use Rattle.ms_base.specs.declared.step.Reply.TheVariants.{Refused}
 use Rattle.ms_loaders.specs.Loader.{LoaderView, account_in, new_loader}
 use Rattle.ms_base.specs.declared.kind.Space.TheVariants.{NonClass, Class}
 use Rattle.ms_loaders.specs.System.{states_of}
-use Rattle.ms_loaders.proofs.CallLemmas.{found, unused_name}
-use Rattle.ms_loaders.proofs.UnloadLemmas.{insert_is_refused}
+use Rattle.ms_loaders.proofs.steps.CallLemmas.{found, unused_name}
+use Rattle.ms_loaders.proofs.steps.UnloadLemmas.{insert_is_refused}
 use Rattle.ms_loaders.specs.Used.{used_at}
 use Rattle.ms_run.specs.Own.{own_in}
 use Rattle.ms_run.specs.Manned.{IsManned}

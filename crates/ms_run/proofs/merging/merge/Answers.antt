@@ -1,7 +1,7 @@
 use Rattle.std.proofs.Common.{◌<◌, length, sym, ◌∙◌, arith}
 use Rattle.std.proofs.lemmas.Option.{slice_get_read}
 use Rattle.ms_run.specs.Turn.{place_in}
-use Rattle.ms_run.proofs.MergeLemmas.{starts, next_line, has_reply, merges_next, all_merged}
+use Rattle.ms_run.proofs.sharing.MergeLemmas.{starts, next_line, has_reply, merges_next, all_merged}
 use Rattle.ms_run.proofs.merging.merge.Goals as goal
 
 pub loop-line-init : goal.loop-line-init

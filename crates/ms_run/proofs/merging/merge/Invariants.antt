@@ -1,5 +1,5 @@
 use Rattle.ms_run.specs.Turn.{place_in}
-use Rattle.ms_run.proofs.MergeLemmas.{SoFar}
+use Rattle.ms_run.proofs.sharing.MergeLemmas.{SoFar}
 use Rattle.ms_run.proofs.merging.merge.Given as goal
 
 -- The lines up to the index are merged.

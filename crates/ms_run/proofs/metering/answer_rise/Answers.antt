@@ -1,8 +1,8 @@
 use Rattle.std.proofs.Common.{arith}
 use Rattle.ms_base.specs.Request.{loader_of}
 use Rattle.ms_loaders.specs.Used.{used_in}
-use Rattle.ms_run.proofs.MeterMoveLemmas.{moved_up}
-use Rattle.ms_run.proofs.UseLemmas.{used_moved}
+use Rattle.ms_run.proofs.metered.MeterMoveLemmas.{moved_up}
+use Rattle.ms_run.proofs.metered.UseLemmas.{used_moved}
 use Rattle.ms_run.proofs.metering.answer_rise.Goals as goal
 
 pub returns-clause-moved : goal.returns-clause-moved

@@ -1,5 +1,5 @@
 use Rattle.ms_base.specs.Request.{loader_of}
-use Rattle.ms_run.proofs.UseLemmas.{used_stays}
+use Rattle.ms_run.proofs.metered.UseLemmas.{used_stays}
 use Rattle.ms_run.proofs.metering.answer_still.Goals as goal
 
 pub returns-clause-used : goal.returns-clause-used

@@ -1,5 +1,5 @@
 use Rattle.std.proofs.Common.{refl}
-use Rattle.ms_run.proofs.UseLemmas.{used_gone}
+use Rattle.ms_run.proofs.metered.UseLemmas.{used_gone}
 use Rattle.ms_run.proofs.metering.answer_unload.Goals as goal
 
 pub returns-clause-used : goal.returns-clause-used

@@ -6,10 +6,10 @@ use Rattle.ms_run.specs.Metering.{used_words_of, meter_of}
 use Rattle.ms_loaders.specs.System.{machine_of, AreTogether}
 use Rattle.ms_run.specs.Turn.{place_in}
 use Rattle.ms_run.specs.Shares.{place_for}
-use Rattle.ms_run.proofs.StandByLemmas.{same_tasks}
+use Rattle.ms_run.proofs.sharing.StandByLemmas.{same_tasks}
 use Rattle.ms_run.proofs.PhaseLemmas.{own_seats, all_manned, same_count, all_answered, still_apart, ended}
 use Rattle.ms_run.proofs.PhaseLemmas.{ended_alone, merges_still}
-use Rattle.ms_run.proofs.MeterSumLemmas.{ready_for, own_meters, used_machine, used_after}
+use Rattle.ms_run.proofs.metered.MeterSumLemmas.{ready_for, own_meters, used_machine, used_after}
 use Rattle.ms_run.proofs.phase.run_phase.Goals as goal
 
 pub returns-then-shares-eq1-clause-phase : goal.returns-then-shares-eq1-clause-phase

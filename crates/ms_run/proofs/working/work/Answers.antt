@@ -1,5 +1,5 @@
 use Rattle.std.proofs.Common.{arith}
-use Rattle.ms_run.proofs.WorkLemmas.{work_begins, work_goes_on, work_ends}
+use Rattle.ms_run.proofs.sharing.WorkLemmas.{work_begins, work_goes_on, work_ends}
 use Rattle.ms_run.proofs.working.work.Goals as goal
 
 pub loop-task-init : goal.loop-task-init

@@ -1,4 +1,4 @@
-use Rattle.ms_run.proofs.WorkLemmas.{IsWorkedTo}
+use Rattle.ms_run.proofs.sharing.WorkLemmas.{IsWorkedTo}
 use Rattle.ms_run.proofs.working.work.Given as goal
 
 abbrev pub invariant-loop-task : goal.invariant-loop-task

@@ -1,4 +1,4 @@
-use Rattle.ms_loaders.proofs.ViewLemmas.{view_is_sound}
+use Rattle.ms_loaders.proofs.calls.ViewLemmas.{view_is_sound}
 use Rattle.ms_loaders.proofs.loader.Loader.accounts.Goals as goal
 
 pub returns-clause-sound : goal.returns-clause-sound

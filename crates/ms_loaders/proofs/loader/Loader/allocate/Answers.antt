@@ -1,6 +1,6 @@
 use Rattle.ms_base.specs.declared.kind.Space.TheVariants.{NonClass, Class}
-use Rattle.ms_loaders.proofs.ViewLemmas.{view_is_sound}
-use Rattle.ms_loaders.proofs.LoaderAllocLemmas.{allocated}
+use Rattle.ms_loaders.proofs.calls.ViewLemmas.{view_is_sound}
+use Rattle.ms_loaders.proofs.calls.LoaderAllocLemmas.{allocated}
 use Rattle.ms_loaders.proofs.loader.Loader.allocate.Goals as goal
 
 pub invariant_of-self : goal.invariant_of-self

@@ -2,8 +2,8 @@ use Rattle.std.proofs.Common.{sym, ◌∙◌}
 use Rattle.ms_base.specs.declared.kind.Space.TheVariants.{NonClass, Class}
 use Rattle.ms_loaders.specs.LoaderInside.{live_at}
 use Rattle.ms_loaders.proofs.MappedLemmas.{missing-mapped}
-use Rattle.ms_loaders.proofs.ViewLemmas.{view_is_sound}
-use Rattle.ms_loaders.proofs.LoaderLemmas.{contents_at, block_is_freed, freeing_is_not_refused, not_class}
+use Rattle.ms_loaders.proofs.calls.ViewLemmas.{view_is_sound}
+use Rattle.ms_loaders.proofs.calls.LoaderLemmas.{contents_at, block_is_freed, freeing_is_not_refused, not_class}
 use Rattle.ms_loaders.proofs.loader.Loader.free.Goals as goal
 
 pub returns-in_default-clause-refused : goal.returns-in_default-clause-refused

@@ -1,4 +1,4 @@
-use Rattle.ms_loaders.proofs.FindingLemmas.{run_named, named_run, some_then, none_then}
+use Rattle.ms_loaders.proofs.calls.FindingLemmas.{run_named, named_run, some_then, none_then}
 use Rattle.ms_loaders.proofs.loader.Loader.name_of.Goals as goal
 
 pub returns-clause-live : goal.returns-clause-live

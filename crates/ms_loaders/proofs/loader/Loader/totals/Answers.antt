@@ -1,5 +1,5 @@
 use Rattle.ms_base.specs.declared.kind.Space.TheVariants.{NonClass, Class}
-use Rattle.ms_loaders.proofs.SumsLemmas.{sums_of_arena}
+use Rattle.ms_loaders.proofs.sums.SumsLemmas.{sums_of_arena}
 use Rattle.ms_loaders.proofs.loader.Loader.totals.Goals as goal
 
 pub returns-clause-sums : goal.returns-clause-sums

@@ -1,6 +1,6 @@
 use Rattle.std.proofs.Common.{sym, ◌∙◌}
 use Rattle.ms_base.specs.Names.{named}
-use Rattle.ms_loaders.proofs.CallLemmas.{found}
+use Rattle.ms_loaders.proofs.steps.CallLemmas.{found}
 use Rattle.ms_loaders.proofs.loaders.Loaders.insert.Goals as goal
 
 pub returns-then-contains_key-clause-refused : goal.returns-then-contains_key-clause-refused

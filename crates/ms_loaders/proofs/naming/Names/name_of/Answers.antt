@@ -1,7 +1,7 @@
 use Rattle.std.specs.List.{list_any}
 use Rattle.std.proofs.lemmas.Bool.{both_ways}
 use Rattle.ms_loaders.specs.Finding.{names_block}
-use Rattle.ms_loaders.proofs.FindingLemmas.{entry_named, named_entry, some_then, none_then}
+use Rattle.ms_loaders.proofs.calls.FindingLemmas.{entry_named, named_entry, some_then, none_then}
 use Rattle.ms_loaders.proofs.naming.Names.name_of.Goals as goal
 
 pub returns-clause-named : goal.returns-clause-named

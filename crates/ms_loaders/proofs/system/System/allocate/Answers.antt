@@ -1,9 +1,9 @@
 use Rattle.std.proofs.Common.{sym, ap, ◌∙◌}
 use Rattle.ms_base.specs.State.{Limits}
-use Rattle.ms_loaders.proofs.AlikeLemmas.{allocates_at_all}
-use Rattle.ms_loaders.proofs.ServedLemmas.{own_served}
-use Rattle.ms_loaders.proofs.CauseLemmas.{alloc_finds_none}
-use Rattle.ms_loaders.proofs.AllocStepLemmas.{alloc_goes}
+use Rattle.ms_loaders.proofs.steps.AlikeLemmas.{allocates_at_all}
+use Rattle.ms_loaders.proofs.steps.ServedLemmas.{own_served}
+use Rattle.ms_loaders.proofs.steps.CauseLemmas.{alloc_finds_none}
+use Rattle.ms_loaders.proofs.steps.AllocStepLemmas.{alloc_goes}
 use Rattle.ms_loaders.proofs.system.System.allocate.Goals as goal
 use Rattle.ms_loaders.proofs.system.System.allocate.Goals.{in-Ok, in-Err}
 

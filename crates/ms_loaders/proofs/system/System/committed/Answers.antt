@@ -1,8 +1,8 @@
 use Rattle.std.proofs.Common.{◌≡◌, ℕ, ap, ◌∙◌, arith, ◌+◌, ◌*◌, length}
 use Rattle.ms_base.specs.Policy.{granule_of}
 use Rattle.ms_loaders.specs.System.{machine_of}
-use Rattle.ms_loaders.proofs.FitLemmas.{machine_is_good}
-use Rattle.ms_loaders.proofs.UsedLemmas.{committed_fits}
+use Rattle.ms_loaders.proofs.sums.FitLemmas.{machine_is_good}
+use Rattle.ms_loaders.proofs.sums.UsedLemmas.{committed_fits}
 use Rattle.ms_loaders.proofs.system.System.committed.Goals as goal
 
 pub overflow_mul-result : goal.overflow_mul-result

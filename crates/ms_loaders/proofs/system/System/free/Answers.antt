@@ -1,7 +1,7 @@
 use Rattle.std.proofs.Common.{sym, refl}
 use Rattle.ms_loaders.specs.System.{machine_of}
-use Rattle.ms_loaders.proofs.StepLemmas.{has_loader, lacks_loader}
-use Rattle.ms_loaders.proofs.CallLemmas.{together_freed, is_freed, free_is_refused, same_loaders}
+use Rattle.ms_loaders.proofs.steps.StepLemmas.{has_loader, lacks_loader}
+use Rattle.ms_loaders.proofs.steps.CallLemmas.{together_freed, is_freed, free_is_refused, same_loaders}
 use Rattle.ms_loaders.proofs.system.System.free.Goals as goal
 use Rattle.ms_loaders.proofs.system.System.free.Goals.{in-None, in-Some+in-Ok, in-Some+in-Err}
 

@@ -1,7 +1,7 @@
 use Rattle.std.proofs.Common.{sym}
-use Rattle.ms_loaders.proofs.FindingLemmas.{live_is_freed}
-use Rattle.ms_loaders.proofs.LoaderLemmas.{ok_then, err_then}
-use Rattle.ms_loaders.proofs.StepLemmas.{has_loader, lacks_loader}
+use Rattle.ms_loaders.proofs.calls.FindingLemmas.{live_is_freed}
+use Rattle.ms_loaders.proofs.calls.LoaderLemmas.{ok_then, err_then}
+use Rattle.ms_loaders.proofs.steps.StepLemmas.{has_loader, lacks_loader}
 use Rattle.ms_loaders.proofs.system.System.free_block.Goals as goal
 
 pub returns-in_default-clause-refused : goal.returns-in_default-clause-refused

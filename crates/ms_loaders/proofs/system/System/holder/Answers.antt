@@ -5,7 +5,7 @@ use Rattle.std.proofs.lemmas.List.Elements.{recursion_from_All}
 use Rattle.ms_base.specs.State.{Machine}
 use Rattle.ms_loaders.specs.Holder.{holds}
 use Rattle.ms_loaders.specs.Loader.{IsSoundView}
-use Rattle.ms_loaders.proofs.FitLemmas.{machine_is_good}
+use Rattle.ms_loaders.proofs.sums.FitLemmas.{machine_is_good}
 use Rattle.ms_loaders.proofs.OneHolderLemmas.{one_holder}
 use Rattle.ms_loaders.proofs.system.System.holder.Goals as goal
 

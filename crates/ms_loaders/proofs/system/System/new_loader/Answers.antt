@@ -2,12 +2,12 @@ use Rattle.std.proofs.Common.{sym, refl, ap, ◌∙◌, subst, inr}
 use Rattle.ms_base.specs.Names.{named}
 use Rattle.ms_pool.specs.Ledger.{Ledger, IsSoundLedger}
 use Rattle.ms_loaders.specs.Loader.{IsSoundView}
-use Rattle.ms_loaders.proofs.FitLemmas.{machine_is_good}
-use Rattle.ms_loaders.proofs.StepLemmas.{has_loader, lacks_loader}
-use Rattle.ms_loaders.proofs.CallLemmas.{found, unused_name}
-use Rattle.ms_loaders.proofs.CloseLemmas.{with_both, first_served, second_served, together_made, machine_made}
-use Rattle.ms_loaders.proofs.UnloadLemmas.{made_of, closed_again, together_again, numbers_used, numbers_left}
-use Rattle.ms_loaders.proofs.UnloadLemmas.{insert_is_refused}
+use Rattle.ms_loaders.proofs.sums.FitLemmas.{machine_is_good}
+use Rattle.ms_loaders.proofs.steps.StepLemmas.{has_loader, lacks_loader}
+use Rattle.ms_loaders.proofs.steps.CallLemmas.{found, unused_name}
+use Rattle.ms_loaders.proofs.steps.CloseLemmas.{with_both, first_served, second_served, together_made, machine_made}
+use Rattle.ms_loaders.proofs.steps.UnloadLemmas.{made_of, closed_again, together_again, numbers_used, numbers_left}
+use Rattle.ms_loaders.proofs.steps.UnloadLemmas.{insert_is_refused}
 use Rattle.ms_loaders.proofs.system.System.new_loader.Goals as goal
 
 pub returns-then-contains-clause-refused : goal.returns-then-contains-clause-refused

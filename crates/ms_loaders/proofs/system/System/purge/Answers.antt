@@ -1,4 +1,4 @@
-use Rattle.ms_loaders.proofs.CloseLemmas.{machine_purged_is}
+use Rattle.ms_loaders.proofs.steps.CloseLemmas.{machine_purged_is}
 use Rattle.ms_loaders.proofs.system.System.purge.Goals as goal
 
 pub returns-clause-step : goal.returns-clause-step

@@ -1,9 +1,9 @@
 use Rattle.std.proofs.Common.{sym, refl}
 use Rattle.ms_loaders.specs.System.{machine_of}
-use Rattle.ms_loaders.proofs.FitLemmas.{machine_is_good}
-use Rattle.ms_loaders.proofs.StepLemmas.{has_loader, lacks_loader}
-use Rattle.ms_loaders.proofs.LoaderLemmas.{ok_then, err_then}
-use Rattle.ms_loaders.proofs.CallLemmas.{read_is_served, word_is_refused}
+use Rattle.ms_loaders.proofs.sums.FitLemmas.{machine_is_good}
+use Rattle.ms_loaders.proofs.steps.StepLemmas.{has_loader, lacks_loader}
+use Rattle.ms_loaders.proofs.calls.LoaderLemmas.{ok_then, err_then}
+use Rattle.ms_loaders.proofs.steps.CallLemmas.{read_is_served, word_is_refused}
 use Rattle.ms_loaders.proofs.system.System.read.Goals as goal
 
 pub returns-in_default-clause-refused : goal.returns-in_default-clause-refused

@@ -5,8 +5,8 @@ use Rattle.ms_base.specs.declared.kind.Kind.TheVariants.{Standard}
 use Rattle.ms_base.specs.Good.{IsGood}
 use Rattle.ms_base.proofs.granules.FrontSumLemmas.{nothing_is_left}
 use Rattle.ms_loaders.specs.System.{reply_of}
-use Rattle.ms_loaders.proofs.FitLemmas.{machine_is_good}
-use Rattle.ms_loaders.proofs.RunLemmas.{run_on}
+use Rattle.ms_loaders.proofs.sums.FitLemmas.{machine_is_good}
+use Rattle.ms_loaders.proofs.steps.RunLemmas.{run_on}
 use Rattle.ms_loaders.proofs.system.System.run.Goals as goal
 use Rattle.ms_loaders.proofs.system.System.run.Goals.{in-Ok, in-Err}
 

@@ -1,6 +1,6 @@
 use Rattle.std.proofs.Common.{◌≤◌, arith}
 use Rattle.ms_loaders.specs.Settles.{open_accounts, accounts_in}
-use Rattle.ms_loaders.proofs.FitLemmas.{machine_is_good}
+use Rattle.ms_loaders.proofs.sums.FitLemmas.{machine_is_good}
 use Rattle.ms_loaders.proofs.system.System.settle.Goals as goal
 
 pub returns-clause-good : goal.returns-clause-good

@@ -1,6 +1,6 @@
 use Rattle.std.proofs.Common.{subst}
 use Rattle.ms_base.specs.Good.{IsGood}
-use Rattle.ms_loaders.proofs.FitLemmas.{machine_is_good}
+use Rattle.ms_loaders.proofs.sums.FitLemmas.{machine_is_good}
 use Rattle.ms_loaders.proofs.system.System.step.Goals as goal
 
 pub returns-clause-good : goal.returns-clause-good

@@ -2,8 +2,8 @@ use Rattle.std.proofs.Common.{◌∙◌, ap}
 use Rattle.ms_base.specs.Policy.{granule_of}
 use Rattle.ms_base.specs.declared.kind.Space.TheVariants.{NonClass, Class}
 use Rattle.ms_loaders.specs.System.{machine_of}
-use Rattle.ms_loaders.proofs.FitLemmas.{machine_is_good}
-use Rattle.ms_loaders.proofs.TotalsLemmas.{are_few, as_many, committed_few, pool_tells, space_is, sums_are}
+use Rattle.ms_loaders.proofs.sums.FitLemmas.{machine_is_good}
+use Rattle.ms_loaders.proofs.sums.TotalsLemmas.{are_few, as_many, committed_few, pool_tells, space_is, sums_are}
 use Rattle.ms_loaders.proofs.system.System.totals.Goals as goal
 
 pub gather-requires : goal.gather-requires

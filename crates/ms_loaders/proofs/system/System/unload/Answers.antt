@@ -3,10 +3,10 @@ use Rattle.ms_base.specs.declared.kind.Space.TheVariants.{NonClass, Class}
 use Rattle.ms_pool.specs.Ledger.{Ledger}
 use Rattle.ms_base.specs.State.{Machine}
 use Rattle.ms_base.specs.Transition.{HasLoader}
-use Rattle.ms_loaders.proofs.StepLemmas.{has_loader, lacks_loader}
+use Rattle.ms_loaders.proofs.steps.StepLemmas.{has_loader, lacks_loader}
 use Rattle.ms_loaders.proofs.MappedLemmas.{without_missing}
-use Rattle.ms_loaders.proofs.ServedLemmas.{own_served}
-use Rattle.ms_loaders.proofs.UnloadLemmas.{closed_of, together_unloaded, is_unloaded}
+use Rattle.ms_loaders.proofs.steps.ServedLemmas.{own_served}
+use Rattle.ms_loaders.proofs.steps.UnloadLemmas.{closed_of, together_unloaded, is_unloaded}
 use Rattle.ms_loaders.proofs.system.System.unload.Goals as goal
 
 pub close_both-requires-clause-both : goal.close_both-requires-clause-both

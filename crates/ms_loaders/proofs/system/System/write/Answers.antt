@@ -1,7 +1,7 @@
 use Rattle.std.proofs.Common.{sym, refl}
 use Rattle.ms_loaders.specs.System.{machine_of}
-use Rattle.ms_loaders.proofs.StepLemmas.{has_loader, lacks_loader}
-use Rattle.ms_loaders.proofs.CallLemmas.{together_written, is_written, word_is_refused, same_loaders}
+use Rattle.ms_loaders.proofs.steps.StepLemmas.{has_loader, lacks_loader}
+use Rattle.ms_loaders.proofs.steps.CallLemmas.{together_written, is_written, word_is_refused, same_loaders}
 use Rattle.ms_loaders.proofs.system.System.write.Goals as goal
 use Rattle.ms_loaders.proofs.system.System.write.Goals.{in-None, in-Some+in-Ok, in-Some+in-Err}
 

@@ -1,7 +1,7 @@
 use Rattle.std.proofs.Common.{◌≡◌, ℕ, List, sym, ap, ◌∙◌}
 use Rattle.ms_base.specs.Names.{with_new}
 use Rattle.ms_loaders.specs.Loader.{LoaderView}
-use Rattle.ms_loaders.proofs.SettleLemmas.{may_settle_without, put_back_again}
+use Rattle.ms_loaders.proofs.sums.SettleLemmas.{may_settle_without, put_back_again}
 use Rattle.ms_loaders.proofs.tests.settling.a_system_is_settled_once_the_last_loader_is_back.Goals as goal
 
 pub settle-refused-requires : goal.settle-refused-requires

@@ -5,9 +5,9 @@ use Rattle.ms_pool.specs.Counting.{HaveLeast, MovesIn, counted_in}
 use Rattle.ms_pool.specs.Ledger.{Ledger}
 use Rattle.ms_pool.specs.Releasing.{is_lent_in}
 use Rattle.ms_pool.specs.Keeping.{ledger_of}
-use Rattle.ms_pool.proofs.ClosingLemmas.{lent_still}
-use Rattle.ms_pool.proofs.CountedLemmas.{closed_is_counted, least_of_own}
-use Rattle.ms_pool.proofs.ClosedStepLemmas.{at_first, at_last, one_more}
+use Rattle.ms_pool.proofs.returns.ClosingLemmas.{lent_still}
+use Rattle.ms_pool.proofs.counts.CountedLemmas.{closed_is_counted, least_of_own}
+use Rattle.ms_pool.proofs.returns.ClosedStepLemmas.{at_first, at_last, one_more}
 use Rattle.ms_pool.proofs.lender.Lender.close.Goals as goal
 
 pub loop-place-init : goal.loop-place-init

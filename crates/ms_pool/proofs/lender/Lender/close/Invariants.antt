@@ -1,6 +1,6 @@
 use Rattle.std.proofs.Common.{◌≡◌, take}
 use Rattle.ms_pool.specs.Keeping.{IsKept, ledger_of}
-use Rattle.ms_pool.proofs.ClosedStepLemmas.{without_chunks}
+use Rattle.ms_pool.proofs.returns.ClosedStepLemmas.{without_chunks}
 use Rattle.ms_pool.proofs.lender.Lender.close.Given as goal
 
 -- The first chunks are taken back.

@@ -2,7 +2,7 @@ use Rattle.std.proofs.Common.{◌<◌, sym, subst, arith}
 use Rattle.ms_base.specs.declared.kind.Space.{Space}
 use Rattle.ms_pool.specs.Ledger.{opened_in}
 use Rattle.ms_pool.specs.Keeping.{ledger_of}
-use Rattle.ms_pool.proofs.ClosedBothLemmas.{both_closed, counted_still, served_still}
+use Rattle.ms_pool.proofs.returns.ClosedBothLemmas.{both_closed, counted_still, served_still}
 use Rattle.ms_pool.proofs.lender.Lender.close_both.Goals as goal
 
 pub close-requires-clause-opened : goal.close-requires-clause-opened

@@ -1,7 +1,7 @@
 use Rattle.std.proofs.Common.{length, ap, sym, ◌∙◌, arith}
 use Rattle.ms_base.specs.declared.kind.Space.{Space}
 use Rattle.ms_commit.specs.Nodes.{granules_in}
-use Rattle.ms_pool.proofs.CommittedCountLemmas.{counted_below}
+use Rattle.ms_pool.proofs.counts.CommittedCountLemmas.{counted_below}
 use Rattle.ms_pool.proofs.lender.Lender.committed_in.Goals as goal
 
 pub overflow_sub-below : goal.overflow_sub-below

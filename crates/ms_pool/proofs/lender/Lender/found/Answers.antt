@@ -2,7 +2,7 @@ use Rattle.std.proofs.Common.{sym, ◌∙◌, arith}
 use Rattle.ms_base.proofs.free.HalvesLemmas.{size_falls}
 use Rattle.ms_pool.specs.Ledger.{state_in}
 use Rattle.ms_pool.specs.Keeping.{ledger_of}
-use Rattle.ms_pool.proofs.SearchLemmas.{first_found-is, found_here, found_later}
+use Rattle.ms_pool.proofs.searches.SearchLemmas.{first_found-is, found_here, found_later}
 use Rattle.ms_pool.proofs.lender.Lender.found.Goals as goal
 
 pub returns-in-Some : goal.returns-in-Some

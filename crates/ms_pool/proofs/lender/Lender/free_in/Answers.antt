@@ -1,6 +1,6 @@
 use Rattle.std.proofs.Common.{refl, arith}
-use Rattle.ms_pool.proofs.FreeCountLemmas.{counted_to_first, counted_to_last, counted_to_next, room_for_next}
-use Rattle.ms_pool.proofs.LentCountLemmas.{no_count}
+use Rattle.ms_pool.proofs.counts.FreeCountLemmas.{counted_to_first, counted_to_last, counted_to_next, room_for_next}
+use Rattle.ms_pool.proofs.counts.LentCountLemmas.{no_count}
 use Rattle.ms_pool.proofs.lender.Lender.free_in.Goals as goal
 
 pub loop-slot-init : goal.loop-slot-init

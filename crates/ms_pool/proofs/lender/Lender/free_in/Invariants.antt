@@ -1,4 +1,4 @@
-use Rattle.ms_pool.proofs.FreeCountLemmas.{IsCountedTo}
+use Rattle.ms_pool.proofs.counts.FreeCountLemmas.{IsCountedTo}
 use Rattle.ms_pool.proofs.lender.Lender.free_in.Given as goal
 
 -- What was counted and the parts of the slots that are left make the whole.

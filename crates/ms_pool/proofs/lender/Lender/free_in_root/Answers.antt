@@ -1,8 +1,8 @@
 use Rattle.std.proofs.Common.{◌≡◌, ◌+◌, [], get_or, ap, refl, ◌∙◌, arith, List}
 use Rattle.ms_base.specs.declared.span.Span.{Span}
 use Rattle.ms_buddy.specs.Leaves.{free_of}
-use Rattle.ms_pool.specs.Counting.{parts_of}
-use Rattle.ms_pool.proofs.PoolCountLemmas.{part_room, parts_of-cons, parts_of-none}
+use Rattle.ms_pool.specs.Counting.{count_at_level}
+use Rattle.ms_pool.proofs.counts.PoolCountLemmas.{part_room, parts_of-cons, parts_of-none}
 use Rattle.ms_pool.proofs.lender.Lender.free_in_root.Goals as goal
 
 pub loop-leaf-init : goal.loop-leaf-init
@@ -14,7 +14,7 @@ loop-leaf-init c =
       can = tt;
       ends = tt;
       full = refl;
-      counted = λ level h. ap (λ (parts : List Span). get_or c.args.before.free level 0 + parts_of level parts) left;
+      counted = λ level h. ap (λ (parts : List Span). get_or c.args.before.free level 0 + count_at_level level parts) left;
     }
 
 pub loop-leaf-preserved : goal.loop-leaf-preserved
@@ -26,7 +26,7 @@ loop-leaf-preserved c = record {
     arith,
     c.loop-leaf.invariant.counted level h,
     c.count_part.ensures.counts level h,
-    ap (parts_of level) c.in-Some.ensures.steps ∙ parts_of-cons level c.in-Some.leaf c.next.new.self,
+    ap (count_at_level level) c.in-Some.ensures.steps ∙ parts_of-cons level c.in-Some.leaf c.next.new.self,
   );
 }
 
@@ -45,7 +45,7 @@ returns c = record {
   counts = λ level h. omega (
     arith,
     c.loop-leaf.invariant.counted level h,
-    ap (parts_of level) c.in-None.ensures.steps.0,
+    ap (count_at_level level) c.in-None.ensures.steps.0,
     parts_of-none level,
   );
 }

@@ -4,8 +4,8 @@ use Rattle.ms_base.specs.Part.{is_reserved}
 use Rattle.ms_commit.specs.Nodes.{all_slots}
 use Rattle.ms_pool.specs.Ledger.{held_in}
 use Rattle.ms_pool.specs.Keeping.{ledger_of}
-use Rattle.ms_pool.proofs.FreeCountLemmas.{none_raised, raised_in_slot, room_in_slot, slot_parts}
-use Rattle.ms_pool.proofs.SlotLoopLemmas.{root_there}
+use Rattle.ms_pool.proofs.counts.FreeCountLemmas.{none_raised, raised_in_slot, room_in_slot, slot_parts}
+use Rattle.ms_pool.proofs.searches.SlotLoopLemmas.{root_there}
 use Rattle.ms_pool.proofs.lender.Lender.free_in_slot.Goals as goal
 
 pub returns-then-not-is_reserved : goal.returns-then-not-is_reserved

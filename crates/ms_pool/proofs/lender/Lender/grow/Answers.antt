@@ -3,12 +3,12 @@ use Rattle.ms_pool.specs.declared.lent.Lent.{Lent}
 use Rattle.ms_pool.specs.Counting.{HasLeast, HasRoomFor, MovesIn, counted_in}
 use Rattle.ms_pool.specs.Ledger.{state_in}
 use Rattle.ms_pool.specs.Keeping.{ledger_of}
-use Rattle.ms_pool.proofs.CountedLemmas.{grown_is_counted, least_there, room_there}
-use Rattle.ms_pool.proofs.LentPartLemmas.{kept_however_counted}
-use Rattle.ms_pool.proofs.GrowingLemmas.{past_space, stays_as_it_was}
-use Rattle.ms_pool.proofs.ReachLemmas.{grown_no_room, grown_stays}
-use Rattle.ms_pool.proofs.ReplacingLemmas.{found_there, grew_there, grows_there, reached_there, rises_there}
-use Rattle.ms_pool.proofs.ReplacingLemmas.{grown_where_found, stays_there}
+use Rattle.ms_pool.proofs.counts.CountedLemmas.{grown_is_counted, least_there, room_there}
+use Rattle.ms_pool.proofs.loans.LentPartLemmas.{kept_however_counted}
+use Rattle.ms_pool.proofs.growths.GrowingLemmas.{past_space, stays_as_it_was}
+use Rattle.ms_pool.proofs.growths.ReachLemmas.{grown_no_room, grown_stays}
+use Rattle.ms_pool.proofs.growths.ReplacingLemmas.{found_there, grew_there, grows_there, reached_there, rises_there}
+use Rattle.ms_pool.proofs.growths.ReplacingLemmas.{grown_where_found, stays_there}
 use Rattle.ms_pool.proofs.lender.Lender.grow.Goals as goal
 
 pub returns-then-total-chunk-clause-grown : goal.returns-then-total-chunk-clause-grown

@@ -1,6 +1,6 @@
 use Rattle.ms_base.specs.Committed.{is_among, granules_meeting}
 use Rattle.ms_base.specs.Policy.{granule_of}
-use Rattle.ms_pool.proofs.SearchLemmas.{none_missing}
+use Rattle.ms_pool.proofs.searches.SearchLemmas.{none_missing}
 use Rattle.ms_pool.proofs.lender.Lender.is_committed_enough.Goals as goal
 
 pub returns : goal.returns

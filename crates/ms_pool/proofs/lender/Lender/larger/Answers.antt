@@ -7,7 +7,7 @@ use Rattle.ms_pool.specs.Ledger.{state_in}
 use Rattle.ms_pool.specs.Keeping.{ledger_of}
 use Rattle.ms_pool.specs.Searching.{first_down}
 use Rattle.std.proofs.lemmas.List.Folds.{flat_map-map}
-use Rattle.ms_pool.proofs.SearchLemmas.{first_at-is, head_end, none_here, some_here}
+use Rattle.ms_pool.proofs.searches.SearchLemmas.{first_at-is, head_end, none_here, some_here}
 use Rattle.ms_pool.proofs.lender.Lender.larger.Goals as goal
 
 pub lowest_free-requires-clause-fits : goal.lowest_free-requires-clause-fits

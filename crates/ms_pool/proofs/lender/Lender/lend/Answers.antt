@@ -1,10 +1,10 @@
 use Rattle.std.proofs.Common.{refl, arith}
 use Rattle.ms_base.specs.Part.{slot_of}
 use Rattle.ms_pool.specs.Keeping.{ledger_of}
-use Rattle.ms_pool.proofs.CountedLemmas.{counted_on, lent_is_counted, room_there, run_starts_in}
-use Rattle.ms_pool.proofs.OpenLemmas.{open_is_low, open_where_fresh}
-use Rattle.ms_pool.proofs.LentPartLemmas.{front_is_low, front_is_reserved, front_within, kept_however_counted, kept_where_shown}
-use Rattle.ms_pool.proofs.LentPartLemmas.{lent_shows}
+use Rattle.ms_pool.proofs.counts.CountedLemmas.{counted_on, lent_is_counted, room_there, run_starts_in}
+use Rattle.ms_pool.proofs.loans.OpenLemmas.{open_is_low, open_where_fresh}
+use Rattle.ms_pool.proofs.loans.LentPartLemmas.{front_is_low, front_is_reserved, front_within, kept_however_counted, kept_where_shown}
+use Rattle.ms_pool.proofs.loans.LentPartLemmas.{lent_shows}
 use Rattle.ms_pool.proofs.lender.Lender.lend.Goals as goal
 
 pub carve-requires-clause-may : goal.carve-requires-clause-may

@@ -1,7 +1,7 @@
 use Rattle.std.proofs.Common.{◌/◌, sym, ◌∙◌, arith}
 use Rattle.ms_pool.specs.Searching.{first_at, first_in_slot}
-use Rattle.ms_pool.proofs.SearchLemmas.{found_here, found_later}
-use Rattle.ms_pool.proofs.SkipLemmas.{decided_at, decided_last, found_by, looked_to_first}
+use Rattle.ms_pool.proofs.searches.SearchLemmas.{found_here, found_later}
+use Rattle.ms_pool.proofs.searches.SkipLemmas.{decided_at, decided_last, found_by, looked_to_first}
 use Rattle.ms_pool.proofs.lender.Lender.lowest_among.Goals as goal
 
 pub loop-root-init : goal.loop-root-init

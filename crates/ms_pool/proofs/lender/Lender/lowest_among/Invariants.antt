@@ -1,6 +1,6 @@
 use Rattle.std.proofs.Common.{◌-◌}
-use Rattle.ms_pool.proofs.SlotLoopLemmas.{end_slot}
-use Rattle.ms_pool.proofs.SkipLemmas.{IsLookedTo}
+use Rattle.ms_pool.proofs.searches.SlotLoopLemmas.{end_slot}
+use Rattle.ms_pool.proofs.searches.SkipLemmas.{IsLookedTo}
 use Rattle.ms_pool.proofs.lender.Lender.lowest_among.Given as goal
 
 -- What is found first lies in the slots that are left.

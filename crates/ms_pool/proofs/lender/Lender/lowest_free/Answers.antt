@@ -4,8 +4,8 @@ use Rattle.std.proofs.lemmas.Bool.{not-false}
 use Rattle.ms_pool.specs.Ledger.{state_in}
 use Rattle.ms_pool.specs.Keeping.{ledger_of}
 use Rattle.ms_pool.specs.Searching.{first_at}
-use Rattle.ms_pool.proofs.BySizeLemmas.{small_are_enough, large_are_not}
-use Rattle.ms_pool.proofs.PutBackLemmas.{leaves_where}
+use Rattle.ms_pool.proofs.searches.BySizeLemmas.{small_are_enough, large_are_not}
+use Rattle.ms_pool.proofs.returns.PutBackLemmas.{leaves_where}
 use Rattle.ms_pool.proofs.lender.Lender.lowest_free.Goals as goal
 
 pub returns-then-words-granule : goal.returns-then-words-granule

@@ -4,8 +4,8 @@ use Rattle.ms_base.specs.declared.span.Span.{Span}
 use Rattle.ms_base.specs.Level.{root_words}
 use Rattle.ms_base.specs.Policy.{granule_of}
 use Rattle.ms_buddy.specs.Leaves.{free_of, is_of_from}
-use Rattle.ms_pool.proofs.NextFreeLemmas.{at_turn, first_in-from, free_rise, is_enough_in, raised, turn_ends}
-use Rattle.ms_pool.proofs.NextFreeLemmas.{turn_goes_on, turn_passes}
+use Rattle.ms_pool.proofs.searches.NextFreeLemmas.{at_turn, first_in-from, free_rise, is_enough_in, raised, turn_ends}
+use Rattle.ms_pool.proofs.searches.NextFreeLemmas.{turn_goes_on, turn_passes}
 use Rattle.ms_pool.proofs.lender.Lender.lowest_in_root.Goals as goal
 
 pub overflow_add-start : goal.overflow_add-start

@@ -3,7 +3,7 @@ use Rattle.std.specs.List.{find}
 use Rattle.ms_base.specs.Level.{root_words}
 use Rattle.ms_base.specs.Policy.{granule_of}
 use Rattle.ms_buddy.specs.Leaves.{free_of}
-use Rattle.ms_pool.proofs.NextFreeLemmas.{is_enough_in, passes_from}
+use Rattle.ms_pool.proofs.searches.NextFreeLemmas.{is_enough_in, passes_from}
 use Rattle.ms_pool.proofs.lender.Lender.lowest_in_root.Given as goal
 
 -- What is found first is one of the leaves from the offset on.

@@ -4,8 +4,8 @@ use Rattle.ms_base.specs.FreeParts.{free_in_slot}
 use Rattle.ms_pool.specs.Ledger.{held_in, state_in}
 use Rattle.ms_pool.specs.Keeping.{ledger_of}
 use Rattle.ms_pool.specs.Searching.{first_in_slot, grants}
-use Rattle.ms_pool.proofs.SearchLemmas.{found_here, found_later}
-use Rattle.ms_pool.proofs.SlotLoopLemmas.{slot_found}
+use Rattle.ms_pool.proofs.searches.SearchLemmas.{found_here, found_later}
+use Rattle.ms_pool.proofs.searches.SlotLoopLemmas.{slot_found}
 use Rattle.ms_pool.proofs.lender.Lender.lowest_in_slot.Goals as goal
 
 pub returns-in-Some : goal.returns-in-Some

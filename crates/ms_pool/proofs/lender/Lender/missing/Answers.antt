@@ -1,4 +1,4 @@
-use Rattle.ms_pool.proofs.LackLemmas.{lacks}
+use Rattle.ms_pool.proofs.searches.LackLemmas.{lacks}
 use Rattle.ms_pool.proofs.lender.Lender.missing.Goals as goal
 
 pub returns : goal.returns

@@ -8,7 +8,7 @@ use Rattle.ms_base.specs.Spaces.{by_space, class_slots}
 use Rattle.ms_commit.specs.Nodes.{slots_of}
 use Rattle.ms_pool.specs.Ledger.{state_in}
 use Rattle.ms_pool.specs.Keeping.{ledger_of}
-use Rattle.ms_pool.proofs.PickedLemmas.{found_is_reserved, picked_found, picked_new}
+use Rattle.ms_pool.proofs.searches.PickedLemmas.{found_is_reserved, picked_found, picked_new}
 use Rattle.ms_pool.proofs.lender.Lender.pick.Goals as goal
 use Rattle.ms_pool.proofs.ledger.TakenLemmas.{slot_of_root}
 

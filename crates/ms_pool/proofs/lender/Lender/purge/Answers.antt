@@ -6,8 +6,8 @@ use Rattle.ms_commit.specs.Nodes.{NodesState}
 use Rattle.ms_pool.specs.declared.lender.Lender.{Lender}
 use Rattle.ms_pool.specs.Ledger.{held_in}
 use Rattle.ms_pool.specs.Keeping.{ledger_of}
-use Rattle.ms_pool.proofs.CountedLemmas.{counted_on}
-use Rattle.ms_pool.proofs.ReleasedChunkLemmas.{not_true}
+use Rattle.ms_pool.proofs.counts.CountedLemmas.{counted_on}
+use Rattle.ms_pool.proofs.returns.ReleasedChunkLemmas.{not_true}
 use Rattle.ms_pool.proofs.PurgingLemmas.{IsPurgedTo, drops_next, kept_once_purged, no_more_slots, passes}
 use Rattle.ms_pool.proofs.PurgingLemmas.{purged_at_first, purged_at_last, skipped_to, skips_held}
 use Rattle.ms_pool.proofs.lender.Lender.purge.Goals.{then-is_whole, else-is_whole}

@@ -1,14 +1,14 @@
 use Rattle.std.proofs.Common.{sym, ap, subst, ◌∙◌, arith, inl, inr, refl}
 use Rattle.ms_commit.specs.Nodes.{NodesState, AreSound}
 use Rattle.ms_pool.specs.Keeping.{ledger_of, loans_from}
-use Rattle.ms_pool.proofs.ReleasedPartLemmas.{starts_by}
-use Rattle.ms_pool.proofs.ReleaseLemmas.{released_is_sound}
-use Rattle.ms_pool.proofs.UncommitLemmas.{sound_without_range}
-use Rattle.ms_pool.proofs.PutBackLemmas.{keeps_where, leaves_where, released_where_all_stay, released_where_some_leave}
-use Rattle.ms_pool.proofs.PutBackLemmas.{seen}
+use Rattle.ms_pool.proofs.returns.ReleasedPartLemmas.{starts_by}
+use Rattle.ms_pool.proofs.returns.ReleaseLemmas.{released_is_sound}
+use Rattle.ms_pool.proofs.returns.UncommitLemmas.{sound_without_range}
+use Rattle.ms_pool.proofs.returns.PutBackLemmas.{keeps_where, leaves_where, released_where_all_stay, released_where_some_leave}
+use Rattle.ms_pool.proofs.returns.PutBackLemmas.{seen}
 use Rattle.ms_pool.proofs.lender.Lender.release.Goals.{else-ne-via-then-ne+else-granule-size, else-ne-via-else-ne}
 use Rattle.ms_pool.proofs.lender.Lender.release.Goals as goal
-use Rattle.ms_pool.proofs.LentPartLemmas.{kept_where_shown}
+use Rattle.ms_pool.proofs.loans.LentPartLemmas.{kept_where_shown}
 
 pub overflow_add-part : goal.overflow_add-part
 overflow_add-part c = omega (

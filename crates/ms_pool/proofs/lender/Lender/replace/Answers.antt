@@ -3,10 +3,10 @@ use Rattle.std.proofs.lemmas.List.Elements.{recursion_from_All}
 use Rattle.ms_base.specs.Part.{slot_of}
 use Rattle.ms_buddy.specs.Leaves.{AreLeaves}
 use Rattle.ms_pool.specs.Growing.{has_room}
-use Rattle.ms_pool.proofs.LentPartLemmas.{front_is_low, front_is_reserved, front_within, kept_where_shown}
-use Rattle.ms_pool.proofs.ParentLemmas.{parents_alike}
-use Rattle.ms_pool.proofs.RaisedPartLemmas.{grown_shows, reserved_too, stays_reserved}
-use Rattle.ms_pool.proofs.ReleasedTreeLemmas.{leaf_there}
+use Rattle.ms_pool.proofs.loans.LentPartLemmas.{front_is_low, front_is_reserved, front_within, kept_where_shown}
+use Rattle.ms_pool.proofs.growths.ParentLemmas.{parents_alike}
+use Rattle.ms_pool.proofs.growths.RaisedPartLemmas.{grown_shows, reserved_too, stays_reserved}
+use Rattle.ms_pool.proofs.returns.ReleasedTreeLemmas.{leaf_there}
 use Rattle.ms_pool.proofs.lender.Lender.replace.Goals as goal
 
 pub raise-requires-clause-may : goal.raise-requires-clause-may

@@ -6,7 +6,7 @@ use Rattle.ms_base.proofs.free.HalvesLemmas.{size_falls}
 use Rattle.ms_pool.specs.Ledger.{state_in}
 use Rattle.ms_pool.specs.Keeping.{ledger_of}
 use Rattle.ms_pool.specs.Searching.{first_up}
-use Rattle.ms_pool.proofs.SearchLemmas.{first_at-is, head_end, none_here, some_here}
+use Rattle.ms_pool.proofs.searches.SearchLemmas.{first_at-is, head_end, none_here, some_here}
 use Rattle.ms_pool.proofs.lender.Lender.smaller.Goals as goal
 
 pub lowest_free-requires-clause-fits : goal.lowest_free-requires-clause-fits

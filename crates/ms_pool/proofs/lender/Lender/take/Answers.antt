@@ -3,8 +3,8 @@ use Rattle.ms_base.proofs.free.HalvesLemmas.{size_falls}
 use Rattle.ms_pool.specs.Lending.{span_of}
 use Rattle.ms_pool.specs.Ledger.{state_in}
 use Rattle.ms_pool.specs.Keeping.{ledger_of}
-use Rattle.ms_pool.proofs.TakingLemmas.{IsPickedThere, TakesThere, adds_there, picked_there, taken_commit}
-use Rattle.ms_pool.proofs.TakingLemmas.{taken_reserve, takes_there}
+use Rattle.ms_pool.proofs.loans.TakingLemmas.{IsPickedThere, TakesThere, adds_there, picked_there, taken_commit}
+use Rattle.ms_pool.proofs.loans.TakingLemmas.{taken_reserve, takes_there}
 use Rattle.ms_pool.proofs.lender.Lender.take.Goals as goal
 use Rattle.ms_pool.proofs.lender.Lender.take.Goals.{After-chunk_at-chunk, In_default-commit_limit}
 

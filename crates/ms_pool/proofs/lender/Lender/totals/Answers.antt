@@ -7,8 +7,8 @@ use Rattle.ms_pool.specs.declared.lent.Counted.{Counted}
 use Rattle.ms_pool.specs.Counting.{AreCounted}
 use Rattle.ms_pool.specs.Ledger.{held_in, opened_in}
 use Rattle.ms_pool.specs.Keeping.{ledger_of}
-use Rattle.ms_pool.proofs.CountedLemmas.{capacity_is, fronts_are, lent_are_by_level}
-use Rattle.ms_pool.proofs.PoolSumsLemmas.{sums_are}
+use Rattle.ms_pool.proofs.counts.CountedLemmas.{capacity_is, fronts_are, lent_are_by_level}
+use Rattle.ms_pool.proofs.counts.PoolSumsLemmas.{sums_are}
 use Rattle.ms_pool.proofs.lender.Lender.totals.Goals.{in-NonClass, in-Class}
 use Rattle.ms_pool.proofs.lender.Lender.totals.Goals as goal
 

@@ -1,4 +1,4 @@
-use Rattle.ms_pool.proofs.LentCountLemmas.{none_in_both}
+use Rattle.ms_pool.proofs.counts.LentCountLemmas.{none_in_both}
 use Rattle.ms_pool.proofs.lent.Lent.none.Goals as goal
 
 pub returns : goal.returns

@@ -1,7 +1,7 @@
 use Rattle.std.proofs.Common.{[], length, ap, ◌∙◌}
 use Rattle.std.proofs.lemmas.List.{length-replicate}
 use Rattle.ms_commit.specs.NumberSet.{with_range}
-use Rattle.ms_pool.proofs.IndexLemmas.{index_of_whole}
+use Rattle.ms_pool.proofs.searches.IndexLemmas.{index_of_whole}
 use Rattle.ms_pool.proofs.trees.Trees.whole.Goals as goal
 
 pub invariant_of-result : goal.invariant_of-result

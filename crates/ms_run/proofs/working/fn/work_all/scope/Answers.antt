@@ -6,7 +6,7 @@ use mir.Syntax.{named}
 use Rattle.std.specs.Vec.Iter.{into_iter_items}
 use Rattle.ms_run.specs.declared.share.Share.{Share}
 use Rattle.ms_run.specs.Shares.{AllWorked}
-use Rattle.ms_run.proofs.ThreadLemmas.{share_send, handed_send, one_more, fewer_ready, only, all_worked}
+use Rattle.ms_run.proofs.sharing.ThreadLemmas.{share_send, handed_send, one_more, fewer_ready, only, all_worked}
 use Rattle.ms_run.proofs.working.fn.work_all.scope.Goals as goal
 
 pub spawn_with-started-requires-send-F : goal.spawn_with-started-requires-send-F

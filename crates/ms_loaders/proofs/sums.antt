@@ -1,0 +1,7 @@
+-- Sums over loaders, and what settles.
+pub mod CollectLemmas
+pub mod TotalsLemmas
+pub mod SumsLemmas
+pub mod UsedLemmas
+pub mod SettleLemmas
+pub mod FitLemmas

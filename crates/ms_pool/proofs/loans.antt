@@ -1,0 +1,6 @@
+-- A chunk that is lent: trees, granules and what callers see.
+pub mod CarvedPartLemmas
+pub mod LendLemmas
+pub mod OpenLemmas
+pub mod LentPartLemmas
+pub mod TakingLemmas

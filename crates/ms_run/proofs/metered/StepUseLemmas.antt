@@ -1,0 +1,139 @@
+-- The words in use of a machine over one step: what the loader that the step names got or lost is what
+-- their sum did. For alone.rt.
+use Rattle.std.proofs.Common.{◌≡◌, ◌≢◌, ◌<◌, ◌+◌, ◌-◌, ◌%◌, ◌^◌, ℕ, Bool, Some, List, [], ◌∷◌, refl, sym, ap}
+use Rattle.std.proofs.Common.{◌∙◌, subst, IsTrue, arith}
+use Rattle.std.specs.List.{sum_by}
+use Rattle.std.specs.Map.{values_of}
+use Rattle.std.proofs.lemmas.List.Sums.{sum_by-cons}
+use Rattle.ms_base.specs.declared.kind.Space.{Space}
+use Rattle.ms_base.specs.declared.kind.Space.TheVariants.{NonClass, Class}
+use Rattle.ms_base.specs.declared.step.Step.{Step}
+use Rattle.ms_base.specs.declared.step.Step.TheVariants.{New, Alloc, Calloc, Write, Read, Free, Unload, Purge}
+use Rattle.ms_base.specs.declared.step.Reply.{Reply}
+use Rattle.ms_base.specs.declared.step.Reply.TheVariants.{Ok as Done, At, Value, Refused}
+use Rattle.ms_base.specs.Names.{named}
+use Rattle.ms_base.specs.Spaces.{space_at}
+use Rattle.ms_base.specs.State.{LoaderState, Machine, empty_loader}
+use Rattle.ms_base.specs.Good.{IsGood}
+use Rattle.ms_base.specs.Totals.{used_of}
+use Rattle.ms_base.specs.Transition.{Transition, ServesStep, with_freed}
+use Rattle.ms_base.proofs.entries.LookupLemmas.{named_changed_same, named_new_same}
+use Rattle.ms_loaders.specs.Used.{used_by, used_if}
+use Rattle.ms_loaders.proofs.sums.UsedLemmas.{used_fits}
+use Rattle.ms_run.specs.declared.alone.Metered.{Metered}
+use Rattle.ms_run.specs.Counting.{IsCounted, used_around}
+use Rattle.ms_run.specs.Metering.{used_words_of}
+use Rattle.ms_run.proofs.OwnStepLemmas.{refused_leaves, served_others}
+use Rattle.ms_run.proofs.metered.UseLemmas.{amounts_moved}
+
+-- The sums over both spaces are one over loaders.
+sums_are : (es : List (ℕ × LoaderState))
+    → sum_by (λ (loader : LoaderState). used_of loader.arena) (values_of es)
+    + sum_by (λ (loader : LoaderState). used_of loader.class_arena) (values_of es)
+    ≡ sum_by used_by (values_of es)
+sums_are [] = refl
+sums_are (e ∷ es) = omega (
+  arith,
+  sum_by-cons used_by e.1 (values_of es),
+  sum_by-cons (λ (loader : LoaderState). used_of loader.arena) e.1 (values_of es),
+  sum_by-cons (λ (loader : LoaderState). used_of loader.class_arena) e.1 (values_of es),
+  sums_are es,
+)
+
+-- The words in use go from one state to another as those of the loader that the step names do.
+abbrev Moves : Machine → Step → Machine → Type 0
+Moves old step new =
+    used_words_of new + used_around step old.loaders ≡ used_words_of old + used_around step new.loaders
+
+some_same : {a b : ℕ} → Some a ≡ Some b → a ≡ b
+some_same e = cc
+
+-- One loader changes, comes or goes.
+one_moves : (old new : Machine) (mine : ℕ) → IsGood old → IsGood new
+    → ((name : ℕ) → Some mine ≢ Some name → named new.loaders name ≡ named old.loaders name)
+    → used_words_of new + used_if (named old.loaders mine) ≡ used_words_of old + used_if (named new.loaders mine)
+one_moves old new mine was good others = omega (
+  arith,
+  sums_are old.loaders,
+  sums_are new.loaders,
+  amounts_moved used_if old.loaders new.loaders mine refl was.names good.names
+      (λ name differs. others name (λ e. differs (some_same e))),
+)
+
+-- No loader changes.
+none_moves : (old new : Machine) (step : Step) → new.loaders ≡ old.loaders → Moves old step new
+none_moves old new step same =
+    subst (λ (l : List (ℕ × LoaderState)). sum_by (λ (loader : LoaderState). used_of loader.arena) (values_of l)
+    + sum_by (λ (loader : LoaderState). used_of loader.class_arena) (values_of l) + used_around step old.loaders
+    ≡ used_words_of old + used_around step l) (sym same) refl
+
+freed_uses : (space : Space) (loader : LoaderState) (block : ℕ) (kept : List (ℕ × ℕ))
+    → used_by (with_freed space loader block kept) ≡ used_by loader
+freed_uses NonClass loader block kept = refl
+freed_uses Class loader block kept = refl
+
+served_moves : (old new : Machine) (step : Step) (reply : Reply) → ServesStep old step reply new → IsGood old → IsGood new
+    → Moves old step new
+served_moves old new (New mine kind) Done made was good = omega (
+  arith,
+  one_moves old new mine was good (served_others old new (New mine kind) Done made),
+  ap (λ (m : Machine). used_if (named m.loaders mine)) made.after
+      ∙ ap used_if (named_new_same old.loaders mine (empty_loader kind)),
+  ap used_if made.unused,
+)
+served_moves old new (Alloc mine block words) (At start) made was good =
+    one_moves old new mine was good (served_others old new (Alloc mine block words) (At start) made)
+served_moves old new (Calloc mine block words) (At start) made was good =
+    one_moves old new mine was good (served_others old new (Calloc mine block words) (At start) made)
+served_moves old new (Write mine block index value) Done made was good = omega (
+  arith,
+  one_moves old new mine was good (served_others old new (Write mine block index value) Done made),
+  ap (λ (m : Machine). used_if (named m.loaders mine)) made.after
+      ∙ ap used_if (named_changed_same old.loaders mine made.loader _ made.has.loader_is)
+      ∙ ap used_if (sym made.has.loader_is),
+)
+served_moves old new (Read mine block index) (Value value) made was good =
+    none_moves old new (Read mine block index) (ap (λ (m : Machine). m.loaders) made.after)
+served_moves old new (Free mine block) Done made was good = omega (
+  arith,
+  one_moves old new mine was good (served_others old new (Free mine block) Done made),
+  ap (λ (m : Machine). used_if (named m.loaders mine)) made.after
+      ∙ ap used_if (named_changed_same old.loaders mine made.loader _ made.has.loader_is)
+      ∙ freed_uses (space_at made.found.start) made.loader block made.kept
+      ∙ ap used_if (sym made.has.loader_is),
+)
+served_moves old new (Unload mine) Done made was good =
+    one_moves old new mine was good (served_others old new (Unload mine) Done made)
+served_moves old new Purge Done made was good = none_moves old new Purge (ap (λ (m : Machine). m.loaders) made)
+served_moves old new _ _ made was good = absurd made
+
+step_moves : (old new : Machine) (step : Step) (reply : Reply) → Transition old step reply new → IsGood old
+    → IsGood new → Moves old step new
+step_moves old new step (Refused refusal) told was good =
+    none_moves old new step (refused_leaves old new step refusal told.1)
+step_moves old new step Done told was good = served_moves old new step Done told.0 was good
+step_moves old new step (At start) told was good = served_moves old new step (At start) told.0 was good
+step_moves old new step (Value value) told was good = served_moves old new step (Value value) told.0 was good
+
+-- The count follows: it adds what the loader has after the step, and takes off what it had before.
+pub counted_on : (counts : Bool) (old new : Metered) (step : Step) (reply : Reply) (before after : ℕ)
+    → IsCounted counts old
+    → Transition old.system step reply new.system → IsGood new.system
+    → (IsTrue counts → before ≡ used_around step old.system.loaders)
+    → (IsTrue counts → after ≡ used_around step new.system.loaders) → before < 2 ^ 64
+    → new.used ≡ ((old.used + after) % 2 ^ 64 + (2 ^ 64 - before)) % 2 ^ 64
+    → IsCounted counts new
+counted_on counts old new step reply before after was told good first last fits sum = record {
+  good = good;
+  used = λ looks. omega (
+    arith,
+    sum,
+    fits,
+    first looks,
+    last looks,
+    was.used looks,
+    step_moves old.system new.system step reply told was.good good,
+    used_fits new.system good,
+    used_fits old.system was.good,
+  );
+}

@@ -1,0 +1,456 @@
+-- A loader handed on from seat to seat by its two accounts: each seat serves its own loaders before and
+-- after, and no owner is of both. For `hand_on`.
+use Rattle.std.proofs.Common.{◌≡◌, ◌≢◌, ◌≤◌, ◌+◌, ℕ, Bool, true, false, cond, not, ◌||◌, Some, None, List, [], ◌∷◌}
+use Rattle.std.proofs.Common.{◌++◌, map, length, refl, sym, ap, ◌∙◌, subst, ◌⊎◌, inl, inr, ⊎_elim, arith, eq-eqb}
+use Rattle.std.proofs.Common.{ne_eqb, ◌<◌}
+use Rattle.std.specs.Prelude.{◌==◌, IsTrue}
+use Rattle.std.specs.Ordering.{nat_cmp}
+use Rattle.std.specs.declared.cmp.Ordering.TheVariants.{Less}
+use Rattle.std.specs.List.{AllByRecursion}
+use Rattle.std.specs.List.Sorted.{IsStrictlySortedBy}
+use Rattle.std.specs.Map.{keys_of}
+use Rattle.std.specs.BTreeMap.{is_at}
+use Rattle.std.proofs.lemmas.Bool.{eqb-true}
+use Rattle.std.proofs.lemmas.List.{length-append, map-append}
+use Rattle.std.proofs.lemmas.List.Sums.{sum_by-append}
+use Rattle.std.proofs.lemmas.List.Elements.{recursion_from_All, All-from_recursion}
+use Rattle.std.proofs.lemmas.Map.Keys.{sorted_from_strictly_increasing}
+use Rattle.ms_base.specs.declared.kind.Space.{Space}
+use Rattle.ms_base.specs.declared.kind.Space.TheVariants.{NonClass, Class}
+use Rattle.ms_base.specs.declared.span.Chunk.{Chunk}
+use Rattle.ms_base.specs.Committed.{is_among}
+use Rattle.ms_base.specs.Names.{AreNamed, named, with_new, without}
+use Rattle.ms_base.proofs.entries.EntryLemmas.{Split, split_at, Gap, gap_at, same_name, rises_without}
+use Rattle.ms_base.proofs.entries.LookupLemmas.{named_new_same, named_new_other, named_without_other}
+use Rattle.ms_base.proofs.runs.ApartLemmas.{list_any-with}
+use Rattle.ms_pool.specs.Account.{AccountState}
+use Rattle.ms_loaders.specs.Loader.{LoaderView, account_in}
+use Rattle.ms_loaders.specs.System.{accounts_of, owners_of}
+use Rattle.ms_loaders.proofs.MappedLemmas.{without_missing}
+use Rattle.ms_shared.specs.declared.lock_rule.SeatView.{SeatView}
+use Rattle.ms_shared.specs.Entries.{Entry, Has, only, all_but}
+use Rattle.ms_shared.specs.SeatView.{SeatState, ServesBy, opened_by, without_account, with_account}
+use Rattle.ms_shared.proofs.HandLemmas.{handed_serves, left_serves, taker_serves}
+use Rattle.ms_run.specs.Dealing.{Loaded, AreBeside, IsHanded}
+use Rattle.ms_loaders.proofs.steps.CloseLemmas.{accounts_joined}
+use Rattle.ms_loaders.proofs.steps.ServedLemmas.{accounts_split, all_joined, all_parts, is_it, it_is, owners_split}
+use Rattle.ms_loaders.proofs.steps.ServedLemmas.{served_still, times, times_split}
+use Rattle.ms_loaders.proofs.sums.FitLemmas.{owner_of}
+use Rattle.ms_loaders.proofs.steps.UnloadLemmas.{both_all}
+
+-- Accounts that a seat serves still.
+each_by : (old new : SeatView) → ((other : AccountState) → ServesBy old other → ServesBy new other)
+    → (accounts : List AccountState) → AllByRecursion (ServesBy old) accounts → AllByRecursion (ServesBy new) accounts
+each_by old new each [] all = tt
+each_by old new each (account ∷ accounts) all = (each account all.0, each_by old new each accounts all.1)
+
+halves : (P : AccountState → Type 0) (b a : List AccountState) → AllByRecursion P (b ++ a)
+    → AllByRecursion P b × AllByRecursion P a
+halves P [] a all = (tt, all)
+halves P (x ∷ b) a all = let rest = halves P b a all.1 in ((all.0, rest.0), rest.1)
+
+-- Entries of others, of one owner, and of two lists.
+others_step : (who : ℕ) (x : Entry) (xs : List Entry) (owner : ℕ) (chunks : List Chunk)
+    → (Has (all_but who xs) owner chunks → Has xs owner chunks × (owner ≢ who))
+    → (b : Bool) → (x.0 == who) ≡ b → Has (cond (not b) (x ∷ all_but who xs) (all_but who xs)) owner chunks
+    → Has (x ∷ xs) owner chunks × (owner ≢ who)
+others_step who x xs owner chunks later true same there = (inr (later there).0, (later there).1)
+others_step who x xs owner chunks later false past (inl is) =
+    (inl is, λ same. apart_of (sym past ∙ eq-eqb x.0 who (ap (λ (entry : Entry). entry.0) is ∙ same)))
+  where
+    apart_of : false ≡ true → ⊥
+    apart_of wrong = absurd (cc)
+others_step who x xs owner chunks later false past (inr there) = (inr (later there).0, (later there).1)
+
+of_others : (who : ℕ) (xs : List Entry) (owner : ℕ) (chunks : List Chunk) → Has (all_but who xs) owner chunks
+    → Has xs owner chunks × (owner ≢ who)
+of_others who [] owner chunks here = absurd here
+of_others who (x ∷ xs) owner chunks here =
+    others_step who x xs owner chunks (λ there. of_others who xs owner chunks there) (x.0 == who) refl here
+
+one_step : (who : ℕ) (x : Entry) (xs : List Entry) (owner : ℕ) (chunks : List Chunk)
+    → (Has (only who xs) owner chunks → owner ≡ who)
+    → (b : Bool) → (x.0 == who) ≡ b → Has (cond b (x ∷ only who xs) (only who xs)) owner chunks → owner ≡ who
+one_step who x xs owner chunks later true same (inl is) =
+    sym (ap (λ (entry : Entry). entry.0) is) ∙ eqb-true x.0 who same
+one_step who x xs owner chunks later true same (inr there) = later there
+one_step who x xs owner chunks later false past there = later there
+
+of_one : (who : ℕ) (xs : List Entry) (owner : ℕ) (chunks : List Chunk) → Has (only who xs) owner chunks → owner ≡ who
+of_one who [] owner chunks here = absurd here
+of_one who (x ∷ xs) owner chunks here =
+    one_step who x xs owner chunks (λ there. of_one who xs owner chunks there) (x.0 == who) refl here
+
+of_either : (xs ys : List Entry) (owner : ℕ) (chunks : List Chunk) → Has (xs ++ ys) owner chunks
+    → Has xs owner chunks ⊎ Has ys owner chunks
+of_either [] ys owner chunks here = inr here
+of_either (x ∷ xs) ys owner chunks (inl is) = inl (inl is)
+of_either (x ∷ xs) ys owner chunks (inr there) =
+    ⊎_elim (λ h. inl (inr h)) (λ h. inr h) (of_either xs ys owner chunks there)
+
+-- A number among others, with one more of them and with one less.
+or_false : (b c : Bool) → (b || c) ≡ true → b ≡ false → c ≡ true
+or_false true c either none = absurd (cc)
+or_false false c either none = either
+
+or_right : (b : Bool) {c : Bool} → c ≡ true → (b || c) ≡ true
+or_right true e = refl
+or_right false e = e
+
+without_it : (b a : List ℕ) (gone number : ℕ) → number ≢ gone → is_among (b ++ gone ∷ a) number ≡ true
+    → is_among (b ++ a) number ≡ true
+without_it b a gone number differs there =
+    or_false (gone == number) (is_among (b ++ a) number)
+    (sym (list_any-with (λ other. other == number) b gone a) ∙ there)
+    (ne_eqb gone number (λ same. differs (sym same)))
+
+with_it : (b a : List ℕ) (more number : ℕ) → is_among (b ++ a) number ≡ true → is_among (b ++ more ∷ a) number ≡ true
+with_it b a more number there = list_any-with (λ other. other == number) b more a ∙ or_right (more == number) there
+
+it_itself : (b a : List ℕ) (number : ℕ) → is_among (b ++ number ∷ a) number ≡ true
+it_itself b a number = list_any-with (λ other. other == number) b number a
+    ∙ ap (λ t. t || is_among (b ++ a) number) (eq-eqb number number refl)
+
+module _ (name : ℕ) (v : LoaderView) (loaders others : Loaded) (from to : SeatView)
+    (found : named loaders name ≡ Some v) (its : AreBeside from loaders to others) where
+  split : Split loaders name v
+  split = split_at loaders name v found
+
+  all_are : accounts_of loaders ≡ accounts_of split.before ++ account_in NonClass v ∷ account_in Class v
+      ∷ accounts_of split.after
+  all_are = ap accounts_of split.is ∙ accounts_split split.before split.after name v
+
+  left_are : accounts_of (without loaders name) ≡ accounts_of split.before ++ accounts_of split.after
+  left_are = ap accounts_of split.gone ∙ accounts_joined split.before split.after
+
+  owners_are : owners_of loaders ≡ owners_of split.before ++ v.owner ∷ v.class_owner ∷ owners_of split.after
+  owners_are = ap owners_of split.is ∙ owners_split split.before split.after name v
+
+  left_owners : owners_of (without loaders name) ≡ owners_of split.before ++ owners_of split.after
+  left_owners = ap (map owner_of) left_are ∙ map-append owner_of (accounts_of split.before) (accounts_of split.after)
+
+  counts : (number : ℕ) → times number (owners_of loaders)
+      ≡ times number (owners_of split.before) + is_it number v.owner + is_it number v.class_owner + times number
+      (owners_of split.after)
+  counts number =
+      ap (times number) owners_are
+      ∙ times_split number (owners_of split.before) (owners_of split.after) v.owner v.class_owner
+
+  left_counts : (number : ℕ)
+      → times number (owners_of (without loaders name))
+      ≡ times number (owners_of split.before) + times number (owners_of split.after)
+  left_counts number =
+      ap (times number) left_owners ∙ sum_by-append (is_it number) (owners_of split.before) (owners_of split.after)
+
+  long : length loaders ≡ length (without loaders name) + 1
+  long = ap length split.is ∙ length-append split.before ((name, v) ∷ split.after)
+      ∙ omega (arith, ap length split.gone, length-append split.before split.after)
+
+  own_differ : v.class_owner ≢ v.owner
+  own_differ same = omega (arith, its.manned.distinct v.owner, counts v.owner, it_is v.owner, ap (is_it v.owner) same)
+
+  owner_alone : (times v.owner (owners_of split.before) ≡ 0) × (times v.owner (owners_of split.after) ≡ 0)
+  owner_alone = (
+    omega (arith, its.manned.distinct v.owner, counts v.owner, it_is v.owner),
+    omega (arith, its.manned.distinct v.owner, counts v.owner, it_is v.owner),
+  )
+
+  class_alone : (times v.class_owner (owners_of split.before) ≡ 0) × (times v.class_owner (owners_of split.after) ≡ 0)
+  class_alone = (
+    omega (arith, its.manned.distinct v.class_owner, counts v.class_owner, it_is v.class_owner),
+    omega (arith, its.manned.distinct v.class_owner, counts v.class_owner, it_is v.class_owner),
+  )
+
+  parts : AllByRecursion (ServesBy from) (accounts_of split.before) × ServesBy from (account_in NonClass v)
+      × ServesBy from (account_in Class v)
+      × AllByRecursion (ServesBy from) (accounts_of split.after)
+  parts = all_parts (ServesBy from) (accounts_of split.before) (accounts_of split.after) (account_in NonClass v)
+      (account_in Class v)
+      (subst (AllByRecursion (ServesBy from)) all_are
+      (recursion_from_All (ServesBy from) (accounts_of loaders) its.manned.served))
+
+  pub serves_first : ServesBy from (account_in NonClass v)
+  serves_first = parts.1
+
+  pub serves_second : ServesBy (without_account v.owner NonClass from) (account_in Class v)
+  serves_second = left_serves from v.owner NonClass (account_in Class v) own_differ parts.2
+
+  pub counts_second : 0 < opened_by (without_account v.owner NonClass from) Class
+  counts_second = omega (arith, its.manned.opened Class, long)
+
+  still : (accounts : List AccountState) → times v.owner (map owner_of accounts) ≡ 0
+      → times v.class_owner (map owner_of accounts) ≡ 0
+      → AllByRecursion (ServesBy from) accounts
+      → AllByRecursion (ServesBy (without_account v.class_owner Class (without_account v.owner NonClass from))) accounts
+  still accounts none none_class all =
+      served_still (ServesBy (without_account v.owner NonClass from))
+      (ServesBy (without_account v.class_owner Class (without_account v.owner NonClass from))) v.class_owner
+      (λ other differs serves. left_serves (without_account v.owner NonClass from) v.class_owner Class other differs
+      serves) accounts none_class
+      (served_still (ServesBy from) (ServesBy (without_account v.owner NonClass from)) v.owner
+      (λ other differs serves. left_serves from v.owner NonClass other differs serves) accounts none all)
+
+  left_no_other : (owner : ℕ) (chunks : List Chunk)
+      → Has (all_but v.class_owner (all_but v.owner from.served)) owner chunks
+      → (chunks ≡ []) ⊎ IsTrue (is_among (owners_of (without loaders name)) owner)
+  left_no_other owner chunks here =
+      let second = of_others v.class_owner (all_but v.owner from.served) owner chunks here in
+      let one = of_others v.owner from.served owner chunks second.0 in
+      ⊎_elim (λ none. inl none)
+      (λ among. inr (ap (λ (l : List ℕ). is_among l owner) left_owners
+      ∙ without_it (owners_of split.before) (owners_of split.after) v.class_owner owner second.1
+      (without_it (owners_of split.before) (v.class_owner ∷ owners_of split.after) v.owner owner one.1
+      (ap (λ (l : List ℕ). is_among l owner) (sym owners_are) ∙ among))))
+      (its.manned.no_other owner chunks one.0)
+
+  left_opened : (space : Space)
+      → opened_by (without_account v.class_owner Class (without_account v.owner NonClass from)) space
+      ≡ length (without loaders name)
+  left_opened NonClass = omega (arith, its.manned.opened NonClass, long)
+  left_opened Class = omega (arith, its.manned.opened Class, long)
+
+  module _ (none : named others name ≡ None) where
+    gap : Gap others name
+    gap = gap_at others name none
+
+    others_are : accounts_of others ≡ accounts_of gap.before ++ accounts_of gap.after
+    others_are = ap accounts_of gap.is ∙ accounts_joined gap.before gap.after
+
+    made_are : accounts_of (with_new others name v)
+        ≡ accounts_of gap.before ++ account_in NonClass v ∷ account_in Class v ∷ accounts_of gap.after
+    made_are = ap accounts_of (gap.made v) ∙ accounts_split gap.before gap.after name v
+
+    other_owners : owners_of others ≡ owners_of gap.before ++ owners_of gap.after
+    other_owners = ap (map owner_of) others_are ∙ map-append owner_of (accounts_of gap.before) (accounts_of gap.after)
+
+    made_owners : owners_of (with_new others name v)
+        ≡ owners_of gap.before ++ v.owner ∷ v.class_owner ∷ owners_of gap.after
+    made_owners = ap owners_of (gap.made v) ∙ owners_split gap.before gap.after name v
+
+    other_counts : (number : ℕ)
+        → times number (owners_of others) ≡ times number (owners_of gap.before) + times number (owners_of gap.after)
+    other_counts number =
+        ap (times number) other_owners ∙ sum_by-append (is_it number) (owners_of gap.before) (owners_of gap.after)
+
+    made_counts : (number : ℕ) → times number (owners_of (with_new others name v))
+        ≡ times number (owners_of gap.before) + is_it number v.owner + is_it number v.class_owner + times number
+        (owners_of gap.after)
+    made_counts number =
+        ap (times number) made_owners
+        ∙ times_split number (owners_of gap.before) (owners_of gap.after) v.owner v.class_owner
+
+    made_long : length (with_new others name v) ≡ length others + 1
+    made_long = ap length (gap.made v) ∙ length-append gap.before ((name, v) ∷ gap.after)
+        ∙ omega (arith, ap length gap.is, length-append gap.before gap.after)
+
+    apart_still : (number : ℕ)
+        → times number (owners_of (without loaders name)) + times number (owners_of (with_new others name v)) ≤ 1
+    apart_still number =
+        omega (arith, its.apart number, counts number, left_counts number, other_counts number, made_counts number)
+
+    abbrev most : SeatView
+    most = with_account v.class_owner Class (without_account v.owner NonClass from)
+        (with_account v.owner NonClass from to)
+
+    kept : (other : AccountState) → ServesBy to other → ServesBy most other
+    kept other serves =
+        taker_serves (without_account v.owner NonClass from) (with_account v.owner NonClass from to) v.class_owner Class
+        other
+        (taker_serves from to v.owner NonClass other serves)
+
+    made_serves : AllByRecursion (ServesBy most)
+        (accounts_of gap.before ++ account_in NonClass v ∷ account_in Class v ∷ accounts_of gap.after)
+    made_serves =
+        let both = halves (ServesBy to) (accounts_of gap.before) (accounts_of gap.after)
+        (subst (AllByRecursion (ServesBy to)) others_are
+        (recursion_from_All (ServesBy to) (accounts_of others) its.to_manned.served)) in
+        all_joined (ServesBy most) (accounts_of gap.before) (accounts_of gap.after) (account_in NonClass v)
+        (account_in Class v)
+        (each_by to most kept (accounts_of gap.before) both.0)
+        (taker_serves (without_account v.owner NonClass from) (with_account v.owner NonClass from to) v.class_owner
+        Class (account_in NonClass v)
+        (handed_serves from to (account_in NonClass v) serves_first))
+        (handed_serves (without_account v.owner NonClass from) (with_account v.owner NonClass from to)
+        (account_in Class v) serves_second)
+        (each_by to most kept (accounts_of gap.after) both.1)
+
+    made_no_other : (owner : ℕ) (chunks : List Chunk)
+        → Has ((to.served ++ only v.owner from.served) ++ only v.class_owner (all_but v.owner from.served)) owner chunks
+        → (chunks ≡ []) ⊎ IsTrue (is_among (owners_of (with_new others name v)) owner)
+    made_no_other owner chunks here =
+        ⊎_elim
+        (λ front. ⊎_elim
+        (λ was. ⊎_elim (λ none. inl none)
+        (λ among. inr (ap (λ (l : List ℕ). is_among l owner) made_owners
+        ∙ with_it (owners_of gap.before) (v.class_owner ∷ owners_of gap.after) v.owner owner
+        (with_it (owners_of gap.before) (owners_of gap.after) v.class_owner owner
+        (ap (λ (l : List ℕ). is_among l owner) (sym other_owners) ∙ among))))
+        (its.to_manned.no_other owner chunks was))
+        (λ one. inr (ap (λ (l : List ℕ). is_among l owner) made_owners
+        ∙ subst (λ (n : ℕ). is_among (owners_of gap.before ++ v.owner ∷ v.class_owner ∷ owners_of gap.after) n ≡ true)
+        (sym (of_one v.owner from.served owner chunks one))
+        (it_itself (owners_of gap.before) (v.class_owner ∷ owners_of gap.after) v.owner)))
+        (of_either to.served (only v.owner from.served) owner chunks front))
+        (λ one. inr (ap (λ (l : List ℕ). is_among l owner) made_owners
+        ∙ subst (λ (n : ℕ). is_among (owners_of gap.before ++ v.owner ∷ v.class_owner ∷ owners_of gap.after) n ≡ true)
+        (sym (of_one v.class_owner (all_but v.owner from.served) owner chunks one))
+        (with_it (owners_of gap.before) (v.class_owner ∷ owners_of gap.after) v.owner v.class_owner
+        (it_itself (owners_of gap.before) (owners_of gap.after) v.class_owner))))
+        (of_either (to.served ++ only v.owner from.served) (only v.class_owner (all_but v.owner from.served)) owner
+        chunks here)
+
+    made_opened : (space : Space) → opened_by most space ≡ length (with_new others name v)
+    made_opened NonClass = omega (arith, its.to_manned.opened NonClass, made_long)
+    made_opened Class = omega (arith, its.to_manned.opened Class, made_long)
+
+    pub handed : AreBeside (without_account v.class_owner Class (without_account v.owner NonClass from))
+        (without loaders name)
+        (with_account v.class_owner Class (without_account v.owner NonClass from)
+        (with_account v.owner NonClass from to)) (with_new others name v)
+    handed = record {
+      manned = record {
+        served = All-from_recursion
+            (ServesBy (without_account v.class_owner Class (without_account v.owner NonClass from)))
+            (accounts_of (without loaders name))
+            (subst (AllByRecursion
+            (ServesBy (without_account v.class_owner Class (without_account v.owner NonClass from)))) (sym left_are)
+            (both_all (ServesBy (without_account v.class_owner Class (without_account v.owner NonClass from)))
+            (accounts_of split.before) (accounts_of split.after)
+            (still (accounts_of split.before) owner_alone.0 class_alone.0 parts.0)
+            (still (accounts_of split.after) owner_alone.1 class_alone.1 parts.3)));
+        distinct = λ number. omega (arith, apart_still number);
+        no_other = left_no_other;
+        opened = left_opened;
+      };
+      to_manned = record {
+        served = All-from_recursion (ServesBy most) (accounts_of (with_new others name v))
+            (subst (AllByRecursion (ServesBy most)) (sym made_are) made_serves);
+        distinct = λ number. omega (arith, apart_still number);
+        no_other = made_no_other;
+        opened = made_opened;
+      };
+      names = rises_without loaders name its.names;
+      apart = apart_still;
+    }
+
+-- The same, by what the calls say.
+abbrev handed_from : AccountState → SeatState → SeatState
+handed_from account from = record from { knows = without_account account.owner account.space from.knows }
+
+abbrev handed_to : AccountState → SeatState → SeatState → SeatState
+handed_to account from to = record to { knows = with_account account.owner account.space from.knows to.knows }
+
+pub beside_after : (name : ℕ) (v : LoaderView) (loaders others after others_after : Loaded)
+    (from to from_mid to_mid from_end to_end : SeatState) (account class_account : AccountState)
+    → named loaders name ≡ Some v → named others name ≡ None → AreBeside from.knows loaders to.knows others
+    → account ≡ account_in NonClass v → class_account ≡ account_in Class v
+    → from_mid ≡ handed_from account from → to_mid ≡ handed_to account from to
+    → from_end ≡ handed_from class_account from_mid → to_end ≡ handed_to class_account from_mid to_mid
+    → after ≡ without loaders name → others_after ≡ with_new others name v
+    → AreBeside from_end.knows after to_end.knows others_after
+beside_after name v loaders others after others_after from to from_mid to_mid from_end to_end account class_account
+    found none its a_is c_is from_1 to_1 from_2 to_2 left made =
+    rw (from_is, to_is, left, made) (handed name v loaders others from.knows to.knows found its none)
+  where
+    mid_is : from_mid.knows ≡ without_account v.owner NonClass from.knows
+    mid_is = ap (λ (s : SeatState). s.knows) from_1
+        ∙ ap (λ (a : AccountState). without_account a.owner a.space from.knows) a_is
+
+    to_mid_is : to_mid.knows ≡ with_account v.owner NonClass from.knows to.knows
+    to_mid_is =
+        ap (λ (s : SeatState). s.knows) to_1
+        ∙ ap (λ (a : AccountState). with_account a.owner a.space from.knows to.knows) a_is
+
+    from_is : from_end.knows ≡ without_account v.class_owner Class (without_account v.owner NonClass from.knows)
+    from_is =
+        ap (λ (s : SeatState). s.knows) from_2
+        ∙ ap (λ (a : AccountState). without_account a.owner a.space from_mid.knows) c_is
+        ∙ ap (λ (s : SeatView). without_account v.class_owner Class s) mid_is
+
+    to_is : to_end.knows ≡ with_account v.class_owner Class (without_account v.owner NonClass from.knows)
+        (with_account v.owner NonClass from.knows to.knows)
+    to_is = ap (λ (s : SeatState). s.knows) to_2
+        ∙ ap (λ (a : AccountState). with_account a.owner a.space from_mid.knows to_mid.knows) c_is
+        ∙ ap (λ (s : SeatView). with_account v.class_owner Class s to_mid.knows) mid_is
+        ∙ ap (λ (s : SeatView). with_account v.class_owner Class (without_account v.owner NonClass from.knows) s)
+        to_mid_is
+
+pub first_served : (name : ℕ) (v : LoaderView) (loaders others : Loaded) (from to : SeatState) (account : AccountState)
+    → named loaders name ≡ Some v → AreBeside from.knows loaders to.knows others → account ≡ account_in NonClass v
+    → ServesBy from.knows account
+first_served name v loaders others from to account found its is =
+    subst (ServesBy from.knows) (sym is) (serves_first name v loaders others from.knows to.knows found its)
+
+pub second_served : (name : ℕ) (v : LoaderView) (loaders others : Loaded) (from to from_mid : SeatState)
+    (account class_account : AccountState)
+    → named loaders name ≡ Some v → AreBeside from.knows loaders to.knows others → account ≡ account_in NonClass v
+    → class_account ≡ account_in Class v
+    → from_mid ≡ handed_from account from → ServesBy from_mid.knows class_account
+second_served name v loaders others from to from_mid account class_account found its a_is c_is from_1 =
+    rw (
+      ap (λ (s : SeatState). s.knows) from_1
+          ∙ ap (λ (a : AccountState). without_account a.owner a.space from.knows) a_is,
+      c_is,
+    )
+    (serves_second name v loaders others from.knows to.knows found its)
+
+pub second_counted : (name : ℕ) (v : LoaderView) (loaders others : Loaded) (from to from_mid : SeatState)
+    (account class_account : AccountState)
+    → named loaders name ≡ Some v → AreBeside from.knows loaders to.knows others → account ≡ account_in NonClass v
+    → class_account ≡ account_in Class v
+    → from_mid ≡ handed_from account from → 0 < opened_by from_mid.knows class_account.space
+second_counted name v loaders others from to from_mid account class_account found its a_is c_is from_1 =
+    rw (
+      ap (λ (s : SeatState). s.knows) from_1
+          ∙ ap (λ (a : AccountState). without_account a.owner a.space from.knows) a_is,
+      c_is,
+    )
+    (counts_second name v loaders others from.knows to.knows found its)
+
+-- What has a name then.
+none_above : {X : Type 0} (low : ℕ) (es : List (ℕ × X)) → AllByRecursion (λ k. nat_cmp low k ≡ Less) (keys_of es)
+    → named es low ≡ None
+none_above low [] all = refl
+none_above low (e ∷ es) all = rw all.0 (none_above low es all.1)
+
+sorted_gone : {X : Type 0} (es : List (ℕ × X)) (name : ℕ) → IsStrictlySortedBy nat_cmp (keys_of es)
+    → named (without es name) name ≡ None
+unfolding IsStrictlySortedBy
+sorted_gone [] name h = refl
+sorted_gone {X} (e ∷ es) name h =
+    elim (is_at (nat_cmp name) e.0) as (λ b. is_at (nat_cmp name) e.0 ≡ b
+    → named (cond b es (e ∷ without es name)) name ≡ None) [
+      | true ↦ λ here. none_above name es
+          (subst (λ (n : ℕ). AllByRecursion (λ k. nat_cmp n k ≡ Less) (keys_of es)) (same_name name e.0 here) h.0)
+      | false ↦ λ past. rw past (sorted_gone es name h.1)
+    ] refl
+
+pub named_gone : {X : Type 0} (es : List (ℕ × X)) (name : ℕ) → AreNamed es → named (without es name) name ≡ None
+named_gone es name h = sorted_gone es name (sorted_from_strictly_increasing (keys_of es) h)
+
+some_is : {X : Type 0} {x : X} → Some x ≡ None → ⊥
+some_is wrong = absurd (cc)
+
+pub handed_names : (name : ℕ) (v : LoaderView) (loaders others after others_after : Loaded) → AreNamed loaders
+    → named loaders name ≡ Some v
+    → after ≡ without loaders name → others_after ≡ with_new others name v
+    → IsHanded name loaders others after others_after
+handed_names name v loaders others after others_after names found left made = rw (left, made) (record {
+  gone = named_gone loaders name names;
+  there = inl ((λ none. some_is (sym found ∙ none)), named_new_same others name v ∙ sym found);
+  stay = λ other differ. (named_without_other loaders name other differ, named_new_other others name v other differ);
+})
+
+-- Where no loader has the name, all stays.
+pub none_handed : (name : ℕ) (loaders others after : Loaded) → named loaders name ≡ None → after ≡ without loaders name
+    → IsHanded name loaders others after others
+none_handed name loaders others after none left = rw (left ∙ without_missing loaders name none) (record {
+  gone = none;
+  there = inr (none, refl);
+  stay = λ other differ. (refl, refl);
+})
+
+pub beside_still : (name : ℕ) (loaders others after : Loaded) (from to : SeatView) → named loaders name ≡ None
+    → after ≡ without loaders name → AreBeside from loaders to others
+    → AreBeside from after to others
+beside_still name loaders others after from to none left its = rw (left ∙ without_missing loaders name none) its
