@@ -1,11 +1,12 @@
 //! What no clause says: that a replay answers where memory and threads are ample, that two workers
-//! really run side by side, and which words in use the gate is told. Traces that were worked by hand,
-//! and races for the limits, are system tests.
+//! really run side by side, which worker works which line, and which words in use the gate is told.
+//! Traces that were worked by hand, and races for the limits, are system tests.
 ghost use Rattle.std.specs.Prelude.{◌≤◌};
 
 use super::*;
 use ms_base::{Policy, Reply, Settings};
 use ms_trace::parse;
+use std::alloc::{AllocError, Global};
 use std::process::Abort;
 use std::sync::Wait;
 use std::sync::atomic::{AtomicU64, Ordering};
@@ -146,4 +147,137 @@ fn what_a_phase_gives_back_goes_off_the_running_amount(rt: HostRuntime) -> Resul
         assert_eq!(rt; most, 10);
     }
     Ok(())
+}
+
+/// Keeps for each line who came before it and who came after it: the sum of those workers, each
+/// counted from 1 on.
+#[derive(Drop)]
+struct Listening {
+    before: Vec<AtomicU64>,
+    after: Vec<AtomicU64>,
+}
+
+impl Gate for Listening {
+    fn before(&self, worker: usize, line: u32) {
+        hear(self.before.as_slice(), worker, line);
+    }
+
+    fn after(&self, worker: usize, line: u32, _used: u64) {
+        hear(self.after.as_slice(), worker, line);
+    }
+}
+
+/// Adds a worker to what was heard of a line.
+fn hear(heard: &[AtomicU64], worker: usize, line: u32) {
+    if let Some(sum) = heard.get(line as usize) {
+        sum.fetch_add((worker as u64).wrapping_add(1), Ordering::SeqCst);
+    }
+}
+
+/// Makes sums of 0 for the lines from 0 to 24.
+fn sums(alloc: Global) -> Result<Vec<AtomicU64>, AllocError> {
+    let mut sums = Vec::with_capacity(alloc, 25)?;
+    for _ in 0..25 {
+        sums.push(AtomicU64::new(0))?;
+    }
+    Ok(sums)
+}
+
+/// Expects that each line was heard of once, from its worker; 9 stands for a line that asks no step.
+fn expect_workers(rt: &impl Abort, heard: &[AtomicU64], wanted: [u64; 25]) {
+    for (line, worker) in wanted.into_iter().enumerate() {
+        let sum = match heard.get(line) {
+            Some(sum) => sum.load(Ordering::SeqCst),
+            None => 0,
+        };
+        let want = if worker == 9 {
+            0
+        } else {
+            worker.wrapping_add(1)
+        };
+        assert_eq!(rt; sum, want, "line {line}");
+    }
+}
+
+/// Five phases: in the third only one loader has lines. By first appearance loader 3 is number 0, 5
+/// is number 1, 1 is number 2, 9 is number 3 and 65535 is number 4.
+const FIVE_PHASES: &str = "new 3 standard
+new 5 boot
+new 1 hidden
+new 9 standard
+new 65535 reflection
+sync
+alloc 1 1 10
+alloc 3 1 10
+purge
+alloc 9 1 10
+report
+alloc 5 1 10
+alloc 5 2 10
+sync
+unload 5
+free 1 1
+purge
+read 3 1 0
+sync
+write 9 1 0 7
+purge
+alloc 65535 1 10
+unload 3
+unload 1
+";
+
+/// Replays five phases, and expects that each line is worked by its worker.
+fn listen(
+    rt: &(impl Abort + AllocGlobal + Threads + Wait + Sync),
+    workers: u32,
+    wanted: [u64; 25],
+) -> Result<(), Fail>
+    requires some { 1 ≤ workers }
+    requires few { workers ≤ 8 }
+{
+    let text = FIVE_PHASES.as_bytes();
+    let trace = parse(rt.alloc(), text).ok().ok_or("no trace")?;
+    let gate = Listening {
+        before: sums(rt.alloc())?,
+        after: sums(rt.alloc())?,
+    };
+    let replies = replay(
+        rt,
+        rt.alloc(),
+        &trace,
+        settings(workers, 64, 8192, 0),
+        &gate,
+    );
+    let replies = replies.ok().ok_or("no replies")?;
+    assert_eq!(rt; replies.answers.len(), 24);
+    expect_workers(rt, gate.before.as_slice(), wanted);
+    expect_workers(rt, gate.after.as_slice(), wanted);
+    Ok(())
+}
+
+// Loader number j has worker (j + k) mod W in phase k, and a purge has worker 0.
+#[test]
+fn each_line_is_worked_by_the_worker_whose_turn_it_is(rt: HostRuntime) -> Result<(), Fail> {
+    listen(
+        &rt,
+        2,
+        [
+            9, 0, 1, 0, 1, 0, 9, 1, 1, 0, 0, 9, 1, 1, 9, 0, 1, 0, 1, 9, 1, 0, 0, 0, 0,
+        ],
+    )?;
+    listen(
+        &rt,
+        3,
+        [
+            9, 0, 1, 2, 0, 1, 9, 0, 1, 0, 1, 9, 0, 0, 9, 1, 2, 0, 0, 9, 1, 0, 2, 1, 0,
+        ],
+    )?;
+    listen(
+        &rt,
+        8,
+        [
+            9, 0, 1, 2, 3, 4, 9, 3, 1, 0, 4, 9, 3, 3, 9, 4, 5, 0, 3, 9, 7, 0, 0, 4, 6,
+        ],
+    )
 }
