@@ -6,6 +6,8 @@ from claims import expect
 AMOUNTS = ("reserved", "committed", "used", "live", "free blocks", "waste")
 USAGES = (b"Usage", b"Class usage", b"Usage of both")
 SETTINGS = ("policy", "granule", "max granules", "nodes", "class nodes", "workers")
+REFUSALS = ("LoaderExists", "IdsUsedUp", "NoLoader", "BlockExists", "ZeroWords", "TooLarge", "OutOfMemory", "ReserveLimit",
+            "CommitLimit", "NoBlock", "OutOfRange")
 LABELS = ("loaders", "nodes", "reserved", "granules", "committed", "chunks", "capacity", "fronts", "used", "live",
           "free blocks", "waste")
 NODE_WORDS = 1048576
@@ -28,12 +30,14 @@ class Space(NamedTuple):
 
 class Report(NamedTuple):
     """A report: its spaces, the class space second where there is one, and the loaders' rows. Of a full report the settings
-    by their labels, and the usages: each amount's words, size and share by its label, of the space, the class space and both."""
+    by their labels, the usages, of which each has an amount's words, size and share by its label, of the space, the class space
+    and both, and how many lines were refused, by name."""
 
     spaces: list
     loaders: list
     settings: dict
     usages: list
+    refusals: dict
 
 
 def answers_of(output):
@@ -85,7 +89,7 @@ def settings_of(lines):
 def usages_of(lines):
     """Reads the usages of a full report."""
     usages = []
-    while lines:
+    while lines and lines[0] != b"Refused":
         expect(lines.pop(0) == USAGES[len(usages)], "a usage has another title")
         expect(lines.pop(0).split() == [b"words", b"size", b"per", b"cent"], "a usage has other headings")
         usages.append({})
@@ -94,6 +98,16 @@ def usages_of(lines):
             expect(line[:14].strip() == label, "a usage's line of", label, "is", line)
             usages[-1][label] = line[14:].split()
     return usages
+
+
+def refusals_of(lines):
+    """Reads how many lines were refused, of a full report."""
+    if not lines:
+        return {}
+    expect(lines.pop(0) == b"Refused", "no line Refused")
+    refusals = number_lines(lines, REFUSALS)
+    expect(not lines, "a report has more lines", lines)
+    return refusals
 
 
 def report_of(lines):
@@ -110,7 +124,7 @@ def report_of(lines):
     while lines and lines[0] != b"Settings":
         rows.append(lines.pop(0).decode().split())
     loaders = [(int(name), kind, *map(int, rest)) for name, kind, *rest in rows]
-    return Report(spaces, loaders, settings_of(lines), usages_of(lines))
+    return Report(spaces, loaders, settings_of(lines), usages_of(lines), refusals_of(lines))
 
 
 def reports_of(answers):
@@ -135,6 +149,16 @@ def expect_sums(report, granule=8192):
     for place, label in ((2, "chunks"), (3, "capacity"), (4, "used"), (5, "live")):
         whole = sum(space.numbers[label] for space in report.spaces)
         expect(whole == sum(row[place] for row in report.loaders), f"the loaders' {label} don't add up", report)
+
+
+def expect_refusals(answers):
+    """Fails the test where a full report doesn't count the refused lines before its own."""
+    so_far = dict.fromkeys(REFUSALS, 0)
+    for answer in answers:
+        told = report_of(answer.report).refusals if answer.report else {}
+        expect(not told or told == so_far, "refused lines are", so_far, "and not", told)
+        if answer.reply.startswith(b"refused "):
+            so_far[answer.reply.split()[1].decode()] += 1
 
 
 def of_any_schedule(report):

@@ -3,7 +3,8 @@
 In a file of rows/ a line without indent is a test's name; the indented lines below it are its commands in their order.
 Two spaces or more stand before the answer. Behind `report` stand the numbers that the report must have, by their
 labels, with `class` before those of the class space; or, where it is a full one, settings, as `setting nodes 64`, and
-amounts of a usage, each with its words, size and share: `usage used 10 0.0 KB 0.1`, with `class` or `both` before it.
+amounts of a usage, each with its words, size and share: `usage used 10 0.0 KB 0.1`, with `class` or `both` before it,
+and refused lines, as `refused NoBlock 2`.
 A line `with ..` has options, and `#` begins a remark. Where the options ask for workers, the answers are the same for
 each number of them.
 """
@@ -11,7 +12,7 @@ import os
 import re
 
 from claims import Test, expect, expect_ended
-from outputs import answers_of, expect_sums, report_of
+from outputs import answers_of, expect_refusals, expect_sums, report_of
 from workbench import FOLDER
 
 ROWS = os.path.join(FOLDER, "rows")
@@ -40,6 +41,10 @@ def expect_numbers(report, told):
     for fact in told.split(", "):
         if fact.startswith("setting "):
             expect_setting(report, fact)
+            continue
+        if fact.startswith("refused "):
+            _, name, wanted = fact.split()
+            expect(report.refusals.get(name) == int(wanted), fact, "is", report.refusals)
             continue
         if "usage " in fact:
             expect_amount(report, fact)
@@ -83,6 +88,7 @@ def run_is_answered_so(bench, options, rows):
     expect_ended(ended, 0)
     answers = answers_of(ended.output)
     expect(len(answers) == len(rows), "so many lines are answered:", len(answers))
+    expect_refusals(answers)
     granule = 2048 if "aggressive" in options else 8192
     for number, (answer, (command, wanted)) in enumerate(zip(answers, rows), 1):
         is_report = command == "report"

@@ -1,4 +1,4 @@
--- The text of a full report: the fixed text, then the parts Settings and Usage (this project's choice).
+-- The text of a full report: the fixed text, then the parts Settings, Usage and Refused (this project's choice).
 use Rattle.std.specs.Prelude.{ℕ, ◌*◌, ◌/◌, ◌%◌, ◌==◌, List, [], ◌∷◌, ◌++◌, Option, Some, None, codes}
 use Rattle.std.specs.Prelude.{nat_lt, if◌then◌else◌}
 use Rattle.std.specs.Fmt.{decimal}
@@ -11,7 +11,9 @@ use Rattle.ms_report.specs.declared.usage.Usage.{Usage}
 use Rattle.ms_report.specs.declared.usage.Usages.{Usages}
 use Rattle.ms_report.specs.Layout.{left_in, right_in}
 use Rattle.ms_report.specs.Sections.{report_text}
+use Rattle.ms_report.specs.Refused.{refused_part}
 use Rattle.ms_report.specs.Setup.{settings_part}
+use Rattle.ms_report.specs.declared.refused.Refusals.{Refusals}
 use Rattle.ms_report.specs.Usage.{usages_of}
 
 -- A number with one digit after its point: what is whole right in its places, and the tenths.
@@ -77,10 +79,11 @@ usage_part settings sums =
     ++ class_usage sums.class_space.nodes (usages_of settings sums)
 
 -- A full report.
-abbrev pub full_text : Settings → Sums → List ℕ
-full_text settings sums = report_text sums ++ settings_part settings ++ usage_part settings sums
+abbrev pub full_text : Settings → Refusals → Sums → List ℕ
+full_text settings refusals sums =
+    report_text sums ++ settings_part settings ++ usage_part settings sums ++ refused_part refusals
 
 -- A report with as much detail as is asked for.
-abbrev pub detailed_text : Detail → Settings → Sums → List ℕ
-detailed_text Basic settings sums = report_text sums
-detailed_text Full settings sums = full_text settings sums
+abbrev pub detailed_text : Detail → Settings → Refusals → Sums → List ℕ
+detailed_text Basic settings refusals sums = report_text sums
+detailed_text Full settings refusals sums = full_text settings refusals sums

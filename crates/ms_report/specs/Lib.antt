@@ -2,6 +2,7 @@ pub mod Layout
 pub mod Cells
 pub mod Sections
 pub mod Setup
+pub mod Refused
 pub mod Usage
 pub mod Detailed
 pub mod ReplyLines

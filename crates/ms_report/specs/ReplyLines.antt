@@ -1,6 +1,7 @@
 -- The text of the answers to a trace (this project's choice).
-use Rattle.std.specs.Prelude.{ℕ, Bool, List, [], ◌∷◌, ◌++◌, Option, Some, None, Box}
+use Rattle.std.specs.Prelude.{ℕ, Bool, List, [], ◌∷◌, ◌++◌, Option, Some, None, Box, map}
 use Rattle.std.specs.declared.alloc.Global.{Global}
+use Rattle.ms_base.specs.declared.step.Reply.{Reply}
 use Rattle.ms_base.specs.ReplyText.{reply_line}
 use Rattle.ms_loaders.specs.declared.totals.Totals.{Totals}
 use Rattle.ms_loaders.specs.declared.replies.Answer.{Answer}
@@ -8,19 +9,30 @@ use Rattle.ms_loaders.specs.Sums.{sums_in}
 use Rattle.ms_base.specs.declared.settings.Settings.{Settings}
 use Rattle.ms_report.specs.declared.detail.Detail.{Detail}
 use Rattle.ms_report.specs.Detailed.{detailed_text}
+use Rattle.ms_report.specs.Refused.{refusals_of}
+use Rattle.ms_report.specs.declared.refused.Refusals.{Refusals}
 
--- What follows a reply: the report where one was asked for.
-abbrev pub report_after : Detail → Settings → Option (Box Totals Global) → List ℕ
-report_after detail settings None = []
-report_after detail settings (Some totals) = detailed_text detail settings (sums_in totals.value)
+-- The replies of answers.
+abbrev pub replies_in : List Answer → List Reply
+replies_in answers = map (λ (answer : Answer). answer.reply) answers
+
+-- What follows a reply: the report where one was asked for, with the refusals so far.
+abbrev pub report_after : Detail → Settings → Refusals → Option (Box Totals Global) → List ℕ
+report_after detail settings refusals None = []
+report_after detail settings refusals (Some totals) = detailed_text detail settings refusals (sums_in totals.value)
 
 -- An answer's line, a report after it.
-abbrev pub answer_text : Bool → Detail → Settings → Answer → List ℕ
-answer_text addresses detail settings answer =
-    reply_line addresses answer.line answer.reply ++ report_after detail settings answer.report
+abbrev pub answer_text : Bool → Detail → Settings → Refusals → Answer → List ℕ
+answer_text addresses detail settings refusals answer =
+    reply_line addresses answer.line answer.reply ++ report_after detail settings refusals answer.report
+
+-- The lines of answers that come after replies; each report has the refusals among those before it.
+abbrev pub later_text : Bool → Detail → Settings → List Reply → List Answer → List ℕ
+later_text addresses detail settings before [] = []
+later_text addresses detail settings before (answer ∷ answers) =
+    answer_text addresses detail settings (refusals_of before) answer
+    ++ later_text addresses detail settings (before ++ answer.reply ∷ []) answers
 
 -- The lines of answers.
 abbrev pub answers_text : Bool → Detail → Settings → List Answer → List ℕ
-answers_text addresses detail settings [] = []
-answers_text addresses detail settings (answer ∷ answers) =
-    answer_text addresses detail settings answer ++ answers_text addresses detail settings answers
+answers_text addresses detail settings answers = later_text addresses detail settings [] answers

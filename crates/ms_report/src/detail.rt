@@ -5,6 +5,6 @@
 pub enum Detail {
     /// The fixed text.
     Basic,
-    /// The fixed text, and then the parts Settings and Usage.
+    /// The fixed text, and then the parts Settings, Usage and Refused.
     Full,
 }

@@ -1,4 +1,5 @@
-//! The full report: the fixed text, then the settings, and then how much of the memory is what.
+//! The full report: the fixed text, then the settings, then how much of the memory is what, and then
+//! how many lines were refused.
 //!
 //!     Settings
 //!       policy          balanced
@@ -8,7 +9,7 @@
 //!
 //! A size is told in KB of 1024 bytes where it is less than a MB, and else in MB; like a share it is
 //! cut off after one digit. Kept true: the text is the bytes that `specs/Detailed.antt` gives for
-//! the totals and the settings. Takes memory for the text alone.
+//! the totals, the settings and the counts of refusals. Takes memory for the text alone.
 ghost use Rattle.std.specs.Prelude.{◌≡◌, ◌≤◌, ◌<◌, ◌++◌, IfOk, OnOk, string_bytes};
 ghost use Rattle.ms_loaders.specs.Sums.{sums_in};
 ghost use Rattle.ms_report.specs.Cells.{rows_in};
@@ -17,6 +18,7 @@ ghost use Rattle.ms_report.specs.Detailed.{size_in, titled_usage, units_in, usag
 
 use crate::detail::Detail;
 use crate::layout::{push_label, push_wide};
+use crate::refused::{Refusals, push_refused};
 use crate::sections::push_report;
 use crate::setup::push_settings;
 use crate::usage::{Amount, Usage, Usages, weigh};
@@ -32,16 +34,21 @@ const MB: u128 = 131_072;
 /// The headings of a usage.
 const HEADINGS: &str = "                     words        size  per cent\n";
 
-/// Writes the full report of these totals of a run with these settings: the text that `text` writes,
-/// then the settings, then the usage of the space, and where the class space has nodes its usage, and
-/// that of both. Takes memory for the text; an error means that a growth was refused. This project's
-/// choice.
-pub fn full_text(alloc: Global, totals: &Totals, settings: &Settings) -> Result<String, AllocError>
+/// Writes the full report of these totals of a run with these settings, in which so many lines were
+/// refused: the text that `text` writes, then the settings, then the usage of the space, and where the
+/// class space has nodes its usage, and that of both, then the refused lines by name. Takes memory for
+/// the text; an error means that a growth was refused. This project's choice.
+pub fn full_text(
+    alloc: Global,
+    totals: &Totals,
+    settings: &Settings,
+    refusals: &Refusals,
+) -> Result<String, AllocError>
     ensures { IfOk result (λ text.
-        string_bytes text ≡ full_text settings.now (sums_in totals.now)) }
+        string_bytes text ≡ full_text settings.now refusals.now (sums_in totals.now)) }
 {
     let mut text = String::new(alloc);
-    push_full(&mut text, settings, totals)?;
+    push_full(&mut text, settings, refusals, totals)?;
     Ok(text)
 }
 
@@ -50,25 +57,32 @@ pub fn push_detailed(
     text: &mut String,
     detail: Detail,
     settings: &Settings,
+    refusals: &Refusals,
     totals: &Totals,
 ) -> Result<(), AllocError>
     ensures { OnOk result (string_bytes text.new
-        ≡ string_bytes text.old ++ detailed_text detail settings.now (sums_in totals.now)) }
+        ≡ string_bytes text.old ++ detailed_text detail settings.now refusals.now (sums_in totals.now)) }
 {
     match detail {
         Detail::Basic => push_report(text, totals),
-        Detail::Full => push_full(text, settings, totals),
+        Detail::Full => push_full(text, settings, refusals, totals),
     }
 }
 
 /// Appends the full report of totals.
-fn push_full(text: &mut String, settings: &Settings, totals: &Totals) -> Result<(), AllocError>
+fn push_full(
+    text: &mut String,
+    settings: &Settings,
+    refusals: &Refusals,
+    totals: &Totals,
+) -> Result<(), AllocError>
     ensures { OnOk result (string_bytes text.new
-        ≡ string_bytes text.old ++ full_text settings.now (sums_in totals.now)) }
+        ≡ string_bytes text.old ++ full_text settings.now refusals.now (sums_in totals.now)) }
 {
     push_report(text, totals)?;
     push_settings(text, settings)?;
     push_usages(text, settings, totals)?;
+    push_refused(text, refusals)?;
     Ok(())
 }
 

@@ -7,7 +7,7 @@
 //! Kept true: each text is exactly the bytes that `specs/` gives for its numbers, and the totals
 //! of a system are the sums over the machine that it stands for. Apart because the text is a file
 //! format of its own: whoever reads reports needs no more than this crate. Stands on `ms_base` and
-//! `ms_loaders`. All calls but `weigh` take memory; nothing waits.
+//! `ms_loaders`. All calls but `weigh` and `tally` take memory; nothing waits.
 #![tactic(auto)]
 
 mod collecting;
@@ -16,6 +16,7 @@ mod detail;
 mod detailed;
 pub mod laws;
 mod layout;
+mod refused;
 mod reply_lines;
 mod sections;
 mod setup;
@@ -24,6 +25,7 @@ mod usage;
 pub use collecting::totals;
 pub use detail::Detail;
 pub use detailed::full_text;
+pub use refused::{Refusals, tally};
 pub use reply_lines::lines;
 pub use sections::text;
 pub use usage::{Amount, Usage, Usages, weigh};

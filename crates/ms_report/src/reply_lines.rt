@@ -13,6 +13,7 @@ ghost use Rattle.ms_report.specs.ReplyLines.{report_after, answer_text, answers_
 use crate::columns::push_before;
 use crate::detail::Detail;
 use crate::detailed::push_detailed;
+use crate::refused::{NONE, Refusals, count};
 use ms_base::{Refusal, Reply, Settings};
 use ms_loaders::{Answer, Replies, Totals};
 use std::alloc::{AllocError, Global};
@@ -20,8 +21,8 @@ use std::alloc::{AllocError, Global};
 /// Writes a line for each answer, in their order: the number of the trace's line, a space, the
 /// reply. Where a block starts, a word number, is told only if addresses are asked for. After an
 /// answer with totals comes their report, with as much detail as is asked for; the settings are
-/// those of the run. Takes memory for the text; an error means that a growth was refused. This
-/// project's choice.
+/// those of the run, and the answers before it are those in which refused lines are counted. Takes
+/// memory for the text; an error means that a growth was refused. This project's choice.
 pub fn lines(
     alloc: Global,
     replies: &Replies,
@@ -33,26 +34,29 @@ pub fn lines(
         ≡ answers_text addresses detail settings.now replies.now.answers.items) }
 {
     let mut text = String::new(alloc);
+    let mut refusals = NONE;
     for answer in &replies.answers {
-        push_answer(&mut text, addresses, detail, settings, answer)?;
+        push_answer(&mut text, addresses, detail, settings, &refusals, answer)?;
+        count(&mut refusals, answer.reply);
     }
     Ok(text)
 }
 
-/// Appends the line of an answer, and its report.
+/// Appends the line of an answer, and its report, with the refusals of the answers before it.
 fn push_answer(
     text: &mut String,
     addresses: bool,
     detail: Detail,
     settings: &Settings,
+    refusals: &Refusals,
     answer: &Answer,
 ) -> Result<(), AllocError>
     ensures { OnOk result (string_bytes text.new
-        ≡ string_bytes text.old ++ answer_text addresses detail settings.now answer.now) }
+        ≡ string_bytes text.old ++ answer_text addresses detail settings.now refusals.now answer.now) }
 {
     push_reply_line(text, addresses, u64::from(answer.line), answer.reply)?;
     if let Some(totals) = &answer.report {
-        push_detailed(text, detail, settings, totals)?;
+        push_detailed(text, detail, settings, refusals, totals)?;
     }
     Ok(())
 }

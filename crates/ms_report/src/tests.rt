@@ -2,7 +2,7 @@
 //! byte, and the largest that the limits allow.
 ghost use Rattle.std.specs.Prelude.{◌≡◌, ◌+◌};
 
-use crate::{Amount, Detail, full_text, lines, text, totals, weigh};
+use crate::{Amount, Detail, Refusals, full_text, lines, tally, text, totals, weigh};
 use ms_base::{Kind, Policy, Refusal, Reply, Settings, Step};
 use ms_loaders::{Answer, LoaderRow, Replies, SpaceTotals, System, Totals};
 use std::alloc::{AllocError, Global};
@@ -578,11 +578,26 @@ const USAGE: &str = "Usage
   waste                  0      0.0 KB       0.0
 ";
 
+/// No line was refused.
+const UNREFUSED: &str = "Refused
+  LoaderExists           0
+  IdsUsedUp              0
+  NoLoader               0
+  BlockExists            0
+  ZeroWords              0
+  TooLarge               0
+  OutOfMemory            0
+  ReserveLimit           0
+  CommitLimit            0
+  NoBlock                0
+  OutOfRange             0
+";
+
 #[test]
 fn a_full_report_tells_the_usage(rt: HostRuntime) -> Result<(), Fail> {
     let totals = of_one_block(rt.alloc())?;
-    let report = full_text(rt.alloc(), &totals, &Settings::DEFAULT)?;
-    let wanted = format!(in rt.alloc(); "{ONE_BLOCK}{SETTINGS}{USAGE}")?;
+    let report = full_text(rt.alloc(), &totals, &Settings::DEFAULT, &tally(&[]))?;
+    let wanted = format!(in rt.alloc(); "{ONE_BLOCK}{SETTINGS}{USAGE}{UNREFUSED}")?;
     assert_eq!(rt; report.as_str(), wanted.as_str());
     Ok(())
 }
@@ -606,8 +621,8 @@ fn no_share_is_told_of_nothing(rt: HostRuntime) -> Result<(), Fail> {
         class_space: unreserved(),
         rows: Vec::new(rt.alloc()),
     };
-    let report = full_text(rt.alloc(), &totals, &Settings::DEFAULT)?;
-    let wanted = format!(in rt.alloc(); "{NOTHING}{SETTINGS}{UNUSED}")?;
+    let report = full_text(rt.alloc(), &totals, &Settings::DEFAULT, &tally(&[]))?;
+    let wanted = format!(in rt.alloc(); "{NOTHING}{SETTINGS}{UNUSED}{UNREFUSED}")?;
     assert_eq!(rt; report.as_str(), wanted.as_str());
     Ok(())
 }
@@ -655,8 +670,8 @@ fn the_largest_usage_fits_its_columns(rt: HostRuntime) -> Result<(), Fail> {
         policy: Policy::None,
         class_nodes: 16,
     };
-    let report = full_text(rt.alloc(), &totals, &settings)?;
-    assert!(rt; report.as_str().ends_with(LARGEST_USAGE));
+    let report = full_text(rt.alloc(), &totals, &settings, &tally(&[]))?;
+    assert!(rt; report.as_str().contains(LARGEST_USAGE));
     Ok(())
 }
 
@@ -711,7 +726,7 @@ fn sizes_and_shares_are_cut_off(rt: HostRuntime) -> Result<(), Fail> {
             class_space: unreserved(),
             rows: Vec::new(rt.alloc()),
         };
-        let report = full_text(rt.alloc(), &totals, &Settings::DEFAULT)?;
+        let report = full_text(rt.alloc(), &totals, &Settings::DEFAULT, &tally(&[]))?;
         assert!(rt; report.as_str().contains(line), "{line}");
     }
     Ok(())
@@ -756,7 +771,7 @@ fn a_full_report_follows_its_ok(rt: HostRuntime) -> Result<(), Fail> {
     })?;
     let replies = Replies { answers };
     let written = lines(rt.alloc(), &replies, true, Detail::Full, &Settings::DEFAULT)?;
-    let wanted = format!(in rt.alloc(); "3 ok\n{ONE_BLOCK}{SETTINGS}{USAGE}")?;
+    let wanted = format!(in rt.alloc(); "3 ok\n{ONE_BLOCK}{SETTINGS}{USAGE}{UNREFUSED}")?;
     assert_eq!(rt; written.as_str(), wanted.as_str());
     Ok(())
 }
@@ -793,7 +808,7 @@ fn expect_settings(
         class_space: unreserved(),
         rows: Vec::new(rt.alloc()),
     };
-    let report = full_text(rt.alloc(), &totals, settings)?;
+    let report = full_text(rt.alloc(), &totals, settings, &tally(&[]))?;
     assert!(rt; report.as_str().contains(wanted), "{wanted}");
     Ok(())
 }
@@ -817,5 +832,74 @@ fn settings_are_told_as_they_are(rt: HostRuntime) -> Result<(), Fail> {
         class_nodes: 0,
     };
     expect_settings(&rt, &least, LEAST_SETTINGS)?;
+    Ok(())
+}
+
+/// Makes the answer to a line that asks no report.
+fn answer(line: u32, reply: Reply) -> Answer {
+    Answer {
+        line,
+        reply,
+        report: None,
+    }
+}
+
+/// Of five lines, three are refused by two names.
+fn some_refused(alloc: Global) -> Result<Vec<Answer>, AllocError> {
+    let mut answers = Vec::new(alloc);
+    answers.push(answer(1, Reply::Ok))?;
+    answers.push(answer(2, Reply::Refused(Refusal::NoBlock)))?;
+    answers.push(answer(3, Reply::Refused(Refusal::NoLoader)))?;
+    answers.push(answer(4, Reply::At(0)))?;
+    answers.push(answer(5, Reply::Refused(Refusal::NoBlock)))?;
+    Ok(answers)
+}
+
+#[test]
+fn refused_lines_are_counted_by_name(rt: HostRuntime) -> Result<(), Fail> {
+    let answers = some_refused(rt.alloc())?;
+    let refusals = tally(&answers);
+    let wanted = Refusals {
+        no_loader: 1,
+        no_block: 2,
+        ..tally(&[])
+    };
+    assert!(rt; refusals == wanted);
+    Ok(())
+}
+
+/// Two reports, a refused line before each.
+fn reported_twice(alloc: Global) -> Result<Vec<Answer>, AllocError> {
+    let mut answers = Vec::new(alloc);
+    answers.push(answer(1, Reply::Refused(Refusal::TooLarge)))?;
+    answers.push(Answer {
+        line: 2,
+        reply: Reply::Ok,
+        report: Some(Box::new(alloc, of_one_block(alloc)?)?),
+    })?;
+    answers.push(answer(3, Reply::Refused(Refusal::TooLarge)))?;
+    answers.push(Answer {
+        line: 4,
+        reply: Reply::Ok,
+        report: Some(Box::new(alloc, of_one_block(alloc)?)?),
+    })?;
+    Ok(answers)
+}
+
+#[test]
+fn a_report_counts_the_lines_before_it(rt: HostRuntime) -> Result<(), Fail> {
+    let replies = Replies {
+        answers: reported_twice(rt.alloc())?,
+    };
+    let told = lines(
+        rt.alloc(),
+        &replies,
+        false,
+        Detail::Full,
+        &Settings::DEFAULT,
+    )?;
+    assert!(rt; told.as_str().contains("  TooLarge               1\n"));
+    assert!(rt; told.as_str().contains("  TooLarge               2\n"));
+    assert!(rt; !told.as_str().contains("  TooLarge               3\n"));
     Ok(())
 }

@@ -6,7 +6,8 @@ use Rattle.ms_report.proofs.reply_lines.push_answer.Goals as goal
 
 pub returns-in_ok-push_detailed : goal.returns-in_ok-push_detailed
 returns-in_ok-push_detailed c =
-    let report : List ℕ = detailed_text c.args.detail c.args.settings.now (sums_in c.deref.result.now) in
+    let report : List ℕ =
+    detailed_text c.args.detail c.args.settings.now c.args.refusals.now (sums_in c.deref.result.now) in
     rw (c.in-Some.is, ← c.deref.ensures, ← c.from.ensures)
     (c.in_ok-push_detailed.ensures
     ∙ ap (λ (t : List ℕ). t ++ report) c.in_ok-push_reply_line.ensures
