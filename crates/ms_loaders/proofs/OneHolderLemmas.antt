@@ -19,7 +19,8 @@ use Rattle.ms_base.specs.Part.{IsPart, slot_of}
 use Rattle.ms_base.specs.Spaces.{IsSlotOf, is_in}
 use Rattle.ms_base.specs.State.{LoaderState, arena_of, chunks_held}
 use Rattle.ms_base.proofs.arena.BlockLemmas.{not_in_other}
-use Rattle.ms_loaders.specs.Holder.{is_in_chunk, holds_word, is_holder}
+use Rattle.ms_pool.specs.Owners.{is_in_chunk}
+use Rattle.ms_loaders.specs.Holder.{holds_word, is_holder}
 use Rattle.ms_loaders.specs.Loader.{LoaderView, IsSoundView}
 use Rattle.ms_loaders.specs.System.{states_of}
 use Rattle.ms_loaders.proofs.calls.LoaderSpaceLemmas.{chunk_in_space}

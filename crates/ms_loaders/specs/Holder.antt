@@ -1,14 +1,9 @@
 -- Whose a word is: the loader in whose chunk it lies (this project's choice).
 use Rattle.std.specs.Prelude.{ℕ, ◌==◌, ◌&&◌, ◌||◌, Bool}
 use Rattle.std.specs.List.{list_any}
-use Rattle.ms_base.specs.declared.span.Chunk.{Chunk}
-use Rattle.ms_base.specs.Interval.{meet}
-use Rattle.ms_base.specs.Level.{size_of}
 use Rattle.ms_base.specs.State.{LoaderState, Machine}
-
--- The word lies in the chunk.
-abbrev pub is_in_chunk : ℕ → Chunk → Bool
-is_in_chunk word chunk = meet chunk.start (size_of chunk.level) word 1
+use Rattle.ms_pool.specs.Owners.{is_in_chunk}
+use Rattle.ms_loaders.specs.Loader.{LoaderView}
 
 -- The word lies in a chunk of the loader, in either space.
 abbrev pub holds_word : ℕ → LoaderState → Bool
@@ -22,3 +17,11 @@ is_holder name word loader = (loader.0 == name) && holds_word word loader.1
 -- A loader of that name holds the word.
 abbrev pub holds : Machine → ℕ → ℕ → Bool
 holds m name word = list_any (is_holder name word) m.loaders
+
+-- The number is that of one of the loader's accounts.
+abbrev pub is_owner : ℕ → LoaderView → Bool
+is_owner owner loader = (loader.owner == owner) || (loader.class_owner == owner)
+
+-- The loader has the name, and an account of that number.
+abbrev pub has_owner : ℕ → ℕ → ℕ × LoaderView → Bool
+has_owner name owner loader = (loader.0 == name) && is_owner owner loader.1

@@ -1,22 +1,54 @@
-use Rattle.std.proofs.Common.{◌≡◌, ℕ, rules, subst}
-use Rattle.std.specs.Prelude.{IsTrue}
+use Rattle.std.proofs.Common.{sym, ◌∙◌, IsTrue}
 use Rattle.std.specs.Map.{values_of}
 use Rattle.std.proofs.lemmas.List.Elements.{recursion_from_All}
-use Rattle.ms_base.specs.State.{Machine}
-use Rattle.ms_loaders.specs.Holder.{holds}
+use Rattle.ms_base.specs.Committed.{is_among}
+use Rattle.ms_pool.specs.Ledger.{Loan, Serves}
 use Rattle.ms_loaders.specs.Loader.{IsSoundView}
+use Rattle.ms_loaders.specs.System.{accounts_of, owners_of}
 use Rattle.ms_loaders.proofs.sums.FitLemmas.{machine_is_good}
+use Rattle.ms_loaders.proofs.HolderLemmas.{holder_told, none_holds, only_told}
 use Rattle.ms_loaders.proofs.OneHolderLemmas.{one_holder}
 use Rattle.ms_loaders.proofs.system.System.holder.Goals as goal
 
+pub returns-in-Some-clause-held : goal.returns-in-Some-clause-held
+returns-in-Some-clause-held c =
+    let ledger = c.self.inside.pool in
+    let loaders = c.self.inside.loaders in
+    rw (← c.self.view_is) (holder_told ledger loaders c.args.word c.in-Some.owner c.name_of.result
+    (recursion_from_All (Serves ledger) (accounts_of loaders) c.self.invariant.together.served.served)
+    (recursion_from_All (λ (loan : Loan). IsTrue (is_among (owners_of loaders) loan.owner)) ledger.loans
+    c.self.invariant.together.served.no_other) (sym c.owner_of.ensures ∙ c.in-Some.is) c.name_of.ensures.some
+    c.name_of.ensures.none).0
+
+pub returns-in-Some-clause-none : goal.returns-in-Some-clause-none
+returns-in-Some-clause-none c =
+    let ledger = c.self.inside.pool in
+    let loaders = c.self.inside.loaders in
+    rw (← c.self.view_is) (holder_told ledger loaders c.args.word c.in-Some.owner c.name_of.result
+    (recursion_from_All (Serves ledger) (accounts_of loaders) c.self.invariant.together.served.served)
+    (recursion_from_All (λ (loan : Loan). IsTrue (is_among (owners_of loaders) loan.owner)) ledger.loans
+    c.self.invariant.together.served.no_other) (sym c.owner_of.ensures ∙ c.in-Some.is) c.name_of.ensures.some
+    c.name_of.ensures.none).1
+
 -- no other loader holds it too
-pub returns-then-has_word-clause-only : goal.returns-then-has_word-clause-only
-returns-then-has_word-clause-only c =
-    let name = c.in-Some.name.now in
-    let held : IsTrue (holds c.args.self.now name c.args.word) = search rules in
-    subst (λ (m : Machine). IsTrue (holds m name c.args.word) → (other : ℕ) → IsTrue (holds m other c.args.word)
-    → other ≡ name) c.self.view_is
-    (λ one other two. one_holder c.self.inside.loaders name other c.args.word
-    (recursion_from_All IsSoundView (values_of c.self.inside.loaders) c.self.invariant.together.loaders_sound)
-    (λ space. ((machine_is_good c.self.inside.pool c.self.inside.loaders c.self.invariant.together).pools space).held.apart)
-    one two) held
+pub returns-in-Some-clause-only : goal.returns-in-Some-clause-only
+returns-in-Some-clause-only c =
+    let ledger = c.self.inside.pool in
+    let loaders = c.self.inside.loaders in
+    rw (← c.self.view_is) (only_told loaders c.args.word c.name_of.result
+    (holder_told ledger loaders c.args.word c.in-Some.owner c.name_of.result
+    (recursion_from_All (Serves ledger) (accounts_of loaders) c.self.invariant.together.served.served)
+    (recursion_from_All (λ (loan : Loan). IsTrue (is_among (owners_of loaders) loan.owner)) ledger.loans
+    c.self.invariant.together.served.no_other) (sym c.owner_of.ensures ∙ c.in-Some.is) c.name_of.ensures.some
+    c.name_of.ensures.none).0
+    (λ name other one two. one_holder loaders name other c.args.word
+    (recursion_from_All IsSoundView (values_of loaders) c.self.invariant.together.loaders_sound)
+    (λ space. ((machine_is_good ledger loaders c.self.invariant.together).pools space).held.apart) one two))
+
+pub returns-in-None-clause-none : goal.returns-in-None-clause-none
+returns-in-None-clause-none c =
+    let ledger = c.self.inside.pool in
+    let loaders = c.self.inside.loaders in
+    rw (← c.self.view_is) (λ name. none_holds ledger c.args.word loaders name
+    (recursion_from_All (Serves ledger) (accounts_of loaders) c.self.invariant.together.served.served)
+    (sym c.owner_of.ensures ∙ c.in-None.is))
