@@ -2,6 +2,11 @@ mod TimesLemmas
 pub mod MappedLemmas
 mod HolderLemmas
 mod OneHolderLemmas
+mod CommitLemmas
+mod RunToldLemmas
+mod AllocRunLemmas
+mod AllocTellsLemmas
+mod EdgeLemmas
 pub mod calls
 pub mod steps
 pub mod sums

@@ -13,3 +13,4 @@ pub mod LoaderSums
 pub mod Holder
 pub mod Finding
 pub mod Freeing
+pub mod Committing

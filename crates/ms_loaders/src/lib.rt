@@ -26,7 +26,7 @@ pub use loader::Loader;
 pub use loaders::{Iter, Loaders, Values};
 pub use ms_base::{Reply, Step};
 pub use replies::{Answer, Replies};
-pub use system::{LoaderTotals, System};
+pub use system::{Allocation, GranuleRun, LoaderTotals, System};
 pub use totals::{LoaderRow, SpaceTotals, Totals};
 
 #[cfg(test)]

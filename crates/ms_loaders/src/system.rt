@@ -18,6 +18,7 @@ ghost use Rattle.ms_loaders.specs.System.{reply_of};
 ghost use Rattle.ms_loaders.specs.Sums.{sums_in};
 ghost use Rattle.ms_loaders.specs.Used.{used_if};
 
+mod committing;
 mod counts;
 mod freeing;
 mod granules;
@@ -29,6 +30,7 @@ use crate::collecting::{gather, space_totals};
 use crate::loader::Loader;
 use crate::loaders::Loaders;
 use crate::totals::Totals;
+pub use committing::{Allocation, GranuleRun};
 use ms_base::{Kind, Policy, Refusal, Reply, Settings, Space, Step, granule};
 use ms_pool::Pool;
 use std::alloc::{AllocError, Global};

@@ -136,7 +136,7 @@ arena_account space v arena its = λ i. record {
   chunks = ap (λ (books : ArenaState). books.chunks) its.books i;
 }
 
-after_chunks : (space : Space) (was is : LoaderView) (name : ℕ) (arena : ArenaView) (made : Block)
+pub after_chunks : (space : Space) (was is : LoaderView) (name : ℕ) (arena : ArenaView) (made : Block)
     → AfterAlloc space was name arena (Ok made) is
     → (arena_of space is.state).chunks ≡ arena.books.chunks
 after_chunks space was is name arena made follows =
