@@ -156,7 +156,14 @@ impl Rows {
     {
         // That rows are fewer than 2^63 is learnt here.
         let _ = self.rows.len();
-        enter(&mut self.rows, &mut self.words, &mut self.top, start, n);
+        enter(
+            &mut self.rows,
+            &mut self.words,
+            &mut self.top,
+            self.count,
+            start,
+            n,
+        );
         self.count += 1;
         self.total = self.total.wrapping_add(n);
         self.room = 0;
@@ -205,7 +212,14 @@ fn find(rows: &HashMap<u64, Row>, block: Block) -> Option<usize>
 
 /// Enters a row of n words at a start, with the words of the free row there where they are enough,
 /// else with words that were not handed out; they are made 0.
-fn enter(rows: &mut HashMap<u64, Row>, words: &mut Pages, top: &mut usize, start: u64, n: u64)
+fn enter(
+    rows: &mut HashMap<u64, Row>,
+    words: &mut Pages,
+    top: &mut usize,
+    live: usize,
+    start: u64,
+    n: u64,
+)
     requires spare { 2 ≤ spare rows.old }
     requires apart { LieApart rows.old.entries top.old }
     requires room { top.old + n ≤ 512 * words.old.room }
@@ -217,7 +231,7 @@ fn enter(rows: &mut HashMap<u64, Row>, words: &mut Pages, top: &mut usize, start
     ensures room { top.new ≤ 512 * words.new.room }
     ensures fits { top.new < 2 ^ 64 }
 {
-    let Some(free) = free_row(rows, start, n) else {
+    let Some(free) = free_row(rows, live, start, n) else {
         let at = *top;
         *top += n as usize;
         words.clear(at, *top);
@@ -246,10 +260,14 @@ fn enter(rows: &mut HashMap<u64, Row>, words: &mut Pages, top: &mut usize, start
     keep_rest(rows, start.wrapping_add(n), rest);
 }
 
-/// Finds the free row at a start, where it has n words or more.
-fn free_row(rows: &HashMap<u64, Row>, start: u64, n: u64) -> Option<Row>
+/// Finds the free row at a start, where it has n words or more. Looks for none where as many rows are
+/// live as there are.
+fn free_row(rows: &HashMap<u64, Row>, live: usize, start: u64, n: u64) -> Option<Row>
     ensures { IfSome result (λ row. IsFreeRow rows.now.entries start n row) }
 {
+    if live == rows.len() {
+        return None;
+    }
     let Some(row) = rows.get(&start) else {
         return None;
     };
