@@ -7,6 +7,8 @@ mod RunToldLemmas
 mod AllocRunLemmas
 mod AllocTellsLemmas
 mod EdgeLemmas
+mod ServingLemmas
+mod StepServedLemmas
 pub mod calls
 pub mod steps
 pub mod sums

@@ -14,3 +14,4 @@ pub mod Holder
 pub mod Finding
 pub mod Freeing
 pub mod Committing
+pub mod Serving

@@ -1,8 +1,10 @@
 -- What the parts of a system stand for together, and what holds of them.
-use Rattle.std.specs.Prelude.{◌≡◌, ℕ, ◌≤◌, ◌==◌, List, [], ◌∷◌, length, map, Result, Ok, Err, IsTrue}
+use Rattle.std.specs.Prelude.{◌≡◌, ℕ, ⊤, ◌≤◌, ◌==◌, List, [], ◌∷◌, length, map, Result, Ok, Err, IsTrue}
 use Rattle.std.specs.List.{All, flat_map, count_by}
 use Rattle.std.specs.Map.{values_of}
 use Rattle.ms_base.specs.declared.kind.Space.TheVariants.{NonClass, Class}
+use Rattle.ms_base.specs.declared.step.Step.{Step}
+use Rattle.ms_base.specs.declared.step.Step.TheVariants.{Alloc, Calloc, Read}
 use Rattle.ms_base.specs.declared.step.Reply.{Reply}
 use Rattle.ms_base.specs.declared.step.Reply.TheVariants.{Refused}
 use Rattle.ms_base.specs.declared.refusal.Refusal.{Refusal}
@@ -60,3 +62,14 @@ pub record AreTogether (ledger : Ledger) (loaders : List (ℕ × LoaderView)) : 
 abbrev pub reply_of : Result Reply Refusal → Reply
 reply_of (Ok reply) = reply
 reply_of (Err refusal) = Refused refusal
+
+-- A step whose reply has no value, and a reply that is no refusal.
+abbrev pub HasNoValue : Step → Type 0
+HasNoValue (Alloc name block words) = ⊥
+HasNoValue (Calloc name block words) = ⊥
+HasNoValue (Read name block index) = ⊥
+HasNoValue _ = ⊤
+
+abbrev pub IsNoRefusal : Reply → Type 0
+IsNoRefusal (Refused refusal) = ⊥
+IsNoRefusal _ = ⊤

@@ -19,6 +19,7 @@ mod loader;
 mod loaders;
 mod naming;
 mod replies;
+mod serving;
 mod system;
 mod totals;
 
@@ -26,6 +27,7 @@ pub use loader::Loader;
 pub use loaders::{Iter, Loaders, Values};
 pub use ms_base::{Reply, Step};
 pub use replies::{Answer, Replies};
+pub use serving::serve;
 pub use system::{Allocation, GranuleRun, LoaderTotals, System};
 pub use totals::{LoaderRow, SpaceTotals, Totals};
 

@@ -1,10 +1,10 @@
 //! The system: loaders by name over one pool, and the steps of the machine.
 //!
 //! Kept true: the pool serves the two accounts of each loader and lends to no other, so the machine
-//! that a system stands for is good. A step looks for its refusals in the machine's order, and a
-//! refusal changes nothing, but that want of memory for a new loader uses its owner numbers up.
-//! After each change of the pool `committed` is called: it reads two counters, and tells what is true
-//! of every pool. Takes memory for loaders, chunks, blocks and replies; nothing waits.
+//! that a system stands for is good. A step is `serve` over the pool: it looks for its refusals in the
+//! machine's order, and a refusal changes nothing, but that want of memory for a new loader uses its
+//! owner numbers up. After it `committed` is called: it reads two counters, and tells what is true of
+//! every pool. Takes memory for loaders, chunks, blocks and replies; nothing waits.
 ghost use Rattle.std.specs.Prelude.{◌≡◌, ◌≢◌, ◌+◌, ◌↔◌, IfOk, OnOk, OnErr, IfErr, [], Ok, Err, length};
 ghost use Rattle.ms_base.specs.State.{empty_machine, limits_of};
 ghost use Rattle.ms_base.specs.Totals.{committed_words, used_words, over_spaces, sums_of};
@@ -13,8 +13,7 @@ ghost use Rattle.ms_base.specs.Transition.{Transition, LacksLoader};
 ghost use Rattle.ms_base.specs.Run.{Run};
 ghost use Rattle.ms_base.specs.Names.{named};
 ghost use Rattle.ms_base.specs.SumLaws.{HoldsNothing};
-ghost use Rattle.ms_base.specs.Request.{alloc_in};
-ghost use Rattle.ms_loaders.specs.System.{reply_of};
+ghost use Rattle.ms_loaders.specs.System.{HasNoValue, IsNoRefusal, reply_of};
 ghost use Rattle.ms_loaders.specs.Sums.{sums_in};
 ghost use Rattle.ms_loaders.specs.Used.{used_if};
 
@@ -27,8 +26,8 @@ mod settling;
 mod sums;
 
 use crate::collecting::{gather, space_totals};
-use crate::loader::Loader;
 use crate::loaders::Loaders;
+use crate::serving::served;
 use crate::totals::Totals;
 pub use committing::{Allocation, GranuleRun};
 use ms_base::{Kind, Policy, Refusal, Reply, Settings, Space, Step, granule};
@@ -91,44 +90,7 @@ impl System {
         ensures unchanged { IfErr result
             (λ refusal. refusal ≢ Refusal.OutOfMemory → self.new ≡ self.old) }
     {
-        if self.loaders.contains(name) {
-            return Err(Refusal::LoaderExists);
-        }
-        let (account, class_account) = match self.pool.open_both() {
-            Ok(accounts) => accounts,
-            Err(refusal) => return Err(refusal),
-        };
-        let loader = Loader::new(self.alloc, account, class_account, kind);
-        match self.loaders.insert(name, loader) {
-            Ok(()) => {
-                let _ = self.pool.committed();
-                Ok(())
-            }
-            Err((refusal, loader)) => {
-                let (account, class_account) = loader.into_accounts();
-                self.pool.close_both(account, class_account);
-                let _ = self.pool.committed();
-                Err(refusal)
-            }
-        }
-    }
-
-    /// Allocates a block of zeros in a space.
-    fn allocate(&mut self, space: Space, name: u16, block: u32, words: u64) -> Result<u64, Refusal>
-        ensures served { IfOk result (λ start.
-            Transition self.old (alloc_in space name block words) (Reply.At start) self.new) }
-        ensures refused { IfErr result (λ refusal.
-            Transition self.old (alloc_in space name block words) (Reply.Refused refusal) self.new) }
-    {
-        let Some(loader) = self.loaders.get_mut(name) else {
-            return Err(Refusal::NoLoader);
-        };
-        let answer = loader.allocate(&mut self.pool, space, block, words);
-        let _ = self.pool.committed();
-        match answer {
-            Ok(made) => Ok(made.start),
-            Err(refusal) => Err(refusal),
-        }
+        self.carry_out(Step::New { loader: name, kind })
     }
 
     /// Unloads a loader: all that was its own goes with it, and its name may be used anew. Takes no
@@ -139,15 +101,7 @@ impl System {
         ensures refused { IfErr result
             (λ refusal. Transition self.old (Step.Unload name) (Reply.Refused refusal) self.new) }
     {
-        match self.loaders.remove(name) {
-            Some(loader) => {
-                let (account, class_account) = loader.into_accounts();
-                self.pool.close_both(account, class_account);
-                let _ = self.pool.committed();
-                Ok(())
-            }
-            None => Err(Refusal::NoLoader),
-        }
+        self.carry_out(Step::Unload { loader: name })
     }
 
     /// Gives back the nodes in which no chunk is held, and tells how many; those of the class space
@@ -161,48 +115,16 @@ impl System {
         gone
     }
 
-    /// Writes a word of a block; the others stay.
-    fn write(&mut self, name: u16, block: u32, index: u64, value: u64) -> Result<(), Refusal>
-        ensures served { OnOk result
-            (Transition self.old (Step.Write name block index value) Reply.Ok self.new) }
-        ensures refused { IfErr result (λ refusal.
-            Transition self.old (Step.Write name block index value) (Reply.Refused refusal) self.new) }
-    {
-        match self.loaders.get_mut(name) {
-            None => Err(Refusal::NoLoader),
-            Some(loader) => match loader.write(block, index, value) {
-                Ok(()) => Ok(()),
-                Err(refusal) => Err(refusal),
-            },
-        }
-    }
-
-    /// Reads a word of a block.
-    fn read(&self, name: u16, block: u32, index: u64) -> Result<u64, Refusal>
-        ensures served { IfOk result
-            (λ value. Transition self.now (Step.Read name block index) (Reply.Value value) self.now) }
-        ensures refused { IfErr result (λ refusal.
-            Transition self.now (Step.Read name block index) (Reply.Refused refusal) self.now) }
-    {
-        let Some(loader) = self.loaders.get(name) else {
-            return Err(Refusal::NoLoader);
-        };
-        loader.read(block, index)
-    }
-
     /// Frees a block: its words become a free block of its arena.
     fn free(&mut self, name: u16, block: u32) -> Result<(), Refusal>
         ensures served { OnOk result (Transition self.old (Step.Free name block) Reply.Ok self.new) }
         ensures refused { IfErr result
             (λ refusal. Transition self.old (Step.Free name block) (Reply.Refused refusal) self.new) }
     {
-        match self.loaders.get_mut(name) {
-            None => Err(Refusal::NoLoader),
-            Some(loader) => match loader.free(block) {
-                Ok(()) => Ok(()),
-                Err(refusal) => Err(refusal),
-            },
-        }
+        self.carry_out(Step::Free {
+            loader: name,
+            block,
+        })
     }
 
     /// Tells the words in use, in both spaces: the sum of the tops of all chunks. Takes no memory, and
@@ -268,39 +190,27 @@ impl System {
         reply
     }
 
-    /// Takes one step of the machine, with a refusal as an error.
+    /// Takes one step of the machine over the pool, with a refusal as an error.
     fn serve(&mut self, step: Step) -> Result<Reply, Refusal>
-        ensures { Transition self.old step (reply_of result) self.new }
+        ensures step { Transition self.old step (reply_of result) self.new }
+        ensures plain { IfOk result IsNoRefusal }
     {
-        match step {
-            Step::New { loader, kind } => self.new_loader(loader, kind).map(|()| Reply::Ok),
-            Step::Alloc {
-                loader,
-                block,
-                words,
-            } => Ok(Reply::At(self.allocate(Space::NonClass, loader, block, words)?)),
-            Step::Calloc {
-                loader,
-                block,
-                words,
-            } => Ok(Reply::At(self.allocate(Space::Class, loader, block, words)?)),
-            Step::Write {
-                loader,
-                block,
-                index,
-                value,
-            } => self.write(loader, block, index, value).map(|()| Reply::Ok),
-            Step::Read {
-                loader,
-                block,
-                index,
-            } => Ok(Reply::Value(self.read(loader, block, index)?)),
-            Step::Free { loader, block } => self.free(loader, block).map(|()| Reply::Ok),
-            Step::Unload { loader } => self.unload(loader).map(|()| Reply::Ok),
-            Step::Purge => {
-                let _ = self.purge();
-                Ok(Reply::Ok)
-            }
+        let alloc = self.alloc;
+        let answer = served(alloc, &mut self.pool, &mut self.loaders, step);
+        let _ = self.pool.committed();
+        answer
+    }
+
+    /// Takes a step whose reply has no value.
+    fn carry_out(&mut self, step: Step) -> Result<(), Refusal>
+        requires { HasNoValue step }
+        ensures served { OnOk result (Transition self.old step Reply.Ok self.new) }
+        ensures refused { IfErr result
+            (λ refusal. Transition self.old step (Reply.Refused refusal) self.new) }
+    {
+        match self.serve(step) {
+            Ok(_reply) => Ok(()),
+            Err(refusal) => Err(refusal),
         }
     }
 

@@ -17,7 +17,7 @@ mod owners;
 
 use crate::account::Account;
 use crate::lender::Lender;
-use crate::source::ChunkSource;
+use crate::source::{AccountSource, ChunkSource};
 use crate::totals::PoolTotals;
 pub use counts::LimitCounts;
 use ms_base::{Level, Policy, Refusal, Settings, Space, Span};
@@ -265,5 +265,29 @@ impl ChunkSource for Pool {
 
     fn totals(&mut self, account: &Account) -> PoolTotals {
         Pool::totals(self, account)
+    }
+}
+
+impl AccountSource for Pool {
+    ghost use Rattle.ms_pool.specs.Calls.{OpenedBoth, ClosedBoth, Purged};
+
+    ghost opened_both = { OpenedBoth };
+
+    ghost closed_both = { ClosedBoth };
+
+    ghost purged = { Purged };
+
+    fn open_both(&mut self) -> Result<(Account, Account), Refusal> {
+        Pool::open_both(self)
+    }
+
+    fn close_both(&mut self, account: Account, class_account: Account) {
+        // What holds of every pool is learnt here.
+        self.learn();
+        Pool::close_both(self, account, class_account);
+    }
+
+    fn purge(&mut self) -> u32 {
+        Pool::purge(self)
     }
 }

@@ -1,18 +1,21 @@
-//! What an arena knows of where its chunks come from: the pool, or the pool behind a lock.
+//! What an arena knows of where its chunks come from, and a loader of where its accounts do: the pool,
+//! or the pool behind a lock.
 //!
 //! A source serves accounts: it gave their numbers out, and its record of each such owner has the
-//! account's chunks. Each call keeps all of them served, changes the chunks of its own account alone
+//! account's chunks. Each call keeps all of them served, changes the chunks of its own accounts alone
 //! and stands in a relation that the source states itself. `take` takes memory; a source behind a
 //! lock waits in each call.
-ghost use Rattle.std.specs.Prelude.{◌≡◌, ◌≢◌, ℕ, ◌+◌, ◌<◌, ◌≤◌, Bool, Result, IfOk, OnErr, IsTrue};
+ghost use Rattle.std.specs.Prelude.{◌≡◌, ◌≢◌, ℕ, ◌+◌, ◌<◌, ◌≤◌, Bool, [], Result, IfOk, OnErr, MatchResult};
+ghost use Rattle.std.specs.Prelude.{IsTrue};
 ghost use Rattle.ms_base.specs.declared.kind.Space.{Space};
+ghost use Rattle.ms_base.specs.declared.kind.Space.TheVariants.{NonClass, Class};
 ghost use Rattle.ms_base.specs.declared.span.Span.{Span};
 ghost use Rattle.ms_base.specs.declared.refusal.Refusal.{Refusal};
 ghost use Rattle.ms_base.specs.Level.{size_of};
 ghost use Rattle.ms_base.specs.State.{Limits};
 ghost use Rattle.ms_pool.specs.Account.{AccountState, has_chunk_at};
 ghost use Rattle.ms_pool.specs.Lending.{Adds, Grows, MayTake};
-ghost use Rattle.ms_pool.specs.Source.{LeavesRest};
+ghost use Rattle.ms_pool.specs.Source.{LeavesRest, ServesBoth};
 ghost use Rattle.ms_pool.specs.Calls.{new_account};
 ghost use Rattle.ms_pool.specs.declared.totals.PoolTotals.{PoolTotals};
 
@@ -100,4 +103,53 @@ pub trait ChunkSource {
         ensures counted { opened self.new ≡ opened self.old }
         ensures limits { limits self.new ≡ limits self.old }
         ensures totalled { totalled self.old account.now result self.new };
+}
+
+/// What also opens and closes the accounts of a loader, one in each space, and drops nodes: all that a
+/// step of the machine asks of a pool. This project's choice.
+pub trait AccountSource: ChunkSource {
+    /// What `open_both` may answer and make of the source.
+    ghost opened_both: { Self → Result (AccountState × AccountState) Refusal → Self → Type 0 };
+    /// What `close_both` may make of the source.
+    ghost closed_both: { Self → AccountState → AccountState → Self → Type 0 };
+    /// How many nodes `purge` may drop, and what it may make of the source.
+    ghost purged: { Self → ℕ → Self → Type 0 };
+
+    /// Opens an account in each space, by one event; the first is not the class space's. Refused
+    /// with `IdsUsedUp` where fewer than two owner numbers are left; then no account is open that
+    /// wasn't. Takes no memory.
+    fn open_both(&mut self) -> Result<(Account, Account), Refusal>
+        ensures served { IfOk result
+            (λ accounts. ServesBoth Self.serves self.new accounts.0 accounts.1) }
+        ensures empty { IfOk result (λ accounts. accounts.0.chunks ≡ []) }
+        ensures class_empty { IfOk result (λ accounts. accounts.1.chunks ≡ []) }
+        ensures others { (other : AccountState) → Self.serves self.old other
+            → Self.serves self.new other }
+        ensures counted { (space : Space) → MatchResult result
+            (λ accounts. Self.opened self.new space ≡ Self.opened self.old space + 1)
+            (λ refusal. Self.opened self.new space ≡ Self.opened self.old space) }
+        ensures limits { Self.limits self.new ≡ Self.limits self.old }
+        ensures opened { opened_both self.old result self.new };
+
+    /// Takes all chunks of the accounts of both spaces back, by one event, and the accounts with
+    /// them; the first is not the class space's. Takes no memory.
+    fn close_both(&mut self, account: Account, class_account: Account)
+        requires both { ServesBoth Self.serves self.old account class_account }
+        requires counted { (space : Space) → 0 < Self.opened self.old space }
+        ensures others { (other : AccountState) → other.owner ≢ account.owner
+            → other.owner ≢ class_account.owner
+            → Self.serves self.old other → Self.serves self.new other }
+        ensures counted { (space : Space)
+            → Self.opened self.new space + 1 ≡ Self.opened self.old space }
+        ensures limits { Self.limits self.new ≡ Self.limits self.old }
+        ensures closed { closed_both self.old account class_account self.new };
+
+    /// Drops the nodes that hold no chunk, their granules with them, and answers how many they
+    /// were; those of the class space stay. Takes no memory.
+    fn purge(&mut self) -> u32
+        ensures served { (account : AccountState) → Self.serves self.old account
+            → Self.serves self.new account }
+        ensures counted { Self.opened self.new ≡ Self.opened self.old }
+        ensures limits { Self.limits self.new ≡ Self.limits self.old }
+        ensures purged { purged self.old result self.new };
 }

@@ -1,5 +1,5 @@
--- A step over the lock as events of its seat, and what is said as acts. For the answers of `serving`,
--- `blocks`, `lifetimes` and `working`.
+-- A step over the lock as events of its seat, and what is said as acts. For the lemmas of `answer`, and
+-- for `working`.
 use Rattle.std.proofs.Common.{◌≡◌, ℕ, Bool, true, false, Option, Some, None, Result, Ok, Err, List, [], ◌∷◌, ◌++◌, inl, inr}
 use Rattle.std.proofs.Common.{refl, sym, ap, ◌∙◌, subst, append-nil, append_assoc}
 use Rattle.ms_base.specs.declared.kind.Space.{Space}
@@ -34,12 +34,13 @@ use Rattle.ms_run.specs.Acts.{IsClosing, LacksGrowth, GrewSeen, IsAllocation, As
 use Rattle.ms_run.specs.Acts.{IsOwnStep, said_of, events_by, Works, HasActed}
 
 pub made_none : (seat : SeatState) (are : List Event → Type 0) → are [] → HasMade seat seat are
-made_none seat are so = record { made = []; events = sym (append-nil seat.events); number = refl; sound = tt; are_so = so }
+made_none seat are so = record { made = []; lock = refl; events = sym (append-nil seat.events); number = refl; sound = tt; are_so = so }
 
 pub made_one : {call : Ledger → Ledger → Type 0} (old new : SeatState) (its : OverLock call old new)
     (are : List Event → Type 0) → are ((its.before, its.after) ∷ []) → HasMade old new are
 made_one old new its are so = record {
   made = (its.before, its.after) ∷ [];
+  lock = ap (λ (s : SeatState). s.id) its.left;
   events = ap (λ (s : SeatState). s.events) its.left;
   number = ap (λ (s : SeatState). s.number) its.left;
   sound = ((its.sound, its.sound_after), tt);
@@ -51,6 +52,7 @@ pub made_two : {call other : Ledger → Ledger → Type 0} (old mid new : SeatSt
     → are ((first.before, first.after) ∷ (second.before, second.after) ∷ []) → HasMade old new are
 made_two old mid new first second are so = record {
   made = (first.before, first.after) ∷ (second.before, second.after) ∷ [];
+  lock = ap (λ (s : SeatState). s.id) second.left ∙ ap (λ (s : SeatState). s.id) first.left;
   events = ap (λ (s : SeatState). s.events) second.left
       ∙ ap (λ (s : SeatState). s.events ++ (second.before, second.after) ∷ []) first.left
       ∙ append_assoc old.events ((first.before, first.after) ∷ []) ((second.before, second.after) ∷ []);
@@ -83,6 +85,7 @@ made_weaker : (old new : SeatState) (account : AccountState) (whole other : Ledg
     → HasMade old new (AskedBy account whole) → HasMade old new (AskedBy account other)
 made_weaker old new account whole other weaker made = record {
   made = made.made;
+  lock = made.lock;
   events = made.events;
   number = made.number;
   sound = made.sound;
@@ -300,6 +303,7 @@ block_made space policy was is name words old new answer allocates same serves =
     (block_asked space policy was is name words old new answer allocates same serves) in
     record {
       made = made.made;
+      lock = made.lock;
       events = made.events;
       number = made.number;
       sound = made.sound;

@@ -7,6 +7,8 @@ mod LifetimeCloseLemmas
 mod LifetimeReplyLemmas
 mod GrantLemmas
 mod SeatStaysLemmas
+mod AnswerLemmas
+mod AnsweredLemmas
 mod PhaseSettleLemmas
 mod OrderLemmas
 mod machine

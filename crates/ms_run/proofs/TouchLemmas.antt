@@ -83,7 +83,7 @@ freed name block was is frees = (
       (with_new (arena_of (space_at frees.found.start) was).kept frees.found.start (length frees.found.contents))),
 )
 
-write_refused : (name block index value : ℕ) (was : LoaderState) (refusal : Refusal) → LacksWord was block index refusal
+pub write_refused : (name block index value : ℕ) (was : LoaderState) (refusal : Refusal) → LacksWord was block index refusal
     → OwnReply (Some (own_state was)) (Write name block index value) false (Refused refusal) (Some (own_state was))
 write_refused name block index value was NoBlock lacks = (lacks, refl)
 write_refused name block index value was (OutOfRange words) past =
@@ -96,7 +96,7 @@ read_refused name block index was NoBlock lacks = (lacks, refl)
 read_refused name block index was (OutOfRange words) past = (past.found, past.has, past.words_are, past.past, refl)
 read_refused name block index was _ lacks = absurd lacks
 
-free_refused : (name block : ℕ) (was : LoaderState) (refusal : Refusal) → LacksName was block refusal
+pub free_refused : (name block : ℕ) (was : LoaderState) (refusal : Refusal) → LacksName was block refusal
     → OwnReply (Some (own_state was)) (Free name block) false (Refused refusal) (Some (own_state was))
 free_refused name block was NoBlock lacks = (lacks, refl)
 free_refused name block was _ lacks = absurd lacks

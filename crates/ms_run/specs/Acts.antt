@@ -138,9 +138,10 @@ Makes old (Unload name) (Refused refusal) new events = events ≡ []
 Makes old Purge Done new events = Once IsPurging events
 Makes old _ _ new events = ⊥
 
--- A seat has these events more.
+-- A seat has these events more, and is of the same lock.
 pub record HasMade (old new : SeatState) (are : List Event → Type 0) : Type 0 where
   pub made : List Event
+  pub lock : new.id ≡ old.id
   pub events : new.events ≡ old.events ++ made
   pub number : new.number ≡ old.number
   pub sound : AreSound made

@@ -13,17 +13,14 @@
 
 mod alone;
 mod between;
-mod blocks;
 mod dealing;
 mod fault;
 mod gate;
 mod gathering;
-mod lifetimes;
 mod merging;
 mod metering;
 mod phase;
 mod replaying;
-mod serving;
 mod share;
 mod turn;
 mod working;

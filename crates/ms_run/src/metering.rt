@@ -2,19 +2,21 @@
 //!
 //! Kept true: what a loader gets in use is added once it has it, and what an unloaded one had is taken
 //! off before it is closed. One atomic step a line at most, and no lock beside that of the line itself.
-ghost use Rattle.std.specs.Prelude.{◌≡◌, ◌+◌, Some};
+ghost use Rattle.std.specs.Prelude.{◌≡◌, ◌≢◌, ◌+◌, ℕ, Bool, Some};
+ghost use Rattle.ms_base.specs.Alone.{OwnReply};
 ghost use Rattle.ms_base.specs.Names.{AreNamed, named};
 ghost use Rattle.ms_base.specs.Request.{loader_of};
+ghost use Rattle.ms_loaders.specs.System.{states_of};
 ghost use Rattle.ms_loaders.specs.Used.{used_at, used_in};
 ghost use Rattle.ms_run.specs.Acts.{HasMade, Makes, Touches};
 ghost use Rattle.ms_run.specs.Answering.{IsAnswered};
 ghost use Rattle.ms_run.specs.Manned.{IsManned};
+ghost use Rattle.ms_run.specs.Own.{own_in};
 ghost use Rattle.ms_run.specs.Metering.{MovesNoTop};
 ghost use Rattle.ms_run.specs.Moved.{IsMoved};
 
-use crate::serving::answer;
 use ms_base::{Reply, Step};
-use ms_loaders::Loaders;
+use ms_loaders::{Loaders, serve};
 use ms_shared::{LockedPool, MeterSeat, UsedMeter};
 use std::alloc::Global;
 use std::sync::Wait;
@@ -121,6 +123,32 @@ fn answer_still<R: Wait>(
     let reply = answer(alloc, pool, loaders, step);
     let _ = loaders.len();
     reply
+}
+
+/// Answers a step over the lock. The replies to a loader's steps are its own; the other loaders stay.
+fn answer<R: Wait>(
+    alloc: Global,
+    pool: &mut LockedPool<'_, R>,
+    loaders: &mut Loaders,
+    step: Step,
+) -> Reply
+    requires { IsManned pool.old.knows loaders.old }
+    ensures lock { pool.new.id ≡ pool.old.id }
+    ensures manned { IsManned pool.new.knows loaders.new }
+    ensures own { (name : ℕ) → loader_of step ≡ Some name → (refused : Bool)
+        × OwnReply (own_in (states_of loaders.old) name) step refused result
+        (own_in (states_of loaders.new) name) }
+    ensures others { (name : ℕ) → loader_of step ≢ Some name
+        → named loaders.new name ≡ named loaders.old name }
+    ensures purge { step ≡ Step.Purge → result ≡ Reply.Ok }
+    ensures made { HasMade pool.old pool.new (Makes loaders.old step result loaders.new) }
+    ensures touches { Touches loaders.old step result loaders.new }
+    ensures used { MovesNoTop step → (name : ℕ)
+        → used_at (named loaders.new name) ≡ used_at (named loaders.old name) }
+{
+    // That names rise is learnt here.
+    let _ = loaders.len();
+    serve(alloc, pool, loaders, step)
 }
 
 /// Tells the words in use of the loader of a name, 0 where there is none.

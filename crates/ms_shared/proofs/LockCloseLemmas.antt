@@ -21,6 +21,17 @@ closes_both pool view account class_account later sound known some closed =
     known.opened Class in
     both_closed_well pool account class_account later sound (omega arith) (omega arith) closed
 
+-- That a seat serves both is said of what it knows.
+pub both_known : (seat : SeatState) (account class_account : AccountState)
+    → ServesBoth (λ (one : SeatState). ServesBy one.knows) seat account class_account
+    → ServesBoth ServesBy seat.knows account class_account
+both_known seat account class_account both = record {
+  served = both.served;
+  class_served = both.class_served;
+  space = both.space;
+  class_space = both.class_space;
+}
+
 -- Accounts of a loader that the seat serves are served by the pool that it finds.
 pub both_served_by_pool : (pool : Ledger) (view : SeatView) (account class_account : AccountState) → IsKnown pool view
     → ServesBoth ServesBy view account class_account → ServesBoth Serves pool account class_account

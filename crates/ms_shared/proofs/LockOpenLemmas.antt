@@ -9,6 +9,7 @@ use Rattle.ms_base.specs.declared.refusal.Refusal.{Refusal}
 use Rattle.ms_pool.specs.Account.{AccountState}
 use Rattle.ms_pool.specs.Ledger.{Ledger, Serves, chunks_of, opened_in, with_opened}
 use Rattle.ms_pool.specs.Calls.{Opened, OpenedBoth, new_account}
+use Rattle.ms_pool.specs.Source.{ServesBoth}
 use Rattle.ms_pool.proofs.ledger.ClosedLemmas.{opened_leaves_served, new_account_is_served, both_opened_leaves_served}
 use Rattle.ms_pool.proofs.ledger.ClosedLemmas.{new_accounts_are_served}
 use Rattle.ms_shared.specs.Entries.{Has, fresh}
@@ -98,6 +99,16 @@ module _ (old new : SeatState) (before later : Ledger) (call : IsCall old new be
       serves_given accounts.1 (omega arith) (omega arith)
       (new_accounts_are_served before accounts later call.sound opened).1
   class_open_both_serve (Err refusal) refused = tt
+
+  pub both_serve : (result : Result (AccountState × AccountState) Refusal) → OpenedBoth before result later
+      → IfOk result (λ accounts. ServesBoth (λ (seat : SeatState). ServesBy seat.knows) new accounts.0 accounts.1)
+  both_serve (Ok accounts) opened = record {
+    served = open_both_serve (Ok accounts) opened;
+    class_served = class_open_both_serve (Ok accounts) opened;
+    space = ap (λ (two : AccountState × AccountState). two.0.space) opened.0;
+    class_space = ap (λ (two : AccountState × AccountState). two.1.space) opened.0;
+  }
+  both_serve (Err refusal) refused = tt
 
   pub open_both_others : (result : Result (AccountState × AccountState) Refusal) → OpenedBoth before result later
       → (other : AccountState) → ServesBy old.knows other → ServesBy new.knows other

@@ -2,9 +2,10 @@
 -- on the pool that the seat found, and a tally of the seat raised where a limit refused it (this
 -- project's choice).
 use Rattle.std.specs.Prelude.{◌≡◌, ◌==◌, ◌+◌, ◌<◌, ◌≤◌, ℕ, Bool, true, false, slice_get, slice_index, Some, Result, Ok}
-use Rattle.std.specs.Prelude.{Err}
+use Rattle.std.specs.Prelude.{Err, IfOk, IfErr}
 use Rattle.std.specs.List.{count_by}
 use Rattle.ms_base.specs.declared.kind.Space.{Space}
+use Rattle.ms_base.specs.declared.kind.Space.TheVariants.{NonClass, Class}
 use Rattle.ms_base.specs.declared.policy.Policy.{Policy}
 use Rattle.ms_base.specs.declared.span.Chunk.{Chunk}
 use Rattle.ms_base.specs.declared.span.Span.{Span}
@@ -18,10 +19,10 @@ use Rattle.ms_base.specs.State.{Limits}
 use Rattle.ms_base.specs.Totals.{capacity_of, fronts_of}
 use Rattle.ms_pool.specs.Account.{AccountState}
 use Rattle.ms_pool.specs.Tallies.{Tallies}
-use Rattle.ms_pool.specs.Calls.{Took, Grew, Closed, Totalled}
+use Rattle.ms_pool.specs.Calls.{Took, Grew, Closed, Totalled, OpenedBoth, ClosedBoth, Purged, new_account}
 use Rattle.ms_pool.specs.declared.totals.PoolTotals.{PoolTotals}
-use Rattle.ms_shared.specs.SeatView.{SeatState, opened_by, commit_of_take, reserve_of_take, commit_of_grow}
-use Rattle.ms_shared.specs.SeatView.{room_of_grow, raise, OverLock}
+use Rattle.ms_shared.specs.SeatView.{SeatState, ServesBy, opened_by, commit_of_take, reserve_of_take, commit_of_grow}
+use Rattle.ms_shared.specs.SeatView.{room_of_grow, ids_of_open, raise, OverLock}
 
 -- The tally that a refusal of `take` raises, and of `grow`; other answers raise none, and other
 -- refusals don't come.
@@ -106,3 +107,21 @@ pub record TotalledOver (old : SeatState) (account : AccountState) (totals : Poo
     (new : SeatState) : Type 0 where
   pub event : OverLock (λ before after. Totalled before account totals after) old new
   pub own : CountsOwn old account totals
+
+-- Both accounts of a loader are opened, under numbers that follow one another, or refused; they are
+-- closed, and have nothing then; and nodes are dropped.
+pub record OpenedBothOver (old : SeatState) (result : Result (AccountState × AccountState) Refusal)
+    (new : SeatState) : Type 0 where
+  pub event : OverLock (λ before after. OpenedBoth before result after) old new
+  pub new_are : IfOk result
+      (λ accounts. accounts ≡ (new_account accounts.0.owner NonClass, new_account (accounts.0.owner + 1) Class))
+  pub tallied : IfErr result (λ refusal. new.knows.tallies ≡ raise ids_of_open old.knows.tallies)
+
+pub record ClosedBothOver (old : SeatState) (account class_account : AccountState) (new : SeatState) : Type 0 where
+  pub event : OverLock (λ before after. ClosedBoth before account class_account after) old new
+  pub none : ServesBy new.knows (new_account account.owner NonClass)
+  pub class_none : ServesBy new.knows (new_account class_account.owner Class)
+
+pub record PurgedOver (old : SeatState) (gone : ℕ) (new : SeatState) : Type 0 where
+  pub event : OverLock (λ before after. Purged before gone after) old new
+  pub tallies : new.knows.tallies ≡ old.knows.tallies

@@ -4,12 +4,10 @@
 //! is one event on the pool, and between a thread's calls those of others come. Kept true: the
 //! pool serves what the seat serves, and counts what the seat counts. Only `take` takes memory.
 //! This project's choice.
-ghost use Rattle.std.specs.Prelude.{◌≡◌, ◌≢◌, ◌+◌, ◌<◌, IfOk, IfErr, OnErr, MatchResult};
+ghost use Rattle.std.specs.Prelude.{◌≡◌, ◌≢◌, ◌+◌, IfOk, IfErr, MatchResult};
 ghost use Rattle.ms_base.specs.declared.kind.Space.{Space};
 ghost use Rattle.ms_pool.specs.Account.{AccountState};
-ghost use Rattle.ms_base.specs.declared.kind.Space.TheVariants.{NonClass, Class};
-ghost use Rattle.ms_pool.specs.Source.{ServesBoth};
-ghost use Rattle.ms_pool.specs.Calls.{Opened, OpenedBoth, ClosedBoth, Purged, new_account};
+ghost use Rattle.ms_pool.specs.Calls.{Opened, new_account};
 ghost use Rattle.ms_shared.specs.SeatView.{ServesBy, OverLock, opened_by, ids_of_open, raise};
 
 #[cfg(test)]
@@ -20,7 +18,7 @@ use crate::seat::PoolSeat;
 use crate::shared_pool::SharedPool;
 use atomic_table::Seat;
 use ms_base::{Level, Refusal, Space, Span};
-use ms_pool::{Account, ChunkSource, Pool, PoolTotals};
+use ms_pool::{Account, AccountSource, ChunkSource, Pool, PoolTotals};
 use std::marker::Model;
 use std::sync::Wait;
 
@@ -99,68 +97,6 @@ impl<R: Wait> LockedPool<'_, R> {
         self.shared.let_go(&mut self.seat, pool);
         answer
     }
-
-    /// Opens an account in each space, by one event, the first outside the class space; the seat
-    /// serves both and counts both. Refused with `IdsUsedUp` exactly where fewer than two owner
-    /// numbers are left. Takes no memory, and waits for the lock.
-    pub fn open_both(&mut self) -> Result<(Account, Account), Refusal>
-        ensures event { OverLock (λ before after. OpenedBoth before result after)
-            self.old self.new }
-        ensures served { IfOk result (λ accounts. ServesBy self.new.knows accounts.0) }
-        ensures class_served { IfOk result (λ accounts. ServesBy self.new.knows accounts.1) }
-        ensures new { IfOk result (λ accounts. accounts
-            ≡ (new_account accounts.0.owner NonClass, new_account (accounts.0.owner + 1) Class)) }
-        ensures others { (other : AccountState) → ServesBy self.old.knows other
-            → ServesBy self.new.knows other }
-        ensures counted { (space : Space) → MatchResult result
-            (λ accounts. opened_by self.new.knows space ≡ opened_by self.old.knows space + 1)
-            (λ refusal. opened_by self.new.knows space ≡ opened_by self.old.knows space) }
-        ensures limits { self.new.knows.limits ≡ self.old.knows.limits }
-        ensures tallied { IfErr result
-            (λ refusal. self.new.knows.tallies ≡ raise ids_of_open self.old.knows.tallies) }
-    {
-        let mut pool = self.shared.seize(self.rt, &mut self.seat);
-        let answer = pool.open_both();
-        self.shared.let_go(&mut self.seat, pool);
-        answer
-    }
-
-    /// Takes all chunks of the accounts of both spaces back, by one event, and the accounts with
-    /// them; the first is not the class space's. Takes no memory, and waits for the lock.
-    pub fn close_both(&mut self, account: Account, class_account: Account)
-        requires both { ServesBoth ServesBy self.old.knows account class_account }
-        requires counted { (space : Space) → 0 < opened_by self.old.knows space }
-        ensures event { OverLock (λ before after. ClosedBoth before account class_account after)
-            self.old self.new }
-        ensures none { ServesBy self.new.knows (new_account account.owner NonClass) }
-        ensures class_none { ServesBy self.new.knows (new_account class_account.owner Class) }
-        ensures others { (other : AccountState) → other.owner ≢ account.owner
-            → other.owner ≢ class_account.owner
-            → ServesBy self.old.knows other → ServesBy self.new.knows other }
-        ensures counted { (space : Space)
-            → opened_by self.new.knows space + 1 ≡ opened_by self.old.knows space }
-        ensures limits { self.new.knows.limits ≡ self.old.knows.limits }
-    {
-        let mut pool = self.shared.seize(self.rt, &mut self.seat);
-        pool.close_both(account, class_account);
-        self.shared.let_go(&mut self.seat, pool);
-    }
-
-    /// Drops the pool's nodes that hold no chunk, their granules with them, and answers how many
-    /// they were; those of the class space stay. Takes no memory, and waits for the lock.
-    pub fn purge(&mut self) -> u32
-        ensures event { OverLock (λ before after. Purged before result after) self.old self.new }
-        ensures served { (account : AccountState) → ServesBy self.old.knows account
-            → ServesBy self.new.knows account }
-        ensures counted { opened_by self.new.knows ≡ opened_by self.old.knows }
-        ensures limits { self.new.knows.limits ≡ self.old.knows.limits }
-        ensures tallies { self.new.knows.tallies ≡ self.old.knows.tallies }
-    {
-        let mut pool = self.shared.seize(self.rt, &mut self.seat);
-        let gone = pool.purge();
-        self.shared.let_go(&mut self.seat, pool);
-        gone
-    }
 }
 
 impl<'a, R: Wait> ChunkSource for LockedPool<'a, R> {
@@ -225,5 +161,35 @@ impl<'a, R: Wait> ChunkSource for LockedPool<'a, R> {
         let totals = pool.totals(account);
         self.shared.let_go(&mut self.seat, pool);
         totals
+    }
+}
+
+impl<'a, R: Wait> AccountSource for LockedPool<'a, R> {
+    ghost use Rattle.ms_shared.specs.LockCalls.{OpenedBothOver, ClosedBothOver, PurgedOver};
+
+    ghost opened_both = { OpenedBothOver };
+
+    ghost closed_both = { ClosedBothOver };
+
+    ghost purged = { PurgedOver };
+
+    fn open_both(&mut self) -> Result<(Account, Account), Refusal> {
+        let mut pool = self.shared.seize(self.rt, &mut self.seat);
+        let answer = pool.open_both();
+        self.shared.let_go(&mut self.seat, pool);
+        answer
+    }
+
+    fn close_both(&mut self, account: Account, class_account: Account) {
+        let mut pool = self.shared.seize(self.rt, &mut self.seat);
+        pool.close_both(account, class_account);
+        self.shared.let_go(&mut self.seat, pool);
+    }
+
+    fn purge(&mut self) -> u32 {
+        let mut pool = self.shared.seize(self.rt, &mut self.seat);
+        let gone = pool.purge();
+        self.shared.let_go(&mut self.seat, pool);
+        gone
     }
 }

@@ -1,12 +1,13 @@
 -- Calls of open, close and purge, whatever they answer: all accounts but a closed one are served still,
 -- and no other owner's chunks change.
-use Rattle.std.proofs.Common.{◌≡◌, ◌≢◌, ◌<◌, ◌+◌, ℕ, refl, sym, subst, arith}
-use Rattle.std.specs.Prelude.{Result, Ok, Err, IfOk}
+use Rattle.std.proofs.Common.{◌≡◌, ◌≢◌, ◌<◌, ◌+◌, ℕ, [], refl, sym, ap, ◌∙◌, subst, arith}
+use Rattle.std.specs.Prelude.{Result, Ok, Err, IfOk, MatchResult}
 use Rattle.ms_base.specs.declared.kind.Space.{Space}
 use Rattle.ms_base.specs.declared.kind.Space.TheVariants.{NonClass, Class}
 use Rattle.ms_base.specs.declared.refusal.Refusal.{Refusal}
 use Rattle.ms_pool.specs.Account.{AccountState}
-use Rattle.ms_pool.specs.Ledger.{Ledger, IsSoundLedger, Serves, chunks_of, opened_in}
+use Rattle.ms_pool.specs.Ledger.{Ledger, IsSoundLedger, Serves, chunks_of, opened_in, with_opened}
+use Rattle.ms_pool.specs.Source.{ServesBoth}
 use Rattle.ms_pool.specs.Calls.{Opened, OpenedBoth, Closed, ClosedBoth, Purged, new_account}
 use Rattle.ms_pool.proofs.ledger.LedgerCloseLemmas.{closed_is_sound, closed_has_nothing, closed_serves_others}
 use Rattle.ms_pool.proofs.ledger.LedgerCloseLemmas.{closed_counts, closed_counts_elsewhere, closed_keeps_others}
@@ -82,6 +83,46 @@ pub both_opened_are_served : (old : Ledger) (result : Result (AccountState × Ac
 both_opened_are_served old (Ok accounts) new sound opened = new_accounts_are_served old accounts new sound opened
 both_opened_are_served old (Err refusal) new sound refused = (tt, tt)
 
+-- Both accounts of a loader are served, and each is empty and of its space.
+pub both_opened_serve : (old : Ledger) (result : Result (AccountState × AccountState) Refusal) (new : Ledger)
+    → OpenedBoth old result new
+    → IfOk result (λ accounts. Serves new accounts.0) → IfOk result (λ accounts. Serves new accounts.1)
+    → IfOk result (λ accounts. ServesBoth Serves new accounts.0 accounts.1)
+both_opened_serve old (Ok accounts) new opened served class_served = record {
+  served = served;
+  class_served = class_served;
+  space = ap (λ (two : AccountState × AccountState). two.0.space) opened.0;
+  class_space = ap (λ (two : AccountState × AccountState). two.1.space) opened.0;
+}
+both_opened_serve old (Err refusal) new refused served class_served = tt
+
+pub both_opened_are_empty : (old : Ledger) (result : Result (AccountState × AccountState) Refusal) (new : Ledger)
+    → OpenedBoth old result new
+    → IfOk result (λ accounts. accounts.0.chunks ≡ []) × IfOk result (λ accounts. accounts.1.chunks ≡ [])
+both_opened_are_empty old (Ok accounts) new opened = (
+  ap (λ (two : AccountState × AccountState). two.0.chunks) opened.0,
+  ap (λ (two : AccountState × AccountState). two.1.chunks) opened.0,
+)
+both_opened_are_empty old (Err refusal) new refused = (tt, tt)
+
+pub both_opened_counts : (old : Ledger) (result : Result (AccountState × AccountState) Refusal) (new : Ledger)
+    → OpenedBoth old result new → (space : Space)
+    → MatchResult result (λ accounts. opened_in new space ≡ opened_in old space + 1)
+    (λ refusal. opened_in new space ≡ opened_in old space)
+both_opened_counts old (Ok accounts) new opened space =
+    ap (λ (l : Ledger). opened_in l space) opened.1 ∙ one_more_each space
+  where
+    one_more_each : (space : Space) → opened_in (with_opened (with_opened old NonClass) Class) space
+        ≡ opened_in old space + 1
+    one_more_each NonClass = refl
+    one_more_each Class = refl
+both_opened_counts old (Err refusal) new refused space = ap (λ (l : Ledger). opened_in l space) refused.2
+
+pub both_opened_limits : (old : Ledger) (result : Result (AccountState × AccountState) Refusal) (new : Ledger)
+    → OpenedBoth old result new → new.limits ≡ old.limits
+both_opened_limits old (Ok accounts) new opened = ap (λ (l : Ledger). l.limits) opened.1
+both_opened_limits old (Err refusal) new refused = ap (λ (l : Ledger). l.limits) refused.2
+
 -- Close: all that the call owes.
 pub record ClosesWell (old : Ledger) (account : AccountState) (new : Ledger) : Type 0 where
   pub sound : IsSoundLedger new
@@ -133,6 +174,12 @@ both_closed_well old account class_account new sound some class_some closed =
       counted = omega arith;
       class_counted = omega arith;
     })
+
+pub both_counted : (old : Ledger) (account class_account : AccountState) (new : Ledger)
+    → ClosesBothWell old account class_account new
+    → (space : Space) → opened_in new space + 1 ≡ opened_in old space
+both_counted old account class_account new well NonClass = well.counted
+both_counted old account class_account new well Class = well.class_counted
 
 -- Purge.
 pub purged_keeps : (old : Ledger) (gone : ℕ) (new : Ledger) → Purged old gone new → KeepsAll old new

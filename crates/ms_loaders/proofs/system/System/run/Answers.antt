@@ -40,7 +40,7 @@ loop-step-preserved c =
           (run_on (take c.loop-step.step-index c.args.steps.now) c.loop-step.replies.items c.args.self.now
           c.loop-step.self c.serve.new.self
           (get_or c.args.steps.now c.loop-step.step-index (New 0 Standard)) c.match-serve.reply
-          c.loop-step.invariant.so_far (rw same at c.serve.ensures));
+          c.loop-step.invariant.so_far (rw same at c.serve.ensures.step));
       told = omega (arith, c.push_reserved.ensures.len, c.loop-step.invariant.told);
       room = omega (arith, c.push_reserved.ensures.capacity, c.loop-step.invariant.room);
     }

@@ -1,0 +1,27 @@
+use Rattle.std.proofs.Common.{inl, inr, refl, sym}
+use Rattle.ms_loaders.proofs.steps.CallLemmas.{same_loaders}
+use Rattle.ms_loaders.proofs.serving.free.Goals as goal
+
+pub returns-in-None-clause-refused : goal.returns-in-None-clause-refused
+returns-in-None-clause-refused c =
+    inl (record { refusal_is = refl; none = sym c.in-None.ensures.found; same = refl })
+
+pub returns-in-Ok-clause-served : goal.returns-in-Ok-clause-served
+returns-in-Ok-clause-served c = record {
+  was = c.in-Some.loader.now;
+  is = c.free.new.self;
+  found = sym c.in-Some.ensures.found;
+  owners = c.free.ensures.owners;
+  sound = c.free.ensures.sound;
+  so = c.in-Ok.ensures.freed;
+  changed = refl;
+}
+
+pub returns-in-Err-clause-refused : goal.returns-in-Err-clause-refused
+returns-in-Err-clause-refused c = inr (record {
+  loader = c.in-Some.loader.now;
+  found = sym c.in-Some.ensures.found;
+  so = c.in-Err.ensures.refused;
+  same = same_loaders c.args.loaders.now c.args.name c.in-Some.loader.now c.free.new.self
+      (sym c.in-Some.ensures.found) c.in-Err.ensures.unchanged;
+})
