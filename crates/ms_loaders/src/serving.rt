@@ -199,11 +199,7 @@ fn free(loaders: &mut Loaders, name: u16, block: u32) -> Result<(), Refusal>
 }
 
 /// Unloads a loader, with both its accounts.
-fn unload<S: AccountSource>(
-    source: &mut S,
-    loaders: &mut Loaders,
-    name: u16,
-) -> Result<(), Refusal>
+fn unload<S: AccountSource>(source: &mut S, loaders: &mut Loaders, name: u16) -> Result<(), Refusal>
     requires { MayServe S.serves S.opened source.old loaders.old }
     ensures served { OnOk result (ClosesLoader (calls_of S.serves S.opened S.limits S.grew S.took S.opened_both S.closed_both
         S.purged)
