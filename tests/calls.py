@@ -1,40 +1,57 @@
-"""The library's own calls while growths are refused: the rows of the program refusals, under the same allocator.
+"""The library's own calls while growths are refused: rows of small programs, under the same allocator.
 
-A row makes its preparation, tells the state, makes a call, tells its answer and the state after it, and where the
-answer is a refusal makes the call once more.
+A row of refusals makes its preparation, tells the state, makes a call, tells its answer and the state after it, and
+where the answer is a refusal makes the call once more. The row of refused_runs replays a trace, and once more where
+memory or a thread was wanted. A row of quiet, quiet_loaders or quiet_lock makes calls that take no memory after a mark,
+and tells what it finds.
 """
 import os
+import re
 
 from claims import Test, expect, expect_ended
-from growths import MOST_GROWTHS, Told
+from grammar import commands_of, without
+from growths import MAY_WANT, MOST_GROWTHS, TRACES, Told, text_of
 from program import Program
 from workbench import ROOT
 
-CRATE = os.path.join(ROOT, "crates", "refusals")
 TAKING = ("carve", "reserve", "pool", "take", "place", "alloc", "insert", "new_loader", "run", "totals", "shared", "meter",
           "parse", "print", "text", "lines")
-QUIET = ()
+QUIET = {"quiet": ("sizes", "nodes", "tree", "blocks", "accounts", "counter"),
+         "quiet_loaders": ("arena", "loaders", "system"), "quiet_lock": ("lock",)}
+# Lines that stand in a row, in this order among others, worked by hand.
+SAID = {
+    "arena": ("write 3999 Ok(())", "read 1 Ok(0)", "read 3999 Ok(7)", "read 4000 Err(OutOfRange { words: 4000 })",
+              "free Ok(())", "free Err(NotLive)", "account 2 Class"),
+    "loaders": ("1: true true 4512", "word 1 2 3999 Ok(()) Ok(7)", "word 2 2 0 Err(NoBlock) Err(NoBlock)",
+                "free Ok(()) Err(NoBlock)", "remove false", "first 1", "0 are there"),
+    "system": ("Read { loader: 2, block: 1, index: 19 } Value(5)", "free Ok(())", "free Err(NotLive)", "unload Ok(())",
+               "unload Err(NoLoader)", "purge 1", "without Boot 4 were opened and 2 gathered: 4 open, 30 in use"),
+    "lock": ("grow Some(Ok(Span { start: 0, level: Level { number: 11 } }))", "open Ok(2)", "open both Ok((3, 4))",
+             "purge 1", "2 were opened and 0 gathered"),
+}
+REPLAYED = ("a fresh loader in each space", "two loaders work side by side in each space")
 OUTSIDE = b"refused outside a call\n"
+NO_MEMORY, NO_THREAD = b"fault OutOfMemory", b"fault NoThread"
 
 
 class Calls:
-    """Runs a row while growths are refused."""
+    """Runs a row of a crate's program while growths are refused."""
 
-    def __init__(self, bench, row):
-        self.bench, self.row = bench, row
-        self.program = Program(os.path.join(CRATE, "out", "refusals"))
+    def __init__(self, bench, crate, row, words=None):
+        self.bench, self.row, self.words = bench, row, words or [row]
+        self.program = Program(os.path.join(ROOT, "crates", crate, "out", crate))
         self.told = Told(bench.room)
 
-    def run(self, **rules):
-        """Runs the row with the allocator's rules; tells how it ended, and what the allocator counted."""
+    def run(self, given=b"", **rules):
+        """Runs the row over a text with the allocator's rules; tells how it ended, and what the allocator counted."""
         environment = {"LD_PRELOAD": self.bench.built("refuse"), "REFUSE_TELL": self.told.anew(),
                        **{rule: str(value) for rule, value in rules.items()}}
-        ended = self.program.run([self.row], environment=environment)
+        ended = self.program.run(self.words, given, environment=environment)
         return ended, self.told.counts()
 
-    def calm(self):
+    def calm(self, given=b""):
         """The output where nothing is refused."""
-        ended, counts = self.run()
+        ended, counts = self.run(given)
         expect_ended(ended, 0)
         expect(counts.asked > 0, "no growth was met: the allocator isn't the program's")
         return ended.output
@@ -48,7 +65,7 @@ class Calls:
 
 def refuses_each_growth(bench, row):
     """The first, the second, .. growth is refused: the call says so, changes nothing, and is served the next time."""
-    calls = Calls(bench, row)
+    calls = Calls(bench, "refusals", row)
     output = calls.calm()
     (_, before), (_, answer), (_, after) = calm = calls.facts_of(output)
     expect([word for word, _ in calm] == [b"before", b"answer", b"after"] and answer.startswith(b"ok"), output)
@@ -74,10 +91,90 @@ def refuses_each_growth(bench, row):
     return f"{number - 1} growths, {refused_calls} of them the call's"
 
 
-def takes_nothing(bench, row):
-    """From the mark on the calls take no memory, and all memory refused changes no answer."""
-    calls = Calls(bench, row)
+class Replays:
+    """Runs a trace by so many workers, and once more where memory or a thread was wanted."""
+
+    def __init__(self, bench, text, workers):
+        self.calls, self.text, self.workers = Calls(bench, "refused_runs", "replay", [str(workers)]), text, workers
+        self.calm = {}
+
+    def answers(self, output):
+        """What an output tells of the first call, and of the second."""
+        facts = self.calls.facts_of(output)
+        first = [fact for word, fact in facts if word == b"answer"]
+        again = [fact for word, fact in facts if word == b"again"]
+        expect(len(first) + len(again) == len(facts), "another word", output)
+        return first, again
+
+    def answers_without(self, lines):
+        """The answers to the trace without these lines, where nothing is refused."""
+        if lines not in self.calm:
+            first, again = self.answers(self.calls.calm(without(self.text, lines)))
+            expect(first and not again, "memory was wanted without any refusal", first, again)
+            self.calm[lines] = first
+        return self.calm[lines]
+
+    def refused(self, number):
+        """Refuses a growth: tells the fault or the lines that wanted memory, and None where no growth was met."""
+        ended, counts = self.calls.run(self.text, REFUSE_AT=number)
+        if ended.status == 3:
+            expect(counts.refused > 0 and ended.errors == OUTSIDE, "status 3", ended.errors)
+            return OUTSIDE
+        expect_ended(ended, 0)
+        first, again = self.answers(ended.output)
+        if not counts.refused:
+            expect((first, again) == (self.answers_without(frozenset()), []), "nothing was refused", ended.output)
+            return None
+        expect(again == self.answers_without(frozenset()), "the call is answered otherwise again", ended.output)
+        faults = (NO_MEMORY, NO_THREAD) if self.workers > 1 else (NO_MEMORY,)
+        if len(first) == 1 and first[0] in faults:
+            return first[0]
+        return self.wanting_lines(first)
+
+    def wanting_lines(self, answers):
+        """The lines that are answered with want of memory; the others are answered as if these weren't there."""
+        commands = dict(commands_of(self.text))
+        replies = [(int(answer.split(b" ")[0]), answer) for answer in answers]
+        lines = frozenset(line for line, answer in replies if answer.endswith(b" Refused(OutOfMemory)"))
+        expect(lines and all(commands[line] in MAY_WANT for line in lines), "want of memory on lines", lines, answers)
+        others = [answer for line, answer in replies if line not in lines]
+        wanted = self.answers_without(lines)
+        expect(others == wanted, "without the lines", lines, others, "and not", wanted)
+        return lines
+
+
+def replays_again(bench, text, workers):
+    """The first, the second, .. growth is refused: a replay says so, and is served as ever the next time."""
+    replays, alone = Replays(bench, text, workers), Replays(bench, text, 1)
+    calm = [re.sub(rb"At\(\d+\)", b"At", answer) for answer in alone.answers_without(frozenset())]
+    found = [re.sub(rb"At\(\d+\)", b"At", answer) for answer in replays.answers_without(frozenset())]
+    expect(found == calm, "other workers, other answers", found, calm)
+    became = []
+    for number in range(1, MOST_GROWTHS):
+        refused = replays.refused(number)
+        if refused is None:
+            break
+        became.append(refused)
+    expect(refused is None, "there was no end of growths")
+    faults, outside = became.count(NO_MEMORY) + became.count(NO_THREAD), became.count(OUTSIDE)
+    lines = len(became) - faults - outside
+    expect(faults > 0 and lines > 0, "no fault, or no line that wants memory", became)
+    return f"{len(became)} growths, {faults} of them the run's and {lines} a line's"
+
+
+def calm_as_said(calls):
+    """The output where nothing is refused, in which the lines stand that are known."""
     output = calls.calm()
+    lines = iter(output.decode().splitlines())
+    for said in SAID.get(calls.row, ()):
+        expect(f"{calls.row} {said}" in lines, "not said where it should be:", said, output)
+    return output
+
+
+def takes_nothing(bench, crate, row):
+    """From the mark on the calls take no memory, and all memory refused changes no answer."""
+    calls = Calls(bench, crate, row)
+    output = calm_as_said(calls)
     ended, counts = calls.run(REFUSE_AFTER=f"{row} marked\n")
     expect_ended(ended, 0, b"", output)
     expect(counts.is_written and counts.asked_after == 0, "growths after the mark", counts)
@@ -95,5 +192,10 @@ def takes_nothing(bench, row):
 def tests():
     for row in TAKING:
         yield Test(f"a call refuses each growth: {row}", refuses_each_growth, (row,))
-    for row in QUIET:
-        yield Test(f"calls take no memory: {row}", takes_nothing, (row,))
+    for name in REPLAYED:
+        for workers in (1, 2, 4):
+            arguments = (text_of(TRACES[name][1]), workers)
+            yield Test(f"a replay refuses each growth where {name}, {workers} at work", replays_again, arguments)
+    for crate, rows in QUIET.items():
+        for row in rows:
+            yield Test(f"calls take no memory: {row}", takes_nothing, (crate, row))

@@ -10,7 +10,7 @@ import tempfile
 from typing import NamedTuple
 
 from claims import Test, expect, expect_ended, first_difference
-from examples import FOLDERS, content_of, options_of
+from examples import FOLDERS, content_of, runs_of
 from grammar import commands_of, without
 from outputs import answers_of, expect_sums, of_any_schedule, report_of, reports_of
 from program import MEGABYTE
@@ -222,7 +222,7 @@ def tests():
         arguments = ([], text_of(FOUR_LOADERS), workers)
         yield Test(f"threads are refused, {workers} at work", refuses_threads, arguments)
     for folder in FOLDERS:
-        for name, options in sorted(options_of(folder).items()):
+        for name, options, file in sorted(runs_of(folder)):
             words = options[:options.index("--workers")] if "--workers" in options else options
             arguments = (words, content_of(folder, f"{name}.trace"), 1)
-            yield Test(f"growths are refused in {folder}/{name}", refuses_each_growth, arguments)
+            yield Test(f"growths are refused in {folder}/{file[:-len('.out')]}", refuses_each_growth, arguments)

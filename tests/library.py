@@ -4,6 +4,7 @@ What is proved ends where C begins, so these tests show that the header fits the
 operating system's, and that memory goes back.
 """
 import os
+import re
 import shutil
 import subprocess
 
@@ -15,6 +16,12 @@ OUT = os.path.join(ROOT, "crates", "ms_c", "out")
 ARCHIVE = os.path.join(OUT, "libms_c.a")
 PREFIX = "nizgrabul_"
 WRAPPED = "-Wl,--wrap=malloc,--wrap=realloc,--wrap=free"
+SOURCES = os.path.join(ROOT, "crates", "ms_c", "src")
+MARKS = ("///", "/*", "*", "*/")
+# A call of the header, one with its comment, and an export with its docs.
+CALL = re.compile(r"^\w+ (nizgrabul_\w+)\(", re.MULTILINE)
+COMMENTED = re.compile(r"(/\*(?:(?!\*/).)*\*/)\n\w+ (nizgrabul_\w+)\(", re.DOTALL)
+EXPORT = re.compile(r"((?:^///.*\n)+)#\[unsafe\(no_mangle\)\]\npub extern \"C\" fn (\w+)", re.MULTILINE)
 
 
 def toolchain():
@@ -60,25 +67,64 @@ def gives_all_memory_back(bench):
     return printed([linked(bench, FOLDER, "wanting", WRAPPED)]).decode().strip()
 
 
+CPP = """#include "nizgrabul.h"
+int main() {
+    nizgrabul_handle handle = {};
+    nizgrabul_options options = {};
+    nizgrabul_run run = {};
+    options.nodes = 1;
+    options.max_granules = 1;
+    if (nizgrabul_version() != NIZGRABUL_VERSION || nizgrabul_new(&options, &handle) != NIZGRABUL_DONE) return 1;
+    if (nizgrabul_new_loader(&handle, 1, NIZGRABUL_STANDARD).status != NIZGRABUL_DONE) return 2;
+    if (nizgrabul_alloc_with_run(&handle, 1, 1, 10, &run).status != NIZGRABUL_DONE || run.granules != 1) return 3;
+    nizgrabul_delete(&handle);
+}
+"""
+
+
 def fits_a_cpp_program(bench):
-    """The header is read by a C++ compiler, where there is one."""
+    """The header is read by a C++ compiler, where there is one, and a C++ program is linked and runs."""
     made = next((name for name in ("c++", "g++") if shutil.which(name)), None)
     if not made:
         raise Skipped("a C++ compiler")
-    header = os.path.join(EXAMPLES, "nizgrabul.h")
-    printed([made, "-x", "c++", "-std=c++11", "-Wall", "-Wextra", "-Werror", "-fsyntax-only", header])
+    program, heap = bench.built("library_cpp"), os.path.join(toolchain(), "c", "liblibc_c.a")
+    how = ["-std=c++11", "-Wall", "-Wextra", "-Werror", f"-I{EXAMPLES}", "-o", program]
+    printed([made, *how, "-x", "c++", "-", "-x", "none", ARCHIVE, heap], input=CPP.encode())
+    printed([program])
+
+
+def header():
+    """The text of the header."""
+    with open(os.path.join(EXAMPLES, "nizgrabul.h"), encoding="utf-8") as file:
+        return file.read()
 
 
 def exports_are_the_headers(bench):
     """The archive's own exports are the header's calls, and no name without the prefix is among them."""
     listed = printed([shutil.which("nm") or os.path.join(toolchain(), "toolchain", "bin", "llvm-nm"), "-g", ARCHIVE])
     names = {line.split()[-1] for line in listed.decode().splitlines() if len(line.split()) == 3}
-    with open(os.path.join(EXAMPLES, "nizgrabul.h"), encoding="utf-8") as file:
-        header = file.read()
     expect(all(name.startswith(PREFIX) for name in names), sorted(names))
-    missing = [name for name in names if f"{name}(" not in header]
-    expect(names and not missing, "not in the header", missing)
+    calls = set(CALL.findall(header()))
+    expect(names == calls, "in one of header and archive alone", sorted(names ^ calls))
     return f"{len(names)} exports"
+
+
+def comments_are_the_crates(bench):
+    """Each call's comment in the header has the words of the export's docs."""
+    docs = {}
+    for name in os.listdir(SOURCES):
+        with open(os.path.join(SOURCES, name), encoding="utf-8") as file:
+            docs.update({call: words(text) for text, call in EXPORT.findall(file.read())})
+    comments = {call: words(text) for text, call in COMMENTED.findall(header())}
+    expect(docs.keys() == comments.keys(), sorted(docs.keys() ^ comments.keys()))
+    other = [call for call in docs if docs[call] != comments[call]]
+    expect(not other, "the header says otherwise", other)
+    return f"{len(docs)} comments"
+
+
+def words(comment):
+    """The words of a comment, without its marks, and without the backticks of calls."""
+    return [word for word in re.sub(r"`(nizgrabul_\w+)`", r"\1", comment).split() if word not in MARKS]
 
 
 def runs_from_rust(bench):
@@ -100,4 +146,5 @@ def tests():
     yield Test("library: each growth is refused in turn", gives_all_memory_back)
     yield Test("library: the header is C++ too", fits_a_cpp_program)
     yield Test("library: exports have the prefix", exports_are_the_headers)
+    yield Test("library: the header has the docs' words", comments_are_the_crates)
     yield Test("library: a safe wrapper in Rust", runs_from_rust)

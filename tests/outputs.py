@@ -6,11 +6,17 @@ from claims import expect
 AMOUNTS = ("reserved", "committed", "used", "live", "free blocks", "waste")
 USAGES = (b"Usage", b"Class usage", b"Usage of both")
 SETTINGS = ("policy", "granule", "max granules", "nodes", "class nodes", "workers")
+KINDS = ("boot", "standard", "hidden", "reflection")
+SUMS = ("chunks", "capacity", "fronts", "used", "live", "free blocks", "waste")
 REFUSALS = ("LoaderExists", "IdsUsedUp", "NoLoader", "BlockExists", "ZeroWords", "TooLarge", "OutOfMemory", "ReserveLimit",
             "CommitLimit", "NoBlock", "OutOfRange")
+KEY = (b"  - free, not committed", b"  . free, committed", b"  u lent, not committed", b"  o lent in part, committed",
+       b"  O lent as a whole, committed")
+PLACES = 64
 LABELS = ("loaders", "nodes", "reserved", "granules", "committed", "chunks", "capacity", "fronts", "used", "live",
           "free blocks", "waste")
 NODE_WORDS = 1048576
+PEAKS = ("granules", "nodes", "used", "loaders")
 
 
 class Answer(NamedTuple):
@@ -31,13 +37,18 @@ class Space(NamedTuple):
 class Report(NamedTuple):
     """A report: its spaces, the class space second where there is one, and the loaders' rows. Of a full report the settings
     by their labels, the usages, of which each has an amount's words, size and share by its label, of the space, the class space
-    and both, and how many lines were refused, by name."""
+    and both, the sums of each kind, the number of its loaders first, those of each loader, as its name, kind, space and sums,
+    how many lines were refused, by name, the peaks by theirs, and the places of each root by its number."""
 
     spaces: list
     loaders: list
     settings: dict
     usages: list
+    kinds: dict
+    holdings: list
     refusals: dict
+    peaks: dict
+    maps: dict
 
 
 def answers_of(output):
@@ -89,7 +100,7 @@ def settings_of(lines):
 def usages_of(lines):
     """Reads the usages of a full report."""
     usages = []
-    while lines and lines[0] != b"Refused":
+    while lines and lines[0] != b"Kinds":
         expect(lines.pop(0) == USAGES[len(usages)], "a usage has another title")
         expect(lines.pop(0).split() == [b"words", b"size", b"per", b"cent"], "a usage has other headings")
         usages.append({})
@@ -100,14 +111,66 @@ def usages_of(lines):
     return usages
 
 
+def expect_title(lines, title, words):
+    """Takes a table's title and its headings off."""
+    expect(lines.pop(0) == title, "no line", title)
+    expect(lines.pop(0).decode().split() == [*words, *" ".join(SUMS).split()], "other headings of", title)
+
+
+def kinds_of(lines):
+    """Reads the sums of each kind, of a full report."""
+    if not lines:
+        return {}
+    expect_title(lines, b"Kinds", ("kind", "loaders"))
+    rows = [lines.pop(0).decode().split() for _ in KINDS]
+    expect(tuple(kind for kind, *_ in rows) == KINDS, "the kinds are", rows)
+    return {kind: list(map(int, sums)) for kind, *sums in rows}
+
+
+def holdings_of(lines):
+    """Reads what each loader holds in each space, of a full report."""
+    if not lines:
+        return []
+    expect_title(lines, b"Loaders by space", ("name", "kind", "space"))
+    rows = []
+    while lines and lines[0] != b"Refused":
+        rows.append(lines.pop(0).decode().split())
+    return [(int(name), kind, space, *map(int, sums)) for name, kind, space, *sums in rows]
+
+
 def refusals_of(lines):
     """Reads how many lines were refused, of a full report."""
     if not lines:
         return {}
     expect(lines.pop(0) == b"Refused", "no line Refused")
-    refusals = number_lines(lines, REFUSALS)
-    expect(not lines, "a report has more lines", lines)
-    return refusals
+    return number_lines(lines, REFUSALS)
+
+
+def peaks_of(lines):
+    """Reads the most of each thing that the run had at once so far, of a full report."""
+    if not lines:
+        return {}
+    expect(lines.pop(0) == b"Peaks", "no line Peaks")
+    expect(lines.pop(0).decode().split() == ["number", "size"], "other headings of Peaks")
+    rows = [lines.pop(0).decode().split() for _ in PEAKS]
+    expect(tuple(row[0] for row in rows) == PEAKS, "other peaks", rows)
+    return {row[0]: int(row[1]) for row in rows}
+
+
+def maps_of(lines):
+    """Reads the places of each root by its number, of a full report."""
+    if not lines:
+        return {}
+    expect(lines.pop(0) == b"Map", "no line Map")
+    expect(lines.pop(0).decode().split() == "slot root places of 8192 words".split(), "other headings of Map")
+    maps = {}
+    while len(lines) > len(KEY):
+        slot, root, places = lines.pop(0).decode().split()
+        expect(int(slot) == int(root) // 2 and len(places) == PLACES, "the map of a root is", slot, root, places)
+        expect(int(root) > max(maps, default=-1), "roots don't rise", root, list(maps))
+        maps[int(root)] = places
+    expect(tuple(lines) == KEY, "another key of Map", lines)
+    return maps
 
 
 def report_of(lines):
@@ -124,7 +187,8 @@ def report_of(lines):
     while lines and lines[0] != b"Settings":
         rows.append(lines.pop(0).decode().split())
     loaders = [(int(name), kind, *map(int, rest)) for name, kind, *rest in rows]
-    return Report(spaces, loaders, settings_of(lines), usages_of(lines), refusals_of(lines))
+    return Report(spaces, loaders, settings_of(lines), usages_of(lines), kinds_of(lines), holdings_of(lines),
+                  refusals_of(lines), peaks_of(lines), maps_of(lines))
 
 
 def reports_of(answers):
@@ -149,6 +213,21 @@ def expect_sums(report, granule=8192):
     for place, label in ((2, "chunks"), (3, "capacity"), (4, "used"), (5, "live")):
         whole = sum(space.numbers[label] for space in report.spaces)
         expect(whole == sum(row[place] for row in report.loaders), f"the loaders' {label} don't add up", report)
+
+
+def expect_details(report):
+    """Fails the test where the sums of kinds and loaders of a full report don't make those of the spaces."""
+    for place, space in enumerate(report.spaces):
+        word = ("non-class", "class")[place]
+        rows = [row for row in report.holdings if row[2] == word]
+        expect([row[0] for row in rows] == sorted(row[0] for row in rows), "the loaders don't rise", rows)
+        for at, label in enumerate(SUMS, 3):
+            expect(space.numbers[label] == sum(row[at] for row in rows), "the loaders'", label, "of", word, "don't add up", report)
+    for at, label in enumerate(SUMS, 1):
+        whole = sum(space.numbers[label] for space in report.spaces)
+        expect(whole == sum(sums[at] for sums in report.kinds.values()), "the kinds'", label, "don't add up", report)
+    for kind, sums in report.kinds.items():
+        expect(sums[0] == sum(row[1] == kind for row in report.loaders), "the loaders of kind", kind, "are", report)
 
 
 def expect_refusals(answers):

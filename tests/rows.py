@@ -4,7 +4,9 @@ In a file of rows/ a line without indent is a test's name; the indented lines be
 Two spaces or more stand before the answer. Behind `report` stand the numbers that the report must have, by their
 labels, with `class` before those of the class space; or, where it is a full one, settings, as `setting nodes 64`, and
 amounts of a usage, each with its words, size and share: `usage used 10 0.0 KB 0.1`, with `class` or `both` before it,
-and refused lines, as `refused NoBlock 2`.
+and refused lines, as `refused NoBlock 2`; peaks, as `peak used 10`; the sums of a kind, its loaders first, as `kind hidden 1 1 128 128 10 10 0 0`,
+of what a loader holds in a space, `holding 7 class 1 128 128 10 10 0 0`, or `holding 7 class none`; and the places of a
+root, as letters with how many of them stand in a row, `root 128 O1 u15 o1 -47`, or `root 0 none`.
 A line `with ..` has options, and `#` begins a remark. Where the options ask for workers, the answers are the same for
 each number of them.
 """
@@ -12,7 +14,7 @@ import os
 import re
 
 from claims import Test, expect, expect_ended
-from outputs import answers_of, expect_refusals, expect_sums, report_of
+from outputs import answers_of, expect_details, expect_refusals, expect_sums, report_of
 from workbench import FOLDER
 
 ROWS = os.path.join(FOLDER, "rows")
@@ -46,6 +48,22 @@ def expect_numbers(report, told):
             _, name, wanted = fact.split()
             expect(report.refusals.get(name) == int(wanted), fact, "is", report.refusals)
             continue
+        if fact.startswith("peak "):
+            _, label, wanted = fact.split()
+            expect(report.peaks.get(label) == int(wanted), fact, "is", report.peaks)
+            continue
+        if fact.startswith("kind "):
+            _, kind, *wanted = fact.split()
+            expect(report.kinds.get(kind) == list(map(int, wanted)), fact, "is", report.kinds)
+            continue
+        if fact.startswith("holding "):
+            expect_holding(report, fact)
+            continue
+        if fact.startswith("root "):
+            _, root, *wanted = fact.split()
+            places = "".join(run[0] * int(run[1:]) for run in wanted if run != "none")
+            expect(report.maps.get(int(root), "") == places, fact, "is", report.maps)
+            continue
         if "usage " in fact:
             expect_amount(report, fact)
             continue
@@ -54,6 +72,13 @@ def expect_numbers(report, told):
         numbers = report.spaces[1 if of_class else 0].numbers
         found = numbers[label.removeprefix("class ")]
         expect(found == int(number), label, "is", found, "and not", number)
+
+
+def expect_holding(report, fact):
+    """Fails the test where a full report doesn't tell what a loader holds in a space, or tells it of one that holds nothing."""
+    _, name, space, *wanted = fact.split()
+    found = [list(row[3:]) for row in report.holdings if (row[0], row[2]) == (int(name), space)]
+    expect(found == ([] if wanted == ["none"] else [list(map(int, wanted))]), fact, "is", found)
 
 
 def expect_setting(report, fact):
@@ -97,6 +122,8 @@ def run_is_answered_so(bench, options, rows):
         if is_report:
             report = report_of(answer.report)
             expect_sums(report, granule)
+            if report.kinds:
+                expect_details(report)
             expect_numbers(report, wanted)
 
 

@@ -47,11 +47,15 @@ static int run(nizgrabul_handle *handle) {
         for (uint32_t block = 0; block < 6; block++) {
             nizgrabul_limit_counts before = {0}, after = {0};
             uint64_t words = 1 + 700 * block;
+            nizgrabul_run ran = {0};
             nizgrabul_counts(handle, &before);
-            uint32_t got = (block % 2 ? nizgrabul_calloc : nizgrabul_alloc)(handle, loader, block, words).status;
+            uint32_t got = block < 2   ? nizgrabul_alloc(handle, loader, block, words).status
+                           : block < 4 ? nizgrabul_calloc_with_run(handle, loader, block, words, &ran).status
+                                       : nizgrabul_alloc_with_run(handle, loader, block, words, &ran).status;
             uint32_t otherwise = made ? NIZGRABUL_NO_SYSTEM : status ? NIZGRABUL_NO_LOADER : NIZGRABUL_DONE;
             nizgrabul_counts(handle, &after);
-            if (!wants(got, otherwise) || (got && after.granules != before.granules)) return 3;
+            if (!wants(got, otherwise) || (got && (after.granules != before.granules || ran.granules))) return 3;
+            if (block > 1 && after.granules != before.granules + ran.came) return 6;
         }
     }
     uint32_t told = nizgrabul_totals(handle, &sums);

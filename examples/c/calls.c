@@ -8,6 +8,11 @@ static void tell(const char *what, nizgrabul_answer a) {
     printf("%s: %" PRIu32 " %" PRIu64 " %" PRIu64 " %" PRIu64 "\n", what, a.status, a.value, a.limit, a.need);
 }
 
+static void tell_run(const char *what, nizgrabul_answer a, const nizgrabul_run *run) {
+    tell(what, a);
+    printf("  granules %" PRIu64 " from %" PRIu64 ", %" PRIu64 " came\n", run->granules, run->first, run->came);
+}
+
 static void tell_sums(const char *what, const nizgrabul_sums *s) {
     printf("%s: nodes %" PRIu64 ", granules %" PRIu64 ", chunks %" PRIu64 ", capacity %" PRIu64 ", used %" PRIu64
            ", live %" PRIu64 ", free blocks %" PRIu64 ", waste %" PRIu64 "\n", what, s->nodes, s->granules, s->chunks,
@@ -34,7 +39,9 @@ int main(void) {
     nizgrabul_sums_of_all sums = {0};
     nizgrabul_limit_counts counts = {0};
     nizgrabul_sums_of_loader loader = {0};
+    nizgrabul_run run = {.first = 7, .granules = 8, .came = 9};
     bool bits[3];
+    printf("the header's version: %d\n", nizgrabul_version() == NIZGRABUL_VERSION);
     tell("100 words with no system", nizgrabul_alloc(&handle, 1, 1, 100));
     printf("65 nodes: %" PRIu32 "\n", nizgrabul_new(&wrong, &handle));
     printf("a system: %" PRIu32 "\n", nizgrabul_new(&options, &handle));
@@ -80,8 +87,17 @@ int main(void) {
     tell("holder of word 4100", nizgrabul_holder(&handle, 4100));
     tell("purge", nizgrabul_purge(&handle));
     tell_counts(&handle, &counts);
+    tell("loader 3", nizgrabul_new_loader(&handle, 3, NIZGRABUL_HIDDEN));
+    tell_run("20000 words", nizgrabul_alloc_with_run(&handle, 3, 1, 20000, &run), &run);
+    tell_run("10000 words", nizgrabul_alloc_with_run(&handle, 3, 1, 10000, &run), &run);
+    tell_run("10 words of the class space", nizgrabul_calloc_with_run(&handle, 3, 2, 10, &run), &run);
+    tell_run("10 words", nizgrabul_alloc_with_run(&handle, 3, 2, 10, &run), &run);
+    tell("unload", nizgrabul_unload(&handle, 3));
+    tell("loader 3", nizgrabul_new_loader(&handle, 3, NIZGRABUL_HIDDEN));
+    tell_run("10 words of the class space", nizgrabul_calloc_with_run(&handle, 3, 2, 10, &run), &run);
     nizgrabul_delete(&handle);
     nizgrabul_delete(&handle);
+    tell_run("with no system", nizgrabul_calloc_with_run(&handle, 3, 2, 10, &run), &run);
     printf("ends empty: %d\n", !handle.live);
     return 0;
 }

@@ -1,17 +1,45 @@
 /* Nizgrabul, a metaspace whose accounts are proved, for C and C++.
  *
- * The library says which words a block gets, which granules of 8192 words (2048 under the policy
- * aggressive) are committed, and who holds what. It touches no memory but its own: a program reserves
- * one range of addresses, maps word n to base + 8 * n, and after each call commits and gives back what
- * the library says. A word is 8 bytes. A node is 1048576 words; nodes 0 to 63 lie outside the class
- * space, and nodes 64 and up are the class space's. Each call's contract is proved, and stands with its
- * clauses in crates/ms_c/src.
+ * An allocator of words for class metadata: loaders come and go, each allocates blocks, and what a loader
+ * had goes at once when it is unloaded. The library says which words a block gets, which granules are
+ * committed, and who holds what. It touches no memory but its own: a program reserves one range of
+ * addresses, maps word n to base + 8 * n, and commits and gives back what the library says. Each call's
+ * contract is proved, and stands with its clauses in crates/ms_c/src.
  *
- * To link: libms_c.a, then the toolchain's liblibc_c.a, and the C library.
+ *     nizgrabul_handle handle = {0};
+ *     nizgrabul_options options = {0};
+ *     options.nodes = 4; options.class_nodes = 1; options.max_granules = 64;
+ *     if (nizgrabul_new(&options, &handle) != NIZGRABUL_DONE) return 1;
+ *     nizgrabul_new_loader(&handle, 1, NIZGRABUL_STANDARD);
+ *     nizgrabul_run run = {0};
+ *     nizgrabul_answer block = nizgrabul_alloc_with_run(&handle, 1, 7, 4000, &run);
+ *     if (block.status == NIZGRABUL_DONE) {
+ *         ..                              commit run.granules granules from granule run.first on;
+ *         ..                              block 7 of loader 1 has its 4000 words from base + 8 * block.value on
+ *     }
+ *     nizgrabul_unload(&handle, 1);
+ *     ..                                  give back the granules that nizgrabul_granules tells no more
+ *     nizgrabul_delete(&handle);
+ *
+ * Units. A word is 8 bytes. Words are numbered from 0, and so are granules and nodes, each from its first
+ * word on: granule k begins at word k * 8192 (k * 2048 under the policy aggressive), node n at word
+ * n * 1048576. Nodes outside the class space have the numbers from 0 on, below the option `nodes`; those of
+ * the class space have the numbers from 64 on. So a program reserves 64 + class_nodes times 8 MB of
+ * addresses, or just nodes times 8 MB where class_nodes is 0.
+ *
+ * What is committed. Granules become committed by allocations alone: nizgrabul_alloc_with_run and
+ * nizgrabul_calloc_with_run tell which. They cease to be by unload, purge and delete alone: a program
+ * compares what nizgrabul_granules tells then with what was committed before. What words hold is the
+ * program's own matter: those of a freed block may go to the loader's next block as they are.
+ *
+ * To build, with the toolchain's command rt on the PATH, at the top of the repository:
+ *
+ *     (cd crates/ms_c && rt lib)
+ *     cc -Iexamples/c program.c crates/ms_c/out/libms_c.a "$(dirname "$(rt doc)")/c/liblibc_c.a"
  *
  * What a program owes, since nothing checks it:
  * - A handle is filled with zeros before its first use. After that only these calls read or write it; it
- *   may be moved, but of a handle and its copy only one is used again.
+ *   may be moved, but of a handle and its copy only one is used again. It is deleted, or its memory is lost.
  * - One call at a time has a handle. Between calls it may move to another thread, under a lock of the
  *   program's own. Two handles serve two threads at once.
  * - Pointers are not null, are aligned, and lead to room for their type that nobody else touches during
@@ -22,7 +50,8 @@
 #ifndef NIZGRABUL_H
 #define NIZGRABUL_H
 
-#define NIZGRABUL_VERSION 3
+/* It rises where a call or a struct changes; nizgrabul_version tells that of the library. */
+#define NIZGRABUL_VERSION 4
 
 #include <stdbool.h>
 #include <stddef.h>
@@ -32,8 +61,9 @@
 extern "C" {
 #endif
 
-/* What a call came to. A refusal changes nothing, but that NIZGRABUL_OUT_OF_MEMORY for a new loader may
- * use two owner numbers up. */
+/* What a call came to: the status that it answers, or that of its answer. All but DONE change nothing, but
+ * that NIZGRABUL_OUT_OF_MEMORY for a new loader may use two owner numbers up. The comments below name a
+ * status without its prefix. */
 enum nizgrabul_status {
     NIZGRABUL_DONE = 0,           /* served */
     NIZGRABUL_OUT_OF_MEMORY = 1,  /* the C library's allocator refused */
@@ -42,27 +72,34 @@ enum nizgrabul_status {
     NIZGRABUL_COMMIT_LIMIT = 4,   /* value granules of limit are committed, and need more are needed */
     NIZGRABUL_RESERVE_LIMIT = 5,  /* value nodes of limit are reserved, and none has room */
     NIZGRABUL_NOT_LIVE = 6,       /* the loader has no live block there with so many words */
-    NIZGRABUL_OUT_OF_RANGE = 7,
+    NIZGRABUL_OUT_OF_RANGE = 7,   /* no call here answers it */
     NIZGRABUL_NO_LOADER = 8,      /* no loader has the number */
     NIZGRABUL_LOADER_EXISTS = 9,  /* a loader has the number already */
     NIZGRABUL_NO_BLOCK = 10,      /* the loader has no live block of the number */
     NIZGRABUL_BLOCK_EXISTS = 11,  /* the loader has a live block of the number already */
-    NIZGRABUL_IDS_USED_UP = 12,   /* fewer than two owner numbers are left */
-    NIZGRABUL_UNSETTLED = 13,
-    NIZGRABUL_NO_ROOM = 14,
+    NIZGRABUL_IDS_USED_UP = 12,   /* of 4294967295 owner numbers, two for each loader made, fewer are left */
+    NIZGRABUL_UNSETTLED = 13,     /* no call here answers it */
+    NIZGRABUL_NO_ROOM = 14,       /* no call here answers it */
     NIZGRABUL_NO_SYSTEM = 20,     /* the handle has no system */
     NIZGRABUL_IN_USE = 21,        /* the handle has a system already */
     NIZGRABUL_BAD_SETTINGS = 22,  /* an option is out of its range */
     NIZGRABUL_BAD_KIND = 23       /* no kind of loader has the number */
 };
 
-/* Kinds of loaders: how large their chunks are. */
+/* Kinds of loaders: how large the chunks are that they get, unless a block needs a larger one. */
 enum nizgrabul_kind {
-    NIZGRABUL_STANDARD = 0, NIZGRABUL_BOOT = 1, NIZGRABUL_REFLECTION = 2, NIZGRABUL_HIDDEN = 3
+    NIZGRABUL_STANDARD = 0,   /* 512 words at first outside the class space, 2048 in the end */
+    NIZGRABUL_BOOT = 1,       /* 524288, then 131072 */
+    NIZGRABUL_REFLECTION = 2, /* 256, then 128 */
+    NIZGRABUL_HIDDEN = 3      /* 128 */
 };
 
 /* Policies: what becomes of memory that is given back. */
-enum nizgrabul_policy { NIZGRABUL_BALANCED = 0, NIZGRABUL_AGGRESSIVE = 1, NIZGRABUL_NONE = 2 };
+enum nizgrabul_policy {
+    NIZGRABUL_BALANCED = 0,   /* granules of 64 KB; what no chunk needs is committed no more */
+    NIZGRABUL_AGGRESSIVE = 1, /* the same with granules of 16 KB */
+    NIZGRABUL_NONE = 2        /* granules of 64 KB, a chunk's all at once; they stay until their node is given back */
+};
 
 /* A system, or none. Filled with zeros before its first use, and then the library's alone. */
 typedef struct nizgrabul_handle {
@@ -70,25 +107,31 @@ typedef struct nizgrabul_handle {
     bool live;
 } nizgrabul_handle;
 
-/* The settings of a system: nodes of 8 MB that may be reserved, 1 to 64, and those of the class space
- * besides, 0 to 16; granules that may be committed, 1 to 40960; the policy. */
+/* The settings of a system. */
 typedef struct nizgrabul_options {
-    uint32_t nodes;
-    uint32_t class_nodes;
-    uint64_t max_granules;
-    uint32_t policy;
+    uint32_t nodes;        /* nodes outside the class space that may be reserved at once, 1 to 64 */
+    uint32_t class_nodes;  /* nodes of the class space, which are reserved from the start, 0 to 16 */
+    uint64_t max_granules; /* granules that may be committed at once, in both spaces, 1 to 40960 */
+    uint32_t policy;       /* one of enum nizgrabul_policy */
 } nizgrabul_options;
 
 /* A status and its numbers. `value` is the word where a block starts, or how many nodes were given back;
  * of a refusal, what its status names. The numbers that a status does not name are 0. */
 typedef struct nizgrabul_answer {
-    uint32_t status;
+    uint32_t status; /* one of enum nizgrabul_status */
     uint64_t value;
     uint64_t limit;
     uint64_t need;
 } nizgrabul_answer;
 
-/* The sums over one space; used = live + free_blocks + waste. */
+/* A run of granules; none where nothing became committed. */
+typedef struct nizgrabul_run {
+    uint64_t first;    /* the number of the first one */
+    uint64_t granules; /* how many they are */
+    uint64_t came;     /* how many of them became committed; fewer than all only under the policy none */
+} nizgrabul_run;
+
+/* The sums over one space, in words where nothing else is said; used = live + free_blocks + waste. */
 typedef struct nizgrabul_sums {
     uint64_t nodes;       /* reserved nodes */
     uint64_t reserved;    /* their words */
@@ -101,15 +144,15 @@ typedef struct nizgrabul_sums {
     uint64_t live;        /* words of live blocks */
     uint64_t free_blocks; /* words of free blocks */
     uint64_t waste;       /* words in use that are in no block */
-    uint32_t held[13];    /* chunks that are lent, by level: 524288 words at 0, 128 at 12 */
+    uint32_t held[13];    /* chunks that are lent, by level: of 524288 words at 0, of 128 at 12, halves between */
     uint32_t free[13];    /* parts that are free, by level */
 } nizgrabul_sums;
 
 /* All sums over a system. */
 typedef struct nizgrabul_sums_of_all {
-    uint64_t loaders;
+    uint64_t loaders;           /* how many there are */
     nizgrabul_sums space;       /* outside the class space */
-    nizgrabul_sums class_space;
+    nizgrabul_sums class_space; /* in the class space */
 } nizgrabul_sums_of_all;
 
 /* What is committed and reserved, beside what may be. */
@@ -135,38 +178,60 @@ typedef struct nizgrabul_arena_sums {
 
 /* The kind of one loader, by its number, and its sums. */
 typedef struct nizgrabul_sums_of_loader {
-    uint64_t kind;
+    uint64_t kind;                    /* one of enum nizgrabul_kind */
     nizgrabul_arena_sums space;       /* outside the class space */
-    nizgrabul_arena_sums class_space;
+    nizgrabul_arena_sums class_space; /* in the class space */
 } nizgrabul_sums_of_loader;
 
+/* Tells the library's version, for a program to compare with the NIZGRABUL_VERSION of its header. Takes
+ * no memory. */
+uint32_t nizgrabul_version(void);
+
 /* Makes a system with no loader in an empty handle, under the settings that the options name. Answers
- * DONE, IN_USE where the handle has a system already, BAD_SETTINGS where an option is out of its
- * range, or OUT_OF_MEMORY; all but DONE leave the handle as it was. Takes memory. */
+ * DONE, IN_USE where the handle has a system already, BAD_SETTINGS where an option is out of its range,
+ * or OUT_OF_MEMORY; all but DONE leave the handle as it was. Takes memory. */
 uint32_t nizgrabul_new(const nizgrabul_options *options, nizgrabul_handle *out);
 
-/* Ends the handle's system, if there is one, and gives all its memory back; the handle is empty then,
- * and may be used anew. Takes no memory. */
+/* Ends the handle's system, if there is one, and gives all its memory back; the handle is empty then, and
+ * may be used anew. Takes no memory. */
 void nizgrabul_delete(nizgrabul_handle *handle);
 
-/* Makes a loader with nothing of its own. The kind is 0 standard, 1 boot, 2 reflection or 3 hidden;
- * BAD_KIND answers any other. Refused with LOADER_EXISTS, IDS_USED_UP and OUT_OF_MEMORY. Takes memory. */
+/* Makes a loader with nothing of its own, under a number that no loader has. The kind is 0 standard, 1
+ * boot, 2 reflection or 3 hidden; BAD_KIND answers any other. Refused with LOADER_EXISTS, IDS_USED_UP and
+ * OUT_OF_MEMORY. Takes memory. */
 nizgrabul_answer nizgrabul_new_loader(nizgrabul_handle *handle, uint16_t loader, uint32_t kind);
 
-/* Unloads a loader: all its blocks and chunks go with it, and its name may be used anew. Refused with
- * NO_LOADER alone. Takes no memory. */
+/* Unloads a loader: all its blocks and chunks go with it, and its number may be used anew. Under the
+ * policies balanced and aggressive just the granules stay committed that a chunk of another loader still
+ * needs; under none all stay. Refused with NO_LOADER alone. Takes no memory. */
 nizgrabul_answer nizgrabul_unload(nizgrabul_handle *handle, uint16_t loader);
 
 /* Allocates a block of so many words, 1 to 524288, outside the class space, under a number that the
- * loader has no block of; `value` is the word where it starts. All its words lie in committed granules,
- * and no other block of any loader overlaps it. Takes memory. */
+ * loader has no block of; `value` is the word where it starts. One word makes a block of two. All its
+ * words lie in committed granules, and no other block of any loader overlaps it. Refused, in this order,
+ * with NO_LOADER, BLOCK_EXISTS, ZERO_WORDS, TOO_LARGE, and with RESERVE_LIMIT, COMMIT_LIMIT or
+ * OUT_OF_MEMORY. Takes memory. */
 nizgrabul_answer nizgrabul_alloc(nizgrabul_handle *handle, uint16_t loader, uint32_t block, uint64_t words);
 
-/* Allocates a block in the class space, as nizgrabul_alloc does. Takes memory. */
+/* Allocates a block in the class space, as nizgrabul_alloc does; a loader's blocks of both spaces share
+ * their numbers. Takes memory. */
 nizgrabul_answer nizgrabul_calloc(nizgrabul_handle *handle, uint16_t loader, uint32_t block, uint64_t words);
 
-/* Frees a block, whose words become a free block of its loader; its number may be used anew. Refused
- * with NO_LOADER, and with NO_BLOCK where the loader has no live block of the number. Takes no memory. */
+/* Allocates a block as nizgrabul_alloc does, and tells in `out` the run of granules that it committed:
+ * each that became committed lies in it, and each of it is committed now; none has gone. Under the
+ * policies balanced and aggressive all of the run became committed; under none some of it may have been
+ * before. All but DONE leave `out` as it was. Takes memory. */
+nizgrabul_answer nizgrabul_alloc_with_run(nizgrabul_handle *handle, uint16_t loader, uint32_t block,
+                                          uint64_t words, nizgrabul_run *out);
+
+/* Allocates a block in the class space, and tells the run of granules that it committed, as
+ * nizgrabul_alloc_with_run does. Takes memory. */
+nizgrabul_answer nizgrabul_calloc_with_run(nizgrabul_handle *handle, uint16_t loader, uint32_t block,
+                                           uint64_t words, nizgrabul_run *out);
+
+/* Frees a block, whose words become a free block of its loader; its number may be used anew. No granule
+ * changes. Refused with NO_LOADER, and with NO_BLOCK where the loader has no live block of the number.
+ * Takes no memory. */
 nizgrabul_answer nizgrabul_free(nizgrabul_handle *handle, uint16_t loader, uint32_t block);
 
 /* Frees the live block of a loader that starts there and has so many words, at least two, as
@@ -175,16 +240,18 @@ nizgrabul_answer nizgrabul_free(nizgrabul_handle *handle, uint16_t loader, uint3
  * numbers until it is found. */
 nizgrabul_answer nizgrabul_free_block(nizgrabul_handle *handle, uint16_t loader, uint64_t start, uint64_t words);
 
-/* Gives back the nodes in which no chunk is held; `value` is how many they were. Those of the class
- * space stay. Takes no memory. */
+/* Gives back the nodes in which no chunk is held; `value` is how many they were. Those of the class space
+ * stay. No granule of a node that went is committed; only under the policy none one can have been. Takes
+ * no memory. */
 nizgrabul_answer nizgrabul_purge(nizgrabul_handle *handle);
 
-/* Tells how many granules are committed in both spaces and how many may be, and the same of nodes
- * outside the class space. Answers DONE, or NO_SYSTEM, which leaves `out` as it was. Takes no memory,
- * and looks at no loader and no chunk. */
+/* Tells how many granules are committed in both spaces and how many may be, and the same of nodes outside
+ * the class space. Answers DONE, or NO_SYSTEM, which leaves `out` as it was. Takes no memory, and looks
+ * at no loader and no chunk. */
 uint32_t nizgrabul_counts(nizgrabul_handle *handle, nizgrabul_limit_counts *out);
 
-/* Tells the words in use of one loader, in both spaces, and 0 where none has the name. Takes no memory. */
+/* Tells the words in use of one loader, in both spaces, and 0 where none has the number. Takes no memory.
+ */
 uint64_t nizgrabul_used_by(nizgrabul_handle *handle, uint16_t loader);
 
 /* Tells whose a word is: `value` is the number of the loader in whose chunk the word lies, in use or not.
@@ -192,21 +259,21 @@ uint64_t nizgrabul_used_by(nizgrabul_handle *handle, uint16_t loader);
  * compares a number of each loader until it is found. */
 nizgrabul_answer nizgrabul_holder(nizgrabul_handle *handle, uint64_t word);
 
-/* Tells whether a granule is committed: the words from its number times a granule's words on, which
- * are 8192, or 2048 under the policy aggressive. With no system none is. Takes no memory. */
+/* Tells whether a granule is committed: the words from its number times a granule's words on, which are
+ * 8192, or 2048 under the policy aggressive. With no system none is. Takes no memory. */
 bool nizgrabul_is_committed(nizgrabul_handle *handle, uint64_t granule);
 
-/* Tells of each granule from the first on, as many as `out` has places, whether it is committed; with
- * no system none is. So a program compares before and after in one call. Takes no memory. */
+/* Tells of each granule from the first on, as many as `out` has places, whether it is committed; with no
+ * system none is. So a program compares before and after in one call. Takes no memory. */
 void nizgrabul_granules(nizgrabul_handle *handle, uint32_t first, bool *out, size_t places);
 
 /* Tells all sums over the system. Answers DONE, NO_SYSTEM or OUT_OF_MEMORY; all but DONE leave `out` as
  * it was. Takes memory while it runs; looks at each node, loader and chunk, and at no block. */
 uint32_t nizgrabul_totals(nizgrabul_handle *handle, nizgrabul_sums_of_all *out);
 
-/* Tells the sums of one loader. Answers DONE, NO_SYSTEM, or NO_LOADER where none has the name; all but
- * DONE leave `out` as it was. Takes no memory; looks at each chunk of that loader, at no block, and at
- * no other loader. */
+/* Tells the sums of one loader. Answers DONE, NO_SYSTEM, or NO_LOADER where none has the number; all but
+ * DONE leave `out` as it was. Takes no memory; looks at each chunk of that loader, at no block, and at no
+ * other loader. */
 uint32_t nizgrabul_loader_totals(nizgrabul_handle *handle, uint16_t loader, nizgrabul_sums_of_loader *out);
 
 #ifdef __cplusplus

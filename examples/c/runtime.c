@@ -1,14 +1,15 @@
-/* A runtime's memory under the proved account: one range of addresses is reserved with no access, and
- * after each call those granules, and no others, can be touched that the library says are committed. A
- * block's words lie at base + 8 * start. At each step every granule is tried: a word of a committed one
- * can be read, and a word of any other faults. So the library's account is shown against the operating
- * system's own. */
+/* A runtime's memory under the proved account: one range of addresses is reserved with no access; after
+ * an allocation just the granules of its run become accessible, and after an unload and a purge those that
+ * went are given back. A block's words lie at base + 8 * start, and each is written and read back. At each
+ * step every granule is tried: a word of a committed one can be read, and a word of any other faults. So the
+ * library's account is shown against the operating system's own. */
 #define _DEFAULT_SOURCE
 #include <inttypes.h>
 #include <setjmp.h>
 #include <signal.h>
 #include <stdio.h>
 #include <stdlib.h>
+#include <string.h>
 #include <sys/mman.h>
 
 #include "nizgrabul.h"
@@ -28,15 +29,30 @@ static void ends(const char *what) {
     exit(1);
 }
 
-/* Makes the operating system's account the library's: commits what came, and gives back what went. */
-static void follow(void) {
+static void give_access(uint64_t granule, uint64_t granules, int access) {
+    if (granules && mprotect((void *)(base + granule * WORDS), granules * WORDS * 8, access)) ends("mprotect");
+}
+
+/* Commits the granules of a run: as many came as it says. */
+static void commit(nizgrabul_run run) {
+    uint64_t came = 0;
+    give_access(run.first, run.granules, PROT_READ | PROT_WRITE);
+    for (uint64_t granule = run.first; granule < run.first + run.granules; granule++) {
+        came += !mapped[granule];
+        mapped[granule] = true;
+    }
+    if (came != run.came) ends("another number of granules came");
+}
+
+/* Gives back the granules that are committed no more; none comes without a run. */
+static void give_back(void) {
     nizgrabul_granules(&handle, 0, wanted, GRANULES);
     for (uint64_t granule = 0; granule < GRANULES; granule++) {
         if (wanted[granule] == mapped[granule]) continue;
-        void *at = (void *)(base + granule * WORDS);
-        if (!wanted[granule] && madvise(at, WORDS * 8, MADV_DONTNEED)) ends("madvise");
-        if (mprotect(at, WORDS * 8, wanted[granule] ? PROT_READ | PROT_WRITE : PROT_NONE)) ends("mprotect");
-        mapped[granule] = wanted[granule];
+        if (wanted[granule]) ends("a granule came that no run told");
+        if (madvise((void *)(base + granule * WORDS), WORDS * 8, MADV_DONTNEED)) ends("madvise");
+        give_access(granule, 1, PROT_NONE);
+        mapped[granule] = false;
     }
 }
 
@@ -71,10 +87,11 @@ static uint64_t word_of(int loader, int block, uint64_t word) {
 
 static void allocate(int loader, int block) {
     uint64_t words = 900 * (uint64_t)block + 10;
-    nizgrabul_answer answer = block % 3 ? nizgrabul_alloc(&handle, loader, block, words)
-                                        : nizgrabul_calloc(&handle, loader, block, words);
+    nizgrabul_run run = {0};
+    nizgrabul_answer answer = block % 3 ? nizgrabul_alloc_with_run(&handle, loader, block, words, &run)
+                                        : nizgrabul_calloc_with_run(&handle, loader, block, words, &run);
     if (answer.status != NIZGRABUL_DONE) ends("a block is refused");
-    follow();
+    commit(run);
     blocks[loader][block] = (struct block){answer.value, words};
     for (uint64_t word = 0; word < words; word++) base[answer.value + word] = word_of(loader, block, word);
 }
@@ -87,29 +104,40 @@ static void read_all(int first) {
                 if (base[blocks[loader][block].start + word] != word_of(loader, block, word)) ends("another word");
 }
 
-int main(void) {
-    nizgrabul_options options = {.nodes = 4, .class_nodes = 1, .max_granules = 64, .policy = NIZGRABUL_BALANCED};
-    struct sigaction action = {.sa_handler = fault};
-    size_t bytes = (size_t)GRANULES * WORDS * 8;
-    base = mmap(NULL, bytes, PROT_NONE, MAP_PRIVATE | MAP_ANONYMOUS | MAP_NORESERVE, -1, 0);
-    if (base == MAP_FAILED || sigaction(SIGSEGV, &action, NULL)) ends("mmap");
+/* Loaders come, allocate and go under a policy. */
+static void run_under(uint32_t policy, const char *name) {
+    nizgrabul_options options = {.nodes = 4, .class_nodes = 1, .max_granules = 512, .policy = policy};
+    printf("policy %s\n", name);
     if (nizgrabul_new(&options, &handle) != NIZGRABUL_DONE) ends("no system");
     count("empty");
     for (int loader = 0; loader < LOADERS; loader++) {
         if (nizgrabul_new_loader(&handle, loader, loader % 2).status != NIZGRABUL_DONE) ends("no loader");
         for (int block = 0; block < BLOCKS; block++) allocate(loader, block);
+        count("one loader's blocks came");
     }
     read_all(0);
-    count("all blocks written and read back");
     for (int loader = 0; loader < LOADERS; loader++) {
         if (nizgrabul_unload(&handle, loader).status != NIZGRABUL_DONE) ends("not unloaded");
-        follow();
+        give_back();
         read_all(loader + 1);
         count("one loader went");
     }
     printf("nodes given back: %" PRIu64 "\n", nizgrabul_purge(&handle).value);
+    give_back();
+    count("purged");
     nizgrabul_delete(&handle);
-    follow();
+    give_back();
     count("ended");
+}
+
+int main(void) {
+    struct sigaction action;
+    size_t bytes = (size_t)GRANULES * WORDS * 8;
+    memset(&action, 0, sizeof action);
+    action.sa_handler = fault;
+    base = mmap(NULL, bytes, PROT_NONE, MAP_PRIVATE | MAP_ANONYMOUS | MAP_NORESERVE, -1, 0);
+    if (base == MAP_FAILED || sigaction(SIGSEGV, &action, NULL)) ends("mmap");
+    run_under(NIZGRABUL_BALANCED, "balanced");
+    run_under(NIZGRABUL_NONE, "none");
     return 0;
 }

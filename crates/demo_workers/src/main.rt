@@ -4,7 +4,7 @@
 #![tactic(auto)]
 
 use ms_base::{Policy, Reply, Settings};
-use ms_run::{NoGate, replay};
+use ms_run::{Detail, NoGate, replay};
 use ms_trace::parse;
 use std::io;
 
@@ -23,7 +23,7 @@ fn main(rt: HostRuntime) -> io::Result<()> {
     let Ok(trace) = parse(rt.alloc(), TRACE) else {
         return println!(rt; "the trace is not read");
     };
-    let Ok(replies) = replay(&rt, rt.alloc(), &trace, settings, &NoGate) else {
+    let Ok(replies) = replay(&rt, rt.alloc(), &trace, settings, Detail::Basic, &NoGate) else {
         return println!(rt; "memory or a thread is wanting");
     };
     for answer in &replies.answers {

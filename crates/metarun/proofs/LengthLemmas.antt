@@ -36,18 +36,28 @@ ended_without ([] ∷ []) = omega arith
 ended_without ((byte ∷ part) ∷ parts) = omega (arith, ended_without parts)
 ended_without ([] ∷ part ∷ parts) = omega (arith, ended_without (part ∷ parts))
 
+-- One line more takes its bytes and its end, of the 81 that there are for each line that is left.
+line_more : (number bytes rest : ℕ) → number ≤ 100000 → bytes ≤ 80 → rest ≤ 81 * (100001 - (number + 1))
+    → bytes + 1 + rest ≤ 81 * (100001 - number)
+line_more number bytes rest few short left = omega (arith, few, short, left)
+
+one_more : (number : ℕ) → number ≤ 100000 → number + 1 ≤ 100001
+one_more number few = omega (arith, few)
+
 -- Lines from a number on that read as a trace.
 ended_lines : (number : ℕ) (lines : List (List ℕ)) (trace : List Line) → number ≤ 100001 → ReadsFrom number lines trace
     → ended lines ≤ 81 * (100001 - number)
 ended_lines number [] trace few reads = omega arith
 ended_lines number (line ∷ lines) trace few reads =
-    omega (arith, reads.1, reads.2, ended_lines (number + 1) lines reads.0 (omega (arith, reads.1)) reads.4)
+    line_more number (length line) (ended lines) reads.1 reads.2
+    (ended_lines (number + 1) lines reads.0 (one_more number reads.1) reads.4)
+
+-- All lines are at most 100000, and the last end is not part of the text.
+short_by : (bytes all lines : ℕ) → all ≡ bytes + 1 → all ≤ lines + 1 → lines ≤ 81 * (100001 - 1) → bytes ≤ 8100000
+short_by bytes all lines parts without few = omega (arith, parts, without, few)
 
 pub reads_short : (text : List ℕ) (trace : Trace) → ReadsAs text trace → length text ≤ 8100000
 reads_short text trace reads =
-    omega (
-      arith,
-      ended_parts (λ byte. byte == 10) text,
-      ended_without (slice_split (λ byte. byte == 10) text),
-      ended_lines 1 (lines_of text) trace.lines (omega arith) reads,
-    )
+    short_by (length text) (ended (slice_split (λ byte. byte == 10) text)) (ended (lines_of text))
+    (ended_parts (λ byte. byte == 10) text) (ended_without (slice_split (λ byte. byte == 10) text))
+    (ended_lines 1 (lines_of text) trace.lines (omega arith) reads)

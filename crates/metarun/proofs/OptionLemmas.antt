@@ -13,8 +13,8 @@ use Rattle.clap.specs.Words.{Row, Text, first_of, one_of}
 use Rattle.ms_base.specs.declared.policy.Policy.{Policy}
 use Rattle.ms_base.specs.declared.policy.Policy.TheVariants.{Balanced, Aggressive, None as NonePolicy}
 use Rattle.metarun.specs.declared.options.Options.{Options}
-use Rattle.ms_report.specs.declared.detail.Detail.{Detail}
-use Rattle.ms_report.specs.declared.detail.Detail.TheVariants.{Basic, Full}
+use Rattle.ms_loaders.specs.declared.details.Detail.{Detail}
+use Rattle.ms_loaders.specs.declared.details.Detail.TheVariants.{Basic, Full}
 use Rattle.metarun.specs.Asked.{IsDefault, ReadsDetail, ReadsNumber, ReadsPolicy}
 use Rattle.metarun.specs.Session.{IsOutput}
 

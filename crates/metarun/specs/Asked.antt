@@ -4,8 +4,8 @@ use Rattle.std.specs.Fmt.{decimal}
 use Rattle.clap.specs.Words.{App, Row, Text, first_of, matches_of, one_of}
 use Rattle.ms_base.specs.declared.policy.Policy.{Policy}
 use Rattle.ms_base.specs.declared.policy.Policy.TheVariants as policy
-use Rattle.ms_report.specs.declared.detail.Detail.{Detail}
-use Rattle.ms_report.specs.declared.detail.Detail.TheVariants.{Basic, Full}
+use Rattle.ms_loaders.specs.declared.details.Detail.{Detail}
+use Rattle.ms_loaders.specs.declared.details.Detail.TheVariants.{Basic, Full}
 use Rattle.metarun.specs.CommandLine.{IsCommandLine}
 use Rattle.metarun.specs.declared.options.Options.{Options}
 use Rattle.metarun.specs.declared.options.Refused.{Refused}

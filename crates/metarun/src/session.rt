@@ -68,7 +68,7 @@ fn answer_to<T: Threads + Wait + Sync, R: Read>(
     let text = read_text(alloc, input)?;
     let trace = parse(alloc, &text)?;
     drop(text);
-    let replies = replay(rt, alloc, &trace, options.settings, &NoGate)?;
+    let replies = replay(rt, alloc, &trace, options.settings, options.detail, &NoGate)?;
     drop(trace);
     Ok(lines(
         alloc,

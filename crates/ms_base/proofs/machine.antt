@@ -8,3 +8,4 @@ pub mod BackedLemmas
 pub mod AllBlocksLemmas
 pub mod SumLemmas
 pub mod WordLemmas
+pub mod LimitLemmas

@@ -44,4 +44,5 @@ pub mod LevelLaws
 pub mod SumLaws
 pub mod BlockLaws
 pub mod WordLaws
+pub mod PeakLaws
 pub mod SpreadLaws

@@ -1,7 +1,7 @@
 -- The levels that a split keeps are those of the free leaves below it, and what a walk for a free
 -- leaf of a level skips has none.
 use Rattle.std.proofs.Common.{◌≡◌, ◌<◌, ◌≤◌, ℕ, ◌+◌, ◌^◌, Bool, true, false, cond, ◌&&◌, ◌||◌, List, [], ◌∷◌, ◌++◌, Option}
-use Rattle.std.proofs.Common.{Some, None, refl, sym, ap, ◌∙◌, inl, inr, arith, max, bit_or}
+use Rattle.std.proofs.Common.{Some, None, refl, sym, ap, subst, ◌∙◌, inl, inr, arith, max, bit_or, eqb-true}
 use Rattle.std.specs.Prelude.{◌==◌, nat_le}
 use Rattle.std.specs.Int.{bit_at}
 use Rattle.std.specs.List.{list_any, find}
@@ -20,7 +20,7 @@ use Rattle.ms_buddy.proofs.WalkLemmas.{LiesIn, all_weaker, find-none, free_lies_
 use Rattle.ms_buddy.proofs.SplitLemmas.{AtSplit}
 
 -- The bits of two numbers together.
-has_level-or : (a b level : ℕ) → has_level (bit_or a b) level ≡ (has_level a level || has_level b level)
+pub has_level-or : (a b level : ℕ) → has_level (bit_or a b) level ≡ (has_level a level || has_level b level)
 has_level-or a b level =
     ap (λ bit. bit == 1) (bit_at_or a b level)
     ∙ some (bit_at a level) (bit_at b level) (bit_at-lt a level) (bit_at-lt b level)
@@ -29,7 +29,7 @@ has_level-or a b level =
     some x y h k = grind (arith, nat_tests)
 
 -- The bit of one level.
-has_level-one : (level wanted : ℕ) → has_level (2 ^ level) wanted ≡ (level == wanted)
+pub has_level-one : (level wanted : ℕ) → has_level (2 ^ level) wanted ≡ (level == wanted)
 has_level-one level wanted = elim (cases_eq wanted level) [
   | inl same ↦ ap (λ bit. bit == 1) (ap (bit_at (2 ^ level)) same ∙ bit_at-pow_same level) ∙ grind (arith, nat_tests)
   | inr other ↦ ap (λ bit. bit == 1) (bit_at-pow_other level wanted other) ∙ grind (arith, nat_tests)
@@ -187,3 +187,35 @@ none_left level start levels node tree e none =
     no_part (free_in level start node)
     (λ wanted. sym (levels_are_those level start wanted node tree) ∙ ap (λ bits. has_level bits wanted) (e ∙ none)
     ∙ ap (λ bit. bit == 1) (bit_at-zero wanted))
+
+-- A leaf of a level that a split's bits tell of, and the lower half's don't, is in the upper half.
+pub upper_has : {A : Type 0} (level wanted levels : ℕ) (p : _) (lower : Node A) (q : _) (upper node next : Node A)
+    → node ≡ Split' levels p lower q upper → IsTree level node → next ≡ upper
+    → has_level (levels_of level node) wanted ≡ true → has_level (levels_of (level + 1) lower) wanted ≡ false
+    → has_level (levels_of (level + 1) next) wanted ≡ true
+upper_has level wanted levels p lower q upper node next is tree read some none =
+    ap (λ (n : Node _). has_level (levels_of (level + 1) n) wanted) read
+    ∙ other (has_level (levels_of (level + 1) lower) wanted) (has_level (levels_of (level + 1) upper) wanted)
+    (sym (has_level-or (levels_of (level + 1) lower) (levels_of (level + 1) upper) wanted)
+    ∙ ap (λ bits. has_level bits wanted) (sym (subst (λ (n : Node _). IsTree level n) is tree).4)
+    ∙ ap (λ (n : Node _). has_level (levels_of level n) wanted) (sym is) ∙ some) none
+  where
+    other : (a b : Bool) → (a || b) ≡ true → a ≡ false → b ≡ true
+    other true b e f = absurd (cc)
+    other false b e f = e
+
+-- A free node has the one level that its bits tell of, and a lent one has none.
+pub level_of_leaf : (level wanted : ℕ) → has_level (2 ^ level) wanted ≡ true → level ≡ wanted
+level_of_leaf level wanted e = eqb-true level wanted (sym (has_level-one level wanted) ∙ e)
+
+pub none_has : (wanted : ℕ) → has_level 0 wanted ≡ true → ⊥
+none_has wanted e = absurd (cc (ap (λ bit. bit == 1) (bit_at-zero wanted), e))
+
+pub lone_found : (level start wanted : ℕ) → level ≡ wanted
+    → Some (record { start = start; level = wanted })
+    ≡ find (is_of_from wanted 0) (record { start = start; level = level } ∷ [])
+lone_found level start wanted e =
+    sym (rw e (ap (λ b. cond b (Some (record { start = start; level = wanted })) None) (itself wanted start)))
+  where
+    itself : (a b : ℕ) → ((a == a) && nat_le 0 b) ≡ true
+    itself a b = grind (arith, nat_tests)

@@ -7,3 +7,5 @@ pub mod EnlargeLemmas
 pub mod StackLemmas
 pub mod KeptTreeLemmas
 pub mod LeafLevelLemmas
+pub mod CountLemmas
+pub mod TreeCountLemmas

@@ -1,6 +1,6 @@
 -- Halves of a part: their sizes and places. For the walks down a node.
 use Rattle.std.proofs.Common.{◌≡◌, ◌<◌, ℕ, ◌+◌, ◌-◌, ◌*◌, ◌/◌, ◌%◌, ◌^◌, sym, ap, subst, ◌∙◌, arith}
-use Rattle.std.proofs.lemmas.Nat.{pow-add, div-add-mod', pow_pos}
+use Rattle.std.proofs.lemmas.Nat.{pow-add, div-add-mod', pow_pos, shl-shr}
 use Rattle.std.proofs.Math.Nat.{mul-mod_left, add-mod_right}
 use Rattle.ms_base.specs.Level.{size_of}
 use Rattle.ms_buddy.specs.Tree.{IsPlace}
@@ -19,6 +19,16 @@ size_of-halves level h =
 
     twice : (n : ℕ) → 2 ^ 1 * n ≡ n + n
     twice n = omega arith
+
+-- The words of a root, shifted by a level, are those of the level.
+pub root_shifted : (level : ℕ) → level < 12 → 524288 / 2 ^ (level + 1) ≡ size_of (level + 1)
+root_shifted level h = ap (λ (n : ℕ). n / 2 ^ (level + 1)) whole ∙ shl-shr (2 ^ (19 - (level + 1))) (level + 1)
+  where
+    parts : 19 ≡ (19 - (level + 1)) + (level + 1)
+    parts = omega arith
+
+    whole : 524288 ≡ 2 ^ (19 - (level + 1)) * 2 ^ (level + 1)
+    whole = ap (λ (n : ℕ). 2 ^ n) parts ∙ pow-add 2 (19 - (level + 1)) (level + 1)
 
 -- A multiple of twice a number is one of the number.
 pub halves_divide : (a h : ℕ) → a % (h + h) ≡ 0 → a % h ≡ 0

@@ -3,3 +3,4 @@ pub mod Tree
 pub mod Walk
 pub mod Laws
 pub mod Carving
+pub mod Counts

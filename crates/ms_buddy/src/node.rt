@@ -3,9 +3,13 @@
 //! A node does not know where it is, so each function is told its level and where it starts, in
 //! words of the root. Each goes down one path: to the half where the leaf, the part or the offset
 //! lies. What is kept true of a node is `IsTree` in `specs/Tree.antt`: `levels_of_halves` tells the
-//! bits that a split keeps, and each change of a half asks it on the way up. Boxes are made by
-//! `with_lent` alone, and given back as halves merge.
-ghost use Rattle.std.specs.Prelude.{◌≡◌, ℕ, ◌+◌, ◌*◌, ◌<◌, ◌≤◌, ◌&&◌, ◌↔◌, bit_or, false, [], ◌∷◌, Some, IsTrue};
+//! bits that a split keeps, and each change of a half asks it on the way up.
+//!
+//! Boxes are made by `boxed` alone. Halves that merge leave theirs as spares for the next split: a
+//! chain of nodes, in which each is a split with a pair of boxes, and the second holds the rest.
+//! The number beside a pair tells how many pairs there are from it on, 12 at most, as many as one
+//! carve takes. No clause says what a spare node holds, and nothing rests on it.
+ghost use Rattle.std.specs.Prelude.{◌≡◌, ℕ, ◌+◌, ◌*◌, ◌<◌, ◌≤◌, ◌&&◌, ◌↔◌, bit_or, true, false, [], ◌∷◌, Some, IsTrue};
 ghost use Rattle.std.specs.Prelude.{IsFalse, IfSome, OnSome, IfNone, IsOk, IfOk, OnOk, IfErr, OnErr};
 ghost use Rattle.std.specs.List.{find};
 ghost use Rattle.ms_base.specs.declared.sizes.TheConstants.{ROOT_WORDS};
@@ -13,12 +17,14 @@ ghost use Rattle.ms_base.specs.Level.{size_of};
 ghost use Rattle.ms_buddy.specs.Leaves.{CarveAnswers, EnlargeAnswers, IsLeafAt, covers, has_level, is_lent, is_of_from};
 ghost use Rattle.ms_buddy.specs.Leaves.{leaf_of, with_front, with_leaf, with_parent, without_leaf};
 ghost use Rattle.ms_buddy.specs.Carving.{told};
+ghost use Rattle.ms_buddy.specs.Counts.{IsParted, free_beside, freed_level};
 ghost use Rattle.ms_buddy.specs.Tree.{AreHalves, IsEnlarged, IsPlace, MayBeLent, MayHaveFront, is_free, IsTree};
 ghost use Rattle.ms_buddy.specs.Tree.{lent_in, free_in, levels_of, lent_in_halves, free_in_halves};
 
 use crate::levels::{bit_of, has_level};
-use ms_base::{Level, Refusal, Span};
+use ms_base::{Level, ROOT_WORDS, Refusal, Span};
 use std::alloc::{AllocError, Allocator};
+use std::mem;
 
 /// What a leaf is: free, or lent to an owner with a front, the number of its first words that are
 /// committed for the owner. After JEP 387; owners are this project's choice.
@@ -54,7 +60,7 @@ pub(crate) fn half_of(level: u8) -> u64
     ensures some { 0 < result }
     ensures small { result ≤ ROOT_WORDS }
 {
-    Level::new(level + 1).words()
+    ROOT_WORDS >> (level + 1)
 }
 
 impl<A: Allocator> Node<A> {
@@ -81,26 +87,21 @@ impl<A: Allocator> Node<A> {
         }
     }
 
-    /// Finds the lowest free leaf of a level. The bits of the lower half tell in which half it is.
-    pub(crate) fn lowest_free(&self, level: u8, start: u64, wanted: u8) -> Option<Span>
+    /// Finds where the lowest free leaf of a level starts, in a node whose bits tell of one. The bits of
+    /// the lower half tell in which half it is.
+    pub(crate) fn lowest_free(&self, level: u8, start: u64, wanted: u8) -> u64
         requires tree { IsTree level self.now }
         requires place { IsPlace level start }
         requires wanted { wanted ≤ 12 }
-        ensures { result ≡ find (is_of_from wanted 0) (free_in level start self.now) }
+        requires some { has_level (levels_of level self.now) wanted ≡ true }
+        ensures { Some (record { start = result; level = wanted })
+            ≡ find (is_of_from wanted 0) (free_in level start self.now) }
     {
         match self {
-            Node::Free => {
-                if level == wanted {
-                    Some(part(start, level))
-                } else {
-                    None
-                }
-            }
-            Node::Lent { .. } => None,
-            Node::Split(levels, lower, upper) => {
-                if !has_level(*levels, wanted) {
-                    return None;
-                }
+            Node::Free => start,
+            // No bit tells of a lent leaf.
+            Node::Lent { .. } => start,
+            Node::Split(_, lower, upper) => {
                 if has_level(lower.levels(level + 1), wanted) {
                     return lower.lowest_free(level + 1, start, wanted);
                 }
@@ -182,6 +183,7 @@ impl<A: Allocator> Node<A> {
         ensures levels { levels_of level self.new ≡ levels_of level self.old }
         ensures lent { lent_in level start self.new
             ≡ with_front span front (lent_in level start self.old) }
+        ensures parts { free_in level start self.new ≡ free_in level start self.old }
     {
         match self {
             Node::Free => {}
@@ -197,9 +199,10 @@ impl<A: Allocator> Node<A> {
         }
     }
 
-    /// Takes the leaf of that span out, and answers the free part that results.
+    /// Takes the leaf of that span out, and answers the free part that results. The boxes of halves
+    /// that merge become spares.
     #[cycle(releasing)]
-    pub(crate) fn release(&mut self, level: u8, start: u64, span: Span) -> Span
+    pub(crate) fn release(&mut self, spare: &mut Node<A>, level: u8, start: u64, span: Span) -> Span
         requires tree { IsTree level self.old }
         requires place { IsPlace level start }
         requires lent { IsTrue (is_lent (lent_in level start self.old) span) }
@@ -207,28 +210,34 @@ impl<A: Allocator> Node<A> {
         ensures lent { lent_in level start self.new
             ≡ without_leaf span (lent_in level start self.old) }
         ensures free { find (covers span.start) (free_in level start self.new) ≡ Some result }
+        ensures merged { IsParted (free_in level start self.new) result.level span.level
+            (free_in level start self.old) }
     {
         match self {
             Node::Split(levels, lower, upper) => match release_in_half(
-                levels, lower, upper, level, start, span,
+                levels, lower, upper, spare, level, start, span,
             ) {
                 Some(freed) => freed,
                 None => {
-                    *self = Node::Free;
+                    keep(spare, mem::replace(self, Node::Free));
                     part(start, level)
                 }
             },
-            _ => {
+            Node::Lent { .. } => {
                 *self = Node::Free;
                 part(start, level)
             }
+            // Nothing is lent in a free leaf.
+            Node::Free => part(start, level),
         }
     }
 
-    /// Makes the leaf of that span its parent, with another front, where its buddy is free.
+    /// Makes the leaf of that span its parent, with another front, where its buddy is free. The
+    /// boxes of both become spares.
     #[cycle(enlarging)]
     pub(crate) fn enlarge(
         &mut self,
+        spare: &mut Node<A>,
         level: u8,
         start: u64,
         span: Span,
@@ -242,15 +251,17 @@ impl<A: Allocator> Node<A> {
         ensures lent { OnOk result (lent_in level start self.new
             ≡ with_parent span front (lent_in level start self.old)) }
         ensures answers { EnlargeAnswers span (free_in level start self.old) result }
+        ensures parted { OnOk result (IsParted (free_in level start self.old) span.level span.level
+            (free_in level start self.new)) }
         ensures unchanged { OnErr result (self.new ≡ self.old) }
     {
         match self {
             Node::Split(levels, lower, upper) => match enlarge_in_half(
-                levels, lower, upper, level, start, span, front,
+                levels, lower, upper, spare, level, start, span, front,
             ) {
                 Ok(None) => Ok(()),
                 Ok(Some(owner)) => {
-                    *self = Node::Lent { owner, front };
+                    keep(spare, mem::replace(self, Node::Lent { owner, front }));
                     Ok(())
                 }
                 Err(refusal) => Err(refusal),
@@ -261,8 +272,10 @@ impl<A: Allocator> Node<A> {
 }
 
 impl<A: Allocator + Clone> Node<A> {
-    /// Makes a node with one lent leaf of that span. Takes two boxes for each level below this one.
+    /// Makes a node with one lent leaf of that span. Takes two boxes for each level below this one,
+    /// spare ones first.
     fn with_lent(
+        spare: &mut Node<A>,
         alloc: A,
         level: u8,
         start: u64,
@@ -275,6 +288,8 @@ impl<A: Allocator + Clone> Node<A> {
         ensures split { IfOk result (λ node. is_free node ≡ false) }
         ensures lent { IfOk result
             (λ node. lent_in level start node ≡ leaf_of span owner front ∷ []) }
+        ensures parted { IfOk result (λ node. IsParted (record { start = start; level = level } ∷ [])
+            level span.level (free_in level start node)) }
         ensures succeeds { span.level ≡ level → IsOk result }
     {
         if span.level.number() == level {
@@ -282,29 +297,46 @@ impl<A: Allocator + Clone> Node<A> {
         }
         let middle = start + half_of(level);
         if span.start < middle {
-            let lower = Node::with_lent(alloc.clone()?, level + 1, start, span, owner, front)?;
+            let lower = Node::with_lent(
+                spare,
+                alloc.clone()?,
+                level + 1,
+                start,
+                span,
+                owner,
+                front,
+            )?;
             let levels = lower.levels(level + 1) | bit_of(level + 1);
-            let lower = Box::new(alloc.clone()?, lower)?;
-            Ok(Node::Split(levels, lower, Box::new(alloc, Node::Free)?))
+            let (lower, upper) = boxed(spare, alloc, lower, Node::Free)?;
+            Ok(Node::Split(levels, lower, upper))
         } else {
-            let upper = Node::with_lent(alloc.clone()?, level + 1, middle, span, owner, front)?;
+            let upper = Node::with_lent(
+                spare,
+                alloc.clone()?,
+                level + 1,
+                middle,
+                span,
+                owner,
+                front,
+            )?;
             let levels = bit_of(level + 1) | upper.levels(level + 1);
-            let upper = Box::new(alloc.clone()?, upper)?;
-            Ok(Node::Split(levels, Box::new(alloc, Node::Free)?, upper))
+            let (lower, upper) = boxed(spare, alloc, Node::Free, upper)?;
+            Ok(Node::Split(levels, lower, upper))
         }
     }
 
-    /// Lends the part of that span, where it lies in one free leaf.
+    /// Lends the part of that span, where it lies in one free leaf, and answers that leaf's level.
     #[cycle(carving)]
     pub(crate) fn carve(
         &mut self,
+        spare: &mut Node<A>,
         alloc: A,
         level: u8,
         start: u64,
         span: Span,
         owner: u32,
         front: u64,
-    ) -> Result<(), Lack>
+    ) -> Result<u8, Lack>
         requires tree { IsTree level self.old }
         requires part { MayBeLent level start span front }
         ensures tree { IsTree level self.new }
@@ -312,13 +344,15 @@ impl<A: Allocator + Clone> Node<A> {
         ensures lent { OnOk result (lent_in level start self.new
             ≡ with_leaf (leaf_of span owner front) (lent_in level start self.old)) }
         ensures answers { CarveAnswers span (free_in level start self.old) (told span.level result) }
+        ensures parted { IfOk result (λ free. IsParted (free_in level start self.old) free span.level
+            (free_in level start self.new)) }
         ensures unchanged { OnErr result (self.new ≡ self.old) }
     {
         match self {
-            Node::Free => match Node::with_lent(alloc, level, start, span, owner, front) {
+            Node::Free => match Node::with_lent(spare, alloc, level, start, span, owner, front) {
                 Ok(node) => {
                     *self = node;
-                    Ok(())
+                    Ok(level)
                 }
                 Err(_) => Err(Lack::Memory),
             },
@@ -328,11 +362,46 @@ impl<A: Allocator + Clone> Node<A> {
                     Err(Lack::Room)
                 } else {
                     carve_in_half(
-                        levels, lower, upper, alloc, level, start, span, owner, front,
+                        levels, lower, upper, spare, alloc, level, start, span, owner, front,
                     )
                 }
             }
         }
+    }
+}
+
+/// Puts two halves into boxes, spare ones where there are any.
+fn boxed<A: Allocator + Clone>(
+    spare: &mut Node<A>,
+    alloc: A,
+    lower: Node<A>,
+    upper: Node<A>,
+) -> Result<(Box<Node<A>, A>, Box<Node<A>, A>), AllocError>
+    ensures lower { IfOk result (λ halves. halves.0.value ≡ lower) }
+    ensures upper { IfOk result (λ halves. halves.1.value ≡ upper) }
+{
+    match mem::replace(spare, Node::Free) {
+        Node::Split(_, mut first, mut second) => {
+            *first = lower;
+            *spare = mem::replace(&mut *second, upper);
+            Ok((first, second))
+        }
+        _ => Ok((Box::new(alloc.clone()?, lower)?, Box::new(alloc, upper)?)),
+    }
+}
+
+/// Keeps the boxes of a split as spares, where there are fewer than one carve may take.
+fn keep<A: Allocator>(spare: &mut Node<A>, merged: Node<A>) {
+    let count = match spare {
+        Node::Split(count, ..) => *count,
+        _ => 0,
+    };
+    if count >= 12 {
+        return;
+    }
+    if let Node::Split(_, first, mut second) = merged {
+        *second = mem::replace(spare, Node::Free);
+        *spare = Node::Split(count + 1, first, second);
     }
 }
 
@@ -351,6 +420,7 @@ fn enlarge_in_half<A: Allocator>(
     levels: &mut u16,
     lower: &mut Node<A>,
     upper: &mut Node<A>,
+    spare: &mut Node<A>,
     level: u8,
     start: u64,
     span: Span,
@@ -367,6 +437,9 @@ fn enlarge_in_half<A: Allocator>(
         (with_parent span front (lent_in_halves level start lower.old upper.old))) }
     ensures fits { IfOk result (λ owner. OnSome owner (front ≤ size_of level)) }
     ensures answers { EnlargeAnswers span (free_in_halves level start lower.old upper.old) result }
+    ensures parted { IfOk result
+        (λ owner. IsParted (free_in_halves level start lower.old upper.old) span.level span.level
+        (free_beside level start owner lower.new upper.new)) }
     ensures unchanged { OnErr result
         ((levels.new ≡ levels.old) × (lower.new ≡ lower.old) × (upper.new ≡ upper.old)) }
 {
@@ -374,7 +447,7 @@ fn enlarge_in_half<A: Allocator>(
     if span.level.number() == level + 1 {
         merged_leader(lower, upper, level, start, span)
     } else if span.start < middle {
-        match lower.enlarge(level + 1, start, span, front) {
+        match lower.enlarge(spare, level + 1, start, span, front) {
             Ok(()) => {
                 *levels = levels_of_halves(lower, upper, level + 1);
                 Ok(None)
@@ -382,7 +455,7 @@ fn enlarge_in_half<A: Allocator>(
             Err(refusal) => Err(refusal),
         }
     } else {
-        match upper.enlarge(level + 1, middle, span, front) {
+        match upper.enlarge(spare, level + 1, middle, span, front) {
             Ok(()) => {
                 *levels = levels_of_halves(lower, upper, level + 1);
                 Ok(None)
@@ -409,6 +482,9 @@ fn merged_leader<A: Allocator>(
         (λ owner. (front : ℕ) → IsEnlarged level start owner front lower.now upper.now
         (with_parent span front (lent_in_halves level start lower.now upper.now))) }
     ensures answers { EnlargeAnswers span (free_in_halves level start lower.now upper.now) result }
+    ensures parted { IfOk result
+        (λ owner. IsParted (free_in_halves level start lower.now upper.now) span.level span.level
+        (free_beside level start owner lower.now upper.now)) }
 {
     let no_room = Err(Refusal::NoRoom { level: span.level });
     if span.start > start {
@@ -426,19 +502,21 @@ fn merged_leader<A: Allocator>(
     }
 }
 
-/// Lends the part of that span within the half where it lies.
+/// Lends the part of that span within the half where it lies, and answers the level of the free leaf
+/// that it is of.
 #[cycle(carving)]
 fn carve_in_half<A: Allocator + Clone>(
     levels: &mut u16,
     lower: &mut Node<A>,
     upper: &mut Node<A>,
+    spare: &mut Node<A>,
     alloc: A,
     level: u8,
     start: u64,
     span: Span,
     owner: u32,
     front: u64,
-) -> Result<(), Lack>
+) -> Result<u8, Lack>
     requires halves { AreHalves level levels.old lower.old upper.old }
     requires part { MayBeLent level start span front }
     requires low { level < span.level }
@@ -448,23 +526,26 @@ fn carve_in_half<A: Allocator + Clone>(
         ≡ with_leaf (leaf_of span owner front) (lent_in_halves level start lower.old upper.old)) }
     ensures answers { CarveAnswers span (free_in_halves level start lower.old upper.old)
         (told span.level result) }
+    ensures parted { IfOk result
+        (λ free. IsParted (free_in_halves level start lower.old upper.old) free span.level
+        (free_in_halves level start lower.new upper.new)) }
     ensures unchanged { OnErr result
         ((levels.new ≡ levels.old) × (lower.new ≡ lower.old) × (upper.new ≡ upper.old)) }
 {
     let middle = start + half_of(level);
     if span.start < middle {
-        match lower.carve(alloc, level + 1, start, span, owner, front) {
-            Ok(()) => {
+        match lower.carve(spare, alloc, level + 1, start, span, owner, front) {
+            Ok(free) => {
                 *levels = levels_of_halves(lower, upper, level + 1);
-                Ok(())
+                Ok(free)
             }
             Err(lack) => Err(lack),
         }
     } else {
-        match upper.carve(alloc, level + 1, middle, span, owner, front) {
-            Ok(()) => {
+        match upper.carve(spare, alloc, level + 1, middle, span, owner, front) {
+            Ok(free) => {
                 *levels = levels_of_halves(lower, upper, level + 1);
-                Ok(())
+                Ok(free)
             }
             Err(lack) => Err(lack),
         }
@@ -503,6 +584,7 @@ fn release_in_half<A: Allocator>(
     levels: &mut u16,
     lower: &mut Node<A>,
     upper: &mut Node<A>,
+    spare: &mut Node<A>,
     level: u8,
     start: u64,
     span: Span,
@@ -517,15 +599,17 @@ fn release_in_half<A: Allocator>(
         (λ freed. find (covers span.start) (free_in_halves level start lower.new upper.new)
         ≡ Some freed) }
     ensures split { OnSome result (IsFalse (is_free lower.new && is_free upper.new)) }
-    ensures merged { IfNone result (IsTrue (is_free lower.new && is_free upper.new)) }
+    ensures whole { IfNone result (IsTrue (is_free lower.new && is_free upper.new)) }
+    ensures merged { IsParted (free_in_halves level start lower.new upper.new)
+        (freed_level level result) span.level (free_in_halves level start lower.old upper.old) }
 {
     let middle = start + half_of(level);
     if span.start < middle {
-        let freed = lower.release(level + 1, start, span);
+        let freed = lower.release(spare, level + 1, start, span);
         *levels = levels_of_halves(lower, upper, level + 1);
         unless_free(lower, upper, freed)
     } else {
-        let freed = upper.release(level + 1, middle, span);
+        let freed = upper.release(spare, level + 1, middle, span);
         *levels = levels_of_halves(lower, upper, level + 1);
         unless_free(lower, upper, freed)
     }

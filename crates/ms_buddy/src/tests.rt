@@ -233,6 +233,32 @@ fn merges_late(rt: HostRuntime) -> Result<(), Fail> {
     }
     assert_eq!(rt; release_at(&mut tree, 524160), Some(span(0, 0)));
     assert!(rt; tree.is_whole());
+    // The boxes of 12 splits stay for the next carve, and each takes 48 bytes.
+    assert_eq!(rt; heap.used(), 1152);
+    drop(tree);
     assert_eq!(rt; heap.used(), 0);
+    Ok(())
+}
+
+#[test]
+fn merged_halves_serve_the_next_carve(rt: HostRuntime) -> Result<(), Fail> {
+    let heap = LocalHeap::new(rt.alloc(), 65536)?;
+    let mut tree = SplitTree::new();
+    assert!(rt; tree.carve(&heap, Level::new(12), 0, 1, 128).is_ok());
+    assert_eq!(rt; release_at(&mut tree, 0), Some(span(0, 0)));
+    let before = heap.used();
+    assert!(rt; tree.carve(&heap, Level::new(12), 524160, 1, 128).is_ok());
+    assert_eq!(rt; heap.used(), before);
+    assert_eq!(rt;
+        enlarge_at(&mut tree, 524160, 256),
+        Some(Err(Refusal::NoRoom {
+            level: Level::new(12)
+        }))
+    );
+    assert_eq!(rt; release_at(&mut tree, 524160), Some(span(0, 0)));
+    assert!(rt; tree.carve(&heap, Level::new(12), 0, 1, 128).is_ok());
+    assert_eq!(rt; enlarge_at(&mut tree, 0, 256), Some(Ok(span(0, 11))));
+    assert!(rt; tree.carve(&heap, Level::new(12), 256, 1, 128).is_ok());
+    assert_eq!(rt; heap.used(), before);
     Ok(())
 }

@@ -7,7 +7,8 @@
 //!            leader     follower
 //!
 //! Kept true: the leaves cover the root, none overlap, and no split has two free halves, so a free
-//! leaf is as large as it can be. `release` of the lent leaf merges up to the root:
+//! leaf is as large as it can be; and the free leaves of each level are counted. `release` of the
+//! lent leaf merges up to the root:
 //!
 //!          | lent, 10 | free, 10 |      free, 9        |        free, 8        | ...
 //!          | free, 10 | free, 10 |      free, 9        |        free, 8        | ...
@@ -17,20 +18,23 @@
 //!
 //! Each split keeps, as bits, the levels of the free leaves below it, so the lowest free leaf of a
 //! level is found down one path. Each call but `free_leaves` goes down one path of 13 nodes at
-//! most, `next_free` down two. Only `carve` takes memory, two boxes for each level that it splits;
-//! `release` and `enlarge` give boxes back.
+//! most, `next_free` down two. Only `carve` takes memory, two boxes for each level that it splits:
+//! those of halves that merged first, which `release` and `enlarge` keep, for one carve at most. All
+//! others they give back; the last go back with the tree.
 //! After RootChunkArea in HotSpot's rootChunkArea.hpp, which has a list in place of the tree.
 ghost use Rattle.std.specs.Prelude.{◌≡◌, ℕ, ◌+◌, ◌*◌, ◌%◌, ◌<◌, ◌≤◌, ◌≢◌, ◌↔◌, [], ◌∷◌, Some, Err, IsTrue, IsFalse};
 ghost use Rattle.std.specs.Prelude.{IsOk, IfOk, OnOk, IfErr, OnErr};
 ghost use Rattle.std.specs.List.{find, list_any};
 ghost use Rattle.ms_base.specs.declared.sizes.TheConstants.{ROOT_WORDS};
 ghost use Rattle.ms_base.specs.Level.{size_of};
-ghost use Rattle.ms_buddy.specs.Carving.{told};
+ghost use Rattle.ms_buddy.specs.Carving.{refusal_of};
+ghost use Rattle.ms_buddy.specs.Counts.{count_at_level};
 ghost use Rattle.ms_buddy.specs.Leaves.{AreLeaves, IsCarveRefusal, IsLeafAt, can_enlarge, covers, fits_in, free_of};
 ghost use Rattle.ms_buddy.specs.Leaves.{has_level, is_lent, is_of, is_of_from, leaf_of, parent_of, root, span_at};
 ghost use Rattle.ms_buddy.specs.Leaves.{with_front, with_leaf, with_parent, without_leaf};
 
 use crate::leaves::FreeLeaves;
+use crate::levels::{LEVELS, has_level, join_counts, part_counts};
 use crate::node::{Lack, Leaf, Node, part};
 use ms_base::{Level, Refusal, Span};
 use std::alloc::Allocator;
@@ -42,18 +46,23 @@ use std::marker::Model;
 pub struct SplitTree<A: Allocator> {
     /// The root's node: level 0, from word 0 on.
     node: Node<A>,
+    /// Boxes of halves that merged, for the next carve: 24 at most.
+    spare: Node<A>,
+    /// How many free leaves there are of each level.
+    counts: [u16; LEVELS],
 }
 
 impl<A: Allocator> Model for SplitTree<A> {
     ghost use Rattle.std.specs.Prelude.{List};
     ghost use Rattle.ms_buddy.specs.Leaves.{LentLeaf};
-    ghost use Rattle.ms_buddy.specs.Tree.{IsTree, lent_in};
+    ghost use Rattle.ms_buddy.specs.Counts.{IsCountedTree};
+    ghost use Rattle.ms_buddy.specs.Tree.{lent_in};
 
     ghost Value = { List LentLeaf };
 
     ghost view = { λ t. lent_in 0 0 t.node };
 
-    ghost invariant = { λ t. IsTree 0 t.node };
+    ghost invariant = { λ t. IsCountedTree t.node t.counts };
 }
 
 impl<A: Allocator> SplitTree<A> {
@@ -61,7 +70,11 @@ impl<A: Allocator> SplitTree<A> {
     pub fn new() -> SplitTree<A>
         ensures { result ≡ [] }
     {
-        SplitTree { node: Node::Free }
+        SplitTree {
+            node: Node::Free,
+            spare: Node::Free,
+            counts: [1, 0, 0, 0, 0, 0, 0, 0, 0, 0, 0, 0, 0],
+        }
     }
 
     /// Tells whether the root is one free leaf. A caller also learns here what is true of the lent
@@ -101,12 +114,24 @@ impl<A: Allocator> SplitTree<A> {
         self.node.levels(0)
     }
 
+    /// Tells how many free leaves there are of a level, without a look at them. Takes no memory. This
+    /// project's choice.
+    pub fn free_count(&self, level: Level) -> u16
+        ensures { result ≡ count_at_level level (free_of self.now) }
+    {
+        self.counts[level.number() as usize]
+    }
+
     /// Finds the lowest free leaf of a level. Goes down one path, since each split keeps the levels
     /// of the free leaves below it. Takes no memory. This project's choice.
     pub fn lowest_free(&self, level: Level) -> Option<Span>
         ensures { result ≡ find (is_of level) (free_of self.now) }
     {
-        self.node.lowest_free(0, 0, level.number())
+        let number = level.number();
+        if !has_level(self.node.levels(0), number) {
+            return None;
+        }
+        Some(part(self.node.lowest_free(0, 0, number), number))
     }
 
     /// Finds the lowest free leaf of a level that starts at an offset in words or past it. Goes
@@ -139,7 +164,11 @@ impl<A: Allocator> SplitTree<A> {
         ensures lent { self.new ≡ without_leaf span self.old }
         ensures free { find (covers span.start) (free_of self.new) ≡ Some result }
     {
-        self.node.release(0, 0, span)
+        let lent = span.level.number();
+        let part = self.node.release(&mut self.spare, 0, 0, span);
+        let free = part.level.number();
+        join_counts(&mut self.counts, free, lent);
+        part
     }
 
     /// Makes a lent leaf its parent, with a front in words from 1 to the parent's size, and answers
@@ -158,8 +187,11 @@ impl<A: Allocator> SplitTree<A> {
     {
         let start = span.start;
         let level = span.level.number();
-        match self.node.enlarge(0, 0, span, front) {
-            Ok(()) => Ok(part(start, level - 1)),
+        match self.node.enlarge(&mut self.spare, 0, 0, span, front) {
+            Ok(()) => {
+                part_counts(&mut self.counts, level, level);
+                Ok(part(start, level - 1))
+            }
             Err(refusal) => Err(refusal),
         }
     }
@@ -193,21 +225,27 @@ impl<A: Allocator + Clone> SplitTree<A> {
         ensures unchanged { OnErr result (self.new ≡ self.old) }
     {
         // Learnt here: the level is at most 12, so its words are those of a part.
-        let _ = level.number();
-        let carved = self
+        let lent = level.number();
+        let part = Span { start: at, level };
+        match self
             .node
-            .carve(alloc, 0, 0, Span { start: at, level }, owner, front);
-        tell(carved, level)
+            .carve(&mut self.spare, alloc, 0, 0, part, owner, front)
+        {
+            Ok(free) => {
+                part_counts(&mut self.counts, free, lent);
+                Ok(())
+            }
+            Err(lack) => Err(tell(lack, level)),
+        }
     }
 }
 
 /// Tells what is lacking as the refusal that callers see.
-fn tell(carved: Result<(), Lack>, level: Level) -> Result<(), Refusal>
-    ensures { result ≡ told level carved }
+fn tell(lack: Lack, level: Level) -> Refusal
+    ensures { result ≡ refusal_of level lack }
 {
-    match carved {
-        Ok(()) => Ok(()),
-        Err(Lack::Room) => Err(Refusal::NoRoom { level }),
-        Err(Lack::Memory) => Err(Refusal::OutOfMemory),
+    match lack {
+        Lack::Room => Refusal::NoRoom { level },
+        Lack::Memory => Refusal::OutOfMemory,
     }
 }

@@ -8,11 +8,13 @@
 #![tactic(auto)]
 
 mod answer;
+mod committing;
 mod handle;
 mod kinds;
 mod making;
 mod options;
 mod parts;
+mod runs;
 mod slot;
 mod steps;
 mod telling;

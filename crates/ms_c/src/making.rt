@@ -1,4 +1,4 @@
-//! Systems come and go: the exports that make one and end it.
+//! Systems come and go: the exports that make one and end it, and the library's version.
 ghost use Rattle.std.specs.Prelude.{◌≡◌, ◌≢◌, None, IsSome};
 ghost use Rattle.ms_c.specs.Answers.{IsMade};
 ghost use Rattle.ms_c.specs.Settings.{AreFit};
@@ -8,6 +8,18 @@ use crate::handle::Handle;
 use crate::options::{Options, settings_of};
 use ms_loaders::System;
 use std::alloc::Global;
+
+/// What the calls and structs for C are counted by: it rises where one of them changes.
+const VERSION: u32 = 4;
+
+/// Tells the library's version, for a program to compare with the NIZGRABUL_VERSION of its header. Takes
+/// no memory.
+#[unsafe(no_mangle)]
+pub extern "C" fn nizgrabul_version() -> u32
+    ensures { result ≡ VERSION }
+{
+    VERSION
+}
 
 /// Makes a system with no loader in an empty handle, under the settings that the options name. Answers
 /// DONE, IN_USE where the handle has a system already, BAD_SETTINGS where an option is out of its

@@ -34,7 +34,7 @@ pub extern "C" fn nizgrabul_counts(alloc: Global, handle: &mut Handle, out: &mut
     }
 }
 
-/// Tells the words in use of one loader, in both spaces, and 0 where none has the name. Takes no memory.
+/// Tells the words in use of one loader, in both spaces, and 0 where none has the number. Takes no memory.
 #[unsafe(no_mangle)]
 pub extern "C" fn nizgrabul_used_by(alloc: Global, handle: &mut Handle, loader: u16) -> u64
     ensures words { IfSome handle.old.slot.held (λ m. result ≡ used_if (named m.loaders loader)) }
@@ -155,7 +155,7 @@ pub extern "C" fn nizgrabul_totals(alloc: Global, handle: &mut Handle, out: &mut
     }
 }
 
-/// Tells the sums of one loader. Answers DONE, NO_SYSTEM, or NO_LOADER where none has the name; all but
+/// Tells the sums of one loader. Answers DONE, NO_SYSTEM, or NO_LOADER where none has the number; all but
 /// DONE leave `out` as it was. Takes no memory; looks at each chunk of that loader, at no block, and at
 /// no other loader.
 #[unsafe(no_mangle)]

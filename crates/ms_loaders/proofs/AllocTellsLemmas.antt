@@ -1,8 +1,8 @@
 -- What an allocation tells of granules, whatever it asked of the pool. For `System::allocate_with_run`.
-use Rattle.std.proofs.Common.{◌≡◌, ◌≤◌, ℕ, zero, suc, ◌+◌, ◌-◌, ◌/◌, Bool, true, false, Some, Ok}
+use Rattle.std.proofs.Common.{◌≡◌, ◌≤◌, ◌<◌, ℕ, zero, suc, ◌+◌, ◌-◌, ◌/◌, Bool, true, false, Some, Ok}
 use Rattle.std.proofs.Common.{List, [], ◌∷◌, ◌++◌, length, length-append, refl, sym, ap, ◌∙◌, subst, inl, inr, arith}
 use Rattle.std.specs.List.{Contains}
-use Rattle.std.specs.Prelude.{◌==◌, ◌⊎◌, nat_le, nat_lt, ◌&&◌, slice_get, slice_set, if◌then◌else◌}
+use Rattle.std.specs.Prelude.{◌==◌, ◌⊎◌, nat_le, nat_lt, ◌&&◌, slice_get, slice_set, if◌then◌else◌, Option, IfSome}
 use Rattle.std.proofs.lemmas.Bool.{and_parts, both_ways, ltb-true, eq-eqb, eqb-true, ne_eqb}
 use Rattle.std.proofs.lemmas.List.Elements.{All-contains}
 use Rattle.ms_base.specs.declared.kind.Space.{Space}
@@ -13,29 +13,35 @@ use Rattle.ms_base.specs.Causes.{granules_missing}
 use Rattle.ms_base.specs.Spaces.{other_space}
 use Rattle.ms_base.specs.declared.span.Block.{Block}
 use Rattle.ms_base.specs.Level.{size_of}
+use Rattle.ms_base.specs.Names.{named}
 use Rattle.ms_base.specs.Live.{block_words}
 use Rattle.ms_base.specs.Part.{IsPart, slot_of}
 use Rattle.ms_base.specs.Spaces.{IsSlotOf}
 use Rattle.ms_base.specs.PoolSteps.{grown}
 use Rattle.ms_base.specs.State.{ArenaState, arena_of}
+use Rattle.ms_base.proofs.entries.LookupLemmas.{named_changed_same}
 use Rattle.ms_base.proofs.free.HalvesLemmas.{size_some}
 use Rattle.ms_pool.specs.Calls.{tallied}
 use Rattle.ms_pool.specs.Tallies.{Tallies}
 use Rattle.ms_pool.specs.Ledger.{Ledger, IsSoundLedger, Serves, state_in, held_in, committed_of, with_grown, with_lent}
 use Rattle.ms_pool.proofs.ledger.LoanAtLemmas.{contains_at}
 use Rattle.ms_loaders.specs.Loader.{LoaderView, IsSoundView, AllocatesBlock, account_in, owner_in}
-use Rattle.ms_loaders.specs.System.{machine_of}
+use Rattle.ms_loaders.specs.Serving.{AllocatesAt, AllocatesIn}
+use Rattle.ms_loaders.specs.System.{AreTogether, machine_of}
 use Rattle.ms_loaders.specs.Committing.{IsEdge, TellsRun, first_past, front_before, run_of}
 use Rattle.ms_loaders.specs.declared.system.committing.Edge.{Edge}
 use Rattle.ms_loaders.specs.declared.system.committing.GranuleRun.{GranuleRun}
 use Rattle.ms_loaders.proofs.CommitLemmas.{count, stays}
+use Rattle.ms_loaders.proofs.EdgeLemmas.{some_edge, its_edge}
 use Rattle.ms_loaders.proofs.RunToldLemmas.{Over, came_in, run_is_backed, run_came}
 use Rattle.ms_loaders.proofs.AllocRunLemmas.{CommitsIn, grown_commits, lent_commits}
 use Rattle.ms_loaders.proofs.steps.AllocStepLemmas.{after_chunks}
 use Rattle.ms_loaders.proofs.steps.AskedLemmas.{outcome}
 use Rattle.ms_loaders.proofs.calls.LoaderSpaceLemmas.{chunk_in_space}
 use Rattle.ms_loaders.proofs.steps.OutcomeLemmas.{GrewAtAll, GrownBy, IsMade, LentBy, TookAtAll}
-use Rattle.ms_loaders.proofs.steps.ServedLemmas.{apart_of}
+use Rattle.ms_loaders.proofs.steps.AlikeLemmas.{allocates_at_all}
+use Rattle.ms_loaders.proofs.steps.ServedLemmas.{apart_of, own_served, own_sound}
+use Rattle.ms_loaders.proofs.steps.StepGoesLemmas.{pool_calls}
 
 -- How many granules are committed in both spaces.
 abbrev pub committed_in_all : Ledger → ℕ
@@ -213,7 +219,7 @@ module _ (space : Space) (old new : Ledger) (loaders after : List (ℕ × Loader
       (subst (λ (l : Ledger). CommitsIn space old l [] chunk) (sym ledger) its.0) refl
       (ap (committed_of (other_space space)) ledger ∙ its.1) told)
 
-  pub allocation_tells : (name words : ℕ) (made : Block)
+  allocation_tells : (name words : ℕ) (made : Block)
       → AllocatesBlock GrewAtAll TookAtAll old.limits.policy space was name words old (Ok made) is new → Told
   allocation_tells name words made (inl refused) = let e = refused.answer_is in absurd (cc)
   allocation_tells name words made (inr asks) = by_how its.how
@@ -243,3 +249,39 @@ module _ (space : Space) (old new : Ledger) (loaders after : List (ℕ × Loader
           (lent.ledger
           ∙ ap (λ (s : Space). with_lent (tallied old lent.tallies) s asks.was.owner lent.chunk) asks.arena.space_is
           ∙ ap (λ (n : ℕ). with_lent (tallied old lent.tallies) space n lent.chunk) asks.arena.owner)
+
+-- As a step makes it, of a loader by its name: the edge after it matters where granules came.
+pub step_tells : (space : Space) (old new : Ledger) (loaders after : List (ℕ × LoaderView)) (name block words start : ℕ)
+    (edge now : Edge) (came : ℕ) → AreTogether old loaders → IsSoundLedger new
+    → AllocatesAt pool_calls space loaders name block words old start after new
+    → IfSome (named loaders name) (λ (l : LoaderView). IsEdge (arena_of space l.state).chunks edge)
+    → (0 < came → IfSome (named after name) (λ (l : LoaderView). IsEdge (arena_of space l.state).chunks now))
+    → came ≡ committed_in_all new - committed_in_all old
+    → TellsRun space (machine_of old loaders)
+    (run_of (granule_of old.limits.policy) (front_before edge now) now.start now.front came) (machine_of new after)
+step_tells space old new loaders after name block words start edge now came its sound made at at_now told =
+    by_came came told at_now
+  where
+    one : AllocatesIn pool_calls space loaders name block words old (Ok made.0) after new
+    one = made.2
+
+    there : Edge → Option LoaderView → Type 0
+    there e loader = IfSome loader (λ l. IsEdge (arena_of space l.state).chunks e)
+
+    tells : (e : Edge) (n : ℕ) → n ≡ committed_in_all new - committed_in_all old
+        → IsEdge (arena_of space one.is.state).chunks e
+        → TellsRun space (machine_of old loaders)
+        (run_of (granule_of old.limits.policy) (front_before edge e) e.start e.front n) (machine_of new after)
+    tells e n counted at_e = allocation_tells space old new loaders after one.was one.is edge e n its.ledger_sound sound
+        (own_sound old loaders name one.was one.found its) one.sound
+        (own_served space old loaders name one.was one.found its.served) (subst (there edge) one.found at) at_e counted
+        block words made.0 (allocates_at_all _ _ _ _ _ _ _ _ _ one.allocates)
+
+    by_came : (n : ℕ) → n ≡ committed_in_all new - committed_in_all old → (0 < n → there now (named after name))
+        → TellsRun space (machine_of old loaders)
+        (run_of (granule_of old.limits.policy) (front_before edge now) now.start now.front n) (machine_of new after)
+    by_came zero counted at_e =
+        tells (some_edge (arena_of space one.is.state).chunks) 0 counted (its_edge (arena_of space one.is.state).chunks)
+    by_came (suc n) counted at_e = tells now (suc n) counted
+        (subst (there now) (ap (λ (l : List (ℕ × LoaderView)). named l name) one.changed
+        ∙ named_changed_same loaders name one.was one.is one.found) (at_e (omega arith)))

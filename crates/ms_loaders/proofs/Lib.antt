@@ -10,5 +10,6 @@ mod EdgeLemmas
 mod ServingLemmas
 mod StepServedLemmas
 pub mod calls
+pub mod places
 pub mod steps
 pub mod sums

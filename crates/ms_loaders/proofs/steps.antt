@@ -8,6 +8,7 @@ pub mod CauseLemmas
 pub mod ServedLemmas
 pub mod CallLemmas
 pub mod CloseLemmas
+pub mod StepGoesLemmas
 pub mod UnloadLemmas
 pub mod RunLemmas
 pub mod AddableLemmas

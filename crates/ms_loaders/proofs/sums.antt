@@ -3,5 +3,7 @@ pub mod CollectLemmas
 pub mod TotalsLemmas
 pub mod SumsLemmas
 pub mod UsedLemmas
+pub mod DetailLemmas
 pub mod SettleLemmas
 pub mod FitLemmas
+pub mod MapLemmas

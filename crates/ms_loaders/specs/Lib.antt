@@ -2,11 +2,14 @@ pub mod Loader
 pub mod LoaderInside
 pub mod Naming
 pub mod Boxed
+pub mod Places
+pub mod Lent
 pub mod Loaders
 pub mod System
 pub mod Settles
 pub mod SystemInside
 pub mod Sums
+pub mod Details
 pub mod Collecting
 pub mod Used
 pub mod LoaderSums

@@ -1,10 +1,11 @@
 //! Loaders in order of name.
 //!
-//!     5 ──── box of a loader        the map moves a number and a pointer; a loader stays where it is,
-//!     7 ──── box of a loader        from `insert` until it is taken out
+//!     5 ──── box of 5 and its loader        a loader stands at its name's place; it stays where it is,
+//!     7 ──── box of 7 and its loader        from `insert` until it is taken out
 //!
-//! Apart from the system so that loaders can be handed to workers and gathered again. Only `insert`
-//! takes memory.
+//! So names need no search, and a walk over the places gives them in order. Kept true: each loader
+//! stands at its name, none below `first`, and there are `count`. Apart from the system so that
+//! loaders can be handed to workers and gathered again. Only `insert` takes memory.
 ghost use Rattle.std.specs.Prelude.{◌≡◌, ◌<◌, ◌^◌, ◌∷◌, None, IfSome, OnOk, IfErr, OnErr, [], length};
 ghost use Rattle.std.specs.Option.{option_copied, option_copied_mut, is_some};
 ghost use Rattle.std.specs.List.{All};
@@ -16,31 +17,41 @@ ghost use Rattle.ms_loaders.specs.Loaders.{LendsLoader, InsertRefused};
 ghost use Rattle.ms_loaders.specs.Used.{used_at};
 
 mod boxed;
+mod page;
+mod places;
 mod walks;
 
 use crate::loader::Loader;
 use boxed::Boxed;
 use ms_base::Refusal;
+use places::Places;
 use std::alloc::Global;
-use std::collections::BTreeMap;
 use std::marker::Model;
 pub use walks::{Iter, Values};
 
 /// Loaders by name. This project's choice; HotSpot's class loader data hang in a list.
 #[derive(Drop)]
 pub struct Loaders {
-    // Where the boxes come from.
+    // Where the boxes and the pages come from.
     alloc: Global,
-    by_name: BTreeMap<u16, Boxed>,
+    // Each loader at its name.
+    places: Places,
+    // No loader stands below.
+    first: usize,
+    // How many there are.
+    count: usize,
 }
 
 impl Model for Loaders {
     ghost use Rattle.std.specs.Prelude.{ℕ, List};
     ghost use Rattle.ms_loaders.specs.Loader.{LoaderView};
+    ghost use Rattle.ms_loaders.specs.Places.{AreKept, rest_of};
 
     ghost Value = { List (ℕ × LoaderView) };
 
-    ghost view = { λ a. a.by_name.entries };
+    ghost view = { λ loaders. rest_of loaders.places 0 };
+
+    ghost invariant = { λ loaders. AreKept loaders.places loaders.first loaders.count };
 }
 
 impl Loaders {
@@ -50,7 +61,9 @@ impl Loaders {
     {
         Loaders {
             alloc,
-            by_name: BTreeMap::new(alloc),
+            places: Places::new(alloc),
+            first: usize::MAX,
+            count: 0,
         }
     }
 
@@ -63,18 +76,22 @@ impl Loaders {
         ensures back { IfErr result (λ back. back.1 ≡ loader) }
         ensures unchanged { OnErr result (self.new ≡ self.old) }
     {
-        if self.by_name.contains_key(&name) {
+        if self.contains(name) {
             return Err((Refusal::LoaderExists, loader));
         }
-        let boxed = match Boxed::new(self.alloc, loader) {
+        let boxed = match Boxed::new(self.alloc, name, loader) {
             Ok(boxed) => boxed,
             Err(loader) => return Err((Refusal::OutOfMemory, loader)),
         };
-        match self.by_name.insert(name, boxed) {
-            Ok(_) => Ok(()),
-            Err(failed) => {
-                let (_, boxed) = failed.value;
-                Err((Refusal::OutOfMemory, boxed.into_loader()))
+        match self.places.put(self.alloc, name, boxed) {
+            Ok(()) => {
+                self.first = self.first.min(usize::from(name));
+                self.count += 1;
+                Ok(())
+            }
+            Err(boxed) => {
+                let (_, loader) = boxed.into_named();
+                Err((Refusal::OutOfMemory, loader))
             }
         }
     }
@@ -84,8 +101,12 @@ impl Loaders {
         ensures found { result ≡ named self.old name }
         ensures rest { self.new ≡ without self.old name }
     {
-        match self.by_name.remove(&name) {
-            Some(boxed) => Some(boxed.into_loader()),
+        match self.places.take(name) {
+            Some(boxed) => {
+                self.count -= 1;
+                let (_, loader) = boxed.into_named();
+                Some(loader)
+            }
             None => None,
         }
     }
@@ -95,8 +116,16 @@ impl Loaders {
         ensures first { IfSome result (λ taken. self.old ≡ taken ∷ self.new) }
         ensures none { result ≡ None → (self.old ≡ []) × (self.new ≡ []) }
     {
-        match self.by_name.pop_first() {
-            Some((name, boxed)) => Some((name, boxed.into_loader())),
+        let least = match self.places.next(self.first) {
+            Some((_, boxed)) => *boxed.name(),
+            None => return None,
+        };
+        match self.places.take(least) {
+            Some(boxed) => {
+                self.first = usize::from(least);
+                self.count -= 1;
+                Some(boxed.into_named())
+            }
             None => None,
         }
     }
@@ -106,17 +135,14 @@ impl Loaders {
         ensures* writes_back { sem 𝓛 (LendsLoader self.entry name result) }
         ensures found { option_copied_mut result ≡ named self.old name }
     {
-        match self.by_name.get_mut(&name) {
-            Some(boxed) => Some(boxed.loader_mut()),
-            None => None,
-        }
+        self.places.get_mut(name)
     }
 
     /// Lends the loader of a name to read, where there is one. Takes no memory.
     pub fn get(&self, name: u16) -> Option<&Loader>
         ensures { option_copied result ≡ named self.now name }
     {
-        match self.by_name.get(&name) {
+        match self.places.get(name) {
             Some(boxed) => Some(boxed.loader()),
             None => None,
         }
@@ -126,7 +152,7 @@ impl Loaders {
     pub fn contains(&self, name: u16) -> bool
         ensures { result ≡ is_some (named self.now name) }
     {
-        self.by_name.contains_key(&name)
+        self.get(name).is_some()
     }
 
     /// Tells the words in use of the loader of a name, in both spaces, and 0 where there is none. Takes
@@ -146,7 +172,7 @@ impl Loaders {
         ensures names { AreNamed self.now }
         ensures small { result < 2 ^ 63 }
     {
-        self.by_name.len()
+        self.count
     }
 
     /// Says what is true of all loaders: their names rise, and each is sound. Takes no memory, and looks
@@ -155,9 +181,10 @@ impl Loaders {
         ensures names { AreNamed self.now }
         ensures sound { All IsSoundView (values_of self.now) }
     {
-        let _ = &self.by_name;
-        for boxed in self.by_name.values() {
-            let _ = boxed.loader().accounts();
+        // That names rise is learnt here.
+        let _ = self.len();
+        for loader in self.values() {
+            let _ = loader.accounts();
         }
     }
 
@@ -165,17 +192,13 @@ impl Loaders {
     pub fn values(&self) -> Values<'_>
         ensures { result ≡ values_of self.now }
     {
-        Values {
-            boxes: self.by_name.values(),
-        }
+        Values::over(&self.places)
     }
 
     /// Goes over the loaders with their names, in order of name. Takes no memory.
     pub fn iter(&self) -> Iter<'_>
         ensures { result ≡ self.now }
     {
-        Iter {
-            boxes: self.by_name.iter(),
-        }
+        Iter::over(&self.places)
     }
 }

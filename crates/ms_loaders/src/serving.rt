@@ -121,8 +121,8 @@ fn new_loader<S: AccountSource>(
     }
 }
 
-/// Allocates a block of zeros in a space.
-fn allocate<S: AccountSource>(
+/// Allocates a block of zeros in a space: for a step, and for a call that tells of granules too.
+pub(crate) fn allocate<S: AccountSource>(
     source: &mut S,
     loaders: &mut Loaders,
     space: Space,

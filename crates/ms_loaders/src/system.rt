@@ -22,6 +22,7 @@ mod counts;
 mod freeing;
 mod granules;
 mod holding;
+mod mapping;
 mod settling;
 mod sums;
 
@@ -170,6 +171,8 @@ impl System {
             space: space_totals(pool, words, gathered.space),
             class_space: space_totals(class_pool, words, gathered.class_space),
             rows: gathered.rows,
+            details: None,
+            peaks: None,
         })
     }
 

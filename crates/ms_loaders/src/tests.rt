@@ -2,13 +2,14 @@
 //! the growth tables put them, and that a step which is refused for want of memory is answered the
 //! second time as if it had not been asked: `rt try --test --fail-alloc N` refuses the Nth growth.
 //!
-//! `calls` has the system's own calls, `loaders` those of a loader and of loaders, `settling` parts
-//! that become a system again. Each expected value was worked out apart from this crate; traces that
-//! were worked by hand are rows of the system tests.
+//! `calls` has the system's own calls, `maps` its maps of roots, `loaders` those of a loader and of
+//! loaders, `settling` parts that become a system again. Each expected value was worked out apart from
+//! this crate; traces that were worked by hand are rows of the system tests.
 ghost use Rattle.std.specs.Prelude.{◌≤◌};
 
 mod calls;
 mod loaders;
+mod maps;
 mod settling;
 
 use crate::{Reply, Step, System};

@@ -5,6 +5,8 @@
 //! this project's numbers.
 ghost use Rattle.std.specs.Prelude.{◌≡◌, ◌+◌};
 
+use crate::details::Details;
+use crate::peaks::Peaks;
 use ms_base::Kind;
 
 /// The sums over one space: `used = live + free_blocks + waste`. After HotSpot's VM.metaspace, with
@@ -70,6 +72,10 @@ pub struct Totals {
     pub class_space: SpaceTotals,
     /// A row for each loader, in rising order of name.
     pub rows: Vec<LoaderRow>,
+    /// The sums of each loader in each space, where a full report asks for them.
+    pub details: Option<Details>,
+    /// The most that the run had at once so far, where a full report asks for it.
+    pub peaks: Option<Peaks>,
 }
 
 #[cfg(test)]

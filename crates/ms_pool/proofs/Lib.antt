@@ -1,6 +1,7 @@
 pub mod ledger
 pub mod EmptyPoolLemmas
 pub mod OwnerLemmas
+pub mod maps
 pub mod WholeRootLemmas
 pub mod PurgingLemmas
 pub mod ServingLemmas

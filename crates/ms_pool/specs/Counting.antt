@@ -1,8 +1,7 @@
--- What is counted of chunks, as they come and go, and of free parts, in one walk over them.
+-- What is counted of chunks, as they come and go, and of the free parts of all roots.
 use Rattle.std.specs.Prelude.{◌≡◌, ℕ, ◌+◌, ◌<◌, ◌≤◌, ◌^◌, ◌==◌, cond, List, get_or, length}
-use Rattle.std.specs.List.{sum_by, count_by}
+use Rattle.std.specs.List.{sum_by}
 use Rattle.ms_base.specs.declared.span.Chunk.{Chunk}
-use Rattle.ms_base.specs.declared.span.Span.{Span}
 use Rattle.ms_base.specs.Level.{size_of}
 use Rattle.ms_base.specs.declared.kind.Space.{Space}
 use Rattle.ms_base.specs.Spaces.{by_space, other_space}
@@ -23,17 +22,9 @@ words_in chunk = size_of chunk.level
 abbrev pub front_in : Chunk → ℕ
 front_in chunk = chunk.front
 
--- How many parts have a level.
-unfoldable pub count_at_level : ℕ → List Span → ℕ
-count_at_level level parts = count_by (λ part. part.level == level) parts
-
--- The count of each level can be raised by what is still to be counted, and is raised by it.
+-- The count of each level can be raised by what is still to be counted.
 abbrev pub HasRoom : List ℕ → (ℕ → ℕ) → Type 0
 HasRoom counts more = (level : ℕ) → level < 13 → get_or counts level 0 + more level < 2 ^ 32
-
-pub record AreRaised (old : List ℕ) (more : ℕ → ℕ) (new : List ℕ) : Type 0 where
-  pub full : length new ≡ length old
-  pub counts : (level : ℕ) → level < 13 → get_or new level 0 ≡ get_or old level 0 + more level
 
 -- What is counted of chunks: how many of each level, their words, and those of their fronts.
 pub record AreCounted (chunks : List Chunk) (counted : Counted) : Type 0 where

@@ -14,3 +14,4 @@ pub mod Placing
 pub mod Serving
 pub mod LimitCounts
 pub mod Owners
+pub mod Mapping

@@ -1,8 +1,10 @@
 -- The trees of the roots that may be reserved, and which of them have a free leaf of a level.
-use Rattle.std.specs.Prelude.{◌≡◌, ℕ, ◌+◌, ◌*◌, ◌<◌, ◌≤◌, ◌==◌, Bool, cond, List, [], length, get_or}
+use Rattle.std.specs.Prelude.{◌≡◌, ℕ, ◌*◌, ◌<◌, ◌≤◌, Bool, true, false, List, [], length, get_or}
 use Rattle.std.specs.List.{list_any}
-use Rattle.ms_base.specs.Committed.{is_among}
-use Rattle.ms_buddy.specs.Leaves.{LentLeaf, free_of, is_of}
+use Rattle.ms_base.specs.declared.kind.Space.{Space}
+use Rattle.ms_base.specs.declared.kind.Space.TheVariants.{NonClass, Class}
+use Rattle.ms_base.specs.Spaces.{first_class_slot}
+use Rattle.ms_buddy.specs.Leaves.{LentLeaf, free_of, has_level, is_of}
 
 -- What callers see: the lent leaves of each root.
 pub record TreesState : Type 0 where
@@ -12,20 +14,31 @@ pub record TreesState : Type 0 where
 abbrev pub has_free : List (List LentLeaf) → ℕ → ℕ → Bool
 has_free trees level root = list_any (is_of level) (free_of (get_or trees root []))
 
--- How many numbers of the index a level has: enough for each root that may be reserved.
-abbrev pub row_bits : ℕ
-row_bits = 192
+-- How many roots the index has: two for each slot of both spaces.
+abbrev pub all_roots : ℕ
+all_roots = 160
 
--- The number in the index that stands for a level and a root: each level has a row.
-abbrev pub place_in : ℕ → ℕ → ℕ
-place_in level root = row_bits * level + root
+-- The root is one of the space.
+abbrev pub IsRootOf : Space → ℕ → Type 0
+IsRootOf NonClass root = root < 2 * first_class_slot
+IsRootOf Class root = 2 * first_class_slot ≤ root
 
--- A bit of the index is told, and the others stay.
-abbrev pub Tells : List ℕ → List ℕ → ℕ → Bool → Type 0
-Tells old new place set = (number : ℕ) → is_among new number ≡ cond (number == place) set (is_among old number)
+-- Among the levels are those of each root that is asked for.
+abbrev pub HaveLevels : ℕ → List ℕ → (ℕ → Type 0) → Type 0
+HaveLevels levels roots IsAsked = (level root : ℕ) → root < all_roots → IsAsked root
+    → has_level (get_or roots root 0) level ≡ true → has_level levels level ≡ true
 
--- The index has exactly the levels and roots where the tree has a free leaf.
-pub record IsIndex (numbers : List ℕ) (trees : List (List LentLeaf)) : Type 0 where
-  pub few : length trees ≤ row_bits
-  pub exact : (level root : ℕ) → level ≤ 12 → root < length trees
-      → is_among numbers (place_in level root) ≡ has_free trees level root
+-- The levels of each space are those of its roots.
+pub record AreGathered (roots : List ℕ) (levels class_levels : ℕ) : Type 0 where
+  pub space : HaveLevels levels roots (IsRootOf NonClass)
+  pub class_space : HaveLevels class_levels roots (IsRootOf Class)
+
+-- The index has exactly the levels of which each root's tree has a free leaf.
+pub record IsIndex (roots : List ℕ) (trees : List (List LentLeaf)) : Type 0 where
+  pub few : length trees ≤ all_roots
+  pub exact : (level root : ℕ) → root < length trees → has_level (get_or roots root 0) level ≡ has_free trees level root
+
+-- No root of the space has a free leaf of a level whose bit is clear.
+abbrev pub LeaveNone : ℕ → Space → List (List LentLeaf) → Type 0
+LeaveNone levels space trees = (level root : ℕ) → IsRootOf space root → root < length trees
+    → has_level levels level ≡ false → has_free trees level root ≡ false

@@ -1,5 +1,5 @@
-//! The sums over a space: what `lent` has counted, and the free parts, in one walk over the roots
-//! that are reserved.
+//! The sums over a space: what `lent` has counted, and the free parts that the tree of each reserved
+//! root has counted by level.
 ghost use Rattle.std.specs.Prelude.{◌≡◌, ◌+◌, ◌<◌, ◌≤◌, ◌^◌, ◌==◌, cond, [], get_or, length};
 ghost use Rattle.ms_base.specs.Part.{is_reserved};
 ghost use Rattle.ms_base.specs.FreeParts.{free_in_slot};
@@ -11,12 +11,14 @@ ghost use Rattle.ms_pool.specs.Ledger.{held_in, opened_in, state_in};
 ghost use Rattle.ms_pool.specs.Keeping.{IsCounted, IsKept, ledger_of};
 ghost use Rattle.ms_pool.specs.Calls.{sums_in};
 ghost use Rattle.ms_pool.specs.Tallies.{AreTallies};
-ghost use Rattle.ms_pool.specs.Counting.{AreRaised, HasRoom, count_at_level};
+ghost use Rattle.ms_buddy.specs.Counts.{AreRaised, count_at_level};
+ghost use Rattle.ms_pool.specs.Counting.{HasRoom};
 
 use crate::lender::Lender;
-use crate::lent::one_more;
 use crate::totals::{LEVELS, PoolTotals};
 use ms_base::{Level, NODE_WORDS, SLOTS, Space, granule};
+use ms_buddy::SplitTree;
+use std::alloc::Global;
 
 /// What was counted of parts that are free: how many of each level.
 #[derive(Clone, Copy)]
@@ -122,20 +124,20 @@ impl Lender {
         ensures { AreRaised before.free
             (λ level. count_at_level level (free_of (get_or self.now.trees.items root []))) result.free }
     {
+        let tree = self.trees.tree(root);
         let mut counted = before;
-        for leaf in self.trees.tree(root).free_leaves() {
-            count_part(&mut counted, leaf.level);
+        for level in 0..LEVELS as u8 {
+            count_parts(&mut counted, tree, Level::new(level));
         }
         counted
     }
 }
 
-/// Counts a free part of a level.
-fn count_part(counted: &mut FreeCounted, level: Level)
-    requires fits { level < 13 → get_or counted.old.free level 0 + 1 < 2 ^ 32 }
-    ensures { AreRaised counted.old.free (λ other. cond (level == other) 1 0) counted.new.free }
+/// Counts the free leaves of a level that a tree has.
+fn count_parts(counted: &mut FreeCounted, tree: &SplitTree<Global>, level: Level)
+    requires { get_or counted.old.free level 0 + count_at_level level (free_of tree.now) < 2 ^ 32 }
+    ensures { AreRaised counted.old.free
+        (λ other. cond (level == other) (count_at_level level (free_of tree.now)) 0) counted.new.free }
 {
-    // That a level is at most 12 is learnt here.
-    let _ = level.number();
-    one_more(&mut counted.free, level);
+    counted.free[level.number() as usize] += u32::from(tree.free_count(level));
 }

@@ -4,7 +4,8 @@
 //! they come, grow and go, so whoever asks looks at no tree. Nothing here takes memory.
 ghost use Rattle.std.specs.Prelude.{◌≡◌, ◌+◌, ◌<◌, ◌≤◌, ◌^◌, ◌==◌, cond, [], ◌∷◌, get_or};
 ghost use Rattle.ms_base.specs.declared.kind.Space.{Space};
-ghost use Rattle.ms_pool.specs.Counting.{AreCounted, AreRaised, HasLeast, HasRoomFor, HaveLeast, Moves, MovesIn};
+ghost use Rattle.ms_buddy.specs.Counts.{AreRaised};
+ghost use Rattle.ms_pool.specs.Counting.{AreCounted, HasLeast, HasRoomFor, HaveLeast, Moves, MovesIn};
 ghost use Rattle.ms_pool.specs.Counting.{counted_in, with_counted};
 
 use crate::account::Account;
@@ -94,7 +95,7 @@ impl Lent {
 }
 
 /// Counts one more of a level.
-pub(crate) fn one_more(counts: &mut [u32; LEVELS], level: Level)
+fn one_more(counts: &mut [u32; LEVELS], level: Level)
     requires { get_or counts.old level 0 + 1 < 2 ^ 32 }
     ensures { AreRaised counts.old (λ other. cond (level == other) 1 0) counts.new }
 {

@@ -4,14 +4,16 @@
 //! trait `ChunkSource` is all that an arena knows, and `AccountSource` all that a step of the machine
 //! does. Contracts see a pool as a `Ledger`, and each call is one relation of `specs/Calls.antt`.
 //! Stands on `ms_commit` for nodes and granules and on `ms_buddy` for the parts of each root. Only
-//! `Pool::new` and `take` take memory; nothing waits.
+//! `Pool::new`, `take` and `maps` take memory; nothing waits.
 #![tactic(auto)]
 
 mod account;
 mod counting;
+mod index;
 mod lender;
 mod lending;
 mod lent;
+mod mapping;
 mod pool;
 mod search;
 mod source;
@@ -21,6 +23,7 @@ mod totals;
 mod trees;
 
 pub use account::Account;
+pub use mapping::{Place, RootMap};
 pub use pool::{LimitCounts, Pool};
 pub use source::{AccountSource, ChunkSource};
 pub use totals::PoolTotals;

@@ -13,6 +13,7 @@ ghost use Rattle.ms_pool.specs.Calls.{Opened, OpenedBoth, Took, Grew, Closed, Cl
 
 mod counts;
 mod granules;
+mod maps;
 mod owners;
 
 use crate::account::Account;

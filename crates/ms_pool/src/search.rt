@@ -8,10 +8,11 @@
 //!
 //! The first that finds a part decides; within a level the lowest address comes first. Where none
 //! does, the lower root of a new node is taken. `lowest_free` alone decides whether the mask of
-//! granules has to be asked; the index of `trees` tells the roots, and `lowest_in_root` alone looks
-//! for leaves, down one path of a tree. So what a search costs doesn't grow with the chunks that are
-//! lent or free, but under policy none with the larger free parts of a level. Nothing here takes
-//! memory. After HotSpot's chunkManager.cpp; the order is this project's choice.
+//! granules has to be asked; the index of `trees` tells the levels and the roots, and
+//! `lowest_in_root` alone looks for leaves, down one path of a tree. So what a search costs doesn't
+//! grow with the chunks that are lent or free, but under policy none with the larger free parts of
+//! a level. Nothing here takes memory. After HotSpot's chunkManager.cpp; the order is this
+//! project's choice.
 ghost use Rattle.std.specs.Prelude.{◌≡◌, ◌+◌, ◌-◌, ◌*◌, ◌/◌, ◌<◌, ◌≤◌, ◌^◌, ◌||◌, not, [], length, get_or, min};
 ghost use Rattle.ms_base.specs.Level.{root_words, size_of};
 ghost use Rattle.ms_base.specs.Policy.{granule_of};
@@ -23,7 +24,9 @@ ghost use Rattle.ms_pool.specs.Lending.{MayTake};
 ghost use Rattle.ms_pool.specs.Keeping.{IsKept, ledger_of};
 ghost use Rattle.ms_pool.specs.Searching.{least_granule, are_among, first_at, first_down, first_found, first_in};
 ghost use Rattle.ms_pool.specs.Searching.{first_in_slot, first_up};
+ghost use Rattle.ms_pool.specs.Trees.{LeaveNone};
 
+use crate::index::has_level;
 use crate::lender::Lender;
 use ms_base::{Level, Policy, ROOT_WORDS, SLOTS, Space, Span, granule};
 
@@ -99,8 +102,11 @@ impl Lender {
             ≡ first_up (state_in wish.space (ledger_of self.now)) wish.words wish.committed wanted
             most }
     {
+        let (space, words, committed) = (wish.space, wish.words, wish.committed);
+        let levels = self.trees.free_levels(space);
         for number in wanted.number()..most.number() + 1 {
-            if let Some(part) = self.lowest_free(wish, Level::new(number)) {
+            let level = Level::new(number);
+            if let Some(part) = self.lowest_at(levels, space, words, committed, level) {
                 return Some(part);
             }
         }
@@ -115,20 +121,52 @@ impl Lender {
             ≡ first_down (state_in wish.space (ledger_of self.now)) wish.words wish.committed
             wanted }
     {
+        let (space, words, committed) = (wish.space, wish.words, wish.committed);
+        let levels = self.trees.free_levels(space);
         let top = wanted.number();
         for below in 0..top + 1 {
             let level = Level::new(top - below);
-            if let Some(part) = self.lowest_free(wish, level) {
+            if let Some(part) = self.lowest_at(levels, space, words, committed, level) {
                 return Some(part);
             }
         }
         None
     }
 
+    /// Finds the lowest free part of a level that grants a wish for so many words. Where the bit of the
+    /// level is clear none is free in the space. The wish is put together only where it is asked: in a
+    /// loop over levels its copies would cost more than the tests.
+    #[inline(always)]
+    fn lowest_at(
+        &self,
+        levels: u16,
+        space: Space,
+        words: u64,
+        committed: bool,
+        level: Level,
+    ) -> Option<Span>
+        requires kept { IsKept self.now }
+        requires told { LeaveNone levels space self.now.trees.items }
+        requires some { 1 ≤ words }
+        requires fits { words ≤ size_of level }
+        ensures { result ≡ first_at (state_in space (ledger_of self.now)) words committed level }
+    {
+        if !has_level(levels, level) {
+            return None;
+        }
+        let wish = Wish {
+            space,
+            words,
+            committed,
+        };
+        self.lowest_free(wish, level)
+    }
+
     /// Finds the lowest free part of a level that grants the wish. A free part smaller than a
     /// granule is committed: its buddy is not free, and a front there meets the granule of both. Any
     /// other is wholly uncommitted, but under policy none, where what was given back stays
     /// committed and the mask has to be asked for each.
+    #[inline(never)]
     fn lowest_free(&self, wish: Wish, level: Level) -> Option<Span>
         requires kept { IsKept self.now }
         requires fits { wish.words ≤ size_of level }

@@ -1,46 +1,35 @@
-//! The split trees of all roots that may be reserved, and an index of them: for each level, which
-//! roots have a free leaf of it.
+//! The split trees of all roots that may be reserved, and an index of them (`index`).
 //!
-//!     index  0          192        384         2304       2496
-//!            +----------+----------+--  ..  ---+----------+
-//!            | level 0  | level 1  |           | level 12 |      (a bit for each root)
-//!            +----------+----------+--  ..  ---+----------+
-//!
-//! Kept true: the bit of a level and a root is set exactly where the root's tree has a free leaf of
-//! that level. A root that isn't reserved is whole, so at level 0 it has its bit, and whoever asks
-//! looks whether its slot is reserved. A change of a tree that leaves it other levels tells the 13 bits
-//! of its root anew, those that differ. The places of trees and index are made once.
+//! Kept true: the index tells of each root exactly the levels of which the root's tree has a free leaf.
+//! A root that isn't reserved is whole, so it is told to have level 0, and whoever asks looks whether
+//! its slot is reserved. A change of a tree tells the levels of its root anew, where they are others.
+//! The places of trees and index are made once.
 ghost use Rattle.std.specs.Prelude.{◌≡◌, ℕ, ◌+◌, ◌-◌, ◌*◌, ◌/◌, ◌%◌, ◌<◌, ◌≤◌, true, false, [], get_or, length, replicate};
 ghost use Rattle.std.specs.Prelude.{IfOk, IfSome, IfNone, IsTrue, IsFalse, Some};
 ghost use Rattle.std.specs.List.{All, find};
-ghost use Rattle.ms_base.specs.Committed.{is_among};
 ghost use Rattle.ms_base.specs.Level.{root_words};
-ghost use Rattle.ms_buddy.specs.Leaves.{AreLeaves, covers, free_of, has_level};
+ghost use Rattle.ms_buddy.specs.Leaves.{AreLeaves, covers, free_of};
 ghost use Rattle.ms_pool.specs.Growing.{with_greater_loan};
 ghost use Rattle.ms_pool.specs.Keeping.{loans_from};
 ghost use Rattle.ms_pool.specs.Ledger.{with_loan};
 ghost use Rattle.ms_pool.specs.Owners.{owner_at};
 ghost use Rattle.ms_pool.specs.Placing.{MayBeCarved, MayBeRaised};
 ghost use Rattle.ms_pool.specs.Releasing.{TakesBack, is_lent_in, without_loan};
-ghost use Rattle.ms_pool.specs.Trees.{Tells, has_free, place_in, row_bits};
+ghost use Rattle.ms_pool.specs.Trees.{LeaveNone, all_roots, has_free};
 
-use crate::totals::LEVELS;
-use ms_base::{Chunk, Level, ROOT_WORDS, Span};
+use crate::index::Index;
+use ms_base::{Chunk, Level, ROOT_WORDS, Space, Span};
 use ms_buddy::{Leaf, SplitTree};
-use ms_commit::Mask;
 use std::alloc::{AllocError, Global};
 use std::marker::Model;
-
-/// The bits of a level in the index: one for each of at most 160 roots, and some to spare.
-const ROW_BITS: usize = 192;
 
 /// A tree for each root that may be reserved, and the index. Contracts see the lent leaves of each.
 #[derive(Drop)]
 pub(crate) struct Trees {
     /// The tree of each root, by the root's number; 160 at most.
     trees: Vec<SplitTree<Global>>,
-    /// The index: a row of bits for each level, 39 words in all.
-    roots: Mask<39>,
+    /// The levels of free leaves of each.
+    index: Index,
 }
 
 impl Model for Trees {
@@ -50,19 +39,18 @@ impl Model for Trees {
 
     ghost view = { λ all. record { items = all.trees.items } };
 
-    ghost invariant = { λ all. IsIndex all.roots all.trees.items };
+    ghost invariant = { λ all. IsIndex all.index all.trees.items };
 }
 
 impl Trees {
     /// Makes so many trees, each of one free leaf.
     pub(crate) fn whole(alloc: Global, count: usize) -> Result<Trees, AllocError>
-        requires { count ≤ row_bits }
+        requires { count ≤ all_roots }
         ensures { IfOk result (λ trees. trees.items ≡ replicate count []) }
     {
         let trees = whole_trees(alloc, count)?;
-        let mut roots = Mask::empty();
-        roots.insert_range(0, count);
-        Ok(Trees { trees, roots })
+        let index = Index::whole();
+        Ok(Trees { trees, index })
     }
 
     /// The tree of a root.
@@ -84,14 +72,14 @@ impl Trees {
         ensures none { IfNone result
             ((k : ℕ) → from ≤ k → k < end → has_free self.now.items level k ≡ false) }
     {
-        if end <= from {
-            return None;
-        }
-        let row = ROW_BITS * level.number() as usize;
-        match self.roots.lowest_within(row + from, end - from) {
-            Some(place) => Some(place - row),
-            None => None,
-        }
+        self.index.next_root(level, from, end)
+    }
+
+    /// Tells the levels of which any root of a space has a free leaf, as bits.
+    pub(crate) fn free_levels(&self, space: Space) -> u16
+        ensures { LeaveNone result space self.now.items }
+    {
+        self.index.levels(space)
     }
 }
 
@@ -123,10 +111,9 @@ pub(crate) fn carve(trees: &mut Trees, alloc: Global, owner: u32, chunk: &Chunk)
     ensures unchanged { IsFalse result → trees.new.items ≡ trees.old.items }
 {
     let root = (chunk.start / ROOT_WORDS) as usize;
-    let before = trees.trees[root].free_levels();
     let lent = carve_leaf(&mut trees.trees, alloc, owner, chunk);
     let levels = trees.trees[root].free_levels();
-    note(&mut trees.roots, root, before, levels);
+    trees.index.tell(root, levels);
     lent
 }
 
@@ -137,10 +124,9 @@ pub(crate) fn put_back(trees: &mut Trees, chunk: &Chunk) -> Span
     ensures { TakesBack trees.old.items chunk.now result trees.new.items }
 {
     let root = (chunk.start / ROOT_WORDS) as usize;
-    let before = trees.trees[root].free_levels();
     let part = put_back_leaf(&mut trees.trees, chunk);
     let levels = trees.trees[root].free_levels();
-    note(&mut trees.roots, root, before, levels);
+    trees.index.tell(root, levels);
     part
 }
 
@@ -154,55 +140,9 @@ pub(crate) fn raise(trees: &mut Trees, chunk: &Chunk, greater: &Chunk)
     ensures count { length trees.new.items ≡ length trees.old.items }
 {
     let root = (chunk.start / ROOT_WORDS) as usize;
-    let before = trees.trees[root].free_levels();
     raise_leaf(&mut trees.trees, chunk, greater);
     let levels = trees.trees[root].free_levels();
-    note(&mut trees.roots, root, before, levels);
-}
-
-/// Tells the index anew of which levels a root has free leaves, where they aren't those of before.
-fn note(roots: &mut Mask<39>, root: usize, before: u16, levels: u16)
-    requires within { root < row_bits }
-    requires told { (level : ℕ) → level ≤ 12
-        → is_among roots.old (place_in level root) ≡ has_level before level }
-    ensures here { (level : ℕ) → level ≤ 12
-        → is_among roots.new (place_in level root) ≡ has_level levels level }
-    ensures others { (number : ℕ) → (number % row_bits ≡ root → ⊥)
-        → is_among roots.new number ≡ is_among roots.old number }
-{
-    if before == levels {
-        return;
-    }
-    for level in 0..LEVELS {
-        let place = ROW_BITS * level + root;
-        if levels >> level & 1 == 1 {
-            set_bit(roots, place);
-        } else {
-            clear_bit(roots, place);
-        }
-    }
-}
-
-/// Sets a bit of the index, where it isn't set.
-fn set_bit(roots: &mut Mask<39>, place: usize)
-    requires { place < 2496 }
-    ensures { Tells roots.old roots.new place true }
-{
-    if roots.contains(place) {
-        return;
-    }
-    roots.insert_range(place, 1);
-}
-
-/// Clears a bit of the index, where it is set.
-fn clear_bit(roots: &mut Mask<39>, place: usize)
-    requires { place < 2496 }
-    ensures { Tells roots.old roots.new place false }
-{
-    if !roots.contains(place) {
-        return;
-    }
-    roots.remove_range(place, 1);
+    trees.index.tell(root, levels);
 }
 
 /// Lends the chunk's part in the tree of its root; `false` where memory is wanting.

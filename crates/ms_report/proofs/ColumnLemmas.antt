@@ -1,13 +1,16 @@
 -- Columns written from the right into blank bytes. Used by `columns`.
 use Rattle.std.proofs.Common.{◌≡◌, ◌≤◌, ◌<◌, ◌^◌, ℕ, zero, suc, ◌-◌, List, ◌++◌, length, replicate, drop, take, sym, ◌∙◌, ap}
-use Rattle.std.proofs.Common.{[], arith, append_assoc, append-nil}
+use Rattle.std.proofs.Common.{[], ◌∷◌, ◌+◌, min, codes, arith, append_assoc}
 use Rattle.std.proofs.lemmas.Fmt.{IsAscii-decimal, length-decimal-le}
 use Rattle.std.proofs.lemmas.List.{take-append-drop, take-replicate, drop-replicate, drop-append-le, take-append-le}
-use Rattle.std.proofs.lemmas.List.{length-replicate}
+use Rattle.std.proofs.lemmas.List.{length-drop, length-replicate, length-take-le, drop-drop, drop_at}
+use borrow.Rule.Slice.PartMut.{put_mid}
+use Rattle.std.proofs.lemmas.Slice.{take-put_mid_below}
 use Rattle.std.proofs.lemmas.Str.{IsAscii-append}
 use Rattle.std.proofs.lemmas.Str.Ascii.{IsAscii-nil, IsAscii-cons}
 use Rattle.std.specs.Fmt.{decimal}
 use Rattle.std.specs.Str.{IsAscii}
+use Rattle.ms_report.specs.Cells.{IsLine}
 use Rattle.ms_report.specs.Layout.{right_in}
 
 -- A number has twenty digits at most.
@@ -46,6 +49,15 @@ digits_right new rest digits places from start low count blank written =
     ∙ ap (λ (later : List ℕ). spaces ++ later) written
     ∙ sym (append_assoc spaces digits rest)
 
+-- So are those that end at byte 20, with as many blank bytes before them as their places want.
+pub digits_placed : (old new : List ℕ) (places number from start : ℕ) → number < 2 ^ 64 → places ≤ 20
+    → take 20 old ≡ replicate 20 32 → start + length (decimal number) ≡ 20 → take start new ≡ take start old
+    → drop start new ≡ decimal number ++ drop 20 old → from ≡ min start (20 - places)
+    → drop from new ≡ right_in places (decimal number) ++ drop 20 old
+digits_placed old new places number from start small few blank end before written least =
+    digits_right new (drop 20 old) (decimal number) places from start (omega (arith, least))
+    (omega (arith, least, end, few)) (before ∙ blank_below old start 20 (omega (arith, end)) blank) written
+
 -- They are ASCII.
 spaces_are_ascii : (n : ℕ) → IsAscii (replicate n 32)
 spaces_are_ascii zero = IsAscii-nil
@@ -56,21 +68,89 @@ right_is_ascii places n small =
     IsAscii-append (replicate (places - length (decimal n)) 32) (decimal n)
     (spaces_are_ascii (places - length (decimal n))) (IsAscii-decimal n small)
 
--- Four of them, one before the other, up to the end.
-pub record AreFour (bytes one two three four : List ℕ) : Type 0 where
-  pub bytes_are : bytes ≡ one ++ (two ++ (three ++ four))
+-- Four of them, one before the other, and what ends them.
+pub record AreFour (bytes one two three four end : List ℕ) : Type 0 where
+  pub bytes_are : bytes ≡ one ++ (two ++ (three ++ (four ++ end)))
   pub ascii : IsAscii bytes
 
 pub four_columns : (first second third fourth end one two three four : List ℕ) → first ≡ one ++ second
-    → second ≡ two ++ third → third ≡ three ++ fourth → fourth ≡ four ++ end → end ≡ []
-    → IsAscii one → IsAscii two → IsAscii three → IsAscii four → AreFour first one two three four
-four_columns first second third fourth end one two three four e1 e2 e3 e4 none a1 a2 a3 a4 =
-    let last : fourth ≡ four = e4 ∙ ap (λ (later : List ℕ). four ++ later) none ∙ append-nil four in
-    let whole : first ≡ one ++ (two ++ (three ++ four)) =
+    → second ≡ two ++ third → third ≡ three ++ fourth → fourth ≡ four ++ end
+    → IsAscii one → IsAscii two → IsAscii three → IsAscii four → IsAscii end → AreFour first one two three four end
+four_columns first second third fourth end one two three four e1 e2 e3 e4 a1 a2 a3 a4 a5 =
+    let whole : first ≡ one ++ (two ++ (three ++ (four ++ end))) =
     e1 ∙ ap (λ (later : List ℕ). one ++ later) (e2 ∙ ap (λ (later : List ℕ). two ++ later)
-    (e3 ∙ ap (λ (later : List ℕ). three ++ later) last)) in
+    (e3 ∙ ap (λ (later : List ℕ). three ++ later) e4)) in
     record {
       bytes_are = whole;
-      ascii = rw whole (IsAscii-append one (two ++ (three ++ four)) a1
-          (IsAscii-append two (three ++ four) a2 (IsAscii-append three four a3 a4)));
+      ascii = rw whole (IsAscii-append one (two ++ (three ++ (four ++ end))) a1
+          (IsAscii-append two (three ++ (four ++ end)) a2
+          (IsAscii-append three (four ++ end) a3 (IsAscii-append four end a4 a5))));
     }
+
+-- The end of a line is ASCII.
+pub end_is_ascii : IsAscii (10 ∷ [])
+end_is_ascii = IsAscii-cons 10 [] (omega arith) IsAscii-nil
+
+-- A number of five digits at most in five places, with two spaces before them, stands in seven.
+pub two_more_places : (n : ℕ) → n < 2 ^ 16 → right_in 7 (decimal n) ≡ codes "  " ++ right_in 5 (decimal n)
+two_more_places n small =
+    let few : length (decimal n) ≤ 5 =
+    length-decimal-le 5 n (omega arith) (omega (arith, small)) (omega (arith, small)) in
+    let more : 7 - length (decimal n) ≡ suc (suc (5 - length (decimal n))) = omega (arith, few) in
+    ap (λ (many : ℕ). replicate many 32 ++ decimal n) more
+
+-- A number that is put before what is written of a line: what the line is then.
+pub record IsPut (old new : List ℕ) (places number end from : ℕ) : Type 0 where
+  pub is_line : IsLine from new
+  pub written : drop from new ≡ right_in places (decimal number) ++ drop end old
+  pub near : end ≤ from + 20
+
+pub number_put : (old new : List ℕ) (places number end start from : ℕ) → IsLine end old → number < 2 ^ 64
+    → places ≤ 20 → 20 ≤ end → start + length (decimal number) ≡ end → take start new ≡ take start old
+    → drop start new ≡ decimal number ++ drop end old → from ≡ min start (end - places)
+    → IsPut old new places number end from
+number_put old new places number end start from line small few room ends before digits least =
+    let blank : take start new ≡ replicate start 32 =
+    before ∙ blank_below old start end (omega (arith, ends)) line.blank in
+    let written : drop from new ≡ right_in places (decimal number) ++ drop end old =
+    digits_right new (drop end old) (decimal number) places from start (omega (arith, least))
+    (omega (arith, least, ends, few, room)) blank digits in
+    record {
+      is_line = record {
+        within = omega (arith, least, ends, line.within);
+        blank = blank_below new from start (omega (arith, least)) blank;
+        ascii = rw written (IsAscii-append (right_in places (decimal number)) (drop end old)
+            (right_is_ascii places number small) line.ascii);
+      };
+      written = written;
+      near = omega (arith, least, ends, few, room, digits_fit number small);
+    }
+
+-- What is written of a line leaves so much room before it.
+pub room_before : (line bytes : List ℕ) (from words : ℕ) → line ≡ drop from bytes → length bytes ≡ 192 → from ≤ 192
+    → length line + words ≤ 192 → words ≤ from
+room_before line bytes from words is long within room =
+    omega (arith, ap length is, length-drop from bytes, long, within, room)
+
+-- A word that is put before what is written.
+pub word_put : (old word piece : List ℕ) (end : ℕ) → IsLine end old → length old ≡ 192 → length word ≤ end → IsAscii word
+    → piece ≡ word → IsLine (end - length word)
+    (put_mid (end - length word) (end - (end - length word)) old piece)
+word_put old word piece end line long fits plain is =
+    rw is (record {
+      within = omega (arith, line.within);
+      blank = take-put_mid_below start (end - start) old word start (omega arith) low
+          ∙ blank_below old start end (omega arith) line.blank;
+      ascii = rw written (IsAscii-append word (drop end old) plain line.ascii);
+    })
+  where
+    start : ℕ
+    start = end - length word
+
+    low : start ≤ length old
+    low = omega (arith, line.within, long)
+
+    written : drop start (put_mid start (end - start) old word) ≡ word ++ drop end old
+    written = drop_at (take start old) (word ++ drop (end - start) (drop start old)) start (length-take-le start old low)
+        ∙ ap (λ (later : List ℕ). word ++ later)
+        (drop-drop (end - start) start old ∙ ap (λ (n : ℕ). drop n old) (omega (arith, fits)))

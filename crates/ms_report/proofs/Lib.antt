@@ -1,3 +1,4 @@
 pub mod TextLemmas
 pub mod PaddingLemmas
 pub mod ColumnLemmas
+pub mod KindLemmas

@@ -12,7 +12,13 @@ use Rattle.ms_report.specs.Layout.{loader_table, loader_texts, kind_text}
 use Rattle.ms_base.proofs.free.HalvesLemmas.{size_falls}
 use Rattle.ms_base.specs.declared.kind.Kind.{Kind}
 use Rattle.ms_base.specs.declared.kind.Kind.TheVariants.{Standard, Boot, Reflection, Hidden}
-use Rattle.ms_report.specs.LayoutLaws.{IsWithin}
+use Rattle.ms_base.specs.declared.kind.Space.{Space}
+use Rattle.ms_base.specs.declared.kind.Space.TheVariants.{NonClass, Class}
+use Rattle.ms_loaders.specs.Details.{ArenaSums, LoaderSums}
+use Rattle.ms_report.specs.declared.kinds.KindTotals.{KindTotals}
+use Rattle.ms_report.specs.Kinds.{sum_columns, kind_table, kind_line, sum_texts}
+use Rattle.ms_report.specs.Holdings.{holding_table, holding_line, arena_texts, space_text}
+use Rattle.ms_report.specs.LayoutLaws.{IsWithin, IsKindWithin, IsArenaWithin}
 
 left_fits : (places : ℕ) (text : List ℕ) → length text ≤ places → length (left_in places text) ≡ places
 left_fits places text fits =
@@ -116,6 +122,53 @@ loader_line_length row within =
               ),
             ),
           ),
+        ),
+      ),
+    )
+
+-- The columns of chunks and words, which end the lines of kinds and of what loaders hold.
+words_fit : (words : ℕ) → words ≤ 83886080 → length (decimal words) ≤ 10
+words_fit words few = length-decimal-le 10 words (omega arith) (omega (arith, few)) (omega (arith, few))
+
+sums_fit : (chunks capacity fronts used live free_blocks waste : ℕ) → chunks ≤ 655360 → capacity ≤ 83886080
+    → fronts ≤ 83886080 → used ≤ 83886080 → live ≤ 83886080 → free_blocks ≤ 83886080 → waste ≤ 83886080
+    → FitIn sum_columns (decimal chunks ∷ decimal capacity ∷ decimal fronts ∷ decimal used ∷ decimal live
+    ∷ decimal free_blocks ∷ decimal waste ∷ [])
+sums_fit chunks capacity fronts used live free_blocks waste few c f u l k w =
+    let kept : length (decimal free_blocks) ≤ 13 = omega (arith, words_fit free_blocks k) in (
+      length-decimal-le 8 chunks (omega arith) (omega (arith, few)) (omega (arith, few)),
+      (
+        words_fit capacity c,
+        (words_fit fronts f, (words_fit used u, (words_fit live l, (kept, (words_fit waste w, tt))))),
+      ),
+    )
+
+pub kind_line_length : (kind : Kind) (totals : KindTotals) → IsKindWithin totals → length (kind_line kind totals) ≡ 95
+kind_line_length kind totals its =
+    line_length kind_table (kind_text kind ∷ decimal totals.loaders ∷ sum_texts totals) (
+      kind_fits kind,
+      (
+        length-decimal-le 9 totals.loaders (omega arith) (omega (arith, its.loaders)) (omega (arith, its.loaders)),
+        sums_fit totals.chunks totals.capacity totals.fronts totals.used totals.live totals.free_blocks totals.waste
+            its.chunks its.capacity its.fronts its.used its.live its.free_blocks its.waste,
+      ),
+    )
+
+space_fits : (space : Space) → length (space_text space) ≤ 11
+space_fits NonClass = omega arith
+space_fits Class = omega arith
+
+pub holding_line_length : (loader : LoaderSums) (space : Space) (arena : ArenaSums) → loader.name ≤ 65535
+    → IsArenaWithin arena → length (holding_line loader space arena) ≡ 102
+holding_line_length loader space arena low its =
+    line_length holding_table (decimal loader.name ∷ kind_text loader.kind ∷ space_text space ∷ arena_texts arena) (
+      length-decimal-le 5 loader.name (omega arith) (omega (arith, low)) (omega (arith, low)),
+      (
+        kind_fits loader.kind,
+        (
+          space_fits space,
+          sums_fit arena.chunks arena.capacity arena.fronts arena.used arena.live arena.free_blocks arena.waste
+              its.chunks its.capacity its.fronts its.used its.live its.free_blocks its.waste,
         ),
       ),
     )

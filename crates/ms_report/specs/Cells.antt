@@ -1,5 +1,5 @@
 -- What the tables and columns of the code stand for.
-use Rattle.std.specs.Prelude.{ℕ, List, ◌++◌, map}
+use Rattle.std.specs.Prelude.{◌≡◌, ◌≤◌, ℕ, List, [], ◌∷◌, ◌++◌, codes, map, drop, take, replicate, IsAscii}
 use Rattle.std.specs.Fmt.{decimal}
 use denote.Ref.{Bor}
 use Rattle.ms_report.specs.declared.usage.Amount.{Amount}
@@ -23,6 +23,18 @@ rows_in rows = map row_in rows
 abbrev pub placed : ℕ × ℕ → List ℕ
 placed column = right_in column.0 (decimal column.1)
 
--- Four numbers, one beside the other.
-abbrev pub four_placed : ℕ × ℕ → ℕ × ℕ → ℕ × ℕ → ℕ × ℕ → List ℕ
-four_placed first second third fourth = placed first ++ (placed second ++ (placed third ++ placed fourth))
+-- Numbers, each right in its places.
+abbrev pub all_placed : List (ℕ × ℕ) → List ℕ
+all_placed [] = []
+all_placed (column ∷ columns) = placed column ++ all_placed columns
+
+-- Four numbers, one beside the other, and the line's end.
+abbrev pub four_line : ℕ × ℕ → ℕ × ℕ → ℕ × ℕ → ℕ × ℕ → List ℕ
+four_line first second third fourth =
+    placed first ++ (placed second ++ (placed third ++ (placed fourth ++ codes "\n")))
+
+-- A line that is written from its end: it is blank up to a byte, and from there on it is ASCII.
+pub record IsLine (from : ℕ) (bytes : List ℕ) : Type 0 where
+  pub within : from ≤ 192
+  pub blank : take from bytes ≡ replicate from 32
+  pub ascii : IsAscii (drop from bytes)

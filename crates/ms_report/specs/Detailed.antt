@@ -1,32 +1,27 @@
--- The text of a full report: the fixed text, then the parts Settings, Usage and Refused (this project's choice).
-use Rattle.std.specs.Prelude.{ℕ, ◌*◌, ◌/◌, ◌%◌, ◌==◌, List, [], ◌∷◌, ◌++◌, Option, Some, None, codes}
-use Rattle.std.specs.Prelude.{nat_lt, if◌then◌else◌}
+-- The text of a full report: the fixed text, then the parts Settings, Usage, Kinds, Loaders, Refused, Peaks
+-- and Map (this project's choice).
+use Rattle.std.specs.Prelude.{ℕ, ◌/◌, ◌%◌, ◌==◌, List, [], ◌∷◌, ◌++◌, Option, Some, None, codes, if◌then◌else◌}
 use Rattle.std.specs.Fmt.{decimal}
 use Rattle.ms_base.specs.declared.settings.Settings.{Settings}
 use Rattle.ms_base.specs.Totals.{Sums}
-use Rattle.ms_report.specs.declared.detail.Detail.{Detail}
-use Rattle.ms_report.specs.declared.detail.Detail.TheVariants.{Basic, Full}
+use Rattle.ms_loaders.specs.Details.{DetailSums}
+use Rattle.ms_loaders.specs.declared.details.Detail.{Detail}
+use Rattle.ms_loaders.specs.declared.details.Detail.TheVariants.{Basic, Full}
 use Rattle.ms_report.specs.declared.usage.Amount.{Amount}
 use Rattle.ms_report.specs.declared.usage.Usage.{Usage}
 use Rattle.ms_report.specs.declared.usage.Usages.{Usages}
+use Rattle.ms_loaders.specs.declared.peaks.Peaks.{Peaks}
 use Rattle.ms_report.specs.Layout.{left_in, right_in}
+use Rattle.ms_report.specs.Peaks.{peaks_part}
+use Rattle.ms_report.specs.Sizes.{pointed, size_in}
 use Rattle.ms_report.specs.Sections.{report_text}
 use Rattle.ms_report.specs.Refused.{refused_part}
 use Rattle.ms_report.specs.Setup.{settings_part}
+use Rattle.ms_report.specs.Kinds.{kinds_part}
+use Rattle.ms_report.specs.Holdings.{holdings_part}
+use Rattle.ms_report.specs.Map.{map_part}
 use Rattle.ms_report.specs.declared.refused.Refusals.{Refusals}
 use Rattle.ms_report.specs.Usage.{usages_of}
-
--- A number with one digit after its point: what is whole right in its places, and the tenths.
-abbrev pub pointed : ℕ → ℕ → ℕ → List ℕ
-pointed places whole tenths = right_in places (decimal whole) ++ codes "." ++ right_in 1 (decimal tenths)
-
--- How many units of so many words there are, cut off after one digit.
-abbrev pub units_in : ℕ → ℕ → List ℕ
-units_in unit words = pointed 7 (words / unit) (words % unit * 10 / unit)
-
--- A size in KB of 128 words where it is less than a MB of 131072 words, else in MB.
-abbrev pub size_in : ℕ → List ℕ
-size_in words = if nat_lt words 131072 then units_in 128 words ++ codes " KB" else units_in 131072 words ++ codes " MB"
 
 -- A share in per cent, and a dash where there is none.
 abbrev pub share_in : Option ℕ → List ℕ
@@ -78,12 +73,25 @@ usage_part settings sums =
     titled_usage (codes "Usage\n") (usages_of settings sums).space
     ++ class_usage sums.class_space.nodes (usages_of settings sums)
 
+-- What the loaders hold, by kind and each by itself; left out where it isn't told.
+abbrev pub details_part : Option DetailSums → List ℕ
+details_part None = []
+details_part (Some details) = kinds_part details.loaders ++ holdings_part details.loaders
+
+-- The maps of roots; left out where they aren't told.
+abbrev pub maps_part : Option DetailSums → List ℕ
+maps_part None = []
+maps_part (Some details) = map_part details.roots
+
 -- A full report.
-abbrev pub full_text : Settings → Refusals → Sums → List ℕ
-full_text settings refusals sums =
-    report_text sums ++ settings_part settings ++ usage_part settings sums ++ refused_part refusals
+abbrev pub full_text : Settings → Refusals → Sums → Option DetailSums → Option Peaks → List ℕ
+full_text settings refusals sums details peaks =
+    report_text sums ++ settings_part settings ++ usage_part settings sums ++ details_part details
+    ++ refused_part refusals
+    ++ peaks_part settings peaks
+    ++ maps_part details
 
 -- A report with as much detail as is asked for.
-abbrev pub detailed_text : Detail → Settings → Refusals → Sums → List ℕ
-detailed_text Basic settings refusals sums = report_text sums
-detailed_text Full settings refusals sums = full_text settings refusals sums
+abbrev pub detailed_text : Detail → Settings → Refusals → Sums → Option DetailSums → Option Peaks → List ℕ
+detailed_text Basic settings refusals sums details peaks = report_text sums
+detailed_text Full settings refusals sums details peaks = full_text settings refusals sums details peaks

@@ -2,7 +2,13 @@
 -- columns run together. Each is the contract of a function of `laws`.
 use Rattle.std.specs.Prelude.{◌≡◌, ℕ, ◌+◌, ◌≤◌, ◌<◌, ◌^◌, List, ◌∷◌, length}
 use Rattle.std.specs.Fmt.{decimal}
+use Rattle.ms_base.specs.declared.kind.Kind.{Kind}
+use Rattle.ms_base.specs.declared.kind.Space.{Space}
 use Rattle.ms_base.specs.Totals.{LoaderRow}
+use Rattle.ms_loaders.specs.Details.{ArenaSums, LoaderSums}
+use Rattle.ms_report.specs.declared.kinds.KindTotals.{KindTotals}
+use Rattle.ms_report.specs.Kinds.{kind_table, kind_line}
+use Rattle.ms_report.specs.Holdings.{holding_table, holding_line}
 use Rattle.ms_report.specs.Layout.{number_line, right_in, table_line, header, level_table, level_texts, loader_table}
 use Rattle.ms_report.specs.Layout.{loader_texts}
 
@@ -32,6 +38,39 @@ abbrev pub LoadersLineUp : Type 0
 LoadersLineUp =
     (length (header loader_table) ≡ 58)
     × ((row : LoaderRow) → IsWithin row → length (table_line loader_table (loader_texts row)) ≡ 58)
+
+-- The numbers of a kind and of a loader in a space are within the limits too.
+pub record IsKindWithin (totals : KindTotals) : Type 0 where
+  pub loaders : totals.loaders ≤ 65536
+  pub chunks : totals.chunks ≤ 655360
+  pub capacity : totals.capacity ≤ 83886080
+  pub fronts : totals.fronts ≤ 83886080
+  pub used : totals.used ≤ 83886080
+  pub live : totals.live ≤ 83886080
+  pub free_blocks : totals.free_blocks ≤ 83886080
+  pub waste : totals.waste ≤ 83886080
+
+pub record IsArenaWithin (arena : ArenaSums) : Type 0 where
+  pub chunks : arena.chunks ≤ 655360
+  pub capacity : arena.capacity ≤ 83886080
+  pub fronts : arena.fronts ≤ 83886080
+  pub used : arena.used ≤ 83886080
+  pub live : arena.live ≤ 83886080
+  pub free_blocks : arena.free_blocks ≤ 83886080
+  pub waste : arena.waste ≤ 83886080
+
+-- The line of a kind has 94 bytes and a newline, and so have the headings.
+abbrev pub KindsLineUp : Type 0
+KindsLineUp =
+    (length (header kind_table) ≡ 95)
+    × ((kind : Kind) (totals : KindTotals) → IsKindWithin totals → length (kind_line kind totals) ≡ 95)
+
+-- The line of what a loader holds in a space has 101 bytes and a newline, and so have the headings.
+abbrev pub HoldingsLineUp : Type 0
+HoldingsLineUp =
+    (length (header holding_table) ≡ 102)
+    × ((loader : LoaderSums) (space : Space) (arena : ArenaSums) → loader.name ≤ 65535 → IsArenaWithin arena
+    → length (holding_line loader space arena) ≡ 102)
 
 -- A number with fewer digits than its column has places has a space before it.
 abbrev pub ColumnsStandApart : Type 0

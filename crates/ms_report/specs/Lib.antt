@@ -2,8 +2,13 @@ pub mod Layout
 pub mod Cells
 pub mod Sections
 pub mod Setup
+pub mod Sizes
+pub mod Peaks
 pub mod Refused
 pub mod Usage
+pub mod Kinds
+pub mod Holdings
 pub mod Detailed
 pub mod ReplyLines
 pub mod LayoutLaws
+pub mod Map

@@ -6,8 +6,9 @@ use Rattle.ms_base.specs.ReplyText.{reply_line}
 use Rattle.ms_loaders.specs.declared.totals.Totals.{Totals}
 use Rattle.ms_loaders.specs.declared.replies.Answer.{Answer}
 use Rattle.ms_loaders.specs.Sums.{sums_in}
+use Rattle.ms_loaders.specs.Details.{told_in}
 use Rattle.ms_base.specs.declared.settings.Settings.{Settings}
-use Rattle.ms_report.specs.declared.detail.Detail.{Detail}
+use Rattle.ms_loaders.specs.declared.details.Detail.{Detail}
 use Rattle.ms_report.specs.Detailed.{detailed_text}
 use Rattle.ms_report.specs.Refused.{refusals_of}
 use Rattle.ms_report.specs.declared.refused.Refusals.{Refusals}
@@ -19,7 +20,8 @@ replies_in answers = map (λ (answer : Answer). answer.reply) answers
 -- What follows a reply: the report where one was asked for, with the refusals so far.
 abbrev pub report_after : Detail → Settings → Refusals → Option (Box Totals Global) → List ℕ
 report_after detail settings refusals None = []
-report_after detail settings refusals (Some totals) = detailed_text detail settings refusals (sums_in totals.value)
+report_after detail settings refusals (Some totals) =
+    detailed_text detail settings refusals (sums_in totals.value) (told_in totals.value) totals.value.peaks
 
 -- An answer's line, a report after it.
 abbrev pub answer_text : Bool → Detail → Settings → Refusals → Answer → List ℕ

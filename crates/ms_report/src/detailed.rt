@@ -1,5 +1,6 @@
-//! The full report: the fixed text, then the settings, then how much of the memory is what, and then
-//! how many lines were refused.
+//! The full report: the fixed text, then the settings, then how much of the memory is what, then what
+//! the loaders of each kind and each loader hold, then how many lines were refused, then the peaks, and
+//! then the maps of roots.
 //!
 //!     Settings
 //!       policy          balanced
@@ -7,37 +8,42 @@
 //!                         words        size  per cent
 //!      committed           8192     64.0 KB       0.0
 //!
-//! A size is told in KB of 1024 bytes where it is less than a MB, and else in MB; like a share it is
-//! cut off after one digit. Kept true: the text is the bytes that `specs/Detailed.antt` gives for
-//! the totals, the settings and the counts of refusals. Takes memory for the text alone.
-ghost use Rattle.std.specs.Prelude.{◌≡◌, ◌≤◌, ◌<◌, ◌++◌, IfOk, OnOk, string_bytes};
+//! A share is cut off after one digit, as a size is. Kept true: the text is the bytes that `specs/Detailed.antt` gives for
+//! the totals, the details, the settings, the counts of refusals and the peaks. Takes memory for the text alone.
+ghost use Rattle.std.specs.Prelude.{◌≡◌, ◌++◌, IfOk, OnOk, string_bytes};
 ghost use Rattle.ms_loaders.specs.Sums.{sums_in};
 ghost use Rattle.ms_report.specs.Cells.{rows_in};
-ghost use Rattle.ms_report.specs.Detailed.{amount_line, amount_lines, class_usage, class_usages, detailed_text, full_text, pointed, share_in};
-ghost use Rattle.ms_report.specs.Detailed.{size_in, titled_usage, units_in, usage_part, usage_rows};
+ghost use Rattle.ms_loaders.specs.Details.{details_in, told_in};
+ghost use Rattle.ms_report.specs.Detailed.{amount_line, amount_lines, class_usage, class_usages, detailed_text, full_text, share_in};
+ghost use Rattle.ms_report.specs.Detailed.{details_part, maps_part};
+ghost use Rattle.ms_report.specs.Kinds.{kinds_part};
+ghost use Rattle.ms_report.specs.Holdings.{holdings_part};
+ghost use Rattle.ms_report.specs.Detailed.{titled_usage, usage_part, usage_rows};
+ghost use Rattle.ms_report.specs.Peaks.{peaks_part};
 
-use crate::detail::Detail;
+use crate::holdings::push_holdings;
+use crate::kinds::push_kinds;
 use crate::layout::{push_label, push_wide};
+use crate::maps::push_maps;
+use crate::peaks::push_peaks;
 use crate::refused::{Refusals, push_refused};
 use crate::sections::push_report;
 use crate::setup::push_settings;
+use crate::sizes::{push_pointed, push_size};
 use crate::usage::{Amount, Usage, Usages, weigh};
 use ms_base::Settings;
-use ms_loaders::Totals;
+use ms_loaders::{Detail, Details, Totals};
 use std::alloc::{AllocError, Global};
-
-/// The words of a KB and of a MB.
-const KB: u128 = 128;
-
-const MB: u128 = 131_072;
 
 /// The headings of a usage.
 const HEADINGS: &str = "                     words        size  per cent\n";
 
 /// Writes the full report of these totals of a run with these settings, in which so many lines were
 /// refused: the text that `text` writes, then the settings, then the usage of the space, and where the
-/// class space has nodes its usage, and that of both, then the refused lines by name. Takes memory for
-/// the text; an error means that a growth was refused. This project's choice.
+/// class space has nodes its usage, and that of both; then, where the totals have details, what the
+/// loaders of each kind hold, and what each loader holds in each space; then the refused lines by name;
+/// then, where the totals have them, the peaks; and where they have details the maps of roots. Takes memory for the text; an error means that a
+/// growth was refused. This project's choice.
 pub fn full_text(
     alloc: Global,
     totals: &Totals,
@@ -45,7 +51,8 @@ pub fn full_text(
     refusals: &Refusals,
 ) -> Result<String, AllocError>
     ensures { IfOk result (λ text.
-        string_bytes text ≡ full_text settings.now refusals.now (sums_in totals.now)) }
+        string_bytes text ≡ full_text settings.now refusals.now (sums_in totals.now)
+        (told_in totals.now) totals.now.peaks) }
 {
     let mut text = String::new(alloc);
     push_full(&mut text, settings, refusals, totals)?;
@@ -61,7 +68,8 @@ pub fn push_detailed(
     totals: &Totals,
 ) -> Result<(), AllocError>
     ensures { OnOk result (string_bytes text.new
-        ≡ string_bytes text.old ++ detailed_text detail settings.now refusals.now (sums_in totals.now)) }
+        ≡ string_bytes text.old ++ detailed_text detail settings.now refusals.now (sums_in totals.now)
+        (told_in totals.now) totals.now.peaks) }
 {
     match detail {
         Detail::Basic => push_report(text, totals),
@@ -77,12 +85,49 @@ fn push_full(
     totals: &Totals,
 ) -> Result<(), AllocError>
     ensures { OnOk result (string_bytes text.new
-        ≡ string_bytes text.old ++ full_text settings.now refusals.now (sums_in totals.now)) }
+        ≡ string_bytes text.old ++ full_text settings.now refusals.now (sums_in totals.now)
+        (told_in totals.now) totals.now.peaks) }
 {
     push_report(text, totals)?;
     push_settings(text, settings)?;
     push_usages(text, settings, totals)?;
+    push_details(text, totals)?;
     push_refused(text, refusals)?;
+    push_peaks(text, settings, totals.peaks)?;
+    push_roots(text, totals)?;
+    Ok(())
+}
+
+/// Appends the maps of roots, where they are told.
+fn push_roots(text: &mut String, totals: &Totals) -> Result<(), AllocError>
+    ensures { OnOk result (string_bytes text.new
+        ≡ string_bytes text.old ++ maps_part (told_in totals.now)) }
+{
+    match &totals.details {
+        Some(details) => push_maps(text, details.roots.as_slice()),
+        None => Ok(()),
+    }
+}
+
+/// Appends what the loaders hold, where it is told.
+fn push_details(text: &mut String, totals: &Totals) -> Result<(), AllocError>
+    ensures { OnOk result (string_bytes text.new
+        ≡ string_bytes text.old ++ details_part (told_in totals.now)) }
+{
+    match &totals.details {
+        Some(details) => push_tables(text, details),
+        None => Ok(()),
+    }
+}
+
+/// Appends what the loaders of each kind hold, and what each loader holds.
+fn push_tables(text: &mut String, details: &Details) -> Result<(), AllocError>
+    ensures { OnOk result (string_bytes text.new
+        ≡ string_bytes text.old ++ (kinds_part (details_in details.now).loaders
+        ++ holdings_part (details_in details.now).loaders)) }
+{
+    push_kinds(text, details.loaders.as_slice())?;
+    push_holdings(text, details.loaders.as_slice())?;
     Ok(())
 }
 
@@ -170,29 +215,6 @@ fn push_amount_line(text: &mut String, label: &str, amount: Amount) -> Result<()
     Ok(())
 }
 
-/// Appends a size for people.
-fn push_size(text: &mut String, words: u128) -> Result<(), AllocError>
-    ensures { OnOk result (string_bytes text.new ≡ string_bytes text.old ++ size_in words) }
-{
-    if words < MB {
-        push_units(text, KB, words)?;
-        text.push_str(" KB")?;
-        return Ok(());
-    }
-    push_units(text, MB, words)?;
-    text.push_str(" MB")?;
-    Ok(())
-}
-
-/// Appends how many units of so many words there are.
-fn push_units(text: &mut String, unit: u128, words: u128) -> Result<(), AllocError>
-    requires some { 0 < unit }
-    requires few { unit ≤ 131072 }
-    ensures { OnOk result (string_bytes text.new ≡ string_bytes text.old ++ units_in unit words) }
-{
-    push_pointed(text, 7, words / unit, words % unit * 10 / unit)
-}
-
 /// Appends a share, or a dash where there is none.
 fn push_share(text: &mut String, share: Option<u128>) -> Result<(), AllocError>
     ensures { OnOk result (string_bytes text.new ≡ string_bytes text.old ++ share_in share) }
@@ -201,20 +223,4 @@ fn push_share(text: &mut String, share: Option<u128>) -> Result<(), AllocError>
         Some(tenths) => push_pointed(text, 8, tenths / 10, tenths % 10),
         None => text.push_str("         -"),
     }
-}
-
-/// Appends a number with one digit after its point.
-fn push_pointed(
-    text: &mut String,
-    places: usize,
-    whole: u128,
-    tenths: u128,
-) -> Result<(), AllocError>
-    ensures { OnOk result (string_bytes text.new
-        ≡ string_bytes text.old ++ pointed places whole tenths) }
-{
-    push_wide(text, places, whole)?;
-    text.push_str(".")?;
-    push_wide(text, 1, tenths)?;
-    Ok(())
 }

@@ -7,7 +7,7 @@
 //! calls append to a text, and take memory for it alone.
 ghost use Rattle.std.specs.Prelude.{◌≡◌, ◌++◌, OnOk, string_bytes, decimal, replicate};
 ghost use Rattle.ms_report.specs.Layout.{number_line, left_in, number_lines, right_in, header, headings};
-ghost use Rattle.ms_report.specs.Cells.{pairs_in};
+ghost use Rattle.ms_report.specs.Cells.{all_placed, pairs_in};
 
 use itoa::Buffer;
 use std::alloc::AllocError;
@@ -77,6 +77,17 @@ pub fn push_wide(text: &mut String, places: usize, number: u128) -> Result<(), A
 {
     let mut buffer = Buffer::new();
     push_word(text, places, buffer.format(number))
+}
+
+/// Appends numbers of 128 bits, each right in its places.
+pub fn push_wides(text: &mut String, columns: &[(usize, u128)]) -> Result<(), AllocError>
+    ensures { OnOk result (string_bytes text.new
+        ≡ string_bytes text.old ++ all_placed columns.now) }
+{
+    for (places, number) in columns {
+        push_wide(text, *places, *number)?;
+    }
+    Ok(())
 }
 
 /// Appends a label with spaces after it to the places of a column.

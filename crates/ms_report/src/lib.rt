@@ -2,29 +2,38 @@
 //!
 //!     System -- collecting --> Totals -- sections, layout --> the report's text
 //!                    Totals, Settings -- usage, detailed ---> the full report's text
+//!                      Details, Peaks -- kinds, holdings, peaks -> its tables
 //!                              Replies -- reply_lines ------> a line each, and reports
 //!
 //! Kept true: each text is exactly the bytes that `specs/` gives for its numbers, and the totals
 //! of a system are the sums over the machine that it stands for. Apart because the text is a file
 //! format of its own: whoever reads reports needs no more than this crate. Stands on `ms_base` and
-//! `ms_loaders`. All calls but `weigh` and `tally` take memory; nothing waits.
+//! `ms_loaders`. All calls but `weigh`, `tally` and `sum_kinds` take memory; nothing
+//! waits.
 #![tactic(auto)]
 
 mod collecting;
 mod columns;
-mod detail;
 mod detailed;
+mod holdings;
+mod kinds;
 pub mod laws;
 mod layout;
+mod line;
+mod maps;
+mod peaks;
 mod refused;
 mod reply_lines;
 mod sections;
 mod setup;
+mod sizes;
 mod usage;
 
 pub use collecting::totals;
-pub use detail::Detail;
 pub use detailed::full_text;
+pub use kinds::{KindTotals, Kinds, sum_kinds};
+pub use maps::map_text;
+pub use ms_loaders::Detail;
 pub use refused::{Refusals, tally};
 pub use reply_lines::lines;
 pub use sections::text;

@@ -11,11 +11,10 @@ ghost use Rattle.ms_base.specs.ReplyText.{name_of, reply_text, reply_line};
 ghost use Rattle.ms_report.specs.ReplyLines.{report_after, answer_text, answers_text};
 
 use crate::columns::push_before;
-use crate::detail::Detail;
 use crate::detailed::push_detailed;
 use crate::refused::{NONE, Refusals, count};
 use ms_base::{Refusal, Reply, Settings};
-use ms_loaders::{Answer, Replies, Totals};
+use ms_loaders::{Answer, Detail, Replies, Totals};
 use std::alloc::{AllocError, Global};
 
 /// Writes a line for each answer, in their order: the number of the trace's line, a space, the

@@ -3,14 +3,16 @@
 //! Metaspace, its numbers, and its chunks by level; the same of the class space, where that has
 //! nodes; a line for each loader. Kept true: the text is the bytes that `specs/Sections.antt` gives
 //! for the totals. `text` takes memory for the text alone.
-ghost use Rattle.std.specs.Prelude.{◌≡◌, ◌++◌, IfOk, OnOk, string_bytes, map};
+ghost use Rattle.std.specs.Prelude.{◌≡◌, ◌≤◌, ◌+◌, ◌++◌, IfOk, OnOk, string_bytes, codes, decimal, length, map};
 ghost use Rattle.ms_loaders.specs.Sums.{sums_in, space_in, row_in};
 ghost use Rattle.ms_report.specs.Layout.{number_lines, space_rows, kind_text, level_table, level_texts, loader_table};
 ghost use Rattle.ms_report.specs.Layout.{loader_lines, loader_texts, right_in, table_line};
 ghost use Rattle.ms_report.specs.Sections.{levels_part, main_part, class_part, class_lines, loaders_part, report_text};
 
 use crate::columns::push_four;
-use crate::layout::{Column, push_header, push_number_line, push_number_lines, push_right};
+use crate::kinds::kind_cell;
+use crate::layout::{Column, push_header, push_number_line, push_number_lines};
+use crate::line::Line;
 use ms_base::{Kind, Level};
 use ms_loaders::{LoaderRow, SpaceTotals, Totals};
 use std::alloc::{AllocError, Global};
@@ -138,9 +140,7 @@ fn push_level(text: &mut String, level: Level, held: u32, free: u32) -> Result<(
         (LEVEL_TABLE[1].1, level.words()),
         (LEVEL_TABLE[2].1, u64::from(held)),
         (LEVEL_TABLE[3].1, u64::from(free)),
-    )?;
-    text.push_str("\n")?;
-    Ok(())
+    )
 }
 
 /// Appends the table of loaders.
@@ -170,28 +170,21 @@ fn push_row(text: &mut String, row: &LoaderRow) -> Result<(), AllocError>
     ensures { OnOk result (string_bytes text.new
         ≡ string_bytes text.old ++ table_line loader_table (loader_texts (row_in row.now))) }
 {
-    text.push_str("  ")?;
-    push_right(text, LOADER_TABLE[0].1, u64::from(row.name))?;
-    text.push_str(kind_cell(row.kind))?;
-    push_four(
-        text,
-        (LOADER_TABLE[2].1, u64::from(row.chunks)),
-        (LOADER_TABLE[3].1, row.capacity),
-        (LOADER_TABLE[4].1, row.used),
-        (LOADER_TABLE[5].1, row.live),
-    )?;
-    text.push_str("\n")?;
-    Ok(())
+    let mut line = Line::end();
+    line.put_right(LOADER_TABLE[5].1, row.live);
+    line.put_right(LOADER_TABLE[4].1, row.used);
+    line.put_right(LOADER_TABLE[3].1, row.capacity);
+    line.put_right(LOADER_TABLE[2].1, u64::from(row.chunks));
+    put_name(&mut line, row.name, row.kind);
+    line.push_to(text)
 }
 
-/// Tells the word of a kind, right in its column.
-fn kind_cell(kind: Kind) -> &'static str
-    ensures { result.now ≡ right_in 12 (kind_text kind) }
+/// Puts the first two columns of a loader's line, with the spaces before them.
+pub fn put_name(line: &mut Line, name: u16, kind: Kind)
+    requires { length line.old + 32 ≤ 192 }
+    ensures { line.new
+        ≡ codes "  " ++ (right_in 5 (decimal name) ++ (right_in 12 (kind_text kind) ++ line.old)) }
 {
-    match kind {
-        Kind::Standard => "    standard",
-        Kind::Boot => "        boot",
-        Kind::Reflection => "  reflection",
-        Kind::Hidden => "      hidden",
-    }
+    line.put_word(kind_cell(kind));
+    line.put_right(7, u64::from(name));
 }

@@ -1,17 +1,25 @@
--- Answers put together, line by line; for `alone`.
-use Rattle.std.proofs.Common.{◌≡◌, ◌<◌, ◌+◌, ◌∙◌, ℕ, List, [], ◌∷◌, ◌++◌, length, take, get_or, subst, refl, ap}
-use Rattle.std.proofs.Common.{append_assoc}
+-- Answers put together, line by line, over the course that a run takes; for `alone`.
+use Rattle.std.proofs.Common.{◌≡◌, ◌<◌, ◌+◌, ◌∙◌, ℕ, List, [], ◌∷◌, ◌++◌, None, length, take, get_or, subst, refl, ap}
+use Rattle.std.proofs.Common.{append_assoc, append-nil, sym, Bool, true, false, IsTrue}
+use Rattle.std.specs.Prelude.{◌||◌}
 use Rattle.std.proofs.lemmas.List.{take_more}
 use Rattle.ms_base.specs.State.{Machine}
+use Rattle.ms_base.specs.declared.step.Step.{Step}
+use Rattle.ms_base.specs.Transition.{Transition}
+use Rattle.ms_trace.specs.declared.trace.Command.TheVariants.{Step as Asks}
 use Rattle.ms_trace.specs.declared.trace.Line.{Line}
 use Rattle.ms_loaders.specs.declared.replies.Answer.{Answer}
-use Rattle.ms_run.specs.Replay.{Answers}
+use Rattle.ms_run.specs.Counting.{HasAnswered, HasTaken}
+use Rattle.ms_run.specs.Course.{Course, begun, on_to, passed}
+use Rattle.ms_run.specs.Peaks.{ArePeaksIfKept}
+use Rattle.ms_run.specs.Replay.{Answers, IsEnd}
+use Rattle.ms_run.specs.declared.alone.Metered.{Metered}
 
 -- The answers to some lines, and then to others.
-pub answers_append : (old mid new : Machine) (lines more : List Line) (answers added : List Answer)
+pub answers_append : (old mid new : Course) (lines more : List Line) (answers added : List Answer)
     → Answers old lines answers mid → Answers mid more added new → Answers old (lines ++ more) (answers ++ added) new
 answers_append old mid new [] more answers added first second =
-    subst (λ (m : Machine). Answers m more (answers ++ added) new) first.1 (rw first.0 second)
+    subst (λ (course : Course). Answers course more (answers ++ added) new) first.1 (rw first.0 second)
 answers_append old mid new (line ∷ lines) more [] added first second = absurd first
 answers_append old mid new (line ∷ lines) more (answer ∷ answers) added first second = (
   first.0,
@@ -21,35 +29,79 @@ answers_append old mid new (line ∷ lines) more (answer ∷ answers) added firs
   answers_append first.0 mid new lines more answers added first.4 second,
 )
 
--- The first lines are answered, and then the next one, which adds an answer.
-abbrev pub AddsNext : Machine → Line → List Answer → List Answer → Machine → Type 0
-AddsNext mid line answers whole new =
-    (added : Answer) × (whole ≡ answers ++ added ∷ []) × Answers mid (line ∷ []) (added ∷ []) new
+-- No line is answered, and then one more.
+pub none_answered : (run : Metered) (answers : List Answer) → HasAnswered run [] answers answers run
+none_answered run answers = λ course taken. ([], course, sym (append-nil answers), (refl, refl), taken)
 
-pub answers_next : (old mid new : Machine) (lines : List Line) (at : ℕ) (line : Line) (answers whole : List Answer)
-    → Answers old (take at lines) answers mid → at < length lines
-    → AddsNext mid (get_or lines at line) answers whole new
-    → Answers old (take (at + 1) lines) whole new
-answers_next old mid new lines at line answers whole first more next =
-    rw (next.1, take_more lines at line more)
-    (answers_append old mid new (take at lines) (get_or lines at line ∷ []) answers (next.0 ∷ []) first next.2)
+pub one_more_answered : (old mid new : Metered) (lines : List Line) (at : ℕ) (line : Line)
+    (before so_far whole : List Answer) → HasAnswered old (take at lines) before so_far mid → at < length lines
+    → HasAnswered mid (get_or lines at line ∷ []) so_far whole new
+    → HasAnswered old (take (at + 1) lines) before whole new
+one_more_answered old mid new lines at line before so_far whole first more next = λ course taken.
+    let told = first course taken in
+    let then = next told.1 told.4 in (
+      told.0 ++ then.0,
+      then.1,
+      then.2 ∙ ap (λ (l : List Answer). l ++ then.0) told.2 ∙ append_assoc before told.0 then.0,
+      rw (take_more lines at line more)
+          (answers_append course told.1 then.1 (take at lines) (get_or lines at line ∷ []) told.0 then.0 told.3
+          then.3),
+      then.4,
+    )
 
--- The same where there were answers before.
-abbrev pub AddsFirst : Machine → List Line → List Answer → List Answer → Machine → Type 0
-AddsFirst old lines before after new = (added : List Answer) × (after ≡ before ++ added) × Answers old lines added new
-
-pub answers_more : (old mid new : Machine) (lines : List Line) (at : ℕ) (line : Line)
-    (before so_far whole : List Answer) → AddsFirst old (take at lines) before so_far mid → at < length lines
-    → AddsNext mid (get_or lines at line) so_far whole new
-    → AddsFirst old (take (at + 1) lines) before whole new
-answers_more old mid new lines at line before so_far whole told more next = (
-  told.0 ++ next.0 ∷ [],
-  next.1 ∙ ap (λ (l : List Answer). l ++ next.0 ∷ []) told.1 ∙ append_assoc before told.0 (next.0 ∷ []),
-  answers_next old mid new lines at line told.0 (told.0 ++ next.0 ∷ []) told.2 more (next.0, refl, next.2),
+-- A line that asks a step is answered: the course goes on to the state after it.
+pub step_answered : (old new : Metered) (line : Line) (step : Step) (answer : Answer) (answers whole : List Answer)
+    → line.command ≡ Asks step → whole ≡ answers ++ answer ∷ [] → answer.line ≡ line.number → answer.report ≡ None
+    → Transition old.system step answer.reply new.system
+    → ((states : List Machine) → ArePeaksIfKept states old.peaks → ArePeaksIfKept (new.system ∷ states) new.peaks)
+    → HasAnswered old (line ∷ []) answers whole new
+step_answered old new line step answer answers whole asks adds number none told raised = λ course taken. (
+  answer ∷ [],
+  on_to new.system course,
+  adds,
+  (
+    on_to new.system course,
+    number,
+    rw asks (subst (λ (m : Machine). Transition m step answer.reply new.system) taken.state told, refl),
+    rw asks none,
+    (refl, refl),
+  ),
+  record {
+    state = refl;
+    peaks = raised (passed course) taken.peaks;
+  },
 )
 
--- Where there were none, all are these.
-pub answers_all : (first old new : Machine) (lines : List Line) (before after : List Answer) → old ≡ first
-    → before ≡ [] → AddsFirst old lines before after new → Answers first lines after new
-answers_all first old new lines before after is none told =
-    rw (told.1, none) (subst (λ (m : Machine). Answers m lines told.0 new) is told.2)
+-- A line that asks none is answered: the course stays.
+pub end_answered : (run : Metered) (line : Line) (answers whole : List Answer)
+    → ((course : Course) → HasTaken course run
+    → (added : Answer) × (whole ≡ answers ++ added ∷ []) × IsEnd course line added)
+    → HasAnswered run (line ∷ []) answers whole run
+end_answered run line answers whole between = λ course taken.
+    let told = between course taken in (
+      told.0 ∷ [],
+      course,
+      told.1,
+      (course, told.2.number, rw told.2.no_step (told.2.done, refl), told.2.report, (refl, refl)),
+      taken,
+    )
+
+-- A run that begins has taken the course that begins there.
+pub begins : (run : Metered) (first : Machine) → run.system ≡ first → ArePeaksIfKept (run.system ∷ []) run.peaks
+    → HasTaken (begun first) run
+begins run first is peaks = record {
+  state = is;
+  peaks = subst (λ (m : Machine). ArePeaksIfKept (m ∷ []) run.peaks) is peaks;
+}
+
+-- What is kept for full reports is counted, whether a gate looks or not.
+pub counted_if_kept : (looks kept : Bool) → kept ≡ true → IsTrue (looks || kept)
+counted_if_kept true kept is = refl
+counted_if_kept false kept is = is
+
+-- Where there were no answers, all are these.
+pub answers_all : (first : Machine) (old new : Metered) (lines : List Line) (before after : List Answer)
+    → HasTaken (begun first) old → before ≡ [] → HasAnswered old lines before after new
+    → (last : Course) × Answers (begun first) lines after last
+answers_all first old new lines before after taken none told =
+    let its = told (begun first) taken in (its.1, rw (its.2, none) its.3)

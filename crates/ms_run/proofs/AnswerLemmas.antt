@@ -1,8 +1,7 @@
 -- A step over the lock, from what it is over any source: the seat and its loaders after it, its events,
 -- and that the reply is its loader's own. For `answer` in metering.rt.
-use Rattle.std.proofs.Common.{◌≡◌, ◌≢◌, ◌+◌, ◌<◌, ℕ, Bool, true, false, Option, Some, None, Result, Ok, Err, List, []}
-use Rattle.std.proofs.Common.{inl, inr, refl, sym, ap, ◌∙◌, subst, arith}
-use Rattle.std.proofs.lemmas.Bool.{cases_eq}
+use Rattle.std.proofs.Common.{◌≡◌, ◌≢◌, ◌<◌, ℕ, Bool, true, false, Option, Some, None, Result, Ok, Err, List, []}
+use Rattle.std.proofs.Common.{inl, inr, refl, sym, ap, ◌∙◌, subst}
 use Rattle.ms_base.specs.declared.kind.Kind.{Kind}
 use Rattle.ms_base.specs.declared.kind.Space.{Space}
 use Rattle.ms_base.specs.declared.kind.Space.TheVariants.{NonClass, Class}
@@ -10,47 +9,40 @@ use Rattle.ms_base.specs.declared.span.Block.{Block}
 use Rattle.ms_base.specs.declared.refusal.Refusal.{Refusal}
 use Rattle.ms_base.specs.declared.refusal.Refusal.TheVariants.{NoLoader, LoaderExists, OutOfMemory}
 use Rattle.ms_base.specs.declared.step.Step.{Step}
-use Rattle.ms_base.specs.declared.step.Step.TheVariants.{New, Alloc, Calloc, Write, Read, Free, Unload, Purge}
+use Rattle.ms_base.specs.declared.step.Step.TheVariants.{New}
 use Rattle.ms_base.specs.declared.step.Reply.{Reply}
-use Rattle.ms_base.specs.declared.step.Reply.TheVariants.{Ok as Done, At, Value, Refused}
+use Rattle.ms_base.specs.declared.step.Reply.TheVariants.{Ok as Done, At, Refused}
 use Rattle.ms_base.specs.Alone.{OwnReply}
-use Rattle.ms_base.specs.Names.{AreNamed, named, with_new, with_changed, without}
-use Rattle.ms_base.specs.Request.{loader_of, alloc_in}
-use Rattle.ms_base.proofs.entries.LookupLemmas.{named_new_same, named_new_other, named_changed_same, named_without_other}
+use Rattle.ms_base.specs.Names.{named, with_new}
+use Rattle.ms_base.specs.Request.{alloc_in}
+use Rattle.ms_base.proofs.entries.LookupLemmas.{named_new_same, named_new_other, named_changed_same}
 use Rattle.ms_pool.specs.Account.{AccountState}
-use Rattle.ms_pool.specs.Ledger.{Ledger, opened_in}
-use Rattle.ms_pool.specs.Calls.{ClosedBoth}
-use Rattle.ms_pool.proofs.ledger.ClosedLemmas.{purged_leaves_served}
-use Rattle.ms_loaders.specs.Loader.{LoaderView, account_in, new_loader, WritesWord, FreesBlock, HasWord, LacksWord}
-use Rattle.ms_loaders.specs.Loader.{LacksName}
-use Rattle.ms_loaders.specs.Serving.{SourceCalls, calls_of, MayServe, Served, MakesLoader, MakesInVain, MakesNone}
-use Rattle.ms_loaders.specs.Serving.{AllocatesIn, AllocatesAt, AllocatesNone, FindsNone, ChangesOne, LooksAt, IsLacking}
-use Rattle.ms_loaders.specs.Serving.{ClosesLoader}
+use Rattle.ms_pool.specs.Ledger.{Ledger}
+use Rattle.ms_loaders.specs.Loader.{LoaderView, account_in, new_loader}
+use Rattle.ms_loaders.specs.Serving.{SourceCalls, calls_of, MakesLoader, MakesInVain, MakesNone}
+use Rattle.ms_loaders.specs.Serving.{AllocatesIn, AllocatesAt, AllocatesNone}
 use Rattle.ms_loaders.specs.System.{states_of}
 use Rattle.ms_loaders.specs.Used.{used_at}
 use Rattle.ms_loaders.proofs.steps.CallLemmas.{same_loaders}
-use Rattle.ms_shared.specs.History.{Event}
 use Rattle.ms_shared.specs.SeatView.{SeatState, ServesBy, OverLock, opened_by}
 use Rattle.ms_shared.specs.LockCalls.{TookOver, GrewOver, OpenedBothOver, ClosedBothOver, PurgedOver}
-use Rattle.ms_shared.proofs.LockCallLemmas.{IsCall, served_by_pool, serves_then, counts_stay, close_both_counts}
+use Rattle.ms_shared.proofs.LockCallLemmas.{IsCall, served_by_pool, serves_then, close_both_counts}
 use Rattle.ms_shared.proofs.LockOpenLemmas.{open_both_serve, class_open_both_serve, open_both_others, open_both_counts}
 use Rattle.ms_shared.proofs.LockCloseLemmas.{closes_both, both_known}
 use Rattle.ms_run.specs.Own.{own_in}
-use Rattle.ms_run.specs.Acts.{HasMade, Makes, Touches, AsksOf, Once, OfLoader, IsOpening, IsClosing, IsPurging}
+use Rattle.ms_run.specs.Acts.{HasMade, Makes, Touches, AsksOf, Once, OfLoader, IsOpening}
 use Rattle.ms_run.specs.Acts.{LacksLoader, start_of}
 use Rattle.ms_run.specs.Manned.{IsManned}
 use Rattle.ms_run.specs.Metering.{MovesNoTop}
 use Rattle.ms_run.proofs.ActLemmas.{made_none, made_one, made_two, block_made, is_closing}
 use Rattle.ms_run.proofs.GrantLemmas.{replies_without, replies_at, replies_why}
 use Rattle.ms_run.proofs.LifetimeOpenLemmas.{manned_refused, manned_opened}
-use Rattle.ms_run.proofs.LifetimeCloseLemmas.{Closes, serves_first, serves_second, counts_some, manned_closed}
+use Rattle.ms_run.proofs.LifetimeCloseLemmas.{Closes, counts_some, manned_closed}
 use Rattle.ms_run.proofs.LifetimeCloseLemmas.{new_then_without}
-use Rattle.ms_run.proofs.LifetimeReplyLemmas.{exists_reply, numbers_reply, made_reply, unloaded_reply, none_reply}
+use Rattle.ms_run.proofs.LifetimeReplyLemmas.{exists_reply, numbers_reply, made_reply}
 use Rattle.ms_run.proofs.SeatStaysLemmas.{own_is_served, manned_after}
-use Rattle.ms_run.proofs.ServeLemmas.{purged_manned}
-use Rattle.ms_run.proofs.TouchLemmas.{own_found, own_missing, own_written, own_freed_in, own_read, own_not_read}
-use Rattle.ms_run.proofs.TouchLemmas.{write_refused, free_refused, others_stay, written_keeps, freed_keeps_seats}
-use Rattle.ms_run.proofs.TouchLemmas.{written_uses, freed_uses}
+use Rattle.ms_run.proofs.TouchLemmas.{own_found, own_missing}
+use Rattle.ms_run.proofs.TouchLemmas.{others_stay}
 
 -- What a lock says of itself, at a seat.
 abbrev pub lock_calls : SourceCalls SeatState

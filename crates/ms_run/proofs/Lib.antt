@@ -15,6 +15,8 @@ mod machine
 mod PhaseLemmas
 mod OwnStepLemmas
 mod AloneLemmas
+pub mod PeakLemmas
+mod DetailLemmas
 mod ReplayLemmas
 mod sharing
 mod metered

@@ -39,14 +39,6 @@ pub record Closes (old new : SeatState) (account class_account : AccountState) :
       → ServesBy old.knows other → ServesBy new.knows other
   pub counted : (space : Space) → opened_by new.knows space + 1 ≡ opened_by old.knows space
 
--- They are a loader's.
-pub closes_loader : (old new : SeatState) (v : LoaderView) (back : AccountState × AccountState)
-    → back.0 ≡ account_in NonClass v → back.1 ≡ account_in Class v
-    → Closes old new back.0 back.1 → Closes old new (account_in NonClass v) (account_in Class v)
-closes_loader old new v back first second closes =
-    subst (λ (a : AccountState). Closes old new a (account_in Class v)) first
-    (subst (Closes old new back.0) second closes)
-
 module _ (loaders : List (ℕ × LoaderView)) (name : ℕ) (v : LoaderView) (found : named loaders name ≡ Some v) where
   split : Split loaders name v
   split = split_at loaders name v found
@@ -96,13 +88,7 @@ module _ (loaders : List (ℕ × LoaderView)) (name : ℕ) (v : LoaderView) (fou
       (subst (AllByRecursion (ServesBy seat)) before
       (recursion_from_All (ServesBy seat) (accounts_of loaders) its.served))
 
-  -- A seat that serves the loaders serves the accounts of one of them, and counts some.
-  pub serves_first : (seat : SeatView) → IsManned seat loaders → ServesBy seat (account_in NonClass v)
-  serves_first seat its = (parts seat its).1
-
-  pub serves_second : (seat : SeatView) → IsManned seat loaders → ServesBy seat (account_in Class v)
-  serves_second seat its = (parts seat its).2
-
+  -- A seat that serves the loaders counts some accounts.
   pub counts_some : (seat : SeatView) → IsManned seat loaders → (space : Space) → 0 < opened_by seat space
   counts_some seat its space = omega (arith, its.opened space, long)
 

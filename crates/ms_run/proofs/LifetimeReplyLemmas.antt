@@ -4,19 +4,14 @@ use Rattle.ms_base.specs.declared.kind.Kind.{Kind}
 use Rattle.ms_base.specs.declared.step.Step.TheVariants.{New, Unload}
 use Rattle.ms_base.specs.declared.step.Reply.TheVariants.{Ok as Done, Refused}
 use Rattle.ms_base.specs.declared.refusal.Refusal.{Refusal}
-use Rattle.ms_base.specs.declared.refusal.Refusal.TheVariants.{LoaderExists, NoLoader, OutOfMemory, IdsUsedUp}
+use Rattle.ms_base.specs.declared.refusal.Refusal.TheVariants.{LoaderExists, NoLoader, IdsUsedUp}
 use Rattle.ms_base.specs.Alone.{OwnLoader, OwnReply}
 use Rattle.ms_base.specs.Names.{AreNamed, named, without}
-use Rattle.ms_base.specs.State.{LoaderState}
 use Rattle.ms_base.proofs.events.SeenEntryLemmas.{named_without_same}
 use Rattle.ms_loaders.specs.Loader.{LoaderView}
-use Rattle.ms_loaders.specs.Loaders.{InsertRefused}
 use Rattle.ms_loaders.specs.System.{states_of}
 use Rattle.ms_run.specs.Own.{own_in}
 use Rattle.ms_run.proofs.TouchLemmas.{own_missing, own_found}
-
-own_loader : LoaderState → OwnLoader
-own_loader state = record { kind = state.kind; blocks = state.blocks }
 
 -- A name that is used.
 pub exists_reply : (loaders : List (ℕ × LoaderView)) (name : ℕ) (kind : Kind) (v : LoaderView)
@@ -35,16 +30,6 @@ numbers_reply before refusal name kind is cause =
     subst (λ (o : Option OwnLoader). (want : Bool) × OwnReply o (New name kind) want (Refused refusal) o) (sym is)
     (subst (λ (r : Refusal). (want : Bool) × OwnReply None (New name kind) want (Refused r) None) (sym cause)
     (true, (tt, tt, refl)))
-
-pub insert_reply : (loaders : List (ℕ × LoaderView)) (before : Option OwnLoader) (refusal : Refusal) (name : ℕ)
-    (kind : Kind) → named loaders name ≡ None → before ≡ None
-    → InsertRefused loaders name refusal
-    → (want : Bool) × OwnReply before (New name kind) want (Refused refusal) before
-insert_reply loaders before LoaderExists name kind none is refused = absurd (let e = refused.1 in cc)
-insert_reply loaders before OutOfMemory name kind none is refused =
-    subst (λ (o : Option OwnLoader). (want : Bool) × OwnReply o (New name kind) want (Refused OutOfMemory) o) (sym is)
-    (true, (tt, tt, refl))
-insert_reply loaders before _ name kind none is refused = absurd refused
 
 -- A loader is made.
 pub made_reply : (before after : Option OwnLoader) (name : ℕ) (kind : Kind) → before ≡ None

@@ -31,15 +31,18 @@ use Rattle.ms_run.specs.Acts.{events_by}
 use Rattle.ms_run.specs.Joined.{IsMadeFrom, seat_of}
 use Rattle.ms_run.specs.Own.{Said, own_said, own_of, own_in, OwnRun, ArePurged}
 use Rattle.ms_run.specs.Manned.{IsManned}
+use Rattle.ms_run.specs.Counting.{HasAnswered}
+use Rattle.ms_run.specs.Course.{Course, on_to, passed}
+use Rattle.ms_run.specs.Peaks.{ArePeaksIfKept}
 use Rattle.ms_run.specs.Replay.{AreSaid, IsOneRun, IsPhase, GoesOn, runs}
+use Rattle.ms_run.specs.declared.alone.Metered.{Metered}
 use Rattle.ms_run.proofs.OrderLemmas.{HasPart, IsOrdered, ordered}
 use Rattle.ms_run.proofs.machine.WholeLemmas.{one_run}
 use Rattle.ms_run.specs.Shares.{AreAt}
 use Rattle.std.specs.Prelude.{slice_index_or}
-use Rattle.ms_run.proofs.AloneLemmas.{AddsFirst}
 use Rattle.ms_run.proofs.sharing.StandByLemmas.{same_merged}
 use Rattle.ms_run.specs.Shares.{place_for}
-use Rattle.ms_run.proofs.ReplayLemmas.{answers_replay}
+use Rattle.ms_run.proofs.ReplayLemmas.{AddsPhase, answers_replay}
 use Rattle.ms_run.specs.declared.share.Task.{Task}
 use Rattle.ms_run.specs.declared.share.Share.{Share}
 use Rattle.ms_run.specs.Shares.{said_in, IsReady, IsWorked, AllWorked, Place, tasks_of, AreApart, HaveTasks, AreDealt}
@@ -363,30 +366,50 @@ phase_of place shared shares others lines added said loaders old new old_is deal
         (λ s e. eq-eqb _ _ (ap (λ (step : Step). place (loader_of step)) e)) said
         (subst (AllByRecursion IsDoneIfPurge) (sym whole) its))
 
--- What has been answered, with the answers of a phase.
-abbrev pub Adds : List Line → List Answer → List Answer → Machine → Machine → Type 0
-Adds lines before after old new = (added : List Answer) × (after ≡ before ++ added) × GoesOn old lines added new
-
 -- A phase comes after what there was before it.
-goes_on : (lines : List Line) (added : List Answer) (old new : Machine) → IsPhase old lines added new
-    → GoesOn old lines added new
-goes_on lines added old new phase = record {
-  replays = λ first before said so_far. runs before lines said added old new so_far phase;
+goes_on : (lines : List Line) (added : List Answer) (course : Course) (new : Machine)
+    → IsPhase course.state lines added new → GoesOn course lines added (on_to new course)
+goes_on lines added course new phase = record {
+  replays = λ first before said so_far. runs before lines said added course new so_far phase;
   good = phase.good;
 }
 
--- So do lines that one worker answers.
-pub ended_alone : (lines : List Line) (before after : List Answer) (old new : Machine) → IsGood old → IsGood new
-    → AddsFirst old lines before after new → Adds lines before after old new
-ended_alone lines before after old new was good told = (
+-- What has been answered, with the answers of a phase.
+abbrev pub Adds : List Line → List Answer → List Answer → Machine → Machine → Type 0
+Adds lines before after old new = (added : List Answer) × (after ≡ before ++ added) × IsPhase old lines added new
+
+-- A run whose system goes through a phase, and whose peaks are raised at its end, goes on.
+pub phase_added : (lines : List Line) (before after : List Answer) (old new : Metered)
+    → Adds lines before after old.system new.system
+    → ((states : List Machine) → ArePeaksIfKept states old.peaks → ArePeaksIfKept (new.system ∷ states) new.peaks)
+    → AddsPhase old lines before after new
+phase_added lines before after old new told raised = λ course taken. (
   told.0,
+  on_to new.system course,
   told.1,
+  goes_on lines told.0 course new.system
+      (subst (λ (m : Machine). IsPhase m lines told.0 new.system) taken.state told.2),
   record {
-    replays = λ first earlier said so_far.
-        answers_replay first old new earlier lines said told.0 so_far was told.2;
-    good = good;
+    state = refl;
+    peaks = raised (passed course) taken.peaks;
   },
 )
+
+-- So does one by whose worker alone the lines are answered.
+pub ended_alone : (lines : List Line) (before after : List Answer) (old new : Metered) → IsGood old.system
+    → IsGood new.system → HasAnswered old lines before after new → AddsPhase old lines before after new
+ended_alone lines before after old new was good answered = λ course taken.
+    let told = answered course taken in (
+      told.0,
+      told.1,
+      told.2,
+      record {
+        replays = λ first earlier said so_far.
+            answers_replay first course told.1 earlier lines said told.0 so_far (subst IsGood taken.state was) told.3;
+        good = subst IsGood told.4.state good;
+      },
+      told.4,
+    )
 
 -- What merging adds.
 abbrev pub Merges : Place → List Share → List Line → List Answer → List Answer → Type 0
@@ -415,7 +438,6 @@ ended place shared shares others lines before after loaders old new old_is dealt
     limits same = (
       merges.0,
       merges.2,
-      goes_on lines merges.0 old new
-          (phase_of place shared shares others lines merges.0 merges.1 loaders old new old_is dealt all merges.3 merges.4
-          (gathered place (still_apart place shares others lines dealt.apart dealt.tasks all)) good machine together made (limits ∙ same)),
+      phase_of place shared shares others lines merges.0 merges.1 loaders old new old_is dealt all merges.3 merges.4
+          (gathered place (still_apart place shares others lines dealt.apart dealt.tasks all)) good machine together made (limits ∙ same),
     )

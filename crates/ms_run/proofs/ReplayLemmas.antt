@@ -41,19 +41,22 @@ use Rattle.ms_trace.specs.Steps.{step_of}
 use Rattle.ms_loaders.specs.declared.totals.Totals.{Totals}
 use Rattle.ms_loaders.specs.declared.replies.Answer.{Answer}
 use Rattle.ms_run.specs.Own.{Said, own_said, own_in, OwnRun}
+use Rattle.ms_run.specs.Counting.{HasTaken}
+use Rattle.ms_run.specs.Course.{Course, begun, on_to, passed}
 use Rattle.ms_run.specs.Metering.{used_words_of}
 use Rattle.ms_run.specs.Replay.{Advances, Reports, Answers, IsPhase, IsEnd, GoesOn, IsReplay, Replays, starts}
 use Rattle.ms_run.specs.Replay.{runs, ends}
 use Rattle.ms_run.specs.Shares.{AreSteps}
+use Rattle.ms_run.specs.declared.alone.Metered.{Metered}
 use Rattle.ms_run.proofs.OwnStepLemmas.{IsOwn, transition_own, transition_others, transition_limits, transition_good}
 use Rattle.ms_run.proofs.OwnStepLemmas.{purge_done}
 
 -- Where a step is asked there is no report.
-none_reported : (command : Command) (asked : Step) (m : Machine) (report : Option (Box Totals Global))
-    → step_of command ≡ Some asked → Reports command m report → report ≡ None
-none_reported (Asks step) asked m report asks told = told
-none_reported Sync asked m report asks told = told
-none_reported Report asked m report asks told = absurd (cc)
+none_reported : (command : Command) (asked : Step) (course : Course) (report : Option (Box Totals Global))
+    → step_of command ≡ Some asked → Reports command course report → report ≡ None
+none_reported (Asks step) asked course report asks told = told
+none_reported Sync asked course report asks told = told
+none_reported Report asked course report asks told = absurd (cc)
 
 unnamed : (o : Option ℕ) (name : ℕ) → o ≡ None → o ≡ Some name → ⊥
 unnamed o name e f = let both : None ≡ Some name = sym e ∙ f in cc
@@ -86,13 +89,13 @@ own_of_one step reply before after name own others =
     named_or_not other is false differ = ([], others (otherwise (loader_of step) other name is differ))
 
 -- A line that asks a step is a phase.
-pub phase_of_step : (old new : Machine) (line : Line) (answer : Answer) (step : Step) → step_of line.command ≡ Some step
-    → answer.line ≡ line.number
-    → Transition old step answer.reply new → Reports line.command new answer.report → IsGood old
+pub phase_of_step : (old new : Machine) (course : Course) (line : Line) (answer : Answer) (step : Step)
+    → step_of line.command ≡ Some step → answer.line ≡ line.number
+    → Transition old step answer.reply new → Reports line.command course answer.report → IsGood old
     → IsPhase old (line ∷ []) (answer ∷ []) new
-phase_of_step old new line answer step asks number told report good = record {
+phase_of_step old new course line answer step asks number told report good = record {
   said = (step, answer.reply) ∷ [];
-  said_are = (asks, number, refl, none_reported line.command step new answer.report asks report, tt);
+  said_are = (asks, number, refl, none_reported line.command step course answer.report asks report, tt);
   own = λ name. own_of_one step answer.reply (own_in old.loaders name) (own_in new.loaders name) name
       (transition_own old new step answer.reply good told name) (transition_others old new step answer.reply told name);
   purges = All-from_recursion (λ (s : Said). s.0 ≡ Purge → s.1 ≡ Done) ((step, answer.reply) ∷ [])
@@ -111,51 +114,60 @@ phase_of_step old new line answer step asks number told report good = record {
 }
 
 -- One line, and then the others.
-one_more : (first old new : Machine) (before : List Line) (line : Line) (lines : List Line) (said : List Answer)
+one_more : (first : Machine) (new : Course) (before : List Line) (line : Line) (lines : List Line) (said : List Answer)
     (answer : Answer) (answers : List Answer)
     → Replays first ((before ++ line ∷ []) ++ lines) ((said ++ answer ∷ []) ++ answers) new
     → Replays first (before ++ line ∷ lines) (said ++ answer ∷ answers) new
-one_more first old new before line lines said answer answers all =
+one_more first new before line lines said answer answers all =
     subst (λ (l : List Line). Replays first l (said ++ answer ∷ answers) new) (append_assoc before (line ∷ []) lines)
     (subst (λ (a : List Answer). Replays first ((before ++ line ∷ []) ++ lines) a new)
     (append_assoc said (answer ∷ []) answers) all)
 
+-- The course that goes on to the state that a course is in.
+course_is : (old new : Course) → new.before ≡ passed old → on_to new.state old ≡ new
+course_is old new is = ap (course_in new.state) (sym is)
+  where
+    course_in : Machine → List Machine → Course
+    course_in m before = record { state = m; before = before }
+
 -- A line's answer, by what it asks.
-line_replays : (first old mid : Machine) (before : List Line) (line : Line) (said : List Answer) (answer : Answer)
-    → Replays first before said old → IsGood old
+line_replays : (first : Machine) (old mid : Course) (before : List Line) (line : Line) (said : List Answer)
+    (answer : Answer) → Replays first before said old → IsGood old.state
     → (asks : Option Step) → step_of line.command ≡ asks → answer.line ≡ line.number
     → Advances asks old answer.reply mid → Reports line.command mid answer.report
-    → Replays first (before ++ line ∷ []) (said ++ answer ∷ []) mid × IsGood mid
+    → Replays first (before ++ line ∷ []) (said ++ answer ∷ []) mid × IsGood mid.state
 line_replays first old mid before line said answer so_far good (Some step) asks number told report = (
-  runs before (line ∷ []) said (answer ∷ []) old mid so_far
-      (phase_of_step old mid line answer step asks number told report good),
-  transition_good old mid step answer.reply told good,
+  subst (λ (course : Course). Replays first (before ++ line ∷ []) (said ++ answer ∷ []) course)
+      (course_is old mid told.1)
+      (runs before (line ∷ []) said (answer ∷ []) old mid.state so_far
+      (phase_of_step old.state mid.state mid line answer step asks number told.0 report good)),
+  transition_good old.state mid.state step answer.reply told.0 good,
 )
 line_replays first old mid before line said answer so_far good None asks number told report = (
-  subst (λ (m : Machine). Replays first (before ++ line ∷ []) (said ++ answer ∷ []) m) (sym told.1)
+  subst (λ (course : Course). Replays first (before ++ line ∷ []) (said ++ answer ∷ []) course) (sym told.1)
       (ends before said old line answer so_far
       (record {
         no_step = asks;
         number = number;
         done = told.0;
-        report = subst (λ (m : Machine). Reports line.command m answer.report) told.1 report;
+        report = subst (λ (course : Course). Reports line.command course answer.report) told.1 report;
       })),
-  subst IsGood (sym told.1) good,
+  subst (λ (course : Course). IsGood course.state) (sym told.1) good,
 )
 
 -- Lines that one worker answers are answered phase by phase.
-pub answers_replay : (first old new : Machine) (before lines : List Line) (said answers : List Answer)
-    → Replays first before said old → IsGood old
+pub answers_replay : (first : Machine) (old new : Course) (before lines : List Line) (said answers : List Answer)
+    → Replays first before said old → IsGood old.state
     → Answers old lines answers new → Replays first (before ++ lines) (said ++ answers) new
 answers_replay first old new before [] said answers so_far good told =
-    subst (λ (m : Machine). Replays first (before ++ []) (said ++ answers) m) (sym told.1)
+    subst (λ (course : Course). Replays first (before ++ []) (said ++ answers) course) (sym told.1)
     (rw (told.0, append-nil before, append-nil said) so_far)
 answers_replay first old new before (line ∷ lines) said [] so_far good told = absurd told
 answers_replay first old new before (line ∷ lines) said (answer ∷ answers) so_far good told =
     let next =
     line_replays first old told.0 before line said answer so_far good (step_of line.command) refl told.1 told.2
     told.3 in
-    one_more first old new before line lines said answer answers
+    one_more first new before line lines said answer answers
     (answers_replay first told.0 new (before ++ line ∷ []) lines (said ++ answer ∷ []) answers next.0 next.1 told.4)
 
 -- The machine without loaders is good.
@@ -247,21 +259,28 @@ pub stops_past : (lines : List Line) (at : ℕ) → length lines ≤ at → (nex
 stops_past lines at past next found = let both : None ≡ Some next = sym (slice_get_past lines at past) ∙ found in
     absurd (cc)
 
--- The first lines are answered phase by phase, and the state is good.
-abbrev pub PhasesFirst : Machine → List Line → ℕ → List Answer → Machine → Type 0
-PhasesFirst first lines at answers state =
-    (at ≤ length lines) × Replays first (take at lines) answers state × IsGood state
+-- The first lines are answered phase by phase, by a run that has taken this course, and its state is good.
+abbrev pub PhasesFirst : Machine → List Line → ℕ → List Answer → Metered → Type 0
+PhasesFirst first lines at answers run =
+    (at ≤ length lines) × (course : Course) × Replays first (take at lines) answers course × HasTaken course run
+    × IsGood course.state
 
 -- A system without loaders has no words in use.
 pub used_none : (state : Machine) (settings : Settings) → state ≡ empty_machine (limits_of settings)
     → 0 ≡ used_words_of state
 used_none state settings is = sym (ap used_words_of is)
 
-pub phases_start : (settings : Settings) (lines : List Line) (answers : List Answer) (state : Machine) → answers ≡ []
-    → state ≡ empty_machine (limits_of settings)
-    → PhasesFirst (empty_machine (limits_of settings)) lines 0 answers state
-phases_start settings lines answers state none is =
-    rw (none, is) (omega arith, starts, good_when_empty (limits_of settings) (omega (arith, settings.class_nodes_few)))
+pub phases_start : (settings : Settings) (lines : List Line) (answers : List Answer) (run : Metered) → answers ≡ []
+    → HasTaken (begun (empty_machine (limits_of settings))) run
+    → PhasesFirst (empty_machine (limits_of settings)) lines 0 answers run
+phases_start settings lines answers run none taken =
+    rw none (
+      omega arith,
+      begun (empty_machine (limits_of settings)),
+      starts,
+      taken,
+      good_when_empty (limits_of settings) (omega (arith, settings.class_nodes_few)),
+    )
 
 -- What is left of the lines, in which the steps that come first are a phase.
 pub steps_there : (lines : List Line) (at count : ℕ) → AreSteps (take count (take (length lines - at) (drop at lines)))
@@ -280,62 +299,72 @@ stops_next lines at count line stops more =
     subst (λ (l : Line). step_of l.command ≡ None) (get_or-drop at lines count line)
     (left (get_or (drop at lines) count line) found)
 
--- Some lines more.
-abbrev pub AddsPhase : Machine → List Line → List Answer → List Answer → Machine → Type 0
-AddsPhase state lines answers whole after =
-    (added : List Answer) × (whole ≡ answers ++ added) × GoesOn state lines added after
+-- Some lines more, which from each course that the run may have taken are answered.
+abbrev pub AddsPhase : Metered → List Line → List Answer → List Answer → Metered → Type 0
+AddsPhase old lines answers whole new =
+    (course : Course) → HasTaken course old
+    → (added : List Answer) × (later : Course)
+    × (whole ≡ answers ++ added) × GoesOn course lines added later × HasTaken later new
 
-pub phases_more : (first state after : Machine) (lines : List Line) (at count : ℕ) (answers whole : List Answer)
-    → PhasesFirst first lines at answers state
+pub phases_more : (first : Machine) (old new : Metered) (lines : List Line) (at count : ℕ)
+    (answers whole : List Answer) → PhasesFirst first lines at answers old
     → count ≤ length (take (length lines - at) (drop at lines))
-    → AddsPhase state (take (at + count - at) (drop at lines)) answers whole after
-    → PhasesFirst first lines (at + count) whole after
-phases_more first state after lines at count answers whole so_far within more =
+    → AddsPhase old (take (at + count - at) (drop at lines)) answers whole new
+    → PhasesFirst first lines (at + count) whole new
+phases_more first old new lines at count answers whole so_far within adds =
     let fits = rw (take_rest lines at, length-drop at lines) at within in
     let same : at + count - at ≡ count = omega arith in
-    let phase = rw same at more.2 in (
+    let more = adds so_far.1 so_far.3 in
+    let phase = rw same at more.3 in (
       omega (arith, fits, so_far.0),
-      rw (more.1, take-add at count lines)
-          (phase.replays first (take at lines) answers so_far.1),
-      more.2.good,
+      more.1,
+      rw (more.2, take-add at count lines)
+          (phase.replays first (take at lines) answers so_far.2),
+      more.4,
+      more.3.good,
     )
 
 -- And the line that ends it.
-abbrev pub AddsEnd : Machine → Line → List Answer → List Answer → Type 0
-AddsEnd state line answers whole = (added : Answer) × (whole ≡ answers ++ added ∷ []) × IsEnd state line added
+abbrev pub AddsEnd : Metered → Line → List Answer → List Answer → Type 0
+AddsEnd run line answers whole =
+    (course : Course) → HasTaken course run
+    → (added : Answer) × (whole ≡ answers ++ added ∷ []) × IsEnd course line added
 
-pub phases_next : (first state : Machine) (lines : List Line) (at : ℕ) (line : Line) (answers whole : List Answer)
-    → PhasesFirst first lines at answers state
-    → at < length lines → AddsEnd state (get_or lines at line) answers whole
-    → PhasesFirst first lines (at + 1) whole state
-phases_next first state lines at line answers whole so_far more next = (
-  omega (arith, more),
-  rw (next.1, take_more lines at line more)
-      (ends (take at lines) answers state (get_or lines at line) next.0 so_far.1 next.2),
-  so_far.2,
-)
+pub phases_next : (first : Machine) (run : Metered) (lines : List Line) (at : ℕ) (line : Line)
+    (answers whole : List Answer) → PhasesFirst first lines at answers run
+    → at < length lines → AddsEnd run (get_or lines at line) answers whole
+    → PhasesFirst first lines (at + 1) whole run
+phases_next first run lines at line answers whole so_far more adds =
+    let next = adds so_far.1 so_far.3 in (
+      omega (arith, more),
+      so_far.1,
+      rw (next.1, take_more lines at line more)
+          (ends (take at lines) answers so_far.1 (get_or lines at line) next.0 so_far.2 next.2),
+      so_far.3,
+      so_far.4,
+    )
 
 -- So all are in the end.
-pub phases_end : (settings : Settings) (lines : List Line) (at : ℕ) (answers : List Answer) (state : Machine)
-    → PhasesFirst (empty_machine (limits_of settings)) lines at answers state
+pub phases_end : (settings : Settings) (lines : List Line) (at : ℕ) (answers : List Answer) (run : Metered)
+    → PhasesFirst (empty_machine (limits_of settings)) lines at answers run
     → length lines ≤ at → IsReplay (limits_of settings) lines answers
-phases_end settings lines at answers state so_far past =
+phases_end settings lines at answers run so_far past =
     let ends_there : at ≡ length lines = omega (arith, so_far.0, past) in
     record {
-      last = state;
-      replays = subst (λ (l : List Line). Replays (empty_machine (limits_of settings)) l answers state)
-          (ap (λ (n : ℕ). take n lines) ends_there ∙ take-length lines) so_far.1;
+      last = so_far.1;
+      replays = subst (λ (l : List Line). Replays (empty_machine (limits_of settings)) l answers so_far.1)
+          (ap (λ (n : ℕ). take n lines) ends_there ∙ take-length lines) so_far.2;
     }
 
 -- A trace that one worker answers is replayed.
 pub alone_replays : (settings : Settings) (lines lent : List Line) (answers : List Answer) → lent ≡ lines
-    → (last : Machine) × Answers (empty_machine (limits_of settings)) lent answers last
+    → (last : Course) × Answers (begun (empty_machine (limits_of settings))) lent answers last
     → IsReplay (limits_of settings) lines answers
 alone_replays settings lines lent answers same told = record {
   last = told.0;
   replays =
-      answers_replay (empty_machine (limits_of settings)) (empty_machine (limits_of settings)) told.0 [] lines []
-      answers starts
+      answers_replay (empty_machine (limits_of settings)) (begun (empty_machine (limits_of settings))) told.0 [] lines
+      [] answers starts
       (good_when_empty (limits_of settings) (omega (arith, settings.class_nodes_few)))
-      (subst (λ (l : List Line). Answers (empty_machine (limits_of settings)) l answers told.0) same told.1);
+      (subst (λ (l : List Line). Answers (begun (empty_machine (limits_of settings))) l answers told.0) same told.1);
 }

@@ -21,7 +21,6 @@ use Rattle.ms_base.specs.Asks.{asks_growth, wanted_level, total_asked, may_enlar
 use Rattle.ms_base.specs.Level.{level_that_holds}
 use Rattle.ms_base.specs.State.{ArenaState}
 use Rattle.ms_base.proofs.entries.EntryLemmas.{Split, split_at}
-use Rattle.ms_base.proofs.entries.LookupLemmas.{named_changed_other}
 use Rattle.ms_pool.specs.Account.{AccountState}
 use Rattle.ms_pool.specs.Ledger.{Loan, Ledger, chunks_of, is_owned_by}
 use Rattle.ms_pool.specs.Calls.{GrewFrom}
@@ -294,8 +293,3 @@ manned_after space old new policy loaders name block words was is answer found a
         ∙ ap (λ (n : ℕ). owners_of split.before ++ n ∷ is.class_owner ∷ owners_of split.after) keeps.owner
         ∙ ap (λ (n : ℕ). owners_of split.before ++ was.owner ∷ n ∷ owners_of split.after) keeps.class_owner
         ∙ sym (ap owners_of split.is ∙ owners_split split.before split.after name was)
-
--- The other loaders are as they were.
-pub others_stay : (loaders : List (ℕ × LoaderView)) (name : ℕ) (is : LoaderView) (other : ℕ) → other ≢ name
-    → named (with_changed loaders name is) other ≡ named loaders other
-others_stay loaders name is other differ = named_changed_other loaders name is other (λ same. differ (sym same))

@@ -29,8 +29,8 @@ use Rattle.ms_loaders.specs.System.{states_of, accounts_of, AreDistinct}
 use Rattle.ms_loaders.specs.Used.{used_by, used_at}
 use Rattle.ms_shared.specs.SeatView.{ServesBy}
 use Rattle.ms_run.specs.Own.{own_of, own_in}
-use Rattle.ms_run.specs.Manned.{IsManned, KeepsSeats}
-use Rattle.ms_loaders.proofs.steps.CallLemmas.{write_keeps, free_keeps, same_loaders}
+use Rattle.ms_run.specs.Manned.{KeepsSeats}
+use Rattle.ms_loaders.proofs.steps.CallLemmas.{write_keeps, free_keeps}
 use Rattle.ms_loaders.proofs.steps.UnloadLemmas.{state_of}
 use Rattle.ms_loaders.proofs.steps.ServedLemmas.{accounts_split, length_changed}
 
@@ -118,20 +118,6 @@ module _ (loaders : List (ℕ × LoaderView)) (name block : ℕ) (was is : Loade
       rw (own_found loaders name was found, own_changed loaders name was is found)
       (freed name block was.state is.state frees)
 
-  pub own_not_written : (index value : ℕ) (refusal : Refusal) → is ≡ was → LacksWord was.state block index refusal
-      → OwnReply (own_in (states_of loaders) name) (Write name block index value) false (Refused refusal)
-      (own_in (states_of (with_changed loaders name is)) name)
-  own_not_written index value refusal same lacks =
-      rw (same_loaders loaders name was is found same, own_found loaders name was found)
-      (write_refused name block index value was.state refusal lacks)
-
-  pub own_not_freed : (refusal : Refusal) → is ≡ was → LacksName was.state block refusal
-      → OwnReply (own_in (states_of loaders) name) (Free name block) false (Refused refusal)
-      (own_in (states_of (with_changed loaders name is)) name)
-  own_not_freed refusal same lacks =
-      rw (same_loaders loaders name was is found same, own_found loaders name was found)
-      (free_refused name block was.state refusal lacks)
-
 pub own_read : (loaders : List (ℕ × LoaderView)) (name block index value : ℕ) (was : LoaderView)
     → named loaders name ≡ Some was → HasWord was.state block index value
     → OwnReply (own_in (states_of loaders) name) (Read name block index) false (Value value)
@@ -204,9 +190,6 @@ module _ (loaders : List (ℕ × LoaderView)) (name : ℕ) (was is : LoaderView)
         → KeepsSeats loaders (with_changed loaders name is)
     freed_keeps_seats block same frees = keeps_with same (λ space. free_keeps space was.state is.state block frees)
 
-    pub same_keeps : is ≡ was → KeepsSeats loaders (with_changed loaders name is)
-    same_keeps same seat manned = subst (IsManned seat) (sym (same_loaders loaders name was is found same)) manned
-
     -- And the words in use stay.
     used_with : used_by is.state ≡ used_by was.state
         → used_at (named (with_changed loaders name is) name) ≡ used_at (named loaders name)
@@ -221,6 +204,3 @@ module _ (loaders : List (ℕ × LoaderView)) (name : ℕ) (was is : LoaderView)
     freed_uses block frees = used_with (ap used_by frees.after
         ∙ freed_used (space_at frees.found.start) was.state block
         (with_new (arena_of (space_at frees.found.start) was.state).kept frees.found.start (length frees.found.contents)))
-
-    pub same_uses : is ≡ was → used_at (named (with_changed loaders name is) name) ≡ used_at (named loaders name)
-    same_uses same = used_with (ap (λ (loader : LoaderView). used_by loader.state) same)

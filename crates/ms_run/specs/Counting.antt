@@ -1,13 +1,19 @@
--- The words in use, counted on by one worker from step to step.
-use Rattle.std.specs.Prelude.{◌≡◌, ℕ, Bool, List, IsTrue}
+-- The words in use and the peaks, counted on by one worker from step to step.
+use Rattle.std.specs.Prelude.{◌≡◌, ℕ, Bool, true, List, ◌++◌, IsTrue}
 use Rattle.ms_base.specs.declared.step.Step.{Step}
 use Rattle.ms_base.specs.declared.step.Step.TheVariants.{Alloc, Calloc, Unload}
 use Rattle.ms_base.specs.Names.{named}
 use Rattle.ms_base.specs.State.{LoaderState}
 use Rattle.ms_base.specs.Good.{IsGood}
+use Rattle.ms_trace.specs.declared.trace.Line.{Line}
+use Rattle.ms_loaders.specs.declared.details.Detail.{Detail}
+use Rattle.ms_loaders.specs.declared.replies.Answer.{Answer}
 use Rattle.ms_loaders.specs.Used.{used_if}
 use Rattle.ms_run.specs.declared.alone.Metered.{Metered}
+use Rattle.ms_run.specs.Course.{Course, passed}
 use Rattle.ms_run.specs.Metering.{used_words_of}
+use Rattle.ms_run.specs.Peaks.{ArePeaksIfKept}
+use Rattle.ms_run.specs.Replay.{Answers, AreKept, is_full}
 
 -- The words in use of the loader whose tops a step may move, and 0 where it moves none.
 abbrev pub used_around : Step → List (ℕ × LoaderState) → ℕ
@@ -16,7 +22,23 @@ used_around (Calloc loader block words) loaders = used_if (named loaders loader)
 used_around (Unload loader) loaders = used_if (named loaders loader)
 used_around _ loaders = 0
 
--- The system is good; where they are counted, the words in use are its.
-pub record IsCounted (counts : Bool) (run : Metered) : Type 0 where
+-- The system is good; where they are counted, the words in use are its. Peaks are kept for full reports, and
+-- only where words are counted.
+pub record IsCounted (counts : Bool) (detail : Detail) (run : Metered) : Type 0 where
   pub good : IsGood run.system
   pub used : IsTrue counts → run.used ≡ used_words_of run.system
+  pub kept : AreKept detail run.peaks
+  pub counting : is_full detail ≡ true → IsTrue counts
+
+-- A run that took this course: its system is in the last state, and the peaks that it keeps are those of
+-- all states.
+pub record HasTaken (course : Course) (run : Metered) : Type 0 where
+  pub state : run.system ≡ course.state
+  pub peaks : ArePeaksIfKept (passed course) run.peaks
+
+-- From each course that a run may have taken it goes on, as lines are answered.
+abbrev pub HasAnswered : Metered → List Line → List Answer → List Answer → Metered → Type 0
+HasAnswered old lines before after new =
+    (course : Course) → HasTaken course old
+    → (added : List Answer) × (later : Course)
+    × (after ≡ before ++ added) × Answers course lines added later × HasTaken later new

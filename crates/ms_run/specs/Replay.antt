@@ -1,7 +1,9 @@
 -- What a replay answers, whatever the number of workers and their order (this project's choice).
 use Rattle.std.specs.List.{filter}
 use Rattle.std.specs.List.Sorted.{IsPermutation}
-use Rattle.std.specs.Prelude.{◌≡◌, ◌<◌, ◌==◌, ℕ, ⊤, List, [], ◌∷◌, ◌++◌, Option, Some, None, Box, map}
+use Rattle.std.specs.Option.{is_some}
+use Rattle.std.specs.Prelude.{◌≡◌, ◌<◌, ◌==◌, ℕ, ⊤, Bool, true, false, List, [], ◌∷◌, ◌++◌, Option, Some, None}
+use Rattle.std.specs.Prelude.{Box, IfSome, map}
 use Rattle.std.specs.declared.alloc.Global.{Global}
 use Rattle.ms_base.specs.declared.step.Step.{Step}
 use Rattle.ms_base.specs.declared.step.Reply.{Reply}
@@ -15,35 +17,63 @@ use Rattle.ms_trace.specs.declared.trace.Command.{Command}
 use Rattle.ms_trace.specs.declared.trace.Command.TheVariants.{Step as Asks, Sync, Report}
 use Rattle.ms_trace.specs.declared.trace.Line.{Line}
 use Rattle.ms_trace.specs.Steps.{step_of}
+use Rattle.ms_loaders.specs.declared.details.Detail.{Detail}
+use Rattle.ms_loaders.specs.declared.details.Detail.TheVariants.{Basic, Full}
+use Rattle.ms_loaders.specs.declared.peaks.Peaks.{Peaks}
 use Rattle.ms_loaders.specs.declared.totals.Totals.{Totals}
 use Rattle.ms_loaders.specs.declared.replies.Answer.{Answer}
+use Rattle.ms_loaders.specs.Details.{details_in, details_of}
 use Rattle.ms_loaders.specs.Sums.{sums_in}
 use Rattle.ms_base.specs.Request.{loader_of}
+use Rattle.ms_run.specs.Course.{Course, begun, on_to, passed}
+use Rattle.ms_run.specs.Peaks.{ArePeaksIfKept}
 use Rattle.ms_run.specs.Shares.{Place, AreWithin}
 use Rattle.ms_run.specs.Own.{Said, own_said, own_in, OwnRun, ArePurged}
 use Rattle.ms_run.specs.declared.fault.RunFault.{RunFault}
 use Rattle.ms_run.specs.declared.fault.RunFault.TheVariants.{Unsettled}
 
--- A step is answered by a transition of the machine; where none is asked, all is well and nothing
--- changes.
-abbrev pub Advances : Option Step → Machine → Reply → Machine → Type 0
-Advances (Some asked) old reply new = Transition old asked reply new
+-- A step is answered by a transition of the machine, to which the course goes on; where none is asked, all
+-- is well and nothing changes.
+abbrev pub Advances : Option Step → Course → Reply → Course → Type 0
+Advances (Some asked) old reply new = Transition old.state asked reply new.state × (new.before ≡ passed old)
 Advances None old reply new = (reply ≡ Done) × (new ≡ old)
 
--- Where a report is asked for, the totals are those of the machine; elsewhere there are none.
-abbrev pub Reports : Command → Machine → Option (Box Totals Global) → Type 0
-Reports (Asks step) m report = report ≡ None
-Reports Sync m report = report ≡ None
-Reports Report m None = ⊥
-Reports Report m (Some totals) = sums_in totals.value ≡ sums_of m
+-- Totals are those of the state that was reached, and so are their details where they have any. Peaks, where
+-- they have any, are those of all states passed.
+pub record AreOf (course : Course) (totals : Totals) : Type 0 where
+  pub sums : sums_in totals ≡ sums_of course.state
+  pub details : IfSome totals.details (λ details. details_in details ≡ details_of course.state)
+  pub peaks : ArePeaksIfKept (passed course) totals.peaks
+
+-- Where a report is asked for, the totals are those of the course; elsewhere there are none.
+abbrev pub Reports : Command → Course → Option (Box Totals Global) → Type 0
+Reports (Asks step) course report = report ≡ None
+Reports Sync course report = report ≡ None
+Reports Report course None = ⊥
+Reports Report course (Some totals) = AreOf course totals.value
+
+-- A report has details and peaks exactly where it shall be full.
+abbrev pub is_full : Detail → Bool
+is_full Basic = false
+is_full Full = true
+
+abbrev pub AreKept : Detail → Option Peaks → Type 0
+AreKept detail peaks = is_some peaks ≡ is_full detail
+
+pub record HasDetail (detail : Detail) (totals : Totals) : Type 0 where
+  pub details : is_some totals.details ≡ is_full detail
+  pub peaks : AreKept detail totals.peaks
+
+abbrev pub IsDetailed : Detail → Answer → Type 0
+IsDetailed detail answer = IfSome answer.report (λ totals. HasDetail detail totals.value)
 
 -- The answers to the lines of a trace, of which one follows the other: the machine runs from old to
 -- new, and each line has one.
-abbrev pub Answers : Machine → List Line → List Answer → Machine → Type 0
+abbrev pub Answers : Course → List Line → List Answer → Course → Type 0
 Answers old [] answers new = (answers ≡ []) × (new ≡ old)
 Answers old (line ∷ lines) [] new = ⊥
 Answers old (line ∷ lines) (answer ∷ answers) new =
-    (mid : Machine)
+    (mid : Course)
     × (answer.line ≡ line.number)
     × Advances (step_of line.command) old answer.reply mid
     × Reports line.command mid answer.report
@@ -83,32 +113,32 @@ pub record IsPhase (old : Machine) (lines : List Line) (answers : List Answer) (
   pub good : IsGood new
   pub limits : new.limits ≡ old.limits
 
--- A line that asks no step ends a phase: it is answered Ok, and a report by the totals of the state.
-pub record IsEnd (state : Machine) (line : Line) (answer : Answer) : Type 0 where
+-- A line that asks no step ends a phase: it is answered Ok, and a report by the totals of the course.
+pub record IsEnd (course : Course) (line : Line) (answer : Answer) : Type 0 where
   pub no_step : step_of line.command ≡ None
   pub number : answer.line ≡ line.number
   pub done : answer.reply ≡ Done
-  pub report : Reports line.command state answer.report
+  pub report : Reports line.command course answer.report
 
--- The lines of a trace are answered phase by phase.
-pub data Replays (first : Machine) : List Line → List Answer → Machine → Type 0 where
-  starts : Replays first [] [] first
-  runs : (lines later : List Line) (answers others : List Answer) (old new : Machine)
-      → Replays first lines answers old → IsPhase old later others new
-      → Replays first (lines ++ later) (answers ++ others) new
-  ends : (lines : List Line) (answers : List Answer) (state : Machine) (line : Line) (answer : Answer)
-      → Replays first lines answers state → IsEnd state line answer
-      → Replays first (lines ++ line ∷ []) (answers ++ answer ∷ []) state
+-- The lines of a trace are answered phase by phase; the course goes on at the end of each phase.
+pub data Replays (first : Machine) : List Line → List Answer → Course → Type 0 where
+  starts : Replays first [] [] (begun first)
+  runs : (lines later : List Line) (answers others : List Answer) (old : Course) (new : Machine)
+      → Replays first lines answers old → IsPhase old.state later others new
+      → Replays first (lines ++ later) (answers ++ others) (on_to new old)
+  ends : (lines : List Line) (answers : List Answer) (course : Course) (line : Line) (answer : Answer)
+      → Replays first lines answers course → IsEnd course line answer
+      → Replays first (lines ++ line ∷ []) (answers ++ answer ∷ []) course
 
--- From a state on that was reached, the lines are answered phase by phase, up to a good one.
-pub record GoesOn (old : Machine) (lines : List Line) (answers : List Answer) (new : Machine) : Type 0 where
+-- From a course on that was taken, the lines are answered phase by phase, up to a good state.
+pub record GoesOn (old : Course) (lines : List Line) (answers : List Answer) (new : Course) : Type 0 where
   pub replays : (first : Machine) (before : List Line) (said : List Answer) → Replays first before said old
       → Replays first (before ++ lines) (said ++ answers) new
-  pub good : IsGood new
+  pub good : IsGood new.state
 
 -- A whole trace is, from a machine on that has nothing.
 pub record IsReplay (limits : Limits) (lines : List Line) (answers : List Answer) : Type 0 where
-  pub last : Machine
+  pub last : Course
   pub replays : Replays (empty_machine limits) lines answers last
 
 -- The fault of a run is want, of memory or of a thread.

@@ -2,27 +2,32 @@
 //! trace, or a phase of which one worker has all lines.
 //!
 //! Kept true: each line has one answer, in the trace's order; where they are counted, the words in use
-//! follow. A line costs the same however many loaders stand by. Takes memory; nothing waits.
-ghost use Rattle.std.specs.Prelude.{◌≡◌, IfOk, OnOk, [], ◌∷◌, ◌++◌, List, IsTrue};
-ghost use Rattle.ms_base.specs.State.{Machine, empty_machine, limits_of};
-ghost use Rattle.ms_loaders.specs.declared.replies.Answer.{Answer as AnswerOf};
-ghost use Rattle.ms_run.specs.Replay.{Answers};
-ghost use Rattle.ms_run.specs.Counting.{IsCounted, used_around};
+//! follow, and so do the peaks, for full reports. A line costs the same however many loaders stand by.
+//! Takes memory; nothing waits.
+ghost use Rattle.std.specs.Prelude.{◌≡◌, IfOk, OnOk, [], ◌∷◌, IsTrue};
+ghost use Rattle.ms_base.specs.State.{empty_machine, limits_of};
+ghost use Rattle.std.specs.List.{All};
+ghost use Rattle.ms_run.specs.Course.{Course, begun};
+ghost use Rattle.ms_run.specs.Replay.{Answers, IsDetailed};
+ghost use Rattle.ms_run.specs.Counting.{HasAnswered, IsCounted, used_around};
 
 use crate::between::answer_between;
 use crate::gate::Gate;
+use crate::peaks::{begin, raise};
 use ms_base::{Settings, Step};
-use ms_loaders::{Answer, Replies, System};
+use ms_loaders::{Answer, Detail, Peaks, Replies, System};
 use ms_trace::{Command, Line};
 use std::alloc::{AllocError, Global};
 
-/// A system, and the words that it has in use, as they were counted on.
+/// A system, with the words that it has in use and its peaks, as they were counted on.
 #[derive(Drop)]
 pub struct Metered {
     /// The system.
     pub system: System,
     /// The words in use, in both spaces: the sum of all tops.
     pub used: u64,
+    /// The peaks so far, where reports shall be full.
+    pub peaks: Option<Peaks>,
 }
 
 /// Answers the lines in their order, from a system without loaders on.
@@ -30,37 +35,48 @@ pub fn answer_all<G: Gate>(
     alloc: Global,
     gate: &G,
     settings: Settings,
+    detail: Detail,
     lines: &[Line],
 ) -> Result<Replies, AllocError>
-    ensures { IfOk result (λ replies. (last : Machine) × Answers
-        (empty_machine (limits_of settings)) lines.now replies.answers.items last) }
+    ensures run { IfOk result (λ replies. (last : Course) × Answers
+        (begun (empty_machine (limits_of settings))) lines.now replies.answers.items last) }
+    ensures detailed { IfOk result (λ replies. All (IsDetailed detail) replies.answers.items) }
 {
     let system = System::new(alloc, settings)?;
-    let mut run = Metered { system, used: 0 };
+    let peaks = begin(&system, detail);
+    let counts = gate.looks() | peaks.is_some();
+    let mut run = Metered {
+        system,
+        used: 0,
+        peaks,
+    };
     // Room for all answers, so that no push takes memory once a step is done.
     let mut answers = Vec::with_capacity(alloc, lines.len())?;
-    answer_lines(gate, 0, gate.looks(), lines, &mut run, &mut answers)?;
+    answer_lines(gate, 0, counts, detail, lines, &mut run, &mut answers)?;
     Ok(Replies { answers })
 }
 
 /// Answers the lines in their order, by the worker of a number. The words in use are counted on where
-/// that is asked for, and else are told as they were.
+/// that is asked for, and else are told as they were; for full reports they have to be, and peaks are
+/// kept from line to line.
 pub fn answer_lines<G: Gate>(
     gate: &G,
     worker: usize,
     counts: bool,
+    detail: Detail,
     lines: &[Line],
     run: &mut Metered,
     answers: &mut Vec<Answer>,
 ) -> Result<(), AllocError>
-    requires { IsCounted counts run.old }
-    ensures answers { OnOk result ((added : List AnswerOf)
-        × (answers.new.items ≡ answers.old.items ++ added)
-        × Answers run.old.system lines.now added run.new.system) }
-    ensures counted { OnOk result (IsCounted counts run.new) }
+    requires { IsCounted counts detail run.old }
+    ensures answers { OnOk result
+        (HasAnswered run.old lines.now answers.old.items answers.new.items run.new) }
+    ensures counted { OnOk result (IsCounted counts detail run.new) }
+    ensures detailed { OnOk result (All (IsDetailed detail) answers.old.items
+        → All (IsDetailed detail) answers.new.items) }
 {
     for line in lines {
-        answer_line(gate, worker, counts, line, run, answers)?;
+        answer_line(gate, worker, counts, detail, line, run, answers)?;
     }
     Ok(())
 }
@@ -70,18 +86,20 @@ fn answer_line<G: Gate>(
     gate: &G,
     worker: usize,
     counts: bool,
+    detail: Detail,
     line: &Line,
     run: &mut Metered,
     answers: &mut Vec<Answer>,
 ) -> Result<(), AllocError>
-    requires { IsCounted counts run.old }
-    ensures answered { OnOk result ((added : AnswerOf)
-        × (answers.new.items ≡ answers.old.items ++ added ∷ [])
-        × Answers run.old.system (line.now ∷ []) (added ∷ []) run.new.system) }
-    ensures counted { OnOk result (IsCounted counts run.new) }
+    requires { IsCounted counts detail run.old }
+    ensures answered { OnOk result
+        (HasAnswered run.old (line.now ∷ []) answers.old.items answers.new.items run.new) }
+    ensures counted { OnOk result (IsCounted counts detail run.new) }
+    ensures detailed { OnOk result (All (IsDetailed detail) answers.old.items
+        → All (IsDetailed detail) answers.new.items) }
 {
     let Command::Step(step) = line.command else {
-        return answer_between(&run.system, None, line, answers);
+        return answer_between(run, None, detail, line, answers);
     };
     gate.before(worker, line.number);
     let before = used_by(counts, &run.system, &step);
@@ -94,6 +112,7 @@ fn answer_line<G: Gate>(
     let after = used_by(counts, &run.system, &step);
     // A difference modulo 2^64, as the meter counts.
     run.used = run.used.wrapping_add(after).wrapping_sub(before);
+    run.peaks = raise(run.peaks, &run.system, run.used);
     gate.after(worker, line.number, run.used);
     Ok(())
 }

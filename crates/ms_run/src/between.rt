@@ -1,35 +1,47 @@
 //! Lines between two stretches of steps: a report, or a meeting of the workers.
 //!
 //! Where the words in use were counted on, a report has them from that count, and else from the
-//! loaders; its sums are the same. Takes memory for a report and for answers; nothing waits.
+//! loaders; its sums are the same. It has details and peaks only where it shall be full. Takes memory
+//! for a report and for answers; nothing waits.
 ghost use Rattle.std.specs.Prelude.{◌≡◌, ◌+◌, ◌∷◌, ◌++◌, [], IfOk, IfSome, OnOk, None};
-ghost use Rattle.ms_base.specs.Totals.{sums_of};
 ghost use Rattle.ms_loaders.specs.declared.replies.Answer.{Answer as AnswerOf};
+ghost use Rattle.std.specs.List.{All};
+ghost use Rattle.std.specs.Option.{is_some};
+ghost use Rattle.ms_loaders.specs.Details.{details_in, details_of};
+ghost use Rattle.ms_base.specs.Totals.{sums_of};
 ghost use Rattle.ms_loaders.specs.Sums.{sums_in};
 ghost use Rattle.ms_trace.specs.Steps.{step_of};
-ghost use Rattle.ms_run.specs.Replay.{IsEnd, Reports};
+ghost use Rattle.ms_run.specs.Course.{Course};
+ghost use Rattle.ms_run.specs.Counting.{HasTaken};
+ghost use Rattle.ms_run.specs.Replay.{AreKept, AreOf, HasDetail, IsDetailed, IsEnd, Reports, is_full};
 ghost use Rattle.ms_run.specs.Metering.{used_words_of};
 
+use crate::alone::Metered;
 use ms_base::Reply;
-use ms_loaders::{Answer, SpaceTotals, System, Totals};
+use ms_loaders::{Answer, Detail, Details, SpaceTotals, System, Totals};
 use ms_trace::{Command, Line};
 use std::alloc::{AllocError, Global};
 
-/// Answers a line that asks no step: a report with the totals as they are. The words in use, of both
-/// spaces, are taken from a count of them where there is one.
+/// Answers a line that asks no step: a report with the totals as they are, in so much detail, and with
+/// the peaks that are kept. The words in use, of both spaces, are taken from a count of them where there
+/// is one.
 pub fn answer_between(
-    system: &System,
+    run: &Metered,
     used: Option<u64>,
+    detail: Detail,
     line: &Line,
     answers: &mut Vec<Answer>,
 ) -> Result<(), AllocError>
     requires no_step { step_of line.now.command ≡ None }
-    requires used { IfSome used (λ words. words ≡ used_words_of system.now) }
-    ensures { OnOk result ((added : AnswerOf)
+    requires used { IfSome used (λ words. words ≡ used_words_of run.now.system) }
+    requires kept { AreKept detail run.now.peaks }
+    ensures answered { OnOk result ((course : Course) → HasTaken course run.now → (added : AnswerOf)
         × (answers.new.items ≡ answers.old.items ++ added ∷ [])
-        × IsEnd system.now line.now added) }
+        × IsEnd course line.now added) }
+    ensures detailed { OnOk result (All (IsDetailed detail) answers.old.items
+        → All (IsDetailed detail) answers.new.items) }
 {
-    let report = report_for(*answers.allocator(), system, used, line.command)?;
+    let report = report_for(*answers.allocator(), run, used, detail, line.command)?;
     answers.push(Answer {
         line: line.number,
         reply: Reply::Ok,
@@ -41,21 +53,55 @@ pub fn answer_between(
 /// Gathers the totals where a command asks for them, and boxes them.
 fn report_for(
     alloc: Global,
-    system: &System,
+    run: &Metered,
     used: Option<u64>,
+    detail: Detail,
     command: Command,
 ) -> Result<Option<Box<Totals>>, AllocError>
-    requires { IfSome used (λ words. words ≡ used_words_of system.now) }
-    ensures { IfOk result (λ report. Reports command system.now report) }
+    requires used { IfSome used (λ words. words ≡ used_words_of run.now.system) }
+    requires kept { AreKept detail run.now.peaks }
+    ensures reports { IfOk result (λ report. (course : Course) → HasTaken course run.now
+        → Reports command course report) }
+    ensures detailed { IfOk result (λ report. IfSome report (λ totals. HasDetail detail totals.value)) }
 {
     match command {
-        Command::Report => Ok(Some(Box::new(alloc, totals_of(system, used)?)?)),
+        Command::Report => Ok(Some(Box::new(alloc, totals_of(run, used, detail)?)?)),
         Command::Step(_) | Command::Sync => Ok(None),
     }
 }
 
+/// Gathers the totals, with the words in use from a count where there is one, the peaks where they are
+/// kept, and their details where they are asked for.
+fn totals_of(run: &Metered, used: Option<u64>, detail: Detail) -> Result<Totals, AllocError>
+    requires used { IfSome used (λ words. words ≡ used_words_of run.now.system) }
+    requires kept { AreKept detail run.now.peaks }
+    ensures of { IfOk result (λ totals. (course : Course) → HasTaken course run.now
+        → AreOf course totals) }
+    ensures detailed { IfOk result (λ totals. HasDetail detail totals) }
+{
+    let details = details_for(&run.system, detail)?;
+    let totals = counted(&run.system, used)?;
+    Ok(Totals {
+        details,
+        peaks: run.peaks,
+        ..totals
+    })
+}
+
+/// Gathers the details where they are asked for.
+fn details_for(system: &System, detail: Detail) -> Result<Option<Details>, AllocError>
+    ensures of { IfOk result (λ details.
+        IfSome details (λ its. details_in its ≡ details_of system.now)) }
+    ensures detailed { IfOk result (λ details. is_some details ≡ is_full detail) }
+{
+    match detail {
+        Detail::Basic => Ok(None),
+        Detail::Full => Ok(Some(system.details()?)),
+    }
+}
+
 /// Gathers the totals, with the words in use from a count where there is one.
-fn totals_of(system: &System, used: Option<u64>) -> Result<Totals, AllocError>
+fn counted(system: &System, used: Option<u64>) -> Result<Totals, AllocError>
     requires { IfSome used (λ words. words ≡ used_words_of system.now) }
     ensures { IfOk result (λ totals. sums_in totals ≡ sums_of system.now) }
 {
@@ -77,6 +123,8 @@ fn with_used(totals: Totals, used: u64) -> Totals
         space,
         class_space,
         rows,
+        details,
+        peaks,
     } = totals;
     let (held, free) = (space.held, space.free);
     let space = SpaceTotals {
@@ -99,5 +147,7 @@ fn with_used(totals: Totals, used: u64) -> Totals
         space,
         class_space,
         rows,
+        details,
+        peaks,
     }
 }

@@ -19,6 +19,7 @@ mod gate;
 mod gathering;
 mod merging;
 mod metering;
+mod peaks;
 mod phase;
 mod replaying;
 mod share;
@@ -27,6 +28,7 @@ mod working;
 
 pub use fault::RunFault;
 pub use gate::{Gate, NoGate};
+pub use ms_loaders::Detail;
 pub use replaying::replay;
 
 #[cfg(test)]

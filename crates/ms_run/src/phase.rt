@@ -5,13 +5,16 @@
 //!                                                   └──── merge ───> answers
 //!
 //! Kept true: the system is good before and after, and nothing of it is lost between; the phase's
-//! meter moved as its words in use did. Takes memory; waits for the lock and for threads where two
+//! meter moved as its words in use did. Peaks are raised at the end, or line by line by one worker.
+//! Takes memory; waits for the lock and for threads where two
 //! workers have lines.
 ghost use Rattle.std.specs.Prelude.{◌≡◌, ◌++◌, ℕ, List, IsOk, IfOk, IfErr, vec_len};
 ghost use Rattle.std.specs.List.{All};
 ghost use Rattle.ms_base.specs.Good.{IsGood};
 ghost use Rattle.ms_loaders.specs.declared.replies.Answer.{Answer as AnswerOf};
-ghost use Rattle.ms_run.specs.Replay.{GoesOn, IsWanting};
+ghost use Rattle.ms_run.specs.Counting.{HasTaken};
+ghost use Rattle.ms_run.specs.Course.{Course};
+ghost use Rattle.ms_run.specs.Replay.{AreKept, GoesOn, IsDetailed, IsWanting};
 ghost use Rattle.ms_shared.specs.MeterRule.{MeterSeatState};
 ghost use Rattle.ms_run.specs.Shares.{AreSteps};
 ghost use Rattle.ms_run.specs.Metering.{used_words_of, amount_of};
@@ -22,9 +25,10 @@ use crate::fault::RunFault;
 use crate::gate::Gate;
 use crate::gathering::{fault_of, gather};
 use crate::merging::merge;
+use crate::peaks::raise;
 use crate::turn::Turn;
 use crate::working::work_all;
-use ms_loaders::Answer;
+use ms_loaders::{Answer, Detail};
 use ms_shared::{MeterSeat, UsedMeter};
 use ms_trace::Line;
 use std::alloc::Global;
@@ -37,6 +41,7 @@ pub fn run_phase<R: Threads + Wait + Sync, G: Gate + Sync>(
     alloc: Global,
     gate: &G,
     turn: &mut Turn,
+    detail: Detail,
     lines: &[Line],
     run: Metered,
     answers: &mut Vec<Answer>,
@@ -44,19 +49,28 @@ pub fn run_phase<R: Threads + Wait + Sync, G: Gate + Sync>(
     requires good { IsGood run.system }
     requires used { run.used ≡ used_words_of run.system }
     requires steps { AreSteps lines.now }
-    ensures phase { IfOk result (λ after. (added : List AnswerOf)
+    requires kept { AreKept detail run.peaks }
+    ensures phase { IfOk result (λ after. (course : Course) → HasTaken course run
+        → (added : List AnswerOf) × (later : Course)
         × (answers.new.items ≡ answers.old.items ++ added)
-        × GoesOn run.system lines.now added after.system) }
+        × GoesOn course lines.now added later × HasTaken later after) }
     ensures used { IfOk result (λ after. after.used ≡ used_words_of after.system) }
+    ensures kept { IfOk result (λ after. AreKept detail after.peaks) }
     ensures wanting { IfErr result IsWanting }
+    ensures detailed { IfOk result (λ after. All (IsDetailed detail) answers.old.items
+        → All (IsDetailed detail) answers.new.items) }
 {
     turn.activate(lines);
     if turn.shares() == 1 {
         let mut run = run;
-        answer_lines(gate, turn.worker(0), true, lines, &mut run, answers)?;
+        answer_lines(gate, turn.worker(0), true, detail, lines, &mut run, answers)?;
         return Ok(run);
     }
-    let Metered { system, used } = run;
+    let Metered {
+        system,
+        used,
+        peaks,
+    } = run;
     let (pool, loaders) = system.into_parts();
     let (shared, shares, meter) = deal(alloc, turn, lines, pool, loaders)?;
     let shares = work_all(rt, alloc, &shared, &meter, used, gate, shares)?;
@@ -64,7 +78,12 @@ pub fn run_phase<R: Threads + Wait + Sync, G: Gate + Sync>(
     let (system, meters) = gather(alloc, shared, shares)?;
     let amount = close(meter, meters)?;
     let used = used.wrapping_add(amount);
-    Ok(Metered { system, used })
+    let peaks = raise(peaks, &system, used);
+    Ok(Metered {
+        system,
+        used,
+        peaks,
+    })
 }
 
 /// Ends the phase's meter, to which all seats are given back, and tells what they sum to.

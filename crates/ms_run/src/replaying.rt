@@ -6,26 +6,30 @@
 //! Kept true: between two phases all is one good system, and each line so far has its answer. Takes
 //! memory; waits as its phases do.
 ghost use Rattle.std.specs.Prelude.{◌≡◌, ◌≤◌, ℕ, IfOk, IfErr, Some, None, length, take, slice_get};
-ghost use Rattle.ms_base.specs.State.{Machine, empty_machine, limits_of};
+ghost use Rattle.ms_base.specs.State.{empty_machine, limits_of};
 ghost use Rattle.ms_trace.specs.declared.trace.Line.{Line as LineOf};
 ghost use Rattle.ms_trace.specs.Steps.{step_of};
-ghost use Rattle.ms_run.specs.Replay.{IsReplay, Answers, IsWanting};
+ghost use Rattle.std.specs.List.{All};
+ghost use Rattle.ms_run.specs.Course.{Course, begun};
+ghost use Rattle.ms_run.specs.Replay.{IsReplay, Answers, IsDetailed, IsWanting};
 ghost use Rattle.ms_run.specs.Shares.{AreSteps};
 
 use crate::alone::{Metered, answer_all};
 use crate::between::answer_between;
 use crate::fault::RunFault;
 use crate::gate::Gate;
+use crate::peaks::begin;
 use crate::phase::run_phase;
 use crate::turn::Turn;
 use ms_base::Settings;
-use ms_loaders::{Replies, System};
+use ms_loaders::{Detail, Replies, System};
 use ms_trace::{Command, Line, Trace};
 use std::alloc::Global;
 use std::sync::Wait;
 use std::thread::Threads;
 
-/// Replays a trace with as many workers as the settings say, and answers each of its lines.
+/// Replays a trace with as many workers as the settings say, and answers each of its lines, reports in
+/// so much detail.
 ///
 /// One worker is the caller itself, and runs all lines in their order. With two or more, a phase ends
 /// at each `sync`, at each `report` and at the end of the trace; loader number j, from 0 on by first
@@ -39,21 +43,23 @@ pub fn replay<R: Threads + Wait + Sync, G: Gate + Sync>(
     alloc: Global,
     trace: &Trace,
     settings: Settings,
+    detail: Detail,
     gate: &G,
 ) -> Result<Replies, RunFault>
     ensures own { IfOk result (λ replies. IsReplay (limits_of settings) trace.now.lines
         replies.answers.items) }
-    ensures run { settings.workers ≡ 1 → IfOk result (λ replies. (last : Machine) × Answers
-        (empty_machine (limits_of settings)) trace.now.lines replies.answers.items last) }
+    ensures run { settings.workers ≡ 1 → IfOk result (λ replies. (last : Course) × Answers
+        (begun (empty_machine (limits_of settings))) trace.now.lines replies.answers.items last) }
+    ensures detailed { IfOk result (λ replies. All (IsDetailed detail) replies.answers.items) }
     ensures wanting { IfErr result IsWanting }
     ensures no_thread { settings.workers ≡ 1
         → IfErr result (λ fault. fault ≡ RunFault.OutOfMemory) }
 {
     let lines = trace.lines.as_slice();
     if settings.workers != 1 {
-        return run_phases(rt, alloc, gate, settings, lines);
+        return run_phases(rt, alloc, gate, settings, detail, lines);
     }
-    let replies = answer_all(alloc, gate, settings, lines)?;
+    let replies = answer_all(alloc, gate, settings, detail, lines)?;
     Ok(replies)
 }
 
@@ -63,24 +69,31 @@ fn run_phases<R: Threads + Wait + Sync, G: Gate + Sync>(
     alloc: Global,
     gate: &G,
     settings: Settings,
+    detail: Detail,
     lines: &[Line],
 ) -> Result<Replies, RunFault>
     ensures own { IfOk result (λ replies. IsReplay (limits_of settings) lines.now
         replies.answers.items) }
+    ensures detailed { IfOk result (λ replies. All (IsDetailed detail) replies.answers.items) }
     ensures wanting { IfErr result IsWanting }
 {
     let mut turn = Turn::new(alloc, settings, lines)?;
     let system = System::new(alloc, settings)?;
-    let mut run = Metered { system, used: 0 };
+    let peaks = begin(&system, detail);
+    let mut run = Metered {
+        system,
+        used: 0,
+        peaks,
+    };
     let mut answers = Vec::with_capacity(alloc, lines.len())?;
     let mut at = 0;
     while at < lines.len() {
         let count = steps_first(&lines[at..]);
         let steps = &lines[at..at + count];
-        run = run_phase(rt, alloc, gate, &mut turn, steps, run, &mut answers)?;
+        run = run_phase(rt, alloc, gate, &mut turn, detail, steps, run, &mut answers)?;
         at += count;
         if at < lines.len() {
-            answer_between(&run.system, Some(run.used), &lines[at], &mut answers)?;
+            answer_between(&run, Some(run.used), detail, &lines[at], &mut answers)?;
             at += 1;
         }
         turn.go_on();

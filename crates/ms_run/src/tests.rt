@@ -5,6 +5,7 @@ ghost use Rattle.std.specs.Prelude.{◌≤◌};
 
 use super::*;
 use ms_base::{Policy, Reply, Settings};
+use ms_loaders::Detail;
 use ms_trace::parse;
 use std::alloc::{AllocError, Global};
 use std::process::Abort;
@@ -70,7 +71,14 @@ fn gate_two_workers(rt: HostRuntime) -> Result<(), Fail> {
         second: AtomicU64::new(0),
         missed: AtomicU64::new(0),
     };
-    let replies = replay(&rt, rt.alloc(), &trace, settings(2, 64, 8192, 0), &gate);
+    let replies = replay(
+        &rt,
+        rt.alloc(),
+        &trace,
+        settings(2, 64, 8192, 0),
+        Detail::Basic,
+        &gate,
+    );
     let replies = replies.ok().ok_or("no replies")?;
     assert_eq!(rt; gate.missed.load(Ordering::SeqCst), 0);
     assert_eq!(rt; replies.answers.len(), 2);
@@ -107,7 +115,7 @@ fn watched(
         last: AtomicU64::new(0),
         most: AtomicU64::new(0),
     };
-    let replies = replay(rt, rt.alloc(), &trace, settings, &gate);
+    let replies = replay(rt, rt.alloc(), &trace, settings, Detail::Basic, &gate);
     let _ = replies.ok().ok_or("no replies")?;
     let last = gate.last.load(Ordering::SeqCst);
     Ok((last, gate.most.load(Ordering::SeqCst)))
@@ -247,6 +255,7 @@ fn listen(
         rt.alloc(),
         &trace,
         settings(workers, 64, 8192, 0),
+        Detail::Basic,
         &gate,
     );
     let replies = replies.ok().ok_or("no replies")?;

@@ -5,7 +5,7 @@ use Rattle.std.proofs.Common.{arith, ⊎_elim, length-set, get_or-set_same, slic
 use Rattle.std.proofs.lemmas.List.Sums.{sum_by_push}
 use mathlib.Core.Option.{some, some-injective, some-ne-none}
 use lib.ListN.{get_elem?}
-use Rattle.atomic_table.specs.Table.{Me, keeps, Allows, Splits, Joins, opening, Final, Seen}
+use Rattle.atomic_table.specs.Table.{Me, keeps, Allows, Splits, Joins, Final, Seen}
 use Rattle.atomic_table.proofs.Lists.{at_set, at_snoc, set_again}
 use Rattle.ms_shared.specs.MeterRule.{added, meter_view, less_part, joined, IsMetered, IdleIsEmpty, amounts_in}
 use Rattle.ms_shared.specs.declared.meter_rule.MeterView.{MeterView}
@@ -25,19 +25,6 @@ idle_snoc views view new idle other w at none =
     ⊎_elim (λ there. idle other w there none)
     (λ is. ap (λ (v : MeterView). v.amount) (sym is) ∙ new (ap (λ (v : MeterView). v.parts) is ∙ none))
     (at_snoc views view w other at)
-
--- The rule holds of a new meter.
-pub begins : (made : ℕ) → IsMetered made (opening (0 ∷ []) [] (meter_view made 0))
-begins made =
-    record {
-      sum = refl;
-      word = refl;
-      parts = omega arith;
-      idle = idle_snoc [] (meter_view made 0) (λ none. refl) (λ seat view at. absurd (nothing seat view at));
-    }
-  where
-    nothing : (seat : ℕ) (view : MeterView) → get_elem? [] seat ≡ some view → ⊥
-    nothing seat view at = some-ne-none view (sym at)
 
 -- A step that adds k to the word and to the seat's amount.
 pub shifts : (made slots id k : ℕ) (me : Me ℕ MeterView) → me.0.parts ≡ 1

@@ -1,7 +1,8 @@
 -- Cutting at a byte undoes joining with it.
-use Rattle.std.proofs.Common.{◌≡◌, ℕ, get_or, ◌+◌, ◌≤◌, not, cond, ltb, length, take, drop, Option, Some, None, arith}
+use Rattle.std.proofs.Common.{◌≡◌, ℕ, get_or, ◌+◌, ◌<◌, ◌≤◌, min, not, cond, ltb, length, take, drop, Option, Some, None, arith}
 use Rattle.std.proofs.Common.{Bool, true, false, eqb, List, [], ◌∷◌, refl, ◌∙◌, ap}
 use Rattle.std.proofs.lemmas.Bool.{not-true, ltb-true, ltb-false, lt-ltb, le-ltb}
+use Rattle.std.proofs.lemmas.List.{get_or-take, length-take}
 use Rattle.std.proofs.lemmas.List.Splits.{slice_split_none, slice_split_at, slice_split_first}
 use Rattle.std.proofs.lemmas.List.Sums.{prefix_len_passes, position_or_len_is}
 use Rattle.std.specs.List.{All, AllByRecursion, join_with_byte, slice_split, position, position_or_len}
@@ -60,3 +61,18 @@ position_from_first p text (Some at) (first, here) =
     position_or_len_is p text at 0 (omega (arith, first.high))
     (λ k below. not_true (p (get_or text k 0)) (first.before k (omega arith) below)) (λ below. here) in
     rw place (rw (lt-ltb at (length text) first.high) refl)
+
+-- The first place in the front of a text is the first in the text.
+pub first_in_front : (p : ℕ → Bool) (text : List ℕ) (n at : ℕ) → IsFirstByte p (take n text) (Some at)
+    → IsFirstByte p text (Some at)
+first_in_front p text n at (first, here) =
+    let short : length (take n text) ≡ min n (length text) = length-take n text in
+    let inside : at < length (take n text) = first.high in (
+      record {
+        low = first.low;
+        high = omega (arith, short, inside);
+        before = λ k low below hit.
+            first.before k low below (rw (get_or-take n text k 0 (omega (arith, short, inside, below))) hit);
+      },
+      rw (get_or-take n text at 0 (omega (arith, short, inside))) at here,
+    )

@@ -1,9 +1,10 @@
 -- The loop of reading: the lines cut off so far read as the lines kept so far.
 use Rattle.std.proofs.Common.{◌≡◌, ℕ, inl, inr, suc, ◌+◌, ◌<◌, ◌≤◌, eqb, List, [], ◌∷◌, ◌++◌, length, refl, sym, ◌∙◌}
 use Rattle.std.proofs.Common.{ap, arith, add-zero, append_assoc, length-append, append-nil, Option, Some, None}
+use Rattle.std.proofs.Common.{drop, take}
 use Rattle.std.proofs.lemmas.List.Splits.{length-slice_split, join_with_byte-slice_split}
 use Rattle.std.specs.Borrow.{Bor}
-use Rattle.std.specs.List.{join_with_byte}
+use Rattle.std.specs.List.{join_with_byte, position, slice_split}
 use Rattle.ms_trace.specs.declared.fault.FaultKind.{FaultKind}
 use Rattle.ms_trace.specs.declared.fault.ParseFault.{ParseFault}
 use Rattle.ms_trace.specs.declared.fault.ParseFault.TheVariants.{Trace, OutOfMemory}
@@ -13,6 +14,7 @@ use Rattle.ms_trace.specs.Grammar.{lines_of, without_empty_end, most_lines}
 use Rattle.ms_trace.specs.Faults.{fault_of, HasFault, BlamesText}
 use Rattle.ms_trace.specs.Keeping.{BlamesLine, Keeps}
 use Rattle.ms_trace.specs.Spelling.{ReadsFrom}
+use Rattle.ms_trace.proofs.CutLemmas.{cut_there}
 use Rattle.ms_trace.proofs.SpellingLemmas.{IsAllowed, allowed_from_no_fault}
 use Rattle.ms_trace.proofs.TraceLemmas.{Says, faultless_from_reads}
 
@@ -42,6 +44,15 @@ lines_of-cut rest line None some cut =
 lines_of-cut rest line (Some text) some cut =
     ap without_empty_end cut
     ∙ line_first line (parts_of 10 text.now) (omega (arith, length-slice_split (λ byte. eqb byte 10) text.now))
+
+-- What stands before the first newline is the first line.
+pub first_line_of : (text : List ℕ) (at : ℕ) → Some at ≡ position (λ byte. eqb byte 10) text
+    → lines_of text ≡ take at text ∷ lines_of (drop (at + 1) text)
+first_line_of text at e =
+    let rest : List ℕ = drop (at + 1) text in
+    ap without_empty_end (cut_there (λ byte. eqb byte 10) text at e)
+    ∙ line_first (take at text) (slice_split (λ byte. eqb byte 10) rest)
+    (omega (arith, length-slice_split (λ byte. eqb byte 10) rest))
 
 -- Lines read as a trace with one more line.
 says_more : (number : ℕ) (line : List ℕ) (trace rest said : List Line) → Says number line trace rest

@@ -1,12 +1,12 @@
 -- What reading a command line answers, what it does to the lines kept so far, and what it blames.
-use Rattle.std.specs.Prelude.{◌≡◌, ℕ, ◌==◌, Bool, false, ◌⊎◌, List, [], ◌∷◌, ◌++◌, ◌<◌, length, Some, None, Result, IfOk, IsTrue, ⊤}
+use Rattle.std.specs.Prelude.{◌≡◌, ℕ, ◌==◌, Bool, false, ◌⊎◌, List, [], ◌∷◌, ◌++◌, ◌<◌, ◌≤◌, length, Some, None, Result, IfOk, IsTrue, ⊤}
 use Rattle.std.specs.Result.{result_err}
 use Rattle.ms_trace.specs.declared.fault.FaultKind.{FaultKind}
 use Rattle.ms_trace.specs.declared.fault.ParseFault.{ParseFault}
 use Rattle.ms_trace.specs.declared.fault.ParseFault.TheVariants.{Trace, OutOfMemory}
 use Rattle.ms_trace.specs.declared.trace.Command.{Command}
 use Rattle.ms_trace.specs.declared.trace.Line.{Line}
-use Rattle.ms_trace.specs.Grammar.{is_silent, lines_of}
+use Rattle.ms_trace.specs.Grammar.{is_silent, lines_of, most_bytes}
 use Rattle.ms_trace.specs.Faults.{command_fault, fault_of}
 use Rattle.ms_trace.specs.Spelling.{Gives, IsValid, command_fields, spelling_of}
 
@@ -26,6 +26,14 @@ is_ended (byte ∷ next ∷ rest) = is_ended (next ∷ rest)
 pub record BeginsWith (text : List ℕ) (command : Command) (rest : List ℕ) : Type 0 where
   pub spelled : text ≡ spelling_of command ++ 10 ∷ rest
   pub valid : IsValid command
+
+-- A text begins with a silent line that isn't too long.
+pub record BeginsSilently (text rest : List ℕ) : Type 0 where
+  pub line : List ℕ
+  pub cut : lines_of text ≡ line ∷ lines_of rest
+  pub silent : IsTrue (is_silent line)
+  pub short : length line ≤ most_bytes
+  pub shorter : length rest < length text
 
 -- A line without a fault is kept: what it says, nothing or one command, follows the lines so far.
 pub record Keeps (number : ℕ) (line : List ℕ) (old new : List Line) : Type 0 where

@@ -7,10 +7,13 @@ ghost use Rattle.std.specs.Prelude.{◌≡◌, ◌==◌, ◌∷◌, ◌++◌, �
 ghost use Rattle.std.specs.Result.{result_err};
 ghost use Rattle.ms_trace.specs.Cutting.{count_fault, fields_in, parts_after, parts_of};
 ghost use Rattle.ms_trace.specs.Grammar.{fields_of, lines_of};
-ghost use Rattle.ms_trace.specs.Keeping.{is_ended};
+ghost use Rattle.ms_trace.specs.Keeping.{BeginsSilently, is_ended};
 
 use crate::fault::FaultKind;
 use memchr::{memchr, memrchr};
+
+/// A line with its newline has at most so many bytes.
+const NEAR: usize = 81;
 
 /// Cuts off the first line: what stands before the first newline, and what stands after it where
 /// there is one. Lines may be long, so the search is by blocks.
@@ -19,6 +22,23 @@ pub(crate) fn cut_line(text: &[u8]) -> (&[u8], Option<&[u8]>)
     ensures shorter { IfSome result.1 (λ rest. length rest.now < length text.now) }
 {
     cut_at(text, b'\n', first_newline(text))
+}
+
+/// Cuts off the first line where it is blank or a comment, and not too long, and answers what stands
+/// after it.
+#[inline(always)]
+pub(crate) fn cut_silent(text: &[u8]) -> Option<&[u8]>
+    requires { 0 < length text.now }
+    ensures { IfSome result (λ rest. BeginsSilently text.now rest.now) }
+{
+    if text[0] == b'\n' {
+        return Some(&text[1..]);
+    }
+    if text[0] != b'#' {
+        return None;
+    }
+    let at = memchr(b'\n', &text[..text.len().min(NEAR)])?;
+    Some(&text[at + 1..])
 }
 
 /// Tells whether a text ends with a newline.

@@ -8,7 +8,7 @@ ghost use Rattle.ms_trace.specs.Keeping.{AddsLine, Keeps, KeepsFirst, BlamesFirs
 ghost use Rattle.ms_trace.specs.Spelling.{ReadsAs, ReadsFrom, rises_above};
 
 use crate::commands::read_line;
-use crate::cutting::{cut_last, cut_line, is_ended};
+use crate::cutting::{cut_last, cut_line, cut_silent, is_ended};
 use crate::fault::{ParseFault, TraceFault};
 use crate::spellings::command_before;
 use crate::trace::{Command, Line, Lines, MOST_LINES, Trace};
@@ -52,8 +52,8 @@ pub(crate) fn read_lines<A: Allocator>(alloc: A, text: &[u8]) -> Result<Vec<Line
 }
 
 /// Keeps the command of a text's first line, which has that number, if it gives one, and answers
-/// what stands after that line. Most lines are spelled as `spellings` reads them; any other is cut
-/// off and judged.
+/// what stands after that line. Most lines are spelled as `spellings` reads them, or silent; any other
+/// is cut off and judged.
 fn keep_first<'a, A: Allocator>(
     lines: &mut Vec<Line, A>,
     number: u32,
@@ -68,6 +68,11 @@ fn keep_first<'a, A: Allocator>(
         && let Some((command, rest)) = command_before(text)
     {
         add(lines, number, command)?;
+        return Ok(rest);
+    }
+    if number <= MOST_LINES
+        && let Some(rest) = cut_silent(text)
+    {
         return Ok(rest);
     }
     let (line, after) = cut_line(text);

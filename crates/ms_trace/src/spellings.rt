@@ -4,11 +4,11 @@
 //!           - -- -        and each is read up to the byte after it
 //!
 //! Where nothing is answered, `commands` judges the line.
-ghost use Rattle.std.specs.Prelude.{◌≡◌, ◌++◌, ◌∷◌, ◌==◌, IfSome, IsTrue, codes, decimal, false};
+ghost use Rattle.std.specs.Prelude.{◌≡◌, ◌≤◌, ◌<◌, ◌++◌, ◌∷◌, ◌==◌, IfSome, IsTrue, codes, decimal, drop, length, false};
 ghost use Rattle.ms_trace.specs.Grammar.{kind_word};
 ghost use Rattle.ms_trace.specs.Keeping.{BeginsWith, is_ended};
 
-use crate::numbers::number_before;
+use crate::numbers::number_at;
 use crate::trace::Command;
 use ms_base::{Kind, Step};
 
@@ -91,10 +91,10 @@ fn write_before(text: &[u8]) -> Option<(Command, &[u8])>
     requires { IsTrue (is_ended text.now) }
     ensures { IfSome result (λ read. BeginsWith (codes "write " ++ text.now) read.0 read.1.now) }
 {
-    let (loader, rest) = loader_before(b' ', text)?;
-    let (block, rest) = block_before(b' ', rest)?;
-    let (index, rest) = number_before(b' ', rest, u64::MAX)?;
-    let (value, rest) = number_before(b'\n', rest, u64::MAX)?;
+    let (loader, at) = loader_first(b' ', text)?;
+    let (block, at) = block_at(b' ', text, at)?;
+    let (index, at) = number_at(b' ', text, at, u64::MAX)?;
+    let (value, at) = number_at(b'\n', text, at, u64::MAX)?;
     Some((
         Command::Step(Step::Write {
             loader,
@@ -102,7 +102,7 @@ fn write_before(text: &[u8]) -> Option<(Command, &[u8])>
             index,
             value,
         }),
-        rest,
+        &text[at..],
     ))
 }
 
@@ -112,9 +112,9 @@ fn free_before(text: &[u8]) -> Option<(Command, &[u8])>
     requires { IsTrue (is_ended text.now) }
     ensures { IfSome result (λ read. BeginsWith (codes "free " ++ text.now) read.0 read.1.now) }
 {
-    let (loader, rest) = loader_before(b' ', text)?;
-    let (block, rest) = block_before(b'\n', rest)?;
-    Some((Command::Step(Step::Free { loader, block }), rest))
+    let (loader, at) = loader_first(b' ', text)?;
+    let (block, at) = block_at(b'\n', text, at)?;
+    Some((Command::Step(Step::Free { loader, block }), &text[at..]))
 }
 
 /// Reads the command after `unload `.
@@ -123,8 +123,8 @@ fn unload_before(text: &[u8]) -> Option<(Command, &[u8])>
     requires { IsTrue (is_ended text.now) }
     ensures { IfSome result (λ read. BeginsWith (codes "unload " ++ text.now) read.0 read.1.now) }
 {
-    let (loader, rest) = loader_before(b'\n', text)?;
-    Some((Command::Step(Step::Unload { loader }), rest))
+    let (loader, at) = loader_first(b'\n', text)?;
+    Some((Command::Step(Step::Unload { loader }), &text[at..]))
 }
 
 /// Reads the command after `new `.
@@ -133,8 +133,8 @@ fn new_before(text: &[u8]) -> Option<(Command, &[u8])>
     requires { IsTrue (is_ended text.now) }
     ensures { IfSome result (λ read. BeginsWith (codes "new " ++ text.now) read.0 read.1.now) }
 {
-    let (loader, rest) = loader_before(b' ', text)?;
-    let (kind, rest) = kind_before(rest)?;
+    let (loader, at) = loader_first(b' ', text)?;
+    let (kind, rest) = kind_before(&text[at..])?;
     Some((Command::Step(Step::New { loader, kind }), rest))
 }
 
@@ -183,30 +183,34 @@ fn three_before(text: &[u8]) -> Option<(u16, u32, u64, &[u8])>
     ensures { IfSome result (λ read. text.now
         ≡ decimal read.0 ++ 32 ∷ decimal read.1 ++ 32 ∷ decimal read.2 ++ 10 ∷ read.3.now) }
 {
-    let (loader, rest) = loader_before(b' ', text)?;
-    let (block, rest) = block_before(b' ', rest)?;
-    let (word, rest) = number_before(b'\n', rest, u64::MAX)?;
-    Some((loader, block, word, rest))
+    let (loader, at) = loader_first(b' ', text)?;
+    let (block, at) = block_at(b' ', text, at)?;
+    let (word, at) = number_at(b'\n', text, at, u64::MAX)?;
+    Some((loader, block, word, &text[at..]))
 }
 
-/// Reads a loader's name up to that byte.
+/// Reads the loader's name that a text begins with up to that byte.
 #[inline(always)]
-fn loader_before(end: u8, text: &[u8]) -> Option<(u16, &[u8])>
+fn loader_first(end: u8, text: &[u8]) -> Option<(u16, usize)>
     requires { IsTrue (is_ended text.now) }
-    ensures spelled { IfSome result (λ read. text.now ≡ decimal read.0 ++ end ∷ read.1.now) }
-    ensures ended { (end == 10) ≡ false → IfSome result (λ read. IsTrue (is_ended read.1.now)) }
+    ensures spelled { IfSome result (λ read. text.now ≡ decimal read.0 ++ end ∷ drop read.1 text.now) }
+    ensures within { IfSome result (λ read. read.1 ≤ length text.now) }
+    ensures inside { (end == 10) ≡ false → IfSome result (λ read. read.1 < length text.now) }
 {
-    let (loader, rest) = number_before(end, text, 65_535)?;
-    Some((loader as u16, rest))
+    let (loader, at) = number_at(end, text, 0, 65_535)?;
+    Some((loader as u16, at))
 }
 
-/// Reads a block's name up to that byte.
+/// Reads the block's name at a place up to that byte.
 #[inline(always)]
-fn block_before(end: u8, text: &[u8]) -> Option<(u32, &[u8])>
-    requires { IsTrue (is_ended text.now) }
-    ensures spelled { IfSome result (λ read. text.now ≡ decimal read.0 ++ end ∷ read.1.now) }
-    ensures ended { (end == 10) ≡ false → IfSome result (λ read. IsTrue (is_ended read.1.now)) }
+fn block_at(end: u8, text: &[u8], from: usize) -> Option<(u32, usize)>
+    requires ended { IsTrue (is_ended text.now) }
+    requires inside { from < length text.now }
+    ensures spelled { IfSome result (λ read.
+        drop from text.now ≡ decimal read.0 ++ end ∷ drop read.1 text.now) }
+    ensures within { IfSome result (λ read. read.1 ≤ length text.now) }
+    ensures inside { (end == 10) ≡ false → IfSome result (λ read. read.1 < length text.now) }
 {
-    let (block, rest) = number_before(end, text, 4_294_967_295)?;
-    Some((block as u32, rest))
+    let (block, at) = number_at(end, text, from, 4_294_967_295)?;
+    Some((block as u32, at))
 }

@@ -1,8 +1,10 @@
 //! A safe wrapper of the library: what a caller owes is kept by ownership, and nothing is left to owe.
+use std::ops::Range;
 use std::ptr;
 
 mod ffi {
     //! The calls as nizgrabul.h has them.
+    use super::{Counts, LoaderSums, Run};
 
     #[repr(C)]
     pub struct Handle {
@@ -27,19 +29,25 @@ mod ffi {
     }
 
     unsafe extern "C" {
+        pub fn nizgrabul_version() -> u32;
         pub fn nizgrabul_new(options: *const Options, out: *mut Handle) -> u32;
         pub fn nizgrabul_delete(handle: *mut Handle);
         pub fn nizgrabul_new_loader(handle: *mut Handle, loader: u16, kind: u32) -> Answer;
         pub fn nizgrabul_unload(handle: *mut Handle, loader: u16) -> Answer;
-        pub fn nizgrabul_alloc(handle: *mut Handle, loader: u16, block: u32, words: u64) -> Answer;
+        pub fn nizgrabul_alloc_with_run(handle: *mut Handle, loader: u16, block: u32, words: u64, out: *mut Run) -> Answer;
+        pub fn nizgrabul_calloc_with_run(handle: *mut Handle, loader: u16, block: u32, words: u64, out: *mut Run) -> Answer;
         pub fn nizgrabul_free_block(handle: *mut Handle, loader: u16, start: u64, words: u64) -> Answer;
         pub fn nizgrabul_purge(handle: *mut Handle) -> Answer;
-        pub fn nizgrabul_counts(handle: *mut Handle, out: *mut super::Counts) -> u32;
+        pub fn nizgrabul_counts(handle: *mut Handle, out: *mut Counts) -> u32;
         pub fn nizgrabul_holder(handle: *mut Handle, word: u64) -> Answer;
         pub fn nizgrabul_used_by(handle: *mut Handle, loader: u16) -> u64;
         pub fn nizgrabul_granules(handle: *mut Handle, first: u32, out: *mut bool, places: usize);
+        pub fn nizgrabul_loader_totals(handle: *mut Handle, loader: u16, out: *mut LoaderSums) -> u32;
     }
 }
+
+/// The version of nizgrabul.h that this file was written by.
+pub const VERSION: u32 = 4;
 
 /// The settings of a system, under the policy balanced.
 #[derive(Clone, Copy)]
@@ -47,6 +55,28 @@ pub struct Settings {
     pub nodes: u32,
     pub class_nodes: u32,
     pub max_granules: u64,
+}
+
+/// A run of granules, as nizgrabul.h has it.
+#[repr(C)]
+#[derive(Clone, Copy, Default)]
+pub struct Run {
+    pub first: u64,
+    pub granules: u64,
+    pub came: u64,
+}
+
+impl Run {
+    /// The numbers of its granules.
+    pub fn numbers(&self) -> Range<u64> {
+        self.first..self.first + self.granules
+    }
+}
+
+/// A block that was allocated: the word where it starts, and the granules that became committed for it.
+pub struct Allocation {
+    pub start: u64,
+    pub run: Run,
 }
 
 /// What is committed and reserved, beside what may be, as nizgrabul.h has it.
@@ -62,6 +92,30 @@ pub struct Counts {
     pub class_nodes: u64,
 }
 
+/// The sums over one loader's arena in a space, as nizgrabul.h has them.
+#[allow(dead_code)]
+#[repr(C)]
+#[derive(Clone, Copy, Default, Debug)]
+pub struct ArenaSums {
+    pub chunks: u64,
+    pub capacity: u64,
+    pub fronts: u64,
+    pub used: u64,
+    pub live: u64,
+    pub free_blocks: u64,
+    pub waste: u64,
+}
+
+/// The kind of one loader, by its number, and its sums, as nizgrabul.h has them.
+#[allow(dead_code)]
+#[repr(C)]
+#[derive(Clone, Copy, Default, Debug)]
+pub struct LoaderSums {
+    pub kind: u64,
+    pub space: ArenaSums,
+    pub class_space: ArenaSums,
+}
+
 /// Kinds of loaders.
 #[allow(dead_code)]
 pub enum Kind {
@@ -71,11 +125,62 @@ pub enum Kind {
     Hidden = 3,
 }
 
-/// A refusal: its status and numbers, as nizgrabul.h has them.
+/// Whether a block is one of the class space.
+#[allow(dead_code)]
+pub enum Space {
+    NonClass,
+    Class,
+}
+
+/// Why a call is refused: the statuses of nizgrabul.h, but for DONE and those that no call answers.
+#[derive(Clone, Copy, Debug, PartialEq, Eq)]
+pub enum Refusal {
+    OutOfMemory = 1,
+    ZeroWords = 2,
+    TooLarge = 3,
+    CommitLimit = 4,
+    ReserveLimit = 5,
+    NotLive = 6,
+    NoLoader = 8,
+    LoaderExists = 9,
+    NoBlock = 10,
+    BlockExists = 11,
+    IdsUsedUp = 12,
+    NoSystem = 20,
+    InUse = 21,
+    BadSettings = 22,
+    BadKind = 23,
+}
+
+impl Refusal {
+    const ALL: [Refusal; 15] = [
+        Refusal::OutOfMemory,
+        Refusal::ZeroWords,
+        Refusal::TooLarge,
+        Refusal::CommitLimit,
+        Refusal::ReserveLimit,
+        Refusal::NotLive,
+        Refusal::NoLoader,
+        Refusal::LoaderExists,
+        Refusal::NoBlock,
+        Refusal::BlockExists,
+        Refusal::IdsUsedUp,
+        Refusal::NoSystem,
+        Refusal::InUse,
+        Refusal::BadSettings,
+        Refusal::BadKind,
+    ];
+
+    fn of(status: u32) -> Refusal {
+        *Refusal::ALL.iter().find(|refusal| **refusal as u32 == status).expect("a status of this version")
+    }
+}
+
+/// A refusal with its numbers, as nizgrabul.h has them.
 #[allow(dead_code)]
 #[derive(Debug)]
 pub struct Refused {
-    pub status: u32,
+    pub refusal: Refusal,
     pub value: u64,
     pub limit: u64,
     pub need: u64,
@@ -91,20 +196,24 @@ fn served(answer: ffi::Answer) -> Result<u64, Refused> {
     let ffi::Answer { status, value, limit, need } = answer;
     match status {
         0 => Ok(value),
-        _ => Err(Refused { status, value, limit, need }),
+        _ => Err(Refused { refusal: Refusal::of(status), value, limit, need }),
     }
+}
+
+/// A status that comes with no numbers.
+fn done(status: u32) -> Result<(), Refused> {
+    served(ffi::Answer { status, value: 0, limit: 0, need: 0 }).map(|_| ())
 }
 
 impl Metaspace {
     pub fn new(settings: &Settings) -> Result<Metaspace, Refused> {
+        // SAFETY: the call takes and changes nothing.
+        assert_eq!(unsafe { ffi::nizgrabul_version() }, VERSION, "the library is of another version");
         let Settings { nodes, class_nodes, max_granules } = *settings;
         let options = ffi::Options { nodes, class_nodes, max_granules, policy: 0 };
         let mut metaspace = Metaspace(ffi::Handle { at: ptr::null_mut(), live: false });
         // SAFETY: the handle is empty, and both are borrowed for the call alone.
-        match unsafe { ffi::nizgrabul_new(&options, &mut metaspace.0) } {
-            0 => Ok(metaspace),
-            status => Err(Refused { status, value: 0, limit: 0, need: 0 }),
-        }
+        done(unsafe { ffi::nizgrabul_new(&options, &mut metaspace.0) }).map(|()| metaspace)
     }
 
     pub fn new_loader(&mut self, loader: u16, kind: Kind) -> Result<(), Refused> {
@@ -116,9 +225,15 @@ impl Metaspace {
         served(unsafe { ffi::nizgrabul_unload(&mut self.0, loader) }).map(|_| ())
     }
 
-    /// Allocates a block, and answers the word where it starts.
-    pub fn alloc(&mut self, loader: u16, block: u32, words: u64) -> Result<u64, Refused> {
-        served(unsafe { ffi::nizgrabul_alloc(&mut self.0, loader, block, words) })
+    /// Allocates a block, and tells where it starts and which granules became committed.
+    pub fn alloc(&mut self, space: Space, loader: u16, block: u32, words: u64) -> Result<Allocation, Refused> {
+        let mut run = Run::default();
+        let call = match space {
+            Space::NonClass => ffi::nizgrabul_alloc_with_run,
+            Space::Class => ffi::nizgrabul_calloc_with_run,
+        };
+        let start = served(unsafe { call(&mut self.0, loader, block, words, &mut run) })?;
+        Ok(Allocation { start, run })
     }
 
     /// Frees the block that starts there and has so many words.
@@ -137,6 +252,13 @@ impl Metaspace {
         // A wrapper always has a system, so the status is always DONE.
         unsafe { ffi::nizgrabul_counts(&mut self.0, &mut counts) };
         counts
+    }
+
+    /// The sums of one loader.
+    pub fn loader_totals(&mut self, loader: u16) -> Result<LoaderSums, Refused> {
+        let mut sums = LoaderSums::default();
+        done(unsafe { ffi::nizgrabul_loader_totals(&mut self.0, loader, &mut sums) })?;
+        Ok(sums)
     }
 
     /// The loader in whose chunk a word lies, if it lies in one.

@@ -1,22 +1,16 @@
 -- Entries in no order, as a hash map has them: by name they are a list in rising order that gives the
--- same at each name, a change of the map is one of that list, and sums over both are equal.
-use Rattle.std.proofs.Common.{◌≡◌, ℕ, false, cond, Option, Some, None, List, [], ◌∷◌, ◌++◌, length, refl, sym, ap}
+-- same at each name, and a change of the map is one of that list.
+use Rattle.std.proofs.Common.{◌≡◌, ℕ, cond, Option, Some, None, List, [], ◌∷◌, refl, sym, ap}
 use Rattle.std.proofs.Common.{◌∙◌, inl, inr, arith}
 use Rattle.std.specs.Prelude.{nat_eq}
-use Rattle.std.specs.List.{AllByRecursion, IsDistinct, sum_by}
-use Rattle.std.specs.List.Sorted.{IsPermutation}
-use Rattle.std.specs.Map.{keys_of, values_of, lookup}
+use Rattle.std.specs.Map.{lookup}
 use Rattle.std.proofs.lemmas.Bool.{cases_eq, eq-eqb, ne_eqb}
-use Rattle.std.proofs.lemmas.List.Sorted.{IsPermutation-refl, IsPermutation-sym, IsPermutation-cons}
-use Rattle.std.proofs.lemmas.List.Sorted.{IsPermutation-trans, IsPermutation-middle, length_permutation}
-use Rattle.std.proofs.lemmas.List.Sums.{sum_by-cons}
-use Rattle.std.proofs.lemmas.Map.Entries.{lookup_head, lookup_tail, sum_by_values_permutation}
-use Rattle.std.proofs.lemmas.Map.Keys.{IsDistinct-head, IsDistinct-tail}
-use Rattle.ms_base.specs.Names.{AreNamed, named, with_new, with_changed, without}
+use Rattle.std.proofs.lemmas.Map.Entries.{lookup_head, lookup_tail}
+use Rattle.ms_base.specs.Names.{AreNamed, named, with_new, without}
 use Rattle.ms_base.specs.Hashed.{by_name}
-use Rattle.ms_base.proofs.entries.EntryLemmas.{Gap, gap_at, rises_with_changed, rises_without}
-use Rattle.ms_base.proofs.entries.LookupLemmas.{named_new_same, named_new_other, named_changed_same}
-use Rattle.ms_base.proofs.entries.LookupLemmas.{named_changed_other, named_without_other}
+use Rattle.ms_base.proofs.entries.EntryLemmas.{rises_without}
+use Rattle.ms_base.proofs.entries.LookupLemmas.{named_new_same, named_new_other}
+use Rattle.ms_base.proofs.entries.LookupLemmas.{named_without_other}
 use Rattle.ms_base.proofs.entries.NameLemmas.{rises_with_new}
 use Rattle.ms_base.proofs.events.SeenEntryLemmas.{same_entries, named_without_same}
 
@@ -41,11 +35,6 @@ pub by_name_is : {X : Type 0} (es named_es : List (ℕ × X)) → AreNamed named
 by_name_is es named_es rises same =
     same_entries (by_name es) named_es (rises_by_name es) rises (λ name. named_by_name es name ∙ same name)
 
-pub same_by_name : {X : Type 0} (es fs : List (ℕ × X))
-    → ((name : ℕ) → lookup (nat_eq name) es ≡ lookup (nat_eq name) fs) → by_name es ≡ by_name fs
-same_by_name es fs same =
-    by_name_is es (by_name fs) (rises_by_name fs) (λ name. same name ∙ sym (named_by_name fs name))
-
 -- A name has this value, or none, and all others have what they had, as a hash map's clauses say it.
 abbrev pub Sets : {X : Type 0} → List (ℕ × X) → List (ℕ × X) → ℕ → Option X → Type 0
 Sets old new name value = (other : ℕ) → lookup (nat_eq other) new ≡ cond (nat_eq name other) value
@@ -62,7 +51,7 @@ set_other old new name value sets other differ =
     sets other ∙ ap (λ b. cond b value (lookup (nat_eq other) old)) (ne_eqb name other differ)
     ∙ sym (named_by_name old other)
 
--- A new name, another value at a name that is there, and a name that goes.
+-- A new name, and a name that goes.
 pub new_by_name : {X : Type 0} (old new : List (ℕ × X)) (name : ℕ) (value : X) → Sets old new name (Some value)
     → by_name new ≡ with_new (by_name old) name value
 new_by_name old new name value sets =
@@ -72,19 +61,6 @@ new_by_name old new name value sets =
           ∙ ap (named (with_new (by_name old) name value)) same
       | inr differ ↦ set_other old new name (Some value) sets other differ
           ∙ sym (named_new_other (by_name old) name value other differ)
-    ])
-
-pub changed_by_name : {X : Type 0} (old new : List (ℕ × X)) (name : ℕ) (was value : X) → Sets old new name (Some value)
-    → named (by_name old) name ≡ Some was → by_name new ≡ with_changed (by_name old) name value
-changed_by_name old new name was value sets found =
-    by_name_is new (with_changed (by_name old) name value)
-    (rises_with_changed (by_name old) name value (rises_by_name old))
-    (λ other. elim (cases_eq name other) [
-      | inl same ↦ set_here old new name (Some value) sets other same
-          ∙ sym (named_changed_same (by_name old) name was value found)
-          ∙ ap (named (with_changed (by_name old) name value)) same
-      | inr differ ↦ set_other old new name (Some value) sets other differ
-          ∙ sym (named_changed_other (by_name old) name value other differ)
     ])
 
 pub without_by_name : {X : Type 0} (old new : List (ℕ × X)) (name : ℕ) → Sets old new name None
@@ -98,44 +74,3 @@ without_by_name old new name sets =
       | inr differ ↦ set_other old new name None sets other differ
           ∙ sym (named_without_other (by_name old) name other differ)
     ])
-
--- A name that none of them has.
-has_nothing : {X : Type 0} (name : ℕ) (es : List (ℕ × X)) → AllByRecursion (λ k. nat_eq name k ≡ false) (keys_of es)
-    → lookup (nat_eq name) es ≡ None
-has_nothing name [] others = refl
-has_nothing name (e ∷ es) others = lookup_tail (nat_eq name) e es others.0 ∙ has_nothing name es others.1
-
--- Where no two have one name, they are the same entries in another order.
-pub permuted_by_name : {X : Type 0} (es : List (ℕ × X)) → IsDistinct nat_eq (keys_of es) → IsPermutation es (by_name es)
-permuted_by_name [] distinct = IsPermutation-refl []
-permuted_by_name {X} (e ∷ es) distinct = rw (gap.made e.1)
-    (IsPermutation-trans (e ∷ es) (e ∷ (gap.before ++ gap.after)) (gap.before ++ e ∷ gap.after)
-    (IsPermutation-cons e es (gap.before ++ gap.after)
-    (rw (← gap.is) (permuted_by_name es (IsDistinct-tail nat_eq e.0 (keys_of es) distinct))))
-    (IsPermutation-sym (gap.before ++ e ∷ gap.after) (e ∷ (gap.before ++ gap.after))
-    (IsPermutation-middle gap.before e gap.after)))
-  where
-    none : named (by_name es) e.0 ≡ None
-    none = named_by_name es e.0 ∙ has_nothing e.0 es (IsDistinct-head nat_eq e.0 (keys_of es) distinct)
-
-    gap : Gap (by_name es) e.0
-    gap = gap_at (by_name es) e.0 none
-
-pub length_by_name : {X : Type 0} (es : List (ℕ × X)) → IsDistinct nat_eq (keys_of es)
-    → length (by_name es) ≡ length es
-length_by_name es distinct = length_permutation es (by_name es) (permuted_by_name es distinct)
-
-sum_of_values : {X : Type 0} (f : X → ℕ) (es : List (ℕ × X))
-    → sum_by (λ (e : ℕ × X). f e.1) es ≡ sum_by f (values_of es)
-sum_of_values f [] = refl
-sum_of_values f (e ∷ es) = omega (
-  arith,
-  sum_by-cons (λ (e : ℕ × _). f e.1) e es,
-  sum_by-cons f e.1 (values_of es),
-  sum_of_values f es,
-)
-
-pub sum_by_name : {X : Type 0} (f : X → ℕ) (es : List (ℕ × X)) → IsDistinct nat_eq (keys_of es)
-    → sum_by (λ (e : ℕ × X). f e.1) (by_name es) ≡ sum_by f (values_of es)
-sum_by_name f es distinct = sum_of_values f (by_name es)
-    ∙ sum_by_values_permutation f es (by_name es) (permuted_by_name es distinct)

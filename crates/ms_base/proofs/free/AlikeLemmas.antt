@@ -22,7 +22,7 @@ meets_alike : (held other : List Chunk) → AreAlike held other → (below start
 meets_alike held other alike below start =
     alike (λ chunk. meet chunk.start (size_of chunk.level) start (words_over below))
 
-free_alike : (held other : List Chunk) → AreAlike held other → (below start : ℕ)
+pub free_alike : (held other : List Chunk) → AreAlike held other → (below start : ℕ)
     → free_within held below start ≡ free_within other below start
 free_alike held other alike zero start =
     ap (λ b. cond b [] (part_over 0 start ∷ [])) (meets_alike held other alike 0 start)

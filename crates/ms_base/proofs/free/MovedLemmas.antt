@@ -89,27 +89,21 @@ raised_agree (c ∷ own) root start level =
     (meets_raised c.start (size_of c.level) start (size_of level) root)
     ∙ ap (λ b. meet c.start (size_of c.level) start (size_of level) || b) (raised_agree own root start level)
 
-pub free_among_others : (before own after : List Chunk) (root : ℕ) → meets_chunk before root 0 ≡ false
+pub agree_among_others : (before own after : List Chunk) (root : ℕ) → meets_chunk before root 0 ≡ false
     → meets_chunk after root 0 ≡ false
-    → free_within (before ++ (map (raised_chunk root) own ++ after)) 12 root
-    ≡ map (raised_part root) (free_within own 12 0)
-free_among_others before own after root first last =
-    free_where_agree (before ++ (map (raised_chunk root) own ++ after)) own root agree
+    → AgreeInRoot (before ++ (map (raised_chunk root) own ++ after)) own root
+agree_among_others before own after root first last start level fits =
+    list_any-append test before (map (raised_chunk root) own ++ after)
+    ∙ ap (λ b. meets_chunk before (start + root) level || b)
+    (list_any-append test (map (raised_chunk root) own) after)
+    ∙ ap (λ b. b
+    || (meets_chunk (map (raised_chunk root) own) (start + root) level || meets_chunk after (start + root) level))
+    (none before first)
+    ∙ ap (λ b. meets_chunk (map (raised_chunk root) own) (start + root) level || b) (none after last)
+    ∙ or-false (meets_chunk (map (raised_chunk root) own) (start + root) level) ∙ raised_agree own root start level
   where
-    agree : AgreeInRoot (before ++ (map (raised_chunk root) own ++ after)) own root
-    agree start level fits =
-        list_any-append test before (map (raised_chunk root) own ++ after)
-        ∙ ap (λ b. meets_chunk before (start + root) level || b)
-        (list_any-append test (map (raised_chunk root) own) after)
-        ∙ ap (λ b. b
-        || (meets_chunk (map (raised_chunk root) own) (start + root) level || meets_chunk after (start + root) level))
-        (none before first)
-        ∙ ap (λ b. meets_chunk (map (raised_chunk root) own) (start + root) level || b) (none after last)
-        ∙ or-false (meets_chunk (map (raised_chunk root) own) (start + root) level) ∙ raised_agree own root start level
-      where
-        test : Chunk → Bool
-        test chunk = meet chunk.start (size_of chunk.level) (start + root) (size_of level)
+    test : Chunk → Bool
+    test chunk = meet chunk.start (size_of chunk.level) (start + root) (size_of level)
 
-        none : (others : List Chunk) → meets_chunk others root 0 ≡ false
-            → meets_chunk others (start + root) level ≡ false
-        none others clear = clear_within others root 0 (start + root) level (omega arith) (omega (arith, fits)) clear
+    none : (others : List Chunk) → meets_chunk others root 0 ≡ false → meets_chunk others (start + root) level ≡ false
+    none others clear = clear_within others root 0 (start + root) level (omega arith) (omega (arith, fits)) clear

@@ -12,7 +12,6 @@ use Rattle.std.proofs.lemmas.List.{length-append, map-append}
 use Rattle.std.proofs.lemmas.List.Sums.{sum_by-append, sum_by-cons}
 use Rattle.std.proofs.lemmas.List.Elements.{recursion_from_All, All-from_recursion}
 use Rattle.std.proofs.lemmas.Map.Views.{All-map-remove_entry}
-use Rattle.ms_base.specs.declared.kind.Kind.{Kind}
 use Rattle.ms_base.specs.declared.kind.Space.TheVariants.{NonClass, Class}
 use Rattle.ms_base.specs.declared.span.Chunk.{Chunk}
 use Rattle.ms_base.specs.Committed.{is_among}
@@ -29,7 +28,7 @@ use Rattle.ms_base.proofs.machine.ChangeLemmas.{recommitted_same}
 use Rattle.ms_base.proofs.runs.ApartLemmas.{list_any-with}
 use Rattle.ms_pool.specs.Account.{AccountState}
 use Rattle.ms_pool.specs.Ledger.{Loan, Ledger, Serves, IsSoundLedger, held_in, others_than, with_both_closed}
-use Rattle.ms_loaders.specs.Loader.{LoaderView, account_in, new_loader, IsSoundView}
+use Rattle.ms_loaders.specs.Loader.{LoaderView, account_in, IsSoundView}
 use Rattle.ms_loaders.specs.System.{states_of, accounts_of, owners_of, machine_of, AreTogether}
 use Rattle.ms_loaders.proofs.MappedLemmas.{without-mapped}
 use Rattle.ms_loaders.proofs.sums.FitLemmas.{HasOwner, owner_of, owned, others, owned_elsewhere, fits, machine_is_good}
@@ -93,35 +92,6 @@ pub both_all : (P : AccountState → Type 0) (b a : List AccountState) → AllBy
     → AllByRecursion P (b ++ a)
 both_all P [] a first last = last
 both_all P (x ∷ b) a first last = (first.0, both_all P b a first.1 last)
-
--- Closing what a loader gave back closes its accounts.
-pub closed_of : (old new : Ledger) (loader : LoaderView) (back : AccountState × AccountState)
-    → back.0 ≡ account_in NonClass loader → back.1 ≡ account_in Class loader
-    → new ≡ with_both_closed old back.0 back.1
-    → new ≡ with_both_closed old (account_in NonClass loader) (account_in Class loader)
-closed_of old new loader back first second closed =
-    closed ∙ ap (λ (a : AccountState). with_both_closed old a back.1) first
-    ∙ ap (with_both_closed old (account_in NonClass loader)) second
-
--- A loader is made over the accounts that were just opened.
-pub made_of : (old : Ledger) (kind : Kind) (accounts : AccountState × AccountState) (loader : LoaderView)
-    → loader ≡ new_loader accounts.0 accounts.1 kind
-    → accounts ≡ (first_account old, second_account old)
-    → loader ≡ new_loader (first_account old) (second_account old) kind
-made_of old kind accounts loader made opened =
-    made ∙ ap (λ (p : AccountState × AccountState). new_loader p.0 p.1 kind) opened
-
--- What it gives back are these accounts.
-pub closed_again : (old opened new : Ledger) (kind : Kind) (loader : LoaderView) (back : AccountState × AccountState)
-    → opened ≡ with_both old
-    → loader ≡ new_loader (first_account old) (second_account old) kind → back.0 ≡ account_in NonClass loader
-    → back.1 ≡ account_in Class loader
-    → new ≡ with_both_closed opened back.0 back.1
-    → new ≡ with_both_closed (with_both old) (first_account old) (second_account old)
-closed_again old opened new kind loader back opened_is made first second closed =
-    closed_of opened new loader back first second closed
-    ∙ ap (λ (l : Ledger). with_both_closed l (account_in NonClass loader) (account_in Class loader)) opened_is
-    ∙ ap (λ (v : LoaderView). with_both_closed (with_both old) (account_in NonClass v) (account_in Class v)) made
 
 module _ (old new : Ledger) (loaders : List (ℕ × LoaderView)) (name : ℕ) (v : LoaderView)
     (found : named loaders name ≡ Some v)

@@ -1,4 +1,4 @@
-//! A loader in a box: what stands under a name, so that what is moved in the list is a pointer.
+//! A loader in a box with its name: what stands at a place, so that what is moved is a pointer.
 ghost use Rattle.std.specs.Prelude.{◌≡◌, IfOk, IfErr};
 ghost use Rattle.std.specs.Borrow.{sem};
 ghost use Rattle.ms_loaders.specs.Boxed.{LendsBoxed};
@@ -7,51 +7,62 @@ use crate::loader::Loader;
 use std::alloc::Global;
 use std::marker::Model;
 
-/// A loader in a box.
+/// A loader in a box, with its name.
 #[derive(Drop)]
 pub(super) struct Boxed {
-    loader: Box<Loader>,
+    named: Box<(u16, Loader)>,
 }
 
 impl Model for Boxed {
+    ghost use Rattle.std.specs.Prelude.{ℕ};
     ghost use Rattle.ms_loaders.specs.Loader.{LoaderView};
 
-    ghost Value = { LoaderView };
+    ghost Value = { ℕ × LoaderView };
 
-    ghost view = { λ boxed. boxed.loader.value };
+    ghost view = { λ boxed. boxed.named.value };
 }
 
 impl Boxed {
     /// Puts a loader into a box, or hands it back where memory is wanting. Takes memory.
-    pub(super) fn new(alloc: Global, loader: Loader) -> Result<Boxed, Loader>
-        ensures boxed { IfOk result (λ boxed. boxed ≡ loader) }
+    pub(super) fn new(alloc: Global, name: u16, loader: Loader) -> Result<Boxed, Loader>
+        ensures boxed { IfOk result (λ boxed. boxed ≡ (name, loader)) }
         ensures back { IfErr result (λ back. back ≡ loader) }
     {
-        match Box::new(alloc, loader) {
-            Ok(loader) => Ok(Boxed { loader }),
-            Err(failed) => Err(failed.value),
+        match Box::new(alloc, (name, loader)) {
+            Ok(named) => Ok(Boxed { named }),
+            Err(failed) => {
+                let (_, loader) = failed.value;
+                Err(loader)
+            }
         }
     }
 
-    /// Takes the loader out of its box.
-    pub(super) fn into_loader(self) -> Loader
+    /// Takes the loader out of its box, with its name.
+    pub(super) fn into_named(self) -> (u16, Loader)
         ensures { result ≡ self }
     {
-        Box::into_inner(self.loader)
+        Box::into_inner(self.named)
+    }
+
+    /// Lends the name to read.
+    pub(super) fn name(&self) -> &u16
+        ensures { result.now ≡ self.now.0 }
+    {
+        &self.named.0
     }
 
     /// Lends the loader to read.
     pub(super) fn loader(&self) -> &Loader
-        ensures { result.now ≡ self.now }
+        ensures { result.now ≡ self.now.1 }
     {
-        &self.loader
+        &self.named.1
     }
 
     /// Lends the loader.
     pub(super) fn loader_mut(&mut self) -> &mut Loader
         ensures* writes_back { sem 𝓛 (LendsBoxed self.entry result) }
-        ensures value { result.now ≡ self.old }
+        ensures value { result.now ≡ self.old.1 }
     {
-        &mut self.loader
+        &mut self.named.1
     }
 }

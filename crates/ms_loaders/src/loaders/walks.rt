@@ -1,26 +1,72 @@
 //! The walks over loaders, in order of name.
-ghost use Rattle.std.specs.Prelude.{length};
+ghost use Rattle.std.specs.Prelude.{◌≡◌, length};
+ghost use Rattle.std.specs.Map.{values_of};
 ghost use Rattle.std.specs.Iterator.{at_most};
 ghost use Rattle.std.specs.Map.Iter.{TakesFirst, deref, deref_pair};
+ghost use Rattle.ms_loaders.specs.Places.{rest_of};
 
 use super::boxed::Boxed;
+use super::places::Places;
 use crate::loader::Loader;
-use std::collections::btree_map;
 use std::marker::Model;
+
+/// The loaders that stand at a number or further on.
+#[derive(Drop)]
+struct Walk<'a> {
+    places: &'a Places,
+    from: usize,
+}
+
+impl<'a> Model for Walk<'a> {
+    ghost use Rattle.std.specs.Prelude.{List, ℕ};
+    ghost use Rattle.ms_loaders.specs.Loader.{LoaderView};
+    ghost use Rattle.ms_loaders.specs.Places.{rest_of};
+
+    ghost Value = { List (ℕ × LoaderView) };
+
+    ghost view = { λ walk. rest_of walk.places.now walk.from };
+}
+
+impl<'a> Walk<'a> {
+    /// Goes on to the next loader, and lends it in its box.
+    fn next(&mut self) -> Option<&'a Boxed>
+        ensures { TakesFirst deref self.old result self.new }
+    {
+        match self.places.next(self.from) {
+            Some((number, boxed)) => {
+                self.from = number + 1;
+                Some(boxed)
+            }
+            None => None,
+        }
+    }
+}
 
 /// The loaders that a walk has still to give, in order of name. Takes no memory.
 #[derive(Drop)]
 pub struct Values<'a> {
-    pub(super) boxes: btree_map::Values<'a, u16, Boxed>,
+    walk: Walk<'a>,
 }
 
 impl<'a> Model for Values<'a> {
     ghost use Rattle.std.specs.Prelude.{List};
+    ghost use Rattle.std.specs.Map.{values_of};
     ghost use Rattle.ms_loaders.specs.Loader.{LoaderView};
 
     ghost Value = { List LoaderView };
 
-    ghost view = { λ walk. walk.boxes };
+    ghost view = { λ walk. values_of walk.walk };
+}
+
+impl<'a> Values<'a> {
+    /// Starts a walk over all loaders.
+    pub(super) fn over(places: &'a Places) -> Values<'a>
+        ensures { result ≡ values_of (rest_of places.now 0) }
+    {
+        Values {
+            walk: Walk { places, from: 0 },
+        }
+    }
 }
 
 impl<'a> Iterator for Values<'a> {
@@ -31,7 +77,7 @@ impl<'a> Iterator for Values<'a> {
     ghost remaining = { λ left. at_most (length left) };
 
     fn next(&mut self) -> Option<&'a Loader> {
-        match self.boxes.next() {
+        match self.walk.next() {
             Some(boxed) => Some(boxed.loader()),
             None => None,
         }
@@ -41,7 +87,7 @@ impl<'a> Iterator for Values<'a> {
 /// The loaders with their names that a walk has still to give, in order of name. Takes no memory.
 #[derive(Drop)]
 pub struct Iter<'a> {
-    pub(super) boxes: btree_map::Iter<'a, u16, Boxed>,
+    walk: Walk<'a>,
 }
 
 impl<'a> Model for Iter<'a> {
@@ -50,7 +96,18 @@ impl<'a> Model for Iter<'a> {
 
     ghost Value = { List (ℕ × LoaderView) };
 
-    ghost view = { λ walk. walk.boxes };
+    ghost view = { λ walk. walk.walk };
+}
+
+impl<'a> Iter<'a> {
+    /// Starts a walk over all loaders with their names.
+    pub(super) fn over(places: &'a Places) -> Iter<'a>
+        ensures { result ≡ rest_of places.now 0 }
+    {
+        Iter {
+            walk: Walk { places, from: 0 },
+        }
+    }
 }
 
 impl<'a> Iterator for Iter<'a> {
@@ -61,8 +118,8 @@ impl<'a> Iterator for Iter<'a> {
     ghost remaining = { λ left. at_most (length left) };
 
     fn next(&mut self) -> Option<(&'a u16, &'a Loader)> {
-        match self.boxes.next() {
-            Some((name, boxed)) => Some((name, boxed.loader())),
+        match self.walk.next() {
+            Some(boxed) => Some((boxed.name(), boxed.loader())),
             None => None,
         }
     }

@@ -1,13 +1,18 @@
 //! An allocation that tells which granules it committed: what a user asks who has the memory.
-ghost use Rattle.std.specs.Prelude.{◌≡◌, ◌+◌, ◌<◌, ◌^◌, IfOk, IfErr, OnErr};
+//!
+//! It is the allocation of a step, with a look at the loader's current chunk before and after it.
+ghost use Rattle.std.specs.Prelude.{◌≡◌, ◌+◌, ◌<◌, ◌^◌, IfOk, IfErr, IfSome};
 ghost use Rattle.ms_base.specs.State.{arena_of};
 ghost use Rattle.ms_base.specs.Good.{IsGood};
+ghost use Rattle.ms_base.specs.Names.{named};
 ghost use Rattle.ms_base.specs.Request.{alloc_in};
 ghost use Rattle.ms_base.specs.Transition.{Transition};
 ghost use Rattle.ms_loaders.specs.Committing.{IsEdge, TellsRun, front_before, run_of};
 
 use super::System;
 use crate::loader::Loader;
+use crate::loaders::Loaders;
+use crate::serving::allocate;
 use ms_base::{Refusal, Reply, Space, granule};
 use ms_pool::Account;
 
@@ -39,6 +44,15 @@ pub(crate) struct Edge {
     pub(crate) front: u64,
 }
 
+impl Edge {
+    /// Of no chunk.
+    const NONE: Edge = Edge {
+        held: 0,
+        start: 0,
+        front: 0,
+    };
+}
+
 impl System {
     /// Allocates a block of zeros in a space, as a step does, and tells the run of granules that it
     /// committed: each that became committed lies in it, and each of it is committed then. Under the
@@ -60,22 +74,43 @@ impl System {
         ensures good { IsGood self.new }
     {
         let before = self.pool.committed();
-        let Some(loader) = self.loaders.get_mut(name) else {
-            return Err(Refusal::NoLoader);
-        };
-        let edge = edge_in(loader, space);
-        let answer = loader.allocate(&mut self.pool, space, block, words);
-        let now = edge_in(loader, space);
+        let edge = edge_at(&self.loaders, space, name);
+        let answer = allocate(&mut self.pool, &mut self.loaders, space, name, block, words);
         let came = self.pool.committed().saturating_sub(before);
-        let made = match answer {
-            Ok(made) => made,
+        let now = edge_after(&self.loaders, space, name, came);
+        let start = match answer {
+            Ok(start) => start,
             Err(refusal) => return Err(refusal),
         };
         Ok(Allocation {
-            start: made.start,
+            start,
             run: run_between(granule(self.policy), edge, now, came),
         })
     }
+}
+
+/// Tells how many chunks the loader of a name has in a space, and the current one.
+fn edge_at(loaders: &Loaders, space: Space, name: u16) -> Edge
+    ensures edge { IfSome (named loaders.now name)
+        (λ loader. IsEdge (arena_of space loader.state).chunks result) }
+    ensures small { result.start + result.front < 2 ^ 53 }
+{
+    match loaders.get(name) {
+        Some(loader) => edge_in(loader, space),
+        None => Edge::NONE,
+    }
+}
+
+/// Tells the same once so many granules came: where none did, nobody asks for it, and none is looked for.
+fn edge_after(loaders: &Loaders, space: Space, name: u16, came: u64) -> Edge
+    ensures edge { 0 < came → IfSome (named loaders.now name)
+        (λ loader. IsEdge (arena_of space loader.state).chunks result) }
+    ensures small { result.start + result.front < 2 ^ 53 }
+{
+    if came == 0 {
+        return Edge::NONE;
+    }
+    edge_at(loaders, space, name)
 }
 
 /// Tells how many chunks a loader has in a space, and the current one.
@@ -97,11 +132,7 @@ fn edge_of(account: &Account) -> Edge
 {
     let held = account.held();
     if held == 0 {
-        return Edge {
-            held: 0,
-            start: 0,
-            front: 0,
-        };
+        return Edge::NONE;
     }
     let chunk = account.chunk(held - 1);
     Edge {

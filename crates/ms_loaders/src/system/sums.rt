@@ -1,11 +1,14 @@
-//! The sums of one loader of a system.
-ghost use Rattle.std.specs.Prelude.{◌≡◌, ◌↔◌, IfSome, None};
+//! The sums of one loader of a system, and what a full report tells beyond the totals.
+ghost use Rattle.std.specs.Prelude.{◌≡◌, ◌↔◌, IfOk, IfSome, None};
 ghost use Rattle.ms_base.specs.Transition.{LacksLoader};
+ghost use Rattle.ms_loaders.specs.Details.{details_in, details_of};
 ghost use Rattle.ms_loaders.specs.LoaderSums.{AreLoaderSums};
 
 use super::System;
+use crate::details::{Details, gather_loaders};
 use ms_arena::ArenaTotals;
 use ms_base::Kind;
+use std::alloc::AllocError;
 
 /// The sums of one loader. After HotSpot's VM.metaspace, with this project's numbers.
 #[derive(Clone, Copy, Debug, PartialEq, Eq)]
@@ -34,5 +37,16 @@ impl System {
             space,
             class_space,
         })
+    }
+
+    /// Tells the sums of each loader, over each of its arenas, and the map of each reserved root. Takes
+    /// memory for both lists, and fails only where that is refused; looks at each loader, chunk and free
+    /// part, and at no block.
+    pub fn details(&self) -> Result<Details, AllocError>
+        ensures { IfOk result (λ details. details_in details ≡ details_of self.now) }
+    {
+        let roots = self.maps()?;
+        let loaders = gather_loaders(self.alloc, &self.loaders)?;
+        Ok(Details { loaders, roots })
     }
 }

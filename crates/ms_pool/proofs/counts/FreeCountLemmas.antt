@@ -23,7 +23,8 @@ use Rattle.ms_buddy.specs.Leaves.{AreLeaves, free_of}
 use Rattle.ms_pool.specs.declared.lender.Lender.{Lender}
 use Rattle.ms_pool.specs.Ledger.{held_in}
 use Rattle.ms_pool.specs.Keeping.{IsKept, ledger_of}
-use Rattle.ms_pool.specs.Counting.{AreRaised, HasRoom, count_at_level}
+use Rattle.ms_buddy.specs.Counts.{AreRaised, count_at_level}
+use Rattle.ms_pool.specs.Counting.{HasRoom}
 use Rattle.ms_pool.proofs.counts.PoolCountLemmas.{parts_of-append, parts_of-none, parts_of-raised}
 use Rattle.ms_pool.proofs.searches.FreeRootLemmas.{free_in_root}
 use Rattle.ms_pool.proofs.searches.SlotLoopLemmas.{end_slot, first_slot, root_in, root_there, given_by, parts_by_slots}

@@ -10,7 +10,8 @@ use Rattle.ms_base.specs.declared.span.Chunk.{Chunk}
 use Rattle.ms_base.specs.Level.{size_of}
 use Rattle.ms_buddy.proofs.TreeHalvesLemmas.{size_of-some}
 use Rattle.ms_pool.specs.declared.lent.Counted.{Counted}
-use Rattle.ms_pool.specs.Counting.{AreCounted, AreRaised, HasLeast, HasRoomFor, HaveLeast, Moves, front_in, one_of}
+use Rattle.ms_buddy.specs.Counts.{AreRaised}
+use Rattle.ms_pool.specs.Counting.{AreCounted, HasLeast, HasRoomFor, HaveLeast, Moves, front_in, one_of}
 use Rattle.ms_pool.specs.Counting.{counted_in, total, words_in}
 use Rattle.ms_pool.proofs.returns.ClosingLemmas.{take_one_more}
 use Rattle.ms_pool.proofs.counts.PoolCountLemmas.{none_or_one, one_if, total-append, total-cons, total-none, total-one}
@@ -74,16 +75,6 @@ goes_one old new chunk raised words fronts = record {
   );
   capacity = omega (arith, words, total-none words_in, total-one words_in chunk);
   fronts = omega (arith, fronts, total-none front_in, total-one front_in chunk);
-}
-
--- Chunks go, and then others come.
-pub goes_and_comes : (old mid new : Counted) (gone come : List Chunk) → Moves old gone [] mid → Moves mid [] come new
-    → Moves old gone come new
-goes_and_comes old mid new gone come goes comes = record {
-  full = comes.full ∙ goes.full;
-  lent = λ level h. omega (arith, goes.lent level h, comes.lent level h, total-none (one_of level));
-  capacity = omega (arith, goes.capacity, comes.capacity, total-none words_in);
-  fronts = omega (arith, goes.fronts, comes.fronts, total-none front_in);
 }
 
 -- With a chunk less there is room for another still.

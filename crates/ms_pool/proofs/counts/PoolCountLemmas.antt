@@ -1,13 +1,15 @@
 -- Sums over chunks and counts of parts, in parts.
-use Rattle.std.proofs.Common.{◌≡◌, ◌<◌, ℕ, ◌+◌, ◌^◌, Bool, true, false, cond, List, [], ◌∷◌, ◌++◌}
-use Rattle.std.proofs.Common.{map, refl, sym, ap, ◌∙◌, arith}
-use Rattle.std.specs.Prelude.{◌==◌}
-use Rattle.std.proofs.lemmas.Bool.{eq-eqb}
+use Rattle.std.proofs.Common.{◌≡◌, ◌<◌, ◌≤◌, ℕ, ◌+◌, ◌^◌, Bool, true, false, cond, List, [], ◌∷◌, ◌++◌}
+use Rattle.std.proofs.Common.{map, get_or, refl, sym, ap, ◌∙◌, inl, inr, arith}
+use Rattle.std.specs.Prelude.{◌==◌, nat_lt}
+use Rattle.std.proofs.lemmas.Bool.{cases_eq}
+use Rattle.std.proofs.lemmas.Bool.Decides.{nat_tests}
 use Rattle.std.proofs.lemmas.List.Sums.{sum_by-append, sum_by-cons}
 use Rattle.ms_base.specs.declared.span.Chunk.{Chunk}
 use Rattle.ms_base.specs.declared.span.Span.{Span}
 use Rattle.ms_base.proofs.free.MovedLemmas.{raised_part}
-use Rattle.ms_pool.specs.Counting.{count_at_level, total}
+use Rattle.ms_buddy.specs.Counts.{AreRaised, count_at_level}
+use Rattle.ms_pool.specs.Counting.{total}
 
 pub total-none : (amount : Chunk → ℕ) → total amount [] ≡ 0
 unfolding total
@@ -57,16 +59,59 @@ pub one_if : (b : Bool) (n : ℕ) → b ≡ true → n ≡ none_or_one b → n �
 one_if true n e same = same
 one_if false n e same = absurd (cc)
 
--- The room that a free part has.
-pub part_room : (now before : ℕ) (parts whole rest : List Span) (part : Span) → parts ≡ part ∷ rest
-    → now + count_at_level part.level parts ≡ before + count_at_level part.level whole → before + count_at_level part.level whole < 2 ^ 32
-    → now + 1 < 2 ^ 32
-part_room now before parts whole rest part cut so_far room =
-    omega (
-      arith,
-      so_far,
-      room,
-      ap (count_at_level part.level) cut ∙ parts_of-cons part.level part rest,
-      one_if (part.level == part.level) (none_or_one (part.level == part.level)) (eq-eqb part.level part.level refl)
-          refl,
-    )
+-- Level by level.
+none_below : (level more : ℕ) → cond (nat_lt level 0) more 0 ≡ 0
+none_below level more = grind (arith, nat_tests)
+
+pub raised_to_first : (counts : List ℕ) (more : ℕ → ℕ)
+    → AreRaised counts (λ level. cond (nat_lt level 0) (more level) 0) counts
+raised_to_first counts more =
+    record { full = refl; counts = λ level h. omega (arith, none_below level (more level)) }
+
+same_there : (level other : ℕ) (more : ℕ → ℕ)
+    → cond (level == other) (more level) 0 ≡ cond (level == other) (more other) 0
+same_there level other more = elim (cases_eq level other) [
+  | inl same ↦ ap (λ (n : ℕ). cond (level == other) (more n) 0) same
+  | inr apart ↦ nowhere level other (more level) (more other) apart
+]
+  where
+    nowhere : (a b x y : ℕ) → (a ≡ b → ⊥) → cond (a == b) x 0 ≡ cond (a == b) y 0
+    nowhere a b x y h = grind (arith, nat_tests)
+
+pub raised_to_next : (old now new : List ℕ) (more : ℕ → ℕ) (level : ℕ)
+    → AreRaised old (λ other. cond (nat_lt other level) (more other) 0) now
+    → AreRaised now (λ other. cond (level == other) (more level) 0) new
+    → AreRaised old (λ other. cond (nat_lt other (level + 1)) (more other) 0) new
+raised_to_next old now new more level so_far raised = record {
+  full = raised.full ∙ so_far.full;
+  counts = λ other h. omega (
+    arith,
+    so_far.counts other h,
+    raised.counts other h,
+    same_there level other more,
+    one_more level other (more other),
+  );
+}
+  where
+    one_more : (level other more : ℕ)
+        → cond (nat_lt other (level + 1)) more 0 ≡ cond (nat_lt other level) more 0 + cond (level == other) more 0
+    one_more level other more = grind (arith, nat_tests)
+
+pub raised_to_last : (old new : List ℕ) (more : ℕ → ℕ) (level : ℕ) → 13 ≤ level
+    → AreRaised old (λ other. cond (nat_lt other level) (more other) 0) new → AreRaised old more new
+raised_to_last old new more level past raised = record {
+  full = raised.full;
+  counts = λ other h. omega (arith, raised.counts other h, all_below other level (more other) h past);
+}
+  where
+    all_below : (other level more : ℕ) → other < 13 → 13 ≤ level → cond (nat_lt other level) more 0 ≡ more
+    all_below other level more h k = grind (arith, nat_tests)
+
+pub room_at : (old now : List ℕ) (more : ℕ → ℕ) (level : ℕ) → level < 13
+    → AreRaised old (λ other. cond (nat_lt other level) (more other) 0) now
+    → get_or old level 0 + more level < 2 ^ 32 → get_or now level 0 + more level < 2 ^ 32
+room_at old now more level h raised room =
+    omega (arith, raised.counts level h, room, none_here level (more level))
+  where
+    none_here : (level more : ℕ) → cond (nat_lt level level) more 0 ≡ 0
+    none_here level more = grind (arith, nat_tests)

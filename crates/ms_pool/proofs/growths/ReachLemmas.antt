@@ -77,9 +77,6 @@ pub parent_is : (policy : Policy) (start level above total : ℕ) (answer : Chun
 parent_is policy start level above total answer is e = is ∙ ap (made_at policy start total) e
 
 -- What `grow` answers then.
-ok : Chunk → Result Chunk Refusal
-ok chunk = Ok chunk
-
 pub grown_stays : (pool : PoolState) (chunk : Chunk) (total : ℕ) (may_enlarge : Bool) → total ≤ chunk.front
     → grown pool chunk total may_enlarge ≡ Ok chunk
 grown_stays pool chunk total may_enlarge fits = rw (le-leb total chunk.front fits) refl

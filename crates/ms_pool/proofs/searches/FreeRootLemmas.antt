@@ -1,6 +1,6 @@
 -- The free parts of a root, from the leaves of its own tree: no loan of another root meets it.
 use Rattle.std.proofs.Common.{◌≡◌, ◌<◌, ◌≤◌, ℕ, zero, suc, ◌+◌, ◌*◌, true, false, cond, ◌||◌, List, [], ◌∷◌, ◌++◌}
-use Rattle.std.proofs.Common.{length, get_or, map, refl, ap, ◌∙◌, arith}
+use Rattle.std.proofs.Common.{length, get_or, map, refl, sym, ap, subst, ◌∙◌, arith}
 use Rattle.std.specs.List.{AllByRecursion, filter}
 use Rattle.std.proofs.lemmas.Bool.Decides.{nat_tests}
 use Rattle.std.proofs.lemmas.List.{map-append}
@@ -12,12 +12,13 @@ use Rattle.ms_base.specs.Level.{size_of, root_words}
 use Rattle.ms_base.specs.Held.{meets_chunk}
 use Rattle.ms_base.specs.Spaces.{is_in}
 use Rattle.ms_base.specs.FreeParts.{free_within}
-use Rattle.ms_base.proofs.free.MovedLemmas.{raised_part, raised_chunk, free_among_others}
+use Rattle.ms_base.proofs.free.MovedLemmas.{AgreeInRoot, agree_among_others, free_where_agree}
+use Rattle.ms_base.proofs.free.MovedLemmas.{raised_chunk, raised_part}
 use Rattle.ms_buddy.specs.Leaves.{LentLeaf, AreLeaves, chunk_of, free_of}
 use Rattle.ms_buddy.proofs.TreeHalvesLemmas.{size_of-some}
 use Rattle.ms_pool.specs.Ledger.{Loan}
 use Rattle.ms_pool.specs.Keeping.{loan_at, loans_from}
-use Rattle.ms_pool.proofs.searches.RootLemmas.{EndsBy, StartsFrom, at_root}
+use Rattle.ms_pool.proofs.searches.RootLemmas.{AtRoot, EndsBy, StartsFrom, at_root}
 
 abbrev pub chunks_there : Space → List Loan → List Chunk
 chunks_there space loans = filter (λ chunk. is_in space chunk.start) (map (λ (loan : Loan). loan.chunk) loans)
@@ -80,28 +81,45 @@ at_tree [] i within all = absurd (omega arith)
 at_tree (t ∷ trees) zero within all = all.0
 at_tree (t ∷ trees) (suc i) within all = at_tree trees i (omega arith) all.1
 
--- So its free parts are the free leaves of its tree, moved up.
+-- So what the loans of a space meet in it is what the leaves of its tree meet.
+pub agree_in_root : (space : Space) (trees : List (List LentLeaf)) (root : ℕ) → root < length trees
+    → AllByRecursion AreLeaves trees → IsRootIn space root
+    → AgreeInRoot (chunks_there space (loans_from 0 trees)) (map chunk_of (get_or trees root [])) (root * root_words)
+agree_in_root space trees root within all inside =
+    subst (λ (l : List Chunk). AgreeInRoot l (map chunk_of tree) (root * root_words)) (sym whole)
+    (agree_among_others (chunks_there space cut.before) (map chunk_of tree) (chunks_there space cut.after)
+    (root * root_words)
+    (clear_before space (root * root_words) cut.before cut.low)
+    (clear_after space (root * root_words) cut.after (wider cut.after cut.high)))
+  where
+    cut : AtRoot trees 0 root root
+    cut = at_root trees 0 root root (omega arith) within all
+
+    tree : List LentLeaf
+    tree = get_or trees root []
+
+    whole : chunks_there space (loans_from 0 trees)
+        ≡ chunks_there space cut.before
+        ++ (map (raised_chunk (root * root_words)) (map chunk_of tree) ++ chunks_there space cut.after)
+    whole =
+        ap (chunks_there space) cut.whole
+        ∙ chunks_there-append space cut.before (map (loan_at root) tree ++ cut.after)
+        ∙ ap (λ (l : List Chunk). chunks_there space cut.before ++ l)
+        (chunks_there-append space (map (loan_at root) tree) cut.after
+        ∙ ap (λ (l : List Chunk). l ++ chunks_there space cut.after)
+        (own_there space root tree inside (at_tree trees root within all).in_root))
+
+    wider : (loans : List Loan) → AllByRecursion (StartsFrom ((root + 1) * root_words)) loans
+        → AllByRecursion (StartsFrom (root * root_words + size_of 0)) loans
+    wider [] all = all
+    wider (loan ∷ loans) all = (omega (arith, all.0), wider loans all.1)
+
+-- And its free parts are the free leaves of its tree, moved up.
 pub free_in_root : (space : Space) (trees : List (List LentLeaf)) (root : ℕ) → root < length trees
     → AllByRecursion AreLeaves trees → IsRootIn space root
     → free_within (chunks_there space (loans_from 0 trees)) 12 (root * root_words)
     ≡ map (raised_part (root * root_words)) (free_of (get_or trees root []))
 unfolding free_of
 free_in_root space trees root within all inside =
-    let cut = at_root trees 0 root root (omega arith) within all in
-    let tree = get_or trees root [] in
-    ap (λ (l : List Chunk). free_within l 12 (root * root_words))
-    (ap (chunks_there space) cut.whole
-    ∙ chunks_there-append space cut.before (map (loan_at root) tree ++ cut.after)
-    ∙ ap (λ (l : List Chunk). chunks_there space cut.before ++ l)
-    (chunks_there-append space (map (loan_at root) tree) cut.after
-    ∙ ap (λ (l : List Chunk). l ++ chunks_there space cut.after)
-    (own_there space root tree inside (at_tree trees root within all).in_root)))
-    ∙ free_among_others (chunks_there space cut.before) (map chunk_of tree) (chunks_there space cut.after)
-    (root * root_words)
-    (clear_before space (root * root_words) cut.before cut.low)
-    (clear_after space (root * root_words) cut.after (wider cut.after cut.high))
-  where
-    wider : (loans : List Loan) → AllByRecursion (StartsFrom ((root + 1) * root_words)) loans
-        → AllByRecursion (StartsFrom (root * root_words + size_of 0)) loans
-    wider [] all = all
-    wider (loan ∷ loans) all = (omega (arith, all.0), wider loans all.1)
+    free_where_agree (chunks_there space (loans_from 0 trees)) (map chunk_of (get_or trees root [])) (root * root_words)
+    (agree_in_root space trees root within all inside)

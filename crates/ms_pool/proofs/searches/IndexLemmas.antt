@@ -1,76 +1,56 @@
--- The index of the trees: what a bit told anew does to it, and that it is exact over whole trees.
--- `note` and `Trees::whole` use these.
-use Rattle.std.proofs.Common.{◌≡◌, ◌<◌, ◌≤◌, ℕ, suc, zero, ◌+◌, ◌*◌, ◌%◌, ◌/◌, ◌^◌, Bool, true, false, cond, not, ◌&&◌}
-use Rattle.std.proofs.Common.{◌||◌, ◌==◌, List, [], length, get_or, refl, sym, ap, ◌∙◌, inl, inr, arith, ne_eqb}
-use Rattle.std.proofs.Common.{bit_and}
-use Rattle.std.specs.Int.{bit_at}
-use Rattle.std.proofs.lemmas.Nat.Bits.{shr_and_one}
-use Rattle.std.specs.Prelude.{nat_le, nat_lt, replicate}
+-- The index of the trees: what a root's levels told anew do to it, and that it is exact over whole trees.
+-- `Index` and `Trees` use these.
+use Rattle.std.proofs.Common.{◌≡◌, ◌<◌, ◌≤◌, ℕ, suc, zero, ◌+◌, Bool, true, false, ◌||◌, ◌==◌, List, []}
+use Rattle.std.proofs.Common.{length, get_or, set, refl, sym, ap, subst, ◌∙◌, inl, inr, arith, bit_or}
+use Rattle.std.specs.Prelude.{replicate}
 use Rattle.std.specs.List.{list_any}
 use Rattle.std.proofs.lemmas.Bool.{cases_eq}
-use Rattle.std.proofs.lemmas.Bool.Decides.{nat_tests}
-use Rattle.ms_base.specs.Committed.{is_among}
-use Rattle.ms_commit.specs.NumberSet.{with_range, without_range}
-use Rattle.ms_commit.proofs.SetLemmas.{is_among-with_range, is_among-without_range}
+use Rattle.std.proofs.lemmas.List.{get_or-replicate, get_or-set_other}
 use Rattle.ms_buddy.specs.Leaves.{LentLeaf, free_of, has_level, is_of}
 use Rattle.ms_buddy.proofs.FreeLeafLemmas.{free_of-none}
-use Rattle.ms_pool.specs.Trees.{IsIndex, Tells, place_in}
+use Rattle.ms_buddy.proofs.LeafLevelLemmas.{has_level-one, has_level-or}
+use Rattle.ms_pool.specs.Trees.{AreGathered, HaveLevels, IsIndex}
 
--- A bit is told anew.
-here_is : (number place : ℕ) (a b : Bool) → number ≡ place → cond (number == place) a b ≡ a
-here_is number place a b e = grind (arith, nat_tests)
+-- The levels of one more root.
+pub one_more : (levels at_ from : ℕ) (roots : List ℕ) → HaveLevels levels roots (λ root. (from ≤ root) × (root < at_))
+    → HaveLevels (bit_or levels (get_or roots at_ 0)) roots (λ root. (from ≤ root) × (root < at_ + 1))
+one_more levels at_ from roots so_far level root there asked has =
+    has_level-or levels (get_or roots at_ 0) level
+    ∙ elim (cases_eq root at_) [
+      | inl here ↦ right (has_level levels level) (has_level (get_or roots at_ 0) level)
+          (ap (λ (r : ℕ). has_level (get_or roots r 0) level) (sym here) ∙ has)
+      | inr before ↦ left (has_level levels level) (has_level (get_or roots at_ 0) level)
+          (so_far level root there (asked.0, omega (arith, asked.1, before)) has)
+    ]
+  where
+    right : (a b : Bool) → b ≡ true → (a || b) ≡ true
+    right true b e = refl
+    right false b e = e
 
-other_is : (number place : ℕ) (a b : Bool) → (number ≡ place → ⊥) → cond (number == place) a b ≡ b
-other_is number place a b h = grind (arith, nat_tests)
+    left : (a b : Bool) → a ≡ true → (a || b) ≡ true
+    left a b e = ap (λ c. c || b) e
 
-pub tells_already : (members : List ℕ) (place : ℕ) (set : Bool) → is_among members place ≡ set
-    → Tells members members place set
-tells_already members place set e number = elim (cases_eq number place) [
-  | inl same ↦ ap (is_among members) same ∙ e ∙ sym (here_is number place set (is_among members number) same)
-  | inr other ↦ sym (other_is number place set (is_among members number) other)
+-- The levels of roots beside the one that is told anew.
+pub kept_beside : (levels at_ now : ℕ) (roots : List ℕ) (IsAsked : ℕ → Type 0) → HaveLevels levels roots IsAsked
+    → (IsAsked at_ → ⊥) → HaveLevels levels (set roots at_ now) IsAsked
+kept_beside levels at_ now roots IsAsked have apart level root there asked has = elim (cases_eq root at_) [
+  | inl here ↦ absurd (apart (subst_asked here))
+  | inr other ↦ have level root there asked
+      (ap (λ bits. has_level bits level) (sym (get_or-set_other roots at_ root now 0 other)) ∙ has)
 ]
-
-pub tells_set : (old new : List ℕ) (place : ℕ) → new ≡ with_range old place 1 → Tells old new place true
-tells_set old new place e number =
-    ap (λ (members : List ℕ). is_among members number) e ∙ is_among-with_range old place 1 number
-    ∙ either (is_among old number)
   where
-    either : (b : Bool) → (b || (nat_le place number && nat_lt number (place + 1))) ≡ cond (number == place) true b
-    either true = grind (arith, nat_tests)
-    either false = grind (arith, nat_tests)
+    subst_asked : root ≡ at_ → IsAsked at_
+    subst_asked here = subst IsAsked here asked
 
-pub tells_clear : (old new : List ℕ) (place : ℕ) → new ≡ without_range old place 1 → Tells old new place false
-tells_clear old new place e number =
-    ap (λ (members : List ℕ). is_among members number) e ∙ is_among-without_range old place 1 number
-    ∙ either (is_among old number)
-  where
-    either : (b : Bool) → (not (nat_le place number && nat_lt number (place + 1)) && b) ≡ cond (number == place) false b
-    either true = grind (arith, nat_tests)
-    either false = grind (arith, nat_tests)
-
--- The bits of a root below a level are told.
-pub record AreTold (old new : List ℕ) (root levels below : ℕ) : Type 0 where
-  pub here : (level : ℕ) → level < below → is_among new (place_in level root) ≡ has_level levels level
-  pub others : (number : ℕ) → (number % 192 ≡ root → ⊥) → is_among new number ≡ is_among old number
-
-pub one_told : (old now new : List ℕ) (root levels below : ℕ) (set : Bool) → root < 192
-    → AreTold old now root levels below → Tells now new (place_in below root) set
-    → has_level levels below ≡ set → AreTold old new root levels (below + 1)
-one_told old now new root levels below set h told tells is = record {
-  here = λ level under. elim (cases_eq level below) [
-    | inl same ↦ tells (place_in level root)
-        ∙ here_is (place_in level root) (place_in below root) set (is_among now (place_in level root))
-        (ap (λ (l : ℕ). place_in l root) same)
-        ∙ sym is ∙ ap (has_level levels) (sym same)
-    | inr other ↦ tells (place_in level root)
-        ∙ other_is (place_in level root) (place_in below root) set (is_among now (place_in level root))
-        (λ e. other (omega arith))
-        ∙ told.here level (omega (arith, other))
-  ];
-  others = λ number elsewhere. tells number
-      ∙ other_is number (place_in below root) set (is_among now number) (λ e. elsewhere (omega arith))
-      ∙ told.others number elsewhere;
+-- Each root has level 0, and so has each space.
+pub whole_gathered : AreGathered (replicate 160 1) 1 1
+whole_gathered = record {
+  space = λ level root there asked has. same level root there ∙ has;
+  class_space = λ level root there asked has. same level root there ∙ has;
 }
+  where
+    same : (level root : ℕ) → root < 160 → has_level 1 level ≡ has_level (get_or (replicate 160 1) root 0) level
+    same level root there = ap (λ bits. has_level bits level) (sym (get_or-replicate 160 root 1 0 there))
 
 -- With whole trees alone each has level 0 free.
 read_replicate : (count at_ : ℕ) → get_or {A = List LentLeaf} (replicate count []) at_ [] ≡ []
@@ -78,27 +58,20 @@ read_replicate zero at_ = refl
 read_replicate (suc count) zero = refl
 read_replicate (suc count) (suc at_) = read_replicate count at_
 
-pub index_of_whole : (count : ℕ) (numbers : List ℕ) (trees : List (List LentLeaf)) → count ≤ 192
-    → numbers ≡ with_range [] 0 count → trees ≡ replicate count [] → length trees ≡ count → IsIndex numbers trees
-index_of_whole count numbers trees few e f size = record {
-  few = omega (arith, size);
-  exact = λ level root low there.
-      ap (λ (members : List ℕ). is_among members (place_in level root)) e
-      ∙ is_among-with_range [] 0 count (place_in level root)
-      ∙ first_row level root count (omega (arith, there, size)) few
+pub index_of_whole : (count : ℕ) (roots : List ℕ) (trees : List (List LentLeaf)) → count ≤ 160
+    → roots ≡ replicate 160 1 → trees ≡ replicate count [] → length trees ≡ count → IsIndex roots trees
+index_of_whole count roots trees few e f size = record {
+  few = omega (arith, few, size);
+  exact = λ level root there.
+      ap (λ (all : List ℕ). has_level (get_or all root 0) level) e
+      ∙ ap (λ bits. has_level bits level) (get_or-replicate 160 root 1 0 (omega (arith, there, size, few)))
+      ∙ has_level-one 0 level
+      ∙ beside (0 == level)
       ∙ sym (ap (λ (tree : List LentLeaf). list_any (is_of level) (free_of tree))
       (ap (λ (all : List (List LentLeaf)). get_or all root []) f ∙ read_replicate count root)
       ∙ ap (list_any (is_of level)) free_of-none);
 }
   where
-    first_row : (level root count : ℕ) → root < count → count ≤ 192
-        → (false || (nat_le 0 (192 * level + root) && nat_lt (192 * level + root) (0 + count)))
-        ≡ ((0 == level) || false)
-    first_row level root count h k = grind (arith, nat_tests)
-
--- The test of a bit in the code.
-pub bit_set : (levels level : ℕ) → bit_and (levels / 2 ^ level) 1 ≡ 1 → has_level levels level ≡ true
-bit_set levels level e = ap (λ bit. bit == 1) (sym (shr_and_one levels level) ∙ e)
-
-pub bit_clear : (levels level : ℕ) → (bit_and (levels / 2 ^ level) 1 ≡ 1 → ⊥) → has_level levels level ≡ false
-bit_clear levels level h = ne_eqb (bit_at levels level) 1 (λ e. h (shr_and_one levels level ∙ e))
+    beside : (b : Bool) → b ≡ (b || false)
+    beside true = refl
+    beside false = refl

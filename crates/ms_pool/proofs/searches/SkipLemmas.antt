@@ -13,12 +13,12 @@ use Rattle.ms_base.specs.FreeParts.{free_in_slot, free_parts}
 use Rattle.ms_base.specs.Part.{is_reserved}
 use Rattle.ms_base.specs.Policy.{granule_of}
 use Rattle.ms_commit.specs.Nodes.{all_slots, slots_of}
-use Rattle.ms_buddy.specs.Leaves.{LentLeaf, free_of, is_of}
+use Rattle.ms_buddy.specs.Leaves.{LentLeaf, free_of, has_level, is_of}
 use Rattle.ms_pool.specs.declared.lender.Lender.{Lender}
 use Rattle.ms_pool.specs.Ledger.{held_in, state_in}
 use Rattle.ms_pool.specs.Keeping.{IsKept, ledger_of}
 use Rattle.ms_pool.specs.Searching.{are_among, first_in, grants, part_in}
-use Rattle.ms_pool.specs.Trees.{has_free}
+use Rattle.ms_pool.specs.Trees.{IsRootOf, LeaveNone, has_free}
 use Rattle.ms_pool.proofs.searches.SearchLemmas.{find_step, found_later, find_end}
 use Rattle.ms_pool.proofs.searches.SlotLoopLemmas.{end_slot, first_slot, given_by, slot_found, parts_by_slots}
 
@@ -177,3 +177,22 @@ decided_last space lender words committed level a kept some fits looked none =
     ∙ find_end (grants (state_in space (ledger_of lender)) words committed level)
     (given_by lender.nodes (held_in space (ledger_of lender)))
     (end_slot space lender.nodes) (end_slot space lender.nodes) (omega arith)
+
+-- Where a level's bit is clear, the space has no free part of it.
+pub none_of_space : (space : Space) (lender : Lender) (levels words : ℕ) (committed : Bool) (level : ℕ) → IsKept lender
+    → 1 ≤ words → words ≤ size_of level → LeaveNone levels space lender.trees.items → has_level levels level ≡ false
+    → found_of space lender words committed level ≡ None
+none_of_space space lender levels words committed level kept some fits told clear =
+    decided_last space lender words committed level (first_slot space) kept some fits
+    (looked_to_first space lender words committed level (first_slot space) kept refl)
+    (λ root low high. told level root (is_of_space space low high) (omega (arith, kept.trees, inside space high)) clear)
+  where
+    is_of_space : (space : Space) {root : ℕ} → 2 * first_slot space ≤ root → root < 2 * end_slot space lender.nodes
+        → IsRootOf space root
+    is_of_space NonClass low high = omega arith
+    is_of_space Class low high = omega arith
+
+    inside : (space : Space) {root : ℕ} → root < 2 * end_slot space lender.nodes
+        → root < 2 * (64 + lender.nodes.class_slots)
+    inside NonClass high = omega arith
+    inside Class high = omega arith

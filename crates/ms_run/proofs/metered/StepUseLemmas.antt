@@ -4,6 +4,7 @@ use Rattle.std.proofs.Common.{◌≡◌, ◌≢◌, ◌<◌, ◌+◌, ◌-◌, �
 use Rattle.std.proofs.Common.{◌∙◌, subst, IsTrue, arith}
 use Rattle.std.specs.List.{sum_by}
 use Rattle.std.specs.Map.{values_of}
+use Rattle.std.specs.Option.{is_some}
 use Rattle.std.proofs.lemmas.List.Sums.{sum_by-cons}
 use Rattle.ms_base.specs.declared.kind.Space.{Space}
 use Rattle.ms_base.specs.declared.kind.Space.TheVariants.{NonClass, Class}
@@ -19,6 +20,7 @@ use Rattle.ms_base.specs.Totals.{used_of}
 use Rattle.ms_base.specs.Transition.{Transition, ServesStep, with_freed}
 use Rattle.ms_base.proofs.entries.LookupLemmas.{named_changed_same, named_new_same}
 use Rattle.ms_loaders.specs.Used.{used_by, used_if}
+use Rattle.ms_loaders.specs.declared.details.Detail.{Detail}
 use Rattle.ms_loaders.proofs.sums.UsedLemmas.{used_fits}
 use Rattle.ms_run.specs.declared.alone.Metered.{Metered}
 use Rattle.ms_run.specs.Counting.{IsCounted, used_around}
@@ -116,24 +118,30 @@ step_moves old new step (At start) told was good = served_moves old new step (At
 step_moves old new step (Value value) told was good = served_moves old new step (Value value) told.0 was good
 
 -- The count follows: it adds what the loader has after the step, and takes off what it had before.
-pub counted_on : (counts : Bool) (old new : Metered) (step : Step) (reply : Reply) (before after : ℕ)
-    → IsCounted counts old
-    → Transition old.system step reply new.system → IsGood new.system
+pub counted_use : (counts : Bool) (detail : Detail) (old : Metered) (new : Machine) (step : Step) (reply : Reply)
+    (before after used : ℕ) → IsCounted counts detail old → Transition old.system step reply new → IsGood new
     → (IsTrue counts → before ≡ used_around step old.system.loaders)
-    → (IsTrue counts → after ≡ used_around step new.system.loaders) → before < 2 ^ 64
-    → new.used ≡ ((old.used + after) % 2 ^ 64 + (2 ^ 64 - before)) % 2 ^ 64
-    → IsCounted counts new
-counted_on counts old new step reply before after was told good first last fits sum = record {
+    → (IsTrue counts → after ≡ used_around step new.loaders) → before < 2 ^ 64
+    → used ≡ ((old.used + after) % 2 ^ 64 + (2 ^ 64 - before)) % 2 ^ 64
+    → IsTrue counts → used ≡ used_words_of new
+counted_use counts detail old new step reply before after used was told good first last fits sum looks = omega (
+  arith,
+  sum,
+  fits,
+  first looks,
+  last looks,
+  was.used looks,
+  step_moves old.system new step reply told was.good good,
+  used_fits new good,
+  used_fits old.system was.good,
+)
+
+pub counted_on : (counts : Bool) (detail : Detail) (old new : Metered) → IsCounted counts detail old → IsGood new.system
+    → (IsTrue counts → new.used ≡ used_words_of new.system) → is_some new.peaks ≡ is_some old.peaks
+    → IsCounted counts detail new
+counted_on counts detail old new was good used kept = record {
   good = good;
-  used = λ looks. omega (
-    arith,
-    sum,
-    fits,
-    first looks,
-    last looks,
-    was.used looks,
-    step_moves old.system new.system step reply told was.good good,
-    used_fits new.system good,
-    used_fits old.system was.good,
-  );
+  used = used;
+  kept = kept ∙ was.kept;
+  counting = was.counting;
 }

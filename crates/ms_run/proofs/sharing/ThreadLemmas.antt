@@ -17,7 +17,6 @@ use Rattle.std.specs.contracts.alloc.Global as heap
 use denote.Param.Send.{IsSend, IsSync, sendable}
 use denote.Param.SendFields.{declared_send, as_row_send}
 use Rattle.std.proofs.Crossing.{crosses}
-use Rattle.std.proofs.MapsCrossing.{BTreeMap-send}
 use Rattle.std.proofs.option.Option.TheSendSync as option
 use Rattle.ms_base.proofs.step.Reply.TheSendSync as reply
 use Rattle.ms_pool.proofs.account.Account.TheSendSync as account
@@ -32,6 +31,8 @@ use Rattle.ms_shared.below.atomic_table.proofs.shared.Shared.TheSendSync as tabl
 use Rattle.ms_shared.below.atomic_table.proofs.send_lease.SendLease.TheSendSync as lease
 use Rattle.std.proofs.alloc.Global.TheSendSync as global
 use Rattle.ms_loaders.specs.contracts.loaders.Loaders as loaders
+use Rattle.ms_loaders.specs.contracts.loaders.boxed.Boxed as boxed
+use Rattle.ms_loaders.specs.contracts.loaders.page.Page as page
 use Rattle.ms_shared.specs.contracts.seat.PoolSeat as seat
 use Rattle.ms_shared.specs.contracts.shared_pool.SharedPool as shared
 use Rattle.ms_shared.specs.contracts.used_meter.MeterSeat as meter_seat
@@ -40,10 +41,16 @@ use Rattle.ms_pool.specs.contracts.pool.Pool as pool
 use Rattle.ms_run.proofs.share.Task.TheSendSync as task
 use Rattle.ms_run.specs.contracts.share.Share as share
 
-loaders_send : IsSend loaders.the_row
-loaders_send =
-    search (sendable, crosses, BTreeMap-send, send-Tree, send-Fork, rows.the_send, names.the_send, account.the_send)
+boxed_send : IsSend boxed.the_row
+boxed_send =
+    search (sendable, crosses, send-Tree, send-Fork, rows.the_send, names.the_send, account.the_send)
     depth 60 fits 30000
+
+page_send : IsSend page.the_row
+page_send = search (boxed_send, sendable, crosses, option.the_send) depth 20
+
+loaders_send : IsSend loaders.the_row
+loaders_send = search (page_send, sendable, crosses, global.the_send) depth 20
 
 seat_send : IsSend seat.the_row
 seat_send =

@@ -32,6 +32,8 @@ returns-clause-ok g c =
       reads = subst (λ (bytes : List ℕ). ReadsAs bytes c.in_ok-trace.trace) c.deref.ensures.value
           c.in_ok-trace.ensures.reads;
       own = c.in_ok-replies.ensures.own;
+      detailed = c.in_ok-replies.ensures.detailed;
       output_is = c.in_ok-lines.ensures;
-      run = run_outputs _ c.args.options.now _ _ _ _ c.in_ok-lines.ensures c.in_ok-replies.ensures.run;
+      run = run_outputs _ c.args.options.now _ _ _ _ c.in_ok-lines.ensures c.in_ok-replies.ensures.detailed
+          c.in_ok-replies.ensures.run;
     })

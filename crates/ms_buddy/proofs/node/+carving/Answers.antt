@@ -4,6 +4,7 @@ use Rattle.ms_buddy.specs.Leaves.{fits_in, leaf_of}
 use Rattle.ms_buddy.proofs.SplitLemmas.{halves_at, at_split}
 use Rattle.ms_buddy.proofs.CarveLemmas.{lower_may, upper_may, whole_fits_not, lower_fits, upper_fits, lower_is_free}
 use Rattle.ms_buddy.proofs.CarveLemmas.{upper_is_free, same_refusal, lower_added, upper_added}
+use Rattle.ms_buddy.proofs.CountLemmas.{lower_parted_at, upper_parted_at}
 use Rattle.ms_buddy.proofs.node.+carving.Goals as goal
 
 pub Node::carve-returns-then-number-level-clause-answers : goal.Node::carve-returns-then-number-level-clause-answers
@@ -62,3 +63,13 @@ carve_in_half-returns-in-Err-carve-clause-answers g t c =
       room = search rules;
       refusal = same_refusal c.args.span _ _ fits whole _ c.in-Err-carve.ensures.answers.refusal;
     }
+
+pub carve_in_half-returns-in-Ok-clause-parted : goal.carve_in_half-returns-in-Ok-clause-parted
+carve_in_half-returns-in-Ok-clause-parted g t c =
+    lower_parted_at c.args.level c.args.start c.args.lower.now c.carve.new.self c.args.upper.now _ _
+    c.in-Ok.ensures.parted
+
+pub carve_in_half-returns-in-Ok-carve-clause-parted : goal.carve_in_half-returns-in-Ok-carve-clause-parted
+carve_in_half-returns-in-Ok-carve-clause-parted g t c =
+    upper_parted_at c.args.level c.args.start c.half_of.result c.args.lower.now c.args.upper.now
+    c.carve-else-span-middle.new.self _ _ c.half_of.ensures.size c.in-Ok-carve.ensures.parted

@@ -4,6 +4,7 @@ use Rattle.ms_base.specs.Level.{size_of}
 use Rattle.ms_buddy.proofs.TreeHalvesLemmas.{size_of-halves}
 use Rattle.ms_buddy.proofs.SplitLemmas.{halves_at, lower_front, upper_front, parent_acts, lower_changed, upper_changed}
 use Rattle.ms_buddy.proofs.EnlargeLemmas.{lower_can, upper_can, ok_some, refused_too}
+use Rattle.ms_buddy.proofs.CountLemmas.{lower_parted_at, upper_parted_at}
 use Rattle.ms_buddy.proofs.node.+enlarging.Goals as goal
 
 pub enlarge_in_half-enlarge-requires : goal.enlarge_in_half-enlarge-requires
@@ -66,3 +67,13 @@ enlarge_in_half-returns-in-Err-enlarge-clause-answers g t c =
       room = refused_too _ _ can c.in-Err-enlarge.ensures.answers.room;
       refusal = c.in-Err-enlarge.ensures.answers.refusal;
     }
+
+pub enlarge_in_half-returns-in-Ok-clause-parted : goal.enlarge_in_half-returns-in-Ok-clause-parted
+enlarge_in_half-returns-in-Ok-clause-parted g t c =
+    lower_parted_at c.args.level c.args.start c.args.lower.now c.enlarge.new.self c.args.upper.now _ _
+    c.in-Ok.ensures.parted
+
+pub enlarge_in_half-returns-in-Ok-enlarge-clause-parted : goal.enlarge_in_half-returns-in-Ok-enlarge-clause-parted
+enlarge_in_half-returns-in-Ok-enlarge-clause-parted g t c =
+    upper_parted_at c.args.level c.args.start c.half_of.result c.args.lower.now c.args.upper.now
+    c.enlarge-else-span-middle.new.self _ _ c.half_of.ensures.size c.in-Ok-enlarge.ensures.parted

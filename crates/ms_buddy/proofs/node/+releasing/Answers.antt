@@ -1,11 +1,14 @@
 -- The leaf goes from the half where it starts, and the other half stays; two free halves merge.
-use Rattle.std.proofs.Common.{◌≡◌, rules, arith, Some}
+use Rattle.std.proofs.Common.{◌≡◌, ◌+◌, ℕ, rules, arith, subst, Some}
 use Rattle.std.specs.List.{find}
 use Rattle.ms_buddy.specs.Leaves.{covers}
 use Rattle.ms_buddy.specs.Tree.{free_in_halves}
 use Rattle.ms_buddy.proofs.TreeHalvesLemmas.{lower_place, upper_place}
 use Rattle.ms_buddy.proofs.SplitLemmas.{halves_at, lower_lent, upper_lent, without_acts, lower_changed, upper_changed}
 use Rattle.ms_buddy.proofs.SplitLemmas.{lower_found, upper_found, whole_found, passed_on}
+use Rattle.ms_buddy.specs.Counts.{IsParted}
+use Rattle.ms_buddy.proofs.CountLemmas.{both_free, leaf_parted, level_of_free, level_told, lower_parted_at}
+use Rattle.ms_buddy.proofs.CountLemmas.{merged_parted, nothing_lent, upper_parted_at}
 use Rattle.ms_buddy.proofs.node.+releasing.Goals as goal
 
 pub release_in_half-release-freed-requires : goal.release_in_half-release-freed-requires
@@ -78,4 +81,52 @@ release_in_half-returns-else-span-middle-clause-free g t c =
 
 pub Node::release-returns-in-None-clause-free : goal.Node::release-returns-in-None-clause-free
 Node::release-returns-in-None-clause-free g t c =
-    whole_found _ _ _ _ c.part.result c.requires.tree c.requires.lent c.part.ensures.start c.part.ensures.level
+    rw c.replace.ensures.after
+    (whole_found _ _ _ _ c.part.result c.requires.tree c.requires.lent c.part.ensures.start c.part.ensures.level)
+
+pub release_in_half-returns-then-span-middle-clause-merged : goal.release_in_half-returns-then-span-middle-clause-merged
+release_in_half-returns-then-span-middle-clause-merged g t c =
+    subst (λ (free : ℕ). IsParted
+    (free_in_halves c.args.level c.args.start c.release-freed.new.self c.args.upper.now) free c.args.span.level
+    (free_in_halves c.args.level c.args.start c.args.lower.now c.args.upper.now))
+    (level_told c.args.level c.unless_free.result c.release-freed.result _ c.unless_free.ensures.same
+    c.unless_free.ensures.free
+    (λ both. level_of_free (c.args.level + 1) c.args.start c.args.span.start c.release-freed.new.self
+    c.release-freed.result (both_free _ _ both).0 c.release-freed.ensures.free))
+    (lower_parted_at c.args.level c.args.start c.release-freed.new.self c.args.lower.now c.args.upper.now _ _
+    c.release-freed.ensures.merged)
+
+pub release_in_half-returns-else-span-middle-clause-merged : goal.release_in_half-returns-else-span-middle-clause-merged
+release_in_half-returns-else-span-middle-clause-merged g t c =
+    subst (λ (free : ℕ). IsParted
+    (free_in_halves c.args.level c.args.start c.args.lower.now c.release-freed-else-span-middle.new.self) free
+    c.args.span.level
+    (free_in_halves c.args.level c.args.start c.args.lower.now c.args.upper.now))
+    (level_told c.args.level c.unless_free-else-span-middle.result c.release-freed-else-span-middle.result _
+    c.unless_free-else-span-middle.ensures.same c.unless_free-else-span-middle.ensures.free
+    (λ both. level_of_free (c.args.level + 1) (c.args.start + c.half_of.result) c.args.span.start
+    c.release-freed-else-span-middle.new.self c.release-freed-else-span-middle.result (both_free _ _ both).1
+    c.release-freed-else-span-middle.ensures.free))
+    (upper_parted_at c.args.level c.args.start c.half_of.result c.args.lower.now
+    c.release-freed-else-span-middle.new.self c.args.upper.now _ _ c.half_of.ensures.size
+    c.release-freed-else-span-middle.ensures.merged)
+
+pub Node::release-returns-in-None-clause-merged : goal.Node::release-returns-in-None-clause-merged
+Node::release-returns-in-None-clause-merged g t c =
+    rw (c.replace.ensures.after, c.part.ensures.level, c.in-Split.is)
+    (merged_parted c.args.level c.args.start c.args.span.level c.release_in_half.new.lower c.release_in_half.new.upper _
+    c.in-None.ensures.whole (rw (c.deref_mut.ensures.value, c.deref_mut-in-Split.ensures.value) at c.in-None.ensures.merged))
+
+pub Node::release-returns-in-Lent-clause-merged : goal.Node::release-returns-in-Lent-clause-merged
+Node::release-returns-in-Lent-clause-merged g t c =
+    rw c.part-in-Lent.ensures.level
+    (leaf_parted c.args.span c.args.level c.args.start _ _ c.args.self.now c.in-Lent.is c.requires.place.level_fits
+    c.requires.lent)
+
+pub Node::release-returns-in-Free-clause-merged : goal.Node::release-returns-in-Free-clause-merged
+Node::release-returns-in-Free-clause-merged g t c =
+    absurd (nothing_lent c.args.span c.args.level c.args.start c.args.self.now c.in-Free.is c.requires.lent)
+
+pub Node::release-returns-in-Free-clause-free : goal.Node::release-returns-in-Free-clause-free
+Node::release-returns-in-Free-clause-free g t c =
+    absurd (nothing_lent c.args.span c.args.level c.args.start c.args.self.now c.in-Free.is c.requires.lent)

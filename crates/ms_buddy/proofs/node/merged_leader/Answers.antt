@@ -3,6 +3,7 @@ use Rattle.std.proofs.Common.{refl, ap}
 use Rattle.ms_buddy.specs.Tree.{is_free}
 use Rattle.ms_buddy.proofs.SplitLemmas.{trees_at}
 use Rattle.ms_buddy.proofs.EnlargeLemmas.{follower_cannot, leader_cannot, starts_here, split_not_leader, refused}
+use Rattle.ms_buddy.proofs.CountLemmas.{leader_parted}
 use Rattle.ms_buddy.proofs.node.merged_leader.Goals as goal
 
 pub returns-then-span-start-clause-answers : goal.returns-then-span-start-clause-answers
@@ -31,3 +32,8 @@ returns-in-Split-clause-answers g c =
     let start = starts_here c.args.span _ _ _ _ _ halves c.requires.lent c.if-span-start.false in
     let cannot = leader_cannot c.args.span _ _ _ _ _ halves c.requires.child start (ap is_free c.in-Split.is) in
     record { room = refused _ cannot; refusal = refl }
+
+pub returns-in-Lent-lower-clause-parted : goal.returns-in-Lent-lower-clause-parted
+returns-in-Lent-lower-clause-parted g c =
+    leader_parted c.args.level c.args.start c.args.span.level _ _ c.args.lower.now c.args.upper.now c.requires.low
+    c.in-Lent-lower.is c.in-Free.is c.requires.child

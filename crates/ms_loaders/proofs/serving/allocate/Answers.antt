@@ -1,7 +1,4 @@
-use Rattle.std.proofs.Common.{◌≡◌, Result, inl, inr, refl, sym, subst}
-use Rattle.std.specs.Prelude.{OnErr}
-use Rattle.ms_base.specs.declared.span.Block.{Block}
-use Rattle.ms_base.specs.declared.refusal.Refusal.{Refusal}
+use Rattle.std.proofs.Common.{inl, inr, refl, sym}
 use Rattle.ms_loaders.proofs.serving.allocate.Goals as goal
 
 pub returns-in_default-clause-refused : goal.returns-in_default-clause-refused

@@ -1,5 +1,5 @@
 use Rattle.std.proofs.Common.{◌∷◌, [], arith}
-use Rattle.ms_pool.proofs.counts.LentCountLemmas.{goes_and_comes, room_without}
+use Rattle.ms_pool.proofs.counts.LentCountLemmas.{room_without}
 use Rattle.ms_pool.proofs.lent.count_greater.Goals as goal
 
 pub count_chunk-requires : goal.count_chunk-requires

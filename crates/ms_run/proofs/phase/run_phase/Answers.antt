@@ -8,13 +8,14 @@ use Rattle.ms_run.specs.Turn.{place_in}
 use Rattle.ms_run.specs.Shares.{place_for}
 use Rattle.ms_run.proofs.sharing.StandByLemmas.{same_tasks}
 use Rattle.ms_run.proofs.PhaseLemmas.{own_seats, all_manned, same_count, all_answered, still_apart, ended}
-use Rattle.ms_run.proofs.PhaseLemmas.{ended_alone, merges_still}
+use Rattle.ms_run.proofs.PhaseLemmas.{ended_alone, merges_still, phase_added}
+use Rattle.ms_run.proofs.DetailLemmas.{said_detailed}
 use Rattle.ms_run.proofs.metered.MeterSumLemmas.{ready_for, own_meters, used_machine, used_after}
 use Rattle.ms_run.proofs.phase.run_phase.Goals as goal
 
 pub returns-then-shares-eq1-clause-phase : goal.returns-then-shares-eq1-clause-phase
 returns-then-shares-eq1-clause-phase g c =
-    ended_alone c.args.lines.now c.args.answers.now.items _ c.args.run.system _ c.requires.good
+    ended_alone c.args.lines.now c.args.answers.now.items _ c.args.run _ c.requires.good
     c.in_ok-answer_lines.ensures.counted.good c.in_ok-answer_lines.ensures.answers
 
 pub merge-requires-clause-count : goal.merge-requires-clause-count
@@ -65,8 +66,8 @@ close-requires-clause-count g c =
     ∙ sym c.in_ok-system.meters.ok.0
 
 pub returns-clause-phase : goal.returns-clause-phase
-returns-clause-phase g c =
-    ended (place_for (place_in c.activate.new.self) c.args.lines.now) c.in_ok-shared.shared
+returns-clause-phase g c = phase_added c.args.lines.now c.args.answers.now.items _ c.args.run _
+    (ended (place_for (place_in c.activate.new.self) c.args.lines.now) c.in_ok-shared.shared
     c.in_ok-shared.shares.items c.in_ok-shares.shares.items
     c.args.lines.now
     _ _ c.into_parts-pool.result.1 c.args.run.system _
@@ -80,7 +81,17 @@ returns-clause-phase g c =
     c.into_parts-pool.ensures.together)
     c.in_ok-system.ensures.history c.in_ok-system.ensures.limits
     (ap (λ (l : Ledger). l.limits) c.in_ok-shared.ensures.first
-    ∙ ap (λ (m : Machine). m.limits) c.into_parts-pool.ensures.machine)
+    ∙ ap (λ (m : Machine). m.limits) c.into_parts-pool.ensures.machine))
+    c.raise-peaks.ensures.peaks
+
+pub raise-peaks-requires : goal.raise-peaks-requires
+raise-peaks-requires g c = λ kept.
+    used_after c.in_ok-shared.meter _ c.in_ok-shared.shares.items c.in_ok-shares.shares.items
+    c.in_ok-system.meters.items _ _ c.in_ok-system.system
+    c.in_ok-shared.ensures.meters.unmoved_all c.in_ok-shares.ensures.worked c.in_ok-system.ensures.meters
+    (c.requires.used ∙ ap used_words_of (sym c.into_parts-pool.ensures.machine)
+    ∙ used_machine c.into_parts-pool.result.0 c.into_parts-pool.result.1 ∙ sym c.in_ok-shared.ensures.used)
+    c.in_ok-amount.ensures.amount c.in_ok-system.ensures.used c.in_ok-system.ensures.good
 
 pub returns-clause-used : goal.returns-clause-used
 returns-clause-used g c =
@@ -90,3 +101,8 @@ returns-clause-used g c =
     (c.requires.used ∙ ap used_words_of (sym c.into_parts-pool.ensures.machine)
     ∙ used_machine c.into_parts-pool.result.0 c.into_parts-pool.result.1 ∙ sym c.in_ok-shared.ensures.used)
     c.in_ok-amount.ensures.amount c.in_ok-system.ensures.used c.in_ok-system.ensures.good
+
+pub returns-clause-detailed : goal.returns-clause-detailed
+returns-clause-detailed g c =
+    let merged = c.in_ok-merge.ensures in
+    said_detailed c.args.detail c.args.lines.now c.args.answers.now.items merged.0 _ merged.1 merged.2 merged.3

@@ -4,4 +4,4 @@ use Rattle.ms_run.proofs.replaying.replay.Goals as goal
 pub returns-clause-own : goal.returns-clause-own
 returns-clause-own g c =
     alone_replays c.args.settings c.args.trace.now.lines _ c.in_ok-replies.replies.answers.items
-    c.as_slice-lines.ensures c.in_ok-replies.ensures
+    c.as_slice-lines.ensures c.in_ok-replies.ensures.run

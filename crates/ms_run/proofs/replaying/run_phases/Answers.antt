@@ -1,18 +1,28 @@
-use Rattle.std.proofs.Common.{arith}
+use Rattle.std.proofs.Common.{arith, subst, sym}
+use Rattle.ms_base.specs.Good.{IsGood}
+use Rattle.ms_base.specs.State.{empty_machine, limits_of}
+use Rattle.ms_run.proofs.AloneLemmas.{begins}
 use Rattle.ms_run.proofs.ReplayLemmas.{phases_start, steps_there, stops_next, phases_more, phases_next, phases_end}
 use Rattle.ms_run.proofs.ReplayLemmas.{used_none}
+use Rattle.ms_run.proofs.DetailLemmas.{none_detailed}
 use Rattle.ms_run.proofs.replaying.run_phases.Goals.{then-at-lines+in_ok-answer_between, else-at-lines}
 use Rattle.ms_run.proofs.replaying.run_phases.Goals as goal
 
 pub loop-at-init : goal.loop-at-init
-loop-at-init g c = (
-  phases_start c.args.settings c.args.lines.now c.in_ok-answers.answers.items c.in_ok-system.system
-      c.in_ok-answers.ensures.items c.in_ok-system.ensures,
-  used_none c.in_ok-system.system c.args.settings c.in_ok-system.ensures,
-)
+loop-at-init g c = record {
+  phases = phases_start c.args.settings c.args.lines.now c.in_ok-answers.answers.items _ c.in_ok-answers.ensures.items
+      (begins _ (empty_machine (limits_of c.args.settings)) c.in_ok-system.ensures c.begin-peaks.ensures.peaks);
+  kept = c.begin-peaks.ensures.kept;
+  used = used_none c.in_ok-system.system c.args.settings c.in_ok-system.ensures;
+  detailed = none_detailed c.args.detail c.in_ok-answers.answers.items c.in_ok-answers.ensures.items;
+}
+
+pub begin-peaks-requires : goal.begin-peaks-requires
+begin-peaks-requires g c = sym (used_none c.in_ok-system.system c.args.settings c.in_ok-system.ensures)
 
 pub run_phase-requires-clause-good : goal.run_phase-requires-clause-good
-run_phase-requires-clause-good g c κs within = c.loop-at.invariant.0.2
+run_phase-requires-clause-good g c κs within =
+    subst IsGood (sym c.loop-at.invariant.phases.3.state) c.loop-at.invariant.phases.4
 
 pub run_phase-requires-clause-steps : goal.run_phase-requires-clause-steps
 run_phase-requires-clause-steps g c κs within =
@@ -26,17 +36,26 @@ answer_between-requires-clause-no_step g c =
 pub loop-at-preserved : goal.loop-at-preserved
 loop-at-preserved g c =
     let more =
-    phases_more _ _ _ c.args.lines.now c.loop-at.at c.steps_first-count.result _ _ c.loop-at.invariant.0
+    phases_more _ _ _ c.args.lines.now c.loop-at.at c.steps_first-count.result _ _ c.loop-at.invariant.phases
     c.steps_first-count.ensures.within c.in_ok-run.ensures.phase in
+    let detailed = c.in_ok-run.ensures.detailed c.loop-at.invariant.detailed in
     elim c.if-at-lines.branch [
-      | then-at-lines+in_ok-answer_between w ↦ rw (w.answers-is, w.at-is) (
-        phases_next _ _ c.args.lines.now _ _ _ _ more w.if-at-lines.true w.in_ok-answer_between.ensures,
-        c.in_ok-run.ensures.used,
-      )
-      | else-at-lines w ↦ rw (w.answers-is, w.at-is) (more, c.in_ok-run.ensures.used)
+      | then-at-lines+in_ok-answer_between w ↦ rw (w.answers-is, w.at-is) (record {
+        phases = phases_next _ _ c.args.lines.now _ _ _ _ more w.if-at-lines.true
+            w.in_ok-answer_between.ensures.answered;
+        kept = c.in_ok-run.ensures.kept;
+        used = c.in_ok-run.ensures.used;
+        detailed = w.in_ok-answer_between.ensures.detailed detailed;
+      })
+      | else-at-lines w ↦ rw (w.answers-is, w.at-is) (record {
+        phases = more;
+        kept = c.in_ok-run.ensures.kept;
+        used = c.in_ok-run.ensures.used;
+        detailed = detailed;
+      })
     ]
 
 pub returns-clause-own : goal.returns-clause-own
 returns-clause-own g c =
-    phases_end c.args.settings c.args.lines.now c.loop-at.at c.loop-at.answers.items c.loop-at.run.system
-    c.loop-at.invariant.0 (omega (arith, c.loop-at-test.false))
+    phases_end c.args.settings c.args.lines.now c.loop-at.at c.loop-at.answers.items c.loop-at.run
+    c.loop-at.invariant.phases (omega (arith, c.loop-at-test.false))

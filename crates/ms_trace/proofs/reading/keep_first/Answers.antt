@@ -1,9 +1,9 @@
--- A line that spells a command adds it, and any other is cut off and kept, or has its fault.
+-- A line that spells a command adds it, a silent one adds nothing, and any other is cut off and kept, or has its fault.
 use Rattle.std.proofs.Common.{◌≡◌, ℕ, List, Option}
 use Rattle.std.proofs.lemmas.Result.{err_from_is_err_and}
 use Rattle.std.specs.Borrow.{Bor}
 use Rattle.ms_trace.specs.Grammar.{lines_of}
-use Rattle.ms_trace.proofs.KeepingLemmas.{spelled_first, spelled_blames, rest_is, shorter_after}
+use Rattle.ms_trace.proofs.KeepingLemmas.{silent_first, spelled_first, spelled_blames, rest_is, shorter_after}
 use Rattle.ms_trace.proofs.ReadingLemmas.{lines_of-cut, text_after}
 use Rattle.ms_trace.proofs.reading.keep_first.Goals as goal
 
@@ -18,8 +18,8 @@ returns-in_err-keep-clause-fault g c =
       blames = c.in_err-keep.ensures.fault;
     })
 
-pub returns-2-clause-kept : goal.returns-2-clause-kept
-returns-2-clause-kept g c =
+pub returns-3-clause-kept : goal.returns-3-clause-kept
+returns-3-clause-kept g c =
     let after : Option (Bor (List ℕ)) = c.cut_line.result.1 in
     let left : c.unwrap_or.result.now ≡ text_after after =
     rw c.unwrap_or.ensures (rest_is after c.as_slice.result c.as_slice.ensures) in
@@ -34,6 +34,11 @@ pub returns-clause-kept : goal.returns-clause-kept
 returns-clause-kept g c =
     spelled_first c.args.number c.args.text.now c.in-Some.rest.now c.in-Some.command c.args.lines.now.items _
     c.if-number-le-MOST_LINES.true c.in-Some.ensures c.in_ok-add.ensures.added
+
+pub returns-2-clause-kept : goal.returns-2-clause-kept
+returns-2-clause-kept g c =
+    silent_first c.args.number c.args.text.now c.in-Some-cut_silent.rest.now c.args.lines.now.items
+    c.if-number-le-MOST_LINES-2.true c.in-Some-cut_silent.ensures
 
 pub returns-in_err-add-clause-fault : goal.returns-in_err-add-clause-fault
 returns-in_err-add-clause-fault g c =

@@ -1,6 +1,9 @@
 -- The leaf is in the half where it starts, and the other half stays.
-use Rattle.std.proofs.Common.{rules, arith, ap, sym, ◌∙◌}
+use Rattle.std.proofs.Common.{rules, arith, ap, sym, ◌∙◌, ◌+◌, ◌++◌, List}
+use Rattle.ms_base.specs.declared.span.Span.{Span}
+use Rattle.ms_base.specs.Level.{size_of}
 use Rattle.ms_buddy.specs.Leaves.{with_front}
+use Rattle.ms_buddy.specs.Tree.{free_in}
 use Rattle.ms_buddy.proofs.SplitLemmas.{at_split, lower_front, upper_front, front_acts, lower_changed, upper_changed}
 use Rattle.ms_buddy.proofs.node.Node.+set_front.Goals as goal
 
@@ -32,3 +35,16 @@ returns-else-span-middle-clause-lent g t c =
     (omega arith)
     (rw c.deref_mut-else-span-middle.ensures.value at c.set_front-else-span-middle.ensures.lent)
     ∙ ap (with_front c.args.span c.args.front) (sym s.lent)
+
+pub returns-then-span-middle-clause-parts : goal.returns-then-span-middle-clause-parts
+returns-then-span-middle-clause-parts g t c =
+    let s = at_split _ c.args.start _ _ _ _ _ _ _ c.in-Split.is c.requires.tree c.half_of.ensures.size in
+    ap (λ (xs : List Span). xs ++ free_in (c.args.level + 1) (c.args.start + size_of (c.args.level + 1)) c.in-Split.upper.value)
+    (rw c.deref_mut.ensures.value at c.set_front.ensures.parts) ∙ sym s.free
+
+pub returns-else-span-middle-clause-parts : goal.returns-else-span-middle-clause-parts
+returns-else-span-middle-clause-parts g t c =
+    let s = at_split _ c.args.start _ _ _ _ _ _ _ c.in-Split.is c.requires.tree c.half_of.ensures.size in
+    ap (λ (xs : List Span). free_in (c.args.level + 1) c.args.start c.in-Split.lower.value ++ xs)
+    (rw (c.deref_mut-else-span-middle.ensures.value, c.half_of.ensures.size) at c.set_front-else-span-middle.ensures.parts)
+    ∙ sym s.free

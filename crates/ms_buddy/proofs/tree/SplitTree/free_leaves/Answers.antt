@@ -5,4 +5,4 @@ use Rattle.ms_buddy.proofs.FreeLeafLemmas.{free_of-tree}
 use Rattle.ms_buddy.proofs.tree.SplitTree.free_leaves.Goals as goal
 
 pub returns : goal.returns
-returns g c = c.new.ensures ∙ sym (free_of-tree c.self.inside.node c.self.invariant) ∙ ap free_of c.self.view_is
+returns g c = c.new.ensures ∙ sym (free_of-tree c.self.inside.node c.self.invariant.tree) ∙ ap free_of c.self.view_is

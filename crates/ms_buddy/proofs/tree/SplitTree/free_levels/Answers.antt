@@ -9,5 +9,5 @@ use Rattle.ms_buddy.proofs.tree.SplitTree.free_levels.Goals as goal
 pub returns : goal.returns
 returns g c level =
     ap (λ bits. has_level bits level) c.levels.ensures
-    ∙ levels_are_those 0 0 level c.self.inside.node c.self.invariant
-    ∙ ap (list_any (is_of level)) (sym (free_of-tree c.self.inside.node c.self.invariant) ∙ ap free_of c.self.view_is)
+    ∙ levels_are_those 0 0 level c.self.inside.node c.self.invariant.tree
+    ∙ ap (list_any (is_of level)) (sym (free_of-tree c.self.inside.node c.self.invariant.tree) ∙ ap free_of c.self.view_is)

@@ -8,15 +8,15 @@ use Rattle.ms_buddy.proofs.tree.SplitTree.is_whole.Goals as goal
 pub returns-clause-whole : goal.returns-clause-whole
 returns-clause-whole g c = (
   λ h. ap free_of (sym c.self.view_is ∙ free_tree c.self.inside.node (sym c.is_free.ensures ∙ h)) ∙ free_of-none,
-  λ h. c.is_free.ensures ∙ whole_tree_is_free c.self.inside.node c.self.invariant
-      (sym (free_of-tree c.self.inside.node c.self.invariant) ∙ ap free_of c.self.view_is ∙ h),
+  λ h. c.is_free.ensures ∙ whole_tree_is_free c.self.inside.node c.self.invariant.tree
+      (sym (free_of-tree c.self.inside.node c.self.invariant.tree) ∙ ap free_of c.self.view_is ∙ h),
 )
 
 pub returns-clause-none_lent : goal.returns-clause-none_lent
 returns-clause-none_lent g c = (
   λ h. sym c.self.view_is ∙ free_tree c.self.inside.node (sym c.is_free.ensures ∙ h),
-  λ h. c.is_free.ensures ∙ whole_tree c.self.inside.node c.self.invariant (c.self.view_is ∙ h),
+  λ h. c.is_free.ensures ∙ whole_tree c.self.inside.node c.self.invariant.tree (c.self.view_is ∙ h),
 )
 
 pub returns-clause-leaves : goal.returns-clause-leaves
-returns-clause-leaves g c = rw (← c.self.view_is) (are_leaves c.self.inside.node c.self.invariant)
+returns-clause-leaves g c = rw (← c.self.view_is) (are_leaves c.self.inside.node c.self.invariant.tree)

@@ -7,7 +7,7 @@ use Rattle.ms_buddy.proofs.tree.SplitTree.leaf_at.Goals as goal
 
 pub returns-clause-leaf : goal.returns-clause-leaf
 returns-clause-leaf g c =
-    let e = sym (ap free_of c.self.view_is) ∙ free_of-tree c.self.inside.node c.self.invariant in
+    let e = sym (ap free_of c.self.view_is) ∙ free_of-tree c.self.inside.node c.self.invariant.tree in
     rw (e, ← c.self.view_is) c.leaf_at.ensures.leaf
 
 pub returns-clause-lent : goal.returns-clause-lent

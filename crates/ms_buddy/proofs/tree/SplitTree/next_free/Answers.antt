@@ -9,4 +9,4 @@ pub returns : goal.returns
 returns g c =
     rw c.number.ensures.same at c.next_free.ensures
     ∙ ap (find (is_of_from c.args.level c.args.from))
-    (sym (free_of-tree c.self.inside.node c.self.invariant) ∙ ap free_of c.self.view_is)
+    (sym (free_of-tree c.self.inside.node c.self.invariant.tree) ∙ ap free_of c.self.view_is)

@@ -8,7 +8,7 @@ use denote.Struct.Owning.{shape, fields, to}
 use denote.Param.Send.{IsSend, AllSend, owning_send, struct_send, sendable}
 use Rattle.std.proofs.Crossing as heap
 use Rattle.std.proofs.Crossing.{crosses}
-use Rattle.std.proofs.MapsCrossing.{BTreeMap-send}
+use Rattle.std.proofs.option.Option.TheSendSync as option
 use Rattle.std.specs.Prelude.{Some, None}
 use Rattle.std.specs.Global.{Global}
 use Rattle.std_alloc.proofs.SendSync.{quiet, lies}
@@ -22,14 +22,22 @@ use Rattle.ms_loaders.below.ms_commit.proofs.mask.Mask.TheSendSync as mask
 use Rattle.ms_loaders.below.ms_commit.proofs.nodes.Nodes.TheSendSync as nodes
 use Rattle.ms_pool.specs.contracts.pool.Pool as pool
 use Rattle.ms_loaders.specs.contracts.loaders.Loaders as loaders
+use Rattle.ms_loaders.specs.contracts.loaders.boxed.Boxed as boxed
+use Rattle.ms_loaders.specs.contracts.loaders.page.Page as page
 use Rattle.ms_loaders.specs.contracts.system.System as system
 use Rattle.ms_c.specs.Holding.{Held, held_by}
 use Rattle.ms_c.specs.contracts.slot.Slot.{the_row, the_type}
 
-loaders_send : IsSend loaders.the_row
-loaders_send =
-    search (sendable, crosses, BTreeMap-send, send-Tree, send-Fork, rows.the_send, names.the_send, account.the_send)
+boxed_send : IsSend boxed.the_row
+boxed_send =
+    search (sendable, crosses, send-Tree, send-Fork, rows.the_send, names.the_send, account.the_send)
     depth 60 fits 30000
+
+page_send : IsSend page.the_row
+page_send = search (boxed_send, sendable, crosses, option.the_send) depth 20
+
+loaders_send : IsSend loaders.the_row
+loaders_send = search (page_send, sendable, crosses, handle.the_send) depth 20
 
 pool_send : IsSend pool.the_row
 pool_send = search (sendable, crosses, node.send-Node, mask.the_send, nodes.the_send) depth 60 fits 30000

@@ -4,5 +4,5 @@ use Rattle.ms_loaders.specs.Loader.{IsSoundView}
 use Rattle.ms_loaders.proofs.loaders.Loaders.learn.Given as goal
 
 -- If those to come are sound, all are.
-abbrev pub invariant-loop-boxed : goal.invariant-loop-boxed
-invariant-loop-boxed l = All IsSoundView l.boxed-iterator → All IsSoundView (values_of l.fn.self)
+abbrev pub invariant-loop-loader : goal.invariant-loop-loader
+invariant-loop-loader l = All IsSoundView l.loader-iterator → All IsSoundView (values_of l.fn.self)

@@ -10,8 +10,8 @@ use Rattle.std.proofs.lemmas.List.Folds.{flat_map-map}
 use Rattle.ms_pool.proofs.searches.SearchLemmas.{first_at-is, head_end, none_here, some_here}
 use Rattle.ms_pool.proofs.lender.Lender.larger.Goals as goal
 
-pub lowest_free-requires-clause-fits : goal.lowest_free-requires-clause-fits
-lowest_free-requires-clause-fits c =
+pub lowest_at-requires-clause-fits : goal.lowest_at-requires-clause-fits
+lowest_at-requires-clause-fits c =
     omega (
       arith,
       c.requires.fits,
@@ -34,9 +34,9 @@ loop-below-preserved c =
     let pool = state_in c.args.wish.space (ledger_of c.args.self.now) in
     let levels = found_at pool c.args.wish.words c.args.wish.committed in
     none_here (λ below. levels (c.args.wanted - below)) c.loop-below.below (c.args.wanted + 1)
-    (slice_get (flat_map levels (levels_down c.args.wanted)) 0) c.lowest_free.result
+    (slice_get (flat_map levels (levels_down c.args.wanted)) 0) c.lowest_at.result
     (omega (arith, c.loop-below-test.true, c.number-top.ensures.same)) c.loop-below.invariant
-    (c.lowest_free.ensures ∙ first_at-is pool c.args.wish.words c.args.wish.committed c.new-level.result
+    (c.lowest_at.ensures ∙ first_at-is pool c.args.wish.words c.args.wish.committed c.new-level.result
     ∙ ap (λ (level : ℕ). slice_get (levels level) 0)
     (c.new-level.ensures ∙ ap (λ (top : ℕ). top - c.loop-below.below) c.number-top.ensures.same))
     c.in_default.is
@@ -47,9 +47,9 @@ returns-in-Some c =
     let pool = state_in c.args.wish.space (ledger_of c.args.self.now) in
     let levels = found_at pool c.args.wish.words c.args.wish.committed in
     sym (some_here (λ below. levels (c.args.wanted - below)) c.loop-below.below (c.args.wanted + 1)
-    (slice_get (flat_map levels (levels_down c.args.wanted)) 0) c.lowest_free.result c.in-Some.part
+    (slice_get (flat_map levels (levels_down c.args.wanted)) 0) c.lowest_at.result c.in-Some.part
     (omega (arith, c.loop-below-test.true, c.number-top.ensures.same)) c.loop-below.invariant
-    (c.lowest_free.ensures ∙ first_at-is pool c.args.wish.words c.args.wish.committed c.new-level.result
+    (c.lowest_at.ensures ∙ first_at-is pool c.args.wish.words c.args.wish.committed c.new-level.result
     ∙ ap (λ (level : ℕ). slice_get (levels level) 0)
     (c.new-level.ensures ∙ ap (λ (top : ℕ). top - c.loop-below.below) c.number-top.ensures.same))
     c.in-Some.is)

@@ -1,0 +1,128 @@
+-- The counts of a tree's free leaves, as one is parted and as halves merge: that there is room in
+-- them, and that they stay those of the leaves. The calls of the tree use these.
+use Rattle.std.proofs.Common.{◌≡◌, ◌<◌, ◌≤◌, ℕ, zero, suc, ◌+◌, ◌*◌, ◌^◌, List, [], ◌∷◌}
+use Rattle.std.proofs.Common.{length, get_or, replicate, refl, sym, ◌∙◌, arith}
+use Rattle.std.specs.Prelude.{◌==◌}
+use Rattle.std.proofs.lemmas.List.{length-append}
+use Rattle.std.proofs.lemmas.List.Sums.{count_by-le-length}
+use Rattle.std.proofs.lemmas.Bool.Decides.{nat_tests}
+use Rattle.ms_base.specs.declared.span.Span.{Span}
+use Rattle.ms_base.specs.Level.{size_of}
+use Rattle.ms_base.proofs.free.HalvesLemmas.{size_falls}
+use Rattle.ms_buddy.specs.declared.node.Node.{Node}
+use Rattle.ms_buddy.specs.declared.node.Node.TheVariants.{Free, Lent, Split'}
+use Rattle.ms_buddy.specs.Counts.{AreCounts, AreShifted, IsParted, count_at_level, one_at, one_between}
+use Rattle.ms_buddy.specs.Tree.{IsTree, free_in}
+use Rattle.ms_buddy.proofs.TreeHalvesLemmas.{size_of-halves}
+use Rattle.ms_buddy.proofs.CountLemmas.{count-one}
+
+-- A tree has at most 4096 free leaves, since each has 128 words or more.
+few_free : {A : Type 0} (level start : ℕ) (node : Node A) → level ≤ 12 → IsTree level node
+    → length (free_in level start node) * 128 ≤ size_of level
+few_free level start Free h tree = omega (arith, size_falls level 12 h (omega arith))
+few_free level start (Lent owner front) h tree = omega arith
+few_free level start (Split' levels p lower q upper) h tree =
+    omega (
+      arith,
+      few_free (level + 1) start lower (omega (arith, tree.0)) tree.2,
+      few_free (level + 1) (start + size_of (level + 1)) upper (omega (arith, tree.0)) tree.3,
+      size_of-halves level tree.0,
+      length-append (free_in (level + 1) start lower) (free_in (level + 1) (start + size_of (level + 1)) upper),
+    )
+
+few_of : {A : Type 0} (node : Node A) (level : ℕ) → IsTree 0 node → count_at_level level (free_in 0 0 node) ≤ 4096
+unfolding count_at_level
+few_of node level tree =
+    omega (
+      arith,
+      few_free 0 0 node (omega arith) tree,
+      count_by-le-length (λ (part : Span). part.level == level) (free_in 0 0 node),
+    )
+
+-- There is room in the counts for a part, and for a merge.
+pub room_to_part : {A : Type 0} (counts : List ℕ) (node : Node A) → IsTree 0 node → AreCounts counts (free_in 0 0 node)
+    → (level : ℕ) → level < 13 → get_or counts level 0 + 1 < 2 ^ 16
+room_to_part counts node tree are level h = omega (arith, are.same level h, few_of node level tree)
+
+own_level : (level : ℕ) → one_at level level ≡ 1
+own_level level = grind (arith, nat_tests)
+
+pub some_to_part : (counts : List ℕ) (before after : List Span) (free lent : ℕ) → AreCounts counts before
+    → IsParted before free lent after → 1 ≤ get_or counts free 0
+some_to_part counts before after free lent are parted =
+    omega (
+      arith,
+      are.same free (omega (arith, parted.low, parted.order)),
+      parted.counts free,
+      own_level free,
+      own_is_outside free lent,
+    )
+  where
+    own_is_outside : (free lent : ℕ) → one_between free (lent + 1) free ≡ 0
+    own_is_outside free lent = grind (arith, nat_tests)
+
+pub room_to_join : {A : Type 0} (counts : List ℕ) (before : List Span) (node : Node A) (free lent : ℕ) → IsTree 0 node
+    → AreCounts counts before → IsParted (free_in 0 0 node) free lent before → get_or counts free 0 + 1 < 2 ^ 16
+room_to_join counts before node free lent tree are parted =
+    omega (
+      arith,
+      are.same free (omega (arith, parted.low, parted.order)),
+      parted.counts free,
+      own_level free,
+      own_is_outside free lent,
+      few_of node free tree,
+    )
+  where
+    own_is_outside : (free lent : ℕ) → one_between free (lent + 1) free ≡ 0
+    own_is_outside free lent = grind (arith, nat_tests)
+
+pub some_to_join : (counts : List ℕ) (before after : List Span) (free lent : ℕ) → AreCounts counts before
+    → IsParted after free lent before → (level : ℕ) → free < level → level ≤ lent → 1 ≤ get_or counts level 0
+some_to_join counts before after free lent are parted level h k =
+    omega (
+      arith,
+      are.same level (omega (arith, parted.low)),
+      parted.counts level,
+      one_there free lent level h k,
+      none_there free level h,
+    )
+  where
+    one_there : (free lent level : ℕ) → free < level → level ≤ lent → one_between free (lent + 1) level ≡ 1
+    one_there free lent level h k = grind (arith, nat_tests)
+
+    none_there : (free level : ℕ) → free < level → one_at free level ≡ 0
+    none_there free level h = grind (arith, nat_tests)
+
+-- The counts go with the parts.
+pub parted_counts : (old new : List ℕ) (before after : List Span) (free lent : ℕ) → AreCounts old before
+    → IsParted before free lent after → AreShifted old free (lent + 1) new → AreCounts new after
+parted_counts old new before after free lent are parted shifted = record {
+  full = shifted.full ∙ are.full;
+  same = λ level h. omega (arith, are.same level h, parted.counts level, shifted.counts level h);
+}
+
+pub joined_counts : (old new : List ℕ) (before after : List Span) (free lent : ℕ) → AreCounts old before
+    → IsParted after free lent before → AreShifted new free (lent + 1) old → AreCounts new after
+joined_counts old new before after free lent are parted shifted = record {
+  full = sym shifted.full ∙ are.full;
+  same = λ level h. omega (arith, are.same level h, parted.counts level, shifted.counts level h);
+}
+
+-- A whole root is counted.
+no_count : (n level : ℕ) → get_or {A = ℕ} (replicate n 0) level 0 ≡ 0
+no_count zero level = refl
+no_count (suc n) zero = refl
+no_count (suc n) (suc level) = no_count n level
+
+pub whole_is_counted : AreCounts (1 ∷ replicate 12 0) (record { start = 0; level = 0 } ∷ [])
+whole_is_counted = record {
+  full = refl;
+  same = λ level h. at_level level ∙ sym (count-one level (record { start = 0; level = 0 }));
+}
+  where
+    past : (level : ℕ) → one_at 0 (suc level) ≡ 0
+    past level = grind (arith, nat_tests)
+
+    at_level : (level : ℕ) → get_or (1 ∷ replicate 12 0) level 0 ≡ one_at 0 level
+    at_level zero = refl
+    at_level (suc level) = no_count 12 level ∙ sym (past level)

@@ -1,0 +1,6 @@
+-- A whole root is one free leaf of level 0.
+use Rattle.ms_buddy.proofs.TreeCountLemmas.{whole_is_counted}
+use Rattle.ms_buddy.proofs.tree.SplitTree.new.Goals as goal
+
+pub invariant_of-result : goal.invariant_of-result
+invariant_of-result g c = record { tree = tt; counted = whole_is_counted }

@@ -1,0 +1,5 @@
+pub mod PlacedLemmas
+pub mod PageLemmas
+pub mod ChangeLemmas
+pub mod KeptLemmas
+pub mod LentLemmas

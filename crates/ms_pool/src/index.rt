@@ -1,0 +1,122 @@
+//! The index of the trees: of which levels each root has free leaves, and any root of a space.
+//!
+//!     root   0        1             127      128           159
+//!          +--------+--------+ .. +--------+--------+ .. +--------+
+//!          | levels | levels |    | levels | levels |    | levels |      (a bit for each level)
+//!          +--------+--------+ .. +--------+--------+ .. +--------+
+//!          |<--- all of them: space ------>|<--- class_space ---->|
+//!
+//! Kept true: what a root has, its space has too. So a search asks one number whether to look for a
+//! level at all, and looks for the root then. With each change the levels of its space are put
+//! together anew, from the first root to the last. Takes no memory.
+ghost use Rattle.std.specs.Prelude.{◌≡◌, ℕ, ◌<◌, ◌≤◌, true, false, get_or, length, replicate, IfSome, IfNone};
+ghost use Rattle.ms_buddy.specs.Leaves.{has_level};
+ghost use Rattle.ms_pool.specs.Trees.{HaveLevels, IsRootOf, all_roots};
+
+use ms_base::{CLASS_SLOTS, Level, SLOTS, Space};
+use std::marker::Model;
+
+/// How many roots there may be: two for each slot, of both spaces.
+const ROOTS: usize = 2 * (SLOTS + CLASS_SLOTS) as usize;
+/// The first of them that is of the class space.
+const FIRST_CLASS_ROOT: usize = 2 * SLOTS as usize;
+
+/// The levels of free leaves, as bits, that of level 0 the lowest. Contracts see those of each root.
+#[derive(Drop)]
+pub(crate) struct Index {
+    /// Of each root, by its number.
+    roots: [u16; ROOTS],
+    /// Of any root below those of the class space.
+    space: u16,
+    /// Of any root of the class space.
+    class_space: u16,
+}
+
+impl Model for Index {
+    ghost use Rattle.std.specs.Prelude.{List, ℕ};
+    ghost use Rattle.ms_pool.specs.Trees.{AreGathered};
+
+    ghost Value = { List ℕ };
+
+    ghost view = { λ index. index.roots };
+
+    ghost invariant = { λ index. AreGathered index.roots index.space index.class_space };
+}
+
+impl Index {
+    /// Each root has one free leaf, of level 0.
+    pub(crate) fn whole() -> Index
+        ensures { result ≡ replicate all_roots 1 }
+    {
+        let roots = [1; ROOTS];
+        Index {
+            roots,
+            space: 1,
+            class_space: 1,
+        }
+    }
+
+    /// Tells the levels of any root of a space.
+    pub(crate) fn levels(&self, space: Space) -> u16
+        ensures { HaveLevels result self.now (IsRootOf space) }
+    {
+        match space {
+            Space::NonClass => self.space,
+            Space::Class => self.class_space,
+        }
+    }
+
+    /// Tells the lowest root of a range that has a level.
+    pub(crate) fn next_root(&self, level: Level, from: usize, end: usize) -> Option<usize>
+        requires within { end ≤ all_roots }
+        ensures from { IfSome result (λ root. from ≤ root) }
+        ensures below { IfSome result (λ root. root < end) }
+        ensures lowest { IfSome result
+            (λ root. (k : ℕ) → from ≤ k → k < root → has_level (get_or self.now k 0) level ≡ false) }
+        ensures none { IfNone result
+            ((k : ℕ) → from ≤ k → k < end → has_level (get_or self.now k 0) level ≡ false) }
+    {
+        for root in from..end {
+            if has_level(self.roots[root], level) {
+                return Some(root);
+            }
+        }
+        None
+    }
+
+    /// Tells the levels of a root anew.
+    pub(crate) fn tell(&mut self, root: usize, levels: u16)
+        requires within { root < all_roots }
+        ensures here { get_or self.new root 0 ≡ levels }
+        ensures others { (other : ℕ) → (other ≡ root → ⊥) → get_or self.new other 0 ≡ get_or self.old other 0 }
+    {
+        if self.roots[root] == levels {
+            return;
+        }
+        self.roots[root] = levels;
+        if root < FIRST_CLASS_ROOT {
+            self.space = gathered(&self.roots, 0, FIRST_CLASS_ROOT);
+        } else {
+            self.class_space = gathered(&self.roots, FIRST_CLASS_ROOT, ROOTS);
+        }
+    }
+}
+
+/// Tells whether the bit of a level is set.
+pub(crate) fn has_level(levels: u16, level: Level) -> bool
+    ensures { result ≡ has_level levels level }
+{
+    levels >> level.number() & 1 == 1
+}
+
+/// The levels of all roots from one up to another.
+fn gathered(roots: &[u16; ROOTS], from: usize, end: usize) -> u16
+    requires within { end ≤ all_roots }
+    ensures { HaveLevels result roots.now (λ root. (from ≤ root) × (root < end)) }
+{
+    let mut levels = 0;
+    for root in from..end {
+        levels |= roots[root];
+    }
+    levels
+}

@@ -1,0 +1,190 @@
+//! The map of a root chunk: where it is lent and committed, place by place.
+//!
+//!     place    0     1     2     3     4     5          63
+//!           +-----+-----+-----+-----+-----+-----+- .. -+-----+
+//!     lent  |#####|#####|#####|##   |     |     |      |     |
+//!           +-----+-----+-----+-----+-----+-----+- .. -+-----+
+//!     granule  x     x           x     x
+//!     told     O     O     u     o     .     -           -
+//!
+//! A place has 8192 words, as a granule has, or as four have under policy aggressive: it is committed
+//! where one of its granules is. Nothing is kept for a map: it is read from the free leaves of its
+//! root's tree, in one walk; what lies in none of them is lent. Only the list of all maps takes memory.
+//! After HotSpot's VM.metaspace vsmap; places and what is told of them are this project's choice.
+ghost use Rattle.std.specs.Prelude.{◌≡◌, ◌+◌, ◌*◌, ◌<◌, ◌≤◌, ◌^◌, ◌++◌, cond, [], get_or, map, OnOk};
+ghost use Rattle.ms_base.specs.Part.{IsPart, is_reserved};
+ghost use Rattle.ms_base.specs.Level.{root_words, size_of};
+ghost use Rattle.ms_base.specs.Spaces.{by_space, first_class_slot};
+ghost use Rattle.ms_commit.specs.Nodes.{all_slots};
+ghost use Rattle.ms_pool.specs.Keeping.{IsKept, IsRunOf, ledger_of};
+ghost use Rattle.ms_pool.specs.Ledger.{state_in};
+ghost use Rattle.ms_pool.specs.Mapping.{AreFound, AreNoted, is_committed_in, map_in, map_of, place_by, place_in};
+ghost use Rattle.ms_pool.specs.Mapping.{maps_of, maps_of_slot, place_words, root_places};
+
+use crate::lender::Lender;
+use crate::search::granules_meeting;
+use ms_base::{ROOT_WORDS, Space, Span, granule};
+use ms_buddy::SplitTree;
+use std::alloc::{AllocError, Global};
+
+/// The words of a place.
+const PLACE_WORDS: u64 = 8192;
+/// The places of a root.
+const ROOT_PLACES: usize = 64;
+
+/// What a place of 8192 words of a root is. It is committed where one of its granules is, and lent
+/// where a chunk that is lent has a word of it.
+#[derive(Clone, Copy, Debug, PartialEq, Eq)]
+pub enum Place {
+    /// Neither lent nor committed.
+    Free,
+    /// Committed, and no word is lent.
+    FreeCommitted,
+    /// Lent, and no granule is committed.
+    LentUncommitted,
+    /// Lent and committed, and some words are free.
+    LentPartly,
+    /// Lent with all words, and committed.
+    LentWholly,
+}
+
+/// What each place of a root is. The root's number, 0 to 159, is over both spaces, two roots a slot.
+#[derive(Clone, Copy, Debug, PartialEq, Eq)]
+pub struct RootMap {
+    /// The root's number; its slot is half of it.
+    pub root: u32,
+    /// The places, in order of address.
+    pub places: [Place; ROOT_PLACES],
+}
+
+/// What leaves each place of a root meets.
+#[derive(Clone, Copy)]
+struct Found {
+    /// Whether a lent one.
+    lent: [bool; ROOT_PLACES],
+    /// Whether a free one.
+    free: [bool; ROOT_PLACES],
+}
+
+impl Place {
+    /// What a place is, by what has a word of it.
+    fn of(lent: bool, free: bool, committed: bool) -> Place
+        ensures { result ≡ place_by lent free committed }
+    {
+        match (lent, committed) {
+            (false, false) => Place::Free,
+            (false, true) => Place::FreeCommitted,
+            (true, false) => Place::LentUncommitted,
+            (true, true) if free => Place::LentPartly,
+            (true, true) => Place::LentWholly,
+        }
+    }
+}
+
+impl Lender {
+    /// Tells the map of a root of the space.
+    pub(crate) fn root_map(&self, space: Space, root: u32) -> RootMap
+        requires kept { IsKept self.now }
+        requires low { by_space space 0 (2 * first_class_slot) ≤ root }
+        requires high { root
+            < by_space space (2 * first_class_slot) (2 * (first_class_slot + self.now.nodes.class_slots)) }
+        ensures { map_in result ≡ map_of (state_in space (ledger_of self.now)) root }
+    {
+        let found = found_in(self.trees.tree(root as usize));
+        let mut map = RootMap {
+            root,
+            places: [Place::Free; ROOT_PLACES],
+        };
+        for number in 0..ROOT_PLACES {
+            map.places[number] = self.place_in(space, root, number, &found);
+        }
+        map
+    }
+
+    /// Adds the maps of the roots of the space's reserved slots.
+    pub(crate) fn push_maps(&self, space: Space, maps: &mut Vec<RootMap>) -> Result<(), AllocError>
+        requires { IsKept self.now }
+        ensures { OnOk result (map map_in maps.new.items
+            ≡ map map_in maps.old.items ++ maps_of (state_in space (ledger_of self.now))) }
+    {
+        let (first, end) = self.slots_of(space);
+        for slot in first..end {
+            self.push_slot(space, slot, maps)?;
+        }
+        Ok(())
+    }
+
+    /// Adds the maps of both roots of a slot of the space, where it is reserved.
+    fn push_slot(&self, space: Space, slot: u32, maps: &mut Vec<RootMap>) -> Result<(), AllocError>
+        requires kept { IsKept self.now }
+        requires low { by_space space 0 first_class_slot ≤ slot }
+        requires high { slot
+            < by_space space first_class_slot (first_class_slot + self.now.nodes.class_slots) }
+        ensures { OnOk result (map map_in maps.new.items
+            ≡ map map_in maps.old.items
+            ++ cond (is_reserved (all_slots self.now.nodes) slot)
+            (maps_of_slot (state_in space (ledger_of self.now)) slot) []) }
+    {
+        if self.nodes.is_reserved(slot) {
+            maps.push(self.root_map(space, 2 * slot))?;
+            maps.push(self.root_map(space, 2 * slot + 1))?;
+        }
+        Ok(())
+    }
+
+    /// Tells what a place of a root of the space is, by what was found in the root's tree.
+    fn place_in(&self, space: Space, root: u32, number: usize, found: &Found) -> Place
+        requires kept { IsKept self.now }
+        requires low { by_space space 0 (2 * first_class_slot) ≤ root }
+        requires high { root
+            < by_space space (2 * first_class_slot) (2 * (first_class_slot + self.now.nodes.class_slots)) }
+        requires within { number < root_places }
+        requires found { AreFound (get_or self.now.trees.items root []) found.now.lent found.now.free }
+        ensures { result ≡ place_in (state_in space (ledger_of self.now)) root number }
+    {
+        let start = number as u64 * PLACE_WORDS + u64::from(root) * ROOT_WORDS;
+        let committed = self.has_granule(space, start);
+        Place::of(found.lent[number], found.free[number], committed)
+    }
+
+    /// Tells whether a granule of a place is committed.
+    fn has_granule(&self, space: Space, start: u64) -> bool
+        requires kept { IsKept self.now }
+        requires inside { IsRunOf space start place_words }
+        requires fits { start + place_words < 2 ^ 63 }
+        ensures { result ≡ is_committed_in (state_in space (ledger_of self.now)) start }
+    {
+        let (first, count) = granules_meeting(granule(self.policy), start, PLACE_WORDS);
+        self.nodes.missing(first, count) < count
+    }
+}
+
+/// Tells what leaves each place of a root meets, in one walk over the free ones: at first all are lent.
+fn found_in(tree: &SplitTree<Global>) -> Found
+    ensures { AreFound tree.now result.lent result.free }
+{
+    let mut found = Found {
+        lent: [true; ROOT_PLACES],
+        free: [false; ROOT_PLACES],
+    };
+    for part in tree.free_leaves() {
+        note(&mut found, part);
+    }
+    found
+}
+
+/// Notes a free leaf: the places that it meets are free, and lent no more where they lie in it.
+fn note(found: &mut Found, part: Span)
+    requires placed { IsPart part.start part.level }
+    requires within { part.start + size_of part.level ≤ root_words }
+    ensures { AreNoted part found.old.lent found.old.free found.new.lent found.new.free }
+{
+    let words = part.level.words();
+    let whole = PLACE_WORDS <= words;
+    let first = (part.start / PLACE_WORDS) as usize;
+    let end = ((part.start + words + (PLACE_WORDS - 1)) / PLACE_WORDS) as usize;
+    for number in first..end {
+        found.lent[number] = found.lent[number] & !whole;
+        found.free[number] = true;
+    }
+}

@@ -1,0 +1,89 @@
+-- Loaders one after the other: sums over those of a kind, and what each holds. `sum_one` and `push_all` use
+-- these.
+use Rattle.std.proofs.Common.{◌≡◌, ◌<◌, ◌+◌, ℕ, true, false, List, [], ◌∷◌, ◌++◌, length, map, take, drop}
+use Rattle.std.proofs.Common.{get_or}
+use Rattle.std.proofs.Common.{refl, sym, ap, ◌∙◌, arith}
+use Rattle.std.specs.List.{filter, sum_by}
+use Rattle.std.proofs.lemmas.List.{map-append, take_more, drop_more, length-append, append-nil, append_assoc}
+use Rattle.std.proofs.lemmas.List.Elements.{filter-append}
+use Rattle.std.proofs.lemmas.List.Sums.{sum_by-append, sum_by-cons}
+use Rattle.ms_base.specs.declared.kind.Kind.{Kind}
+use Rattle.ms_loaders.specs.Details.{LoaderSums, loader_in}
+use Rattle.ms_loaders.specs.declared.details.LoaderDetails.{LoaderDetails}
+use Rattle.ms_report.specs.declared.kinds.KindTotals.{KindTotals}
+use Rattle.ms_report.specs.Holdings.{holdings, all_holdings}
+use Rattle.ms_report.specs.Kinds.{IsBelow, in_both, is_of, same_kind, sums_over, with_loader}
+
+-- A sum with one more loader.
+sum_more : (amount : LoaderSums → ℕ) (loaders : List LoaderSums) (loader : LoaderSums)
+    → sum_by amount (loaders ++ loader ∷ []) ≡ sum_by amount loaders + amount loader
+sum_more amount loaders loader =
+    omega (arith, sum_by-append amount loaders (loader ∷ []), sum_by-cons amount loader [])
+
+-- So are all sums.
+sums_more : (loaders : List LoaderSums) (loader : LoaderSums)
+    → sums_over (loaders ++ loader ∷ []) ≡ with_loader (sums_over loaders) loader
+sums_more loaders loader =
+    rw (
+      length-append loaders (loader ∷ []),
+      sum_more (in_both (λ arena. arena.chunks)) loaders loader,
+      sum_more (in_both (λ arena. arena.capacity)) loaders loader,
+      sum_more (in_both (λ arena. arena.fronts)) loaders loader,
+      sum_more (in_both (λ arena. arena.used)) loaders loader,
+      sum_more (in_both (λ arena. arena.live)) loaders loader,
+      sum_more (in_both (λ arena. arena.free_blocks)) loaders loader,
+      sum_more (in_both (λ arena. arena.waste)) loaders loader,
+    ) refl
+
+-- The loaders of a kind among the first ones: one more of the kind, or of another.
+abbrev pub kind_first : Kind → ℕ → List LoaderDetails → List LoaderSums
+kind_first kind at loaders = filter (is_of kind) (map loader_in (take at loaders))
+
+first_more : (kind : Kind) (loaders : List LoaderDetails) (at : ℕ) (other loader : LoaderDetails) → at < length loaders
+    → loader ≡ get_or loaders at other
+    → kind_first kind (at + 1) loaders
+    ≡ kind_first kind at loaders ++ filter (is_of kind) (loader_in loader ∷ [])
+first_more kind loaders at other loader more is =
+    ap (λ (l : List LoaderDetails). filter (is_of kind) (map loader_in l))
+    (take_more loaders at other more ∙ ap (λ (d : LoaderDetails). take at loaders ++ d ∷ []) (sym is))
+    ∙ ap (filter (is_of kind)) (map-append loader_in (take at loaders) (loader ∷ []))
+    ∙ filter-append (is_of kind) (map loader_in (take at loaders)) (loader_in loader ∷ [])
+
+pub one_of_kind : (kind : Kind) (loaders : List LoaderDetails) (at : ℕ) (other loader : LoaderDetails)
+    → at < length loaders → loader ≡ get_or loaders at other → same_kind kind loader.kind ≡ true
+    → sums_over (kind_first kind (at + 1) loaders)
+    ≡ with_loader (sums_over (kind_first kind at loaders)) (loader_in loader)
+one_of_kind kind loaders at other loader more is same =
+    rw (first_more kind loaders at other loader more is, same)
+    (sums_more (kind_first kind at loaders) (loader_in loader))
+
+pub one_of_other : (kind : Kind) (loaders : List LoaderDetails) (at : ℕ) (other loader : LoaderDetails)
+    → at < length loaders → loader ≡ get_or loaders at other → same_kind kind loader.kind ≡ false
+    → sums_over (kind_first kind (at + 1) loaders) ≡ sums_over (kind_first kind at loaders)
+one_of_other kind loaders at other loader more is differ =
+    rw (first_more kind loaders at other loader more is, differ, append-nil (kind_first kind at loaders)) refl
+
+-- What is less than so many is less than more.
+pub below_more : (count : ℕ) (totals : KindTotals) → IsBelow count totals → IsBelow (count + 1) totals
+below_more count totals below = record {
+  loaders = omega (arith, below.loaders);
+  chunks = omega (arith, below.chunks);
+  capacity = omega (arith, below.capacity);
+  fronts = omega (arith, below.fronts);
+  used = omega (arith, below.used);
+  live = omega (arith, below.live);
+  free_blocks = omega (arith, below.free_blocks);
+  waste = omega (arith, below.waste);
+}
+
+-- What the next loader holds, and then the later ones.
+pub holdings_more : (whole old new : List ℕ) (loaders : List LoaderDetails) (at : ℕ) (other loader : LoaderDetails)
+    → at < length loaders → loader ≡ get_or loaders at other
+    → whole ≡ old ++ all_holdings (map loader_in (drop at loaders)) → new ≡ old ++ holdings (loader_in loader)
+    → whole ≡ new ++ all_holdings (map loader_in (drop (at + 1) loaders))
+holdings_more whole old new loaders at other loader more is so_far added =
+    let later : List ℕ = all_holdings (map loader_in (drop (at + 1) loaders)) in
+    so_far
+    ∙ ap (λ (l : List LoaderDetails). old ++ all_holdings (map loader_in l)) (drop_more loaders at other more)
+    ∙ ap (λ (d : LoaderDetails). old ++ (holdings (loader_in d) ++ later)) (sym is)
+    ∙ sym (append_assoc old (holdings (loader_in loader)) later) ∙ ap (λ (t : List ℕ). t ++ later) (sym added)

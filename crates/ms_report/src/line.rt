@@ -1,0 +1,93 @@
+//! A line of a table that is written from its end.
+//!
+//!     |  blank           400        12\n|      the last number first, with the spaces before it
+//!                ^ from here on it is written
+//!
+//! Kept true: what stands before the bytes written so far is blank, and these are ASCII. A line is
+//! appended to a text in one go, and takes memory then alone.
+ghost use Rattle.std.specs.Prelude.{◌≡◌, ◌≤◌, ◌+◌, ◌++◌, OnOk, IsAscii, string_bytes, decimal, codes, length};
+ghost use Rattle.ms_report.specs.Layout.{right_in};
+
+use itoa::write_digits;
+use std::alloc::AllocError;
+use std::marker::Model;
+use std::str::from_utf8_unchecked;
+
+/// The bytes of a line: seven numbers of twenty digits, the line's end, and fifty for words.
+const ROOM: usize = 192;
+
+/// The place of the line's end.
+const LAST: usize = ROOM - 1;
+
+/// A line that is written from its end. Contracts see what is written so far.
+#[derive(Drop)]
+pub struct Line {
+    bytes: [u8; ROOM],
+    from: usize,
+}
+
+impl Model for Line {
+    ghost use Rattle.std.specs.Prelude.{List, ℕ, drop};
+    ghost use Rattle.ms_report.specs.Cells.{IsLine};
+
+    ghost Value = { List ℕ };
+
+    ghost view = { λ line. drop line.from line.bytes };
+
+    ghost invariant = { λ line. IsLine line.from line.bytes };
+}
+
+impl Line {
+    /// Makes the line's end.
+    #[inline(always)]
+    pub fn end() -> Line
+        ensures { result ≡ codes "\n" }
+    {
+        let mut bytes = [b' '; ROOM];
+        bytes[LAST] = b'\n';
+        Line { bytes, from: LAST }
+    }
+
+    /// Puts a number before what is written, right in its places.
+    #[inline(always)]
+    pub fn put_right(&mut self, places: usize, number: u64)
+        requires places { places ≤ 20 }
+        requires room { length self.old + 20 ≤ 192 }
+        ensures written { self.new ≡ right_in places (decimal number) ++ self.old }
+        ensures near { length self.new ≤ length self.old + 20 }
+    {
+        let end = self.from;
+        let start = write_digits(number, &mut self.bytes, end);
+        self.from = start.min(end - places);
+    }
+
+    /// Puts a word before what is written.
+    #[inline(always)]
+    pub fn put_word(&mut self, word: &str)
+        requires ascii { IsAscii word.now }
+        requires room { length self.old + length word.now ≤ 192 }
+        ensures { self.new ≡ word.now ++ self.old }
+    {
+        let end = self.from;
+        let start = end - word.len();
+        self.bytes[start..end].copy_from_slice(word.as_bytes());
+        self.from = start;
+    }
+
+    /// Appends the line to a text.
+    #[inline(always)]
+    pub fn push_to(&self, text: &mut String) -> Result<(), AllocError>
+        ensures { OnOk result (string_bytes text.new ≡ string_bytes text.old ++ self.now) }
+    {
+        push_ascii(text, &self.bytes[self.from..])
+    }
+}
+
+/// Appends bytes that are ASCII, and so a text.
+#[inline(always)]
+pub fn push_ascii(text: &mut String, bytes: &[u8]) -> Result<(), AllocError>
+    requires { IsAscii bytes.now }
+    ensures { OnOk result (string_bytes text.new ≡ string_bytes text.old ++ bytes.now) }
+{
+    text.push_str(unsafe { from_utf8_unchecked(bytes) })
+}

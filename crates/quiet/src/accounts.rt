@@ -1,0 +1,165 @@
+//! The row of a pool: accounts are opened, grow and are closed, and nodes are purged.
+ghost use Rattle.std.specs.Prelude.{◌≡◌, ◌<◌, IfOk, IfSome, IsTrue};
+ghost use Rattle.ms_pool.specs.Account.{has_chunk_at};
+ghost use Rattle.ms_pool.specs.Ledger.{Serves};
+
+use crate::row::{SETTINGS, mark, unprepared};
+use ms_base::{Chunk, Level, Refusal, Space, Span};
+use ms_pool::{Account, ChunkSource, Pool};
+use std::alloc::Global;
+use std::io;
+
+/// Tells the row.
+pub fn tell(rt: &HostRuntime) -> io::Result<()> {
+    let (mut pool, account) = lent(rt.alloc())?;
+    mark(rt, "accounts")?;
+    tell_held(rt, &mut pool, account)?;
+    tell_calls(rt, &mut pool)
+}
+
+/// Has an account grow, and closes it.
+fn tell_held(rt: &HostRuntime, pool: &mut Pool, account: Account) -> io::Result<()>
+    requires { Serves pool.old account }
+{
+    let mut account = account;
+    tell_pool(rt, pool)?;
+    println!(rt; "accounts grow {:?}", grow(pool, &mut account))?;
+    tell_account(rt, &account)?;
+    println!(rt; "accounts totals {:?}", pool.totals(&account))?;
+    close(pool, account);
+    Ok(())
+}
+
+/// Opens and closes accounts, and purges.
+fn tell_calls(rt: &HostRuntime, pool: &mut Pool) -> io::Result<()> {
+    tell_pool(rt, pool)?;
+    tell_opened(rt, pool)?;
+    tell_both(rt, pool)?;
+    println!(rt; "accounts purge {}", pool.purge())?;
+    tell_pool(rt, pool)
+}
+
+/// Makes a pool and an account of it that holds a chunk.
+fn lent(alloc: Global) -> io::Result<(Pool, Account)>
+    ensures { IfOk result (λ made. Serves made.0 made.1) }
+{
+    let mut pool = Pool::new(alloc, SETTINGS)?;
+    match pool.open(Space::NonClass) {
+        Ok(account) => with_chunk(pool, account),
+        Err(_) => Err(unprepared()),
+    }
+}
+
+/// Lends an account a chunk.
+fn with_chunk(pool: Pool, account: Account) -> io::Result<(Pool, Account)>
+    requires { Serves pool account }
+    ensures { IfOk result (λ made. Serves made.0 made.1) }
+{
+    let (mut pool, mut account) = (pool, account);
+    let level = Level::new(12);
+    match ChunkSource::take(&mut pool, &mut account, level, level, 10) {
+        Ok(_) => Ok((pool, account)),
+        Err(_) => Err(unprepared()),
+    }
+}
+
+/// Has the first chunk of an account grow to its parent.
+fn grow(pool: &mut Pool, account: &mut Account) -> Option<Result<Span, Refusal>>
+    requires { Serves pool.old account.old }
+    ensures { Serves pool.new account.new }
+{
+    let chunk = first_chunk(account)?;
+    let total = 2 * chunk.level.words();
+    Some(ChunkSource::grow(pool, account, chunk.start, total, true))
+}
+
+/// Tells the first chunk of an account.
+pub fn first_chunk(account: &Account) -> Option<Chunk>
+    ensures { IfSome result
+        (λ chunk. IsTrue (has_chunk_at account.now.chunks chunk.start)) }
+{
+    if account.held() == 0 {
+        return None;
+    }
+    Some(account.chunk(0))
+}
+
+/// Opens an account of classes, and closes it.
+fn tell_opened(rt: &HostRuntime, pool: &mut Pool) -> io::Result<()> {
+    match pool.open(Space::Class) {
+        Ok(account) => {
+            tell_account(rt, &account)?;
+            close(pool, account);
+            Ok(())
+        }
+        Err(refusal) => println!(rt; "accounts {refusal}"),
+    }
+}
+
+/// Opens both accounts of a loader, and closes them.
+fn tell_both(rt: &HostRuntime, pool: &mut Pool) -> io::Result<()> {
+    match pool.open_both() {
+        Ok((account, class_account)) => {
+            tell_account(rt, &account)?;
+            tell_account(rt, &class_account)?;
+            close_both(pool, account, class_account);
+            Ok(())
+        }
+        Err(refusal) => println!(rt; "accounts {refusal}"),
+    }
+}
+
+/// Closes an account, where one of its space is counted as open.
+fn close(pool: &mut Pool, account: Account)
+    requires { Serves pool.old account }
+{
+    if pool.all_totals(account.space()).accounts > 0 {
+        pool.close(account);
+    }
+}
+
+/// Closes an account of each space, where one is counted as open.
+fn close_both(pool: &mut Pool, account: Account, class_account: Account)
+    requires served { Serves pool.old account }
+    requires class_served { Serves pool.old class_account }
+{
+    let counted = pool.all_totals(Space::NonClass).accounts > 0;
+    if !counted || account.space() != Space::NonClass {
+        return;
+    }
+    let class_counted = pool.all_totals(Space::Class).accounts > 0;
+    if !class_counted || class_account.space() != Space::Class {
+        return;
+    }
+    pool.close_both(account, class_account);
+}
+
+/// Tells an account: its owner's number, its space, and its chunks in the order taken.
+pub fn tell_account(rt: &HostRuntime, account: &Account) -> io::Result<()> {
+    print!(rt; "account {} {:?}", account.owner(), account.space())?;
+    for place in 0..account.held() {
+        print!(rt; " {:?}", account.chunk(place))?;
+    }
+    println!(rt; "")
+}
+
+/// Tells a pool: its sums, what counts beside the limits, and who holds some words.
+fn tell_pool(rt: &HostRuntime, pool: &Pool) -> io::Result<()> {
+    for space in [Space::NonClass, Space::Class] {
+        println!(rt; "accounts {space:?} {:?}", pool.all_totals(space))?;
+    }
+    println!(rt; "accounts counts {:?} {:?}", pool.counts(), pool.policy())?;
+    print!(rt;
+        "accounts {} open, {} granules",
+        pool.accounts(),
+        pool.committed()
+    )?;
+    for word in [0, 128, 67108864] {
+        print!(rt;
+            " {:?} {}",
+            pool.owner_of(word),
+            pool.is_committed(word / 8192)
+        )?;
+    }
+    println!(rt; "")
+}

@@ -1,0 +1,46 @@
+//! The row of sizes: the words of levels and granules, and how loaders grow.
+ghost use Rattle.std.specs.Prelude.{◌≤◌};
+
+use crate::row::mark;
+use ms_base::{Kind, Level, Policy, Space, granule, growth, level_for, share_word};
+use std::io;
+
+/// Tells the row.
+pub fn tell(rt: &HostRuntime) -> io::Result<()> {
+    mark(rt, "sizes")?;
+    for number in 0..13 {
+        tell_level(rt, number)?;
+    }
+    for words in [0, 128, 129, 5000, 262145, 524288, 524289] {
+        println!(rt; "sizes words {words} {:?}", level_for(words))?;
+    }
+    for kind in [Kind::Standard, Kind::Boot, Kind::Reflection, Kind::Hidden] {
+        tell_growth(rt, kind)?;
+    }
+    for policy in [Policy::Balanced, Policy::Aggressive, Policy::None] {
+        println!(rt; "sizes granule {policy:?} {}", granule(policy))?;
+    }
+    println!(rt;
+        "sizes share {} {}",
+        share_word(0, 10, 9, 2),
+        share_word(0, 10, 10, 2)
+    )
+}
+
+/// Tells the words of a level.
+fn tell_level(rt: &HostRuntime, number: u8) -> io::Result<()>
+    requires { number ≤ 12 }
+{
+    let level = Level::new(number);
+    println!(rt; "sizes level {} {}", level.number(), level.words())
+}
+
+/// Tells the levels of a loader's first chunks.
+fn tell_growth(rt: &HostRuntime, kind: Kind) -> io::Result<()> {
+    for chunks in 0..5 {
+        let level = growth(kind, Space::NonClass, chunks);
+        let class_level = growth(kind, Space::Class, chunks);
+        println!(rt; "sizes growth {kind:?} {chunks} {level:?} {class_level:?}")?;
+    }
+    Ok(())
+}
