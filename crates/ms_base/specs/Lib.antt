@@ -18,8 +18,6 @@ pub mod State
 pub mod Live
 pub mod Good
 -- what the pool answers
-pub mod Pick
-pub mod Causes
 pub mod PoolSteps
 -- what only an arena cites, but for the level that the machine's request wants
 pub mod Place
@@ -29,20 +27,7 @@ pub mod Request
 pub mod ReplyText
 pub mod Transition
 pub mod Run
--- what one loader's lines say by themselves
-pub mod Alone
 -- what a report shows
 pub mod Totals
--- steps spread over events, and their serial order
-pub mod Event
-pub mod Spread
-pub mod Serial
 -- laws about these, each the contract of a function of `laws`
 pub mod Laws
-pub mod FreeLaws
-pub mod LevelLaws
-pub mod SumLaws
-pub mod BlockLaws
-pub mod WordLaws
-pub mod PeakLaws
-pub mod SpreadLaws

@@ -21,7 +21,7 @@ use Rattle.ms_base.specs.Held.{has_chunk_in}
 use Rattle.ms_base.specs.Names.{named, with_new, with_changed, without}
 use Rattle.ms_base.specs.Front.{front_for}
 use Rattle.ms_base.specs.PoolSteps.{slots_with}
-use Rattle.ms_base.specs.Causes.{ReserveCause, CommitCause}
+use Rattle.ms_base.specs.PoolSteps.Causes.{ReserveCause, CommitCause}
 use Rattle.ms_base.specs.State.{ArenaState, LoaderState, Machine, empty_loader, arena_of, with_arena, chunks_held}
 use Rattle.ms_base.specs.State.{slots_in, with_slots, pool_of, recommitted}
 use Rattle.ms_base.specs.Live.{block_words}

@@ -10,7 +10,7 @@ use Rattle.std.proofs.lemmas.List.Elements.{filter_agree}
 use Rattle.std.proofs.lemmas.List.FromFn.{length-range_with_len}
 use Rattle.ms_base.specs.Committed.{is_among}
 use Rattle.ms_commit.specs.NumberSet.{is_in_range, with_range, without_range, without_number, count_within, IsSetBelow}
-use Rattle.ms_base.specs.Pick.{lowest_unreserved}
+use Rattle.ms_base.specs.PoolSteps.Pick.{lowest_unreserved}
 use Rattle.ms_commit.specs.Mask.{is_set, members_of, IsLowestClear}
 use Rattle.ms_commit.proofs.RangeLemmas.{filter_agree_in, filter_all_in, filter-filter}
 use Rattle.ms_commit.proofs.MaskLemmas.{is_among-members}

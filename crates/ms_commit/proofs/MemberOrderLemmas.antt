@@ -10,7 +10,7 @@ use Rattle.std.proofs.lemmas.Bool.{cases_eq}
 use Rattle.std.proofs.lemmas.Bool.Decides.{nat_tests}
 use Rattle.std.proofs.lemmas.List.{length-append}
 use Rattle.std.proofs.lemmas.List.FromFn.{length-range_with_len}
-use Rattle.ms_base.specs.Pick.{lowest_unreserved}
+use Rattle.ms_base.specs.PoolSteps.Pick.{lowest_unreserved}
 use Rattle.ms_base.specs.Committed.{is_among}
 use Rattle.ms_commit.specs.NumberSet.{is_in_range}
 use Rattle.ms_commit.proofs.RangeLemmas.{or_true, or_false, filter-cut, filter_agree_in, filter_all_in}

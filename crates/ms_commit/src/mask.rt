@@ -15,7 +15,7 @@ ghost use Rattle.std.specs.List.{filter, range_with_len};
 ghost use Rattle.ms_commit.specs.Mask.{is_one, is_set, IsLowestClear};
 ghost use Rattle.std.specs.Ordering.{nat_cmp};
 ghost use Rattle.std.specs.BTreeSet.{insert_key};
-ghost use Rattle.ms_base.specs.Pick.{lowest_unreserved};
+ghost use Rattle.ms_base.specs.PoolSteps.Pick.{lowest_unreserved};
 ghost use Rattle.ms_base.specs.Committed.{is_among};
 ghost use Rattle.ms_commit.specs.NumberSet.{count_within, with_range, without_range, without_number, IsSetBelow};
 

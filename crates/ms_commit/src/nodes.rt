@@ -19,7 +19,7 @@ ghost use Rattle.std.specs.Prelude.{◌≡◌, ℕ, ◌≤◌, ◌+◌, ◌^◌,
 ghost use Rattle.std.specs.Prelude.{OnOk, OnErr, length};
 ghost use Rattle.ms_base.specs.Part.{is_reserved};
 ghost use Rattle.ms_base.specs.declared.sizes.TheConstants.{SLOTS, CLASS_SLOTS};
-ghost use Rattle.ms_base.specs.Pick.{lowest_unreserved};
+ghost use Rattle.ms_base.specs.PoolSteps.Pick.{lowest_unreserved};
 ghost use Rattle.ms_base.specs.Committed.{is_among};
 ghost use Rattle.ms_commit.specs.NumberSet.{count_missing};
 ghost use Rattle.ms_commit.specs.Nodes.{IsGranuleSize, all_slots, no_nodes, AreInReserved, with_slot, without_slot};

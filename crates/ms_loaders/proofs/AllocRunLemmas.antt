@@ -12,7 +12,7 @@ use Rattle.ms_base.specs.Part.{slot_of}
 use Rattle.ms_base.specs.PoolSteps.{grown, slots_with}
 use Rattle.ms_base.specs.Spaces.{by_space, is_in, other_space}
 use Rattle.ms_base.specs.State.{committed_now}
-use Rattle.ms_base.specs.Pick.{granule_in, has_committed}
+use Rattle.ms_base.specs.PoolSteps.Pick.{granule_in, has_committed}
 use Rattle.ms_base.proofs.arena.BlockLemmas.{not_in_other}
 use Rattle.ms_base.proofs.granules.GranuleCountLemmas.{committed_in_slots, committed_with_slot, meets_front}
 use Rattle.ms_base.proofs.granules.GranuleGrowingLemmas.{meets_further}

@@ -18,8 +18,8 @@ use Rattle.ms_base.specs.Front.{HasFront}
 use Rattle.ms_base.specs.Held.{meets_chunk, words_of}
 use Rattle.ms_base.specs.Committed.{is_among, is_committed, is_committed_now, committed_with, granules_of}
 use Rattle.ms_base.specs.State.{PoolState}
-use Rattle.ms_base.specs.Pick.{granule_in, has_committed}
-use Rattle.ms_base.specs.Causes.{granules_missing}
+use Rattle.ms_base.specs.PoolSteps.Pick.{granule_in, has_committed}
+use Rattle.ms_base.specs.PoolSteps.Causes.{granules_missing}
 use Rattle.ms_base.specs.Good.{IsSoundPool}
 use Rattle.ms_base.specs.Laws.{is_number}
 use Rattle.ms_base.proofs.runs.ApartLemmas.{All-rest_of, All-middle_of, list_any-with, meet_turned}

@@ -17,8 +17,8 @@ use Rattle.ms_base.specs.Level.{size_of}
 use Rattle.ms_base.specs.Part.{IsPart}
 use Rattle.ms_base.specs.Committed.{is_among, granules_meeting}
 use Rattle.ms_base.specs.State.{PoolState}
-use Rattle.ms_base.specs.Pick.{granule_in, has_committed}
-use Rattle.ms_base.specs.Causes.{granules_missing}
+use Rattle.ms_base.specs.PoolSteps.Pick.{granule_in, has_committed}
+use Rattle.ms_base.specs.PoolSteps.Causes.{granules_missing}
 use Rattle.ms_base.specs.Laws.{is_number}
 use Rattle.ms_base.proofs.granules.PolicyLemmas.{IsGranule, granule_is_level, granule_some}
 use Rattle.ms_base.proofs.granules.FreeGranuleLemmas.{bounds_meet, meeting_lies_in, meets_bounds}

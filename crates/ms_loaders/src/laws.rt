@@ -2,8 +2,8 @@
 //! the state are those of whole steps, one after another. It is the contract of a function that does
 //! nothing, and speaks of the model alone: what happens at an event (`Event` in the specs of
 //! `ms_base`), how steps are spread over events (`Spread`), and when each counts as done (`Serial`).
-ghost use Rattle.ms_base.specs.SpreadLaws.{SpreadsAreSerial};
-ghost use Rattle.ms_base.specs.SumLaws.{NoLoaderHoldsNothing};
+ghost use Rattle.ms_base.specs.Laws.Spread.{SpreadsAreSerial};
+ghost use Rattle.ms_base.specs.Laws.Sum.{NoLoaderHoldsNothing};
 
 /// Says what spreads of steps over events come to: from a good state the state is good after each
 /// event, no loader's event changes what is another's, and the steps in the order of their places

@@ -12,7 +12,7 @@ ghost use Rattle.ms_base.specs.Good.{IsGood};
 ghost use Rattle.ms_base.specs.Transition.{Transition, LacksLoader};
 ghost use Rattle.ms_base.specs.Run.{Run};
 ghost use Rattle.ms_base.specs.Names.{named};
-ghost use Rattle.ms_base.specs.SumLaws.{HoldsNothing};
+ghost use Rattle.ms_base.specs.Laws.Sum.{HoldsNothing};
 ghost use Rattle.ms_loaders.specs.System.{HasNoValue, IsNoRefusal, reply_of};
 ghost use Rattle.ms_loaders.specs.Sums.{sums_in};
 ghost use Rattle.ms_loaders.specs.Used.{used_if};

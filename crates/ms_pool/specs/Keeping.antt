@@ -7,7 +7,7 @@ use Rattle.ms_base.specs.Level.{root_words}
 use Rattle.ms_base.specs.Part.{is_reserved, node_words}
 use Rattle.ms_base.specs.Policy.{granule_of}
 use Rattle.ms_base.specs.Spaces.{first_class_slot}
-use Rattle.ms_base.specs.Pick.{lowest_unreserved}
+use Rattle.ms_base.specs.PoolSteps.Pick.{lowest_unreserved}
 use Rattle.ms_commit.specs.Nodes.{NodesState, AreSound, all_slots, granules_in, slots_of, with_slot}
 use Rattle.ms_buddy.specs.Leaves.{LentLeaf, AreLeaves}
 use Rattle.ms_pool.specs.Counting.{AreCounted, counted_in}

@@ -8,8 +8,8 @@ use Rattle.ms_base.specs.Level.{root_words}
 use Rattle.ms_base.specs.Committed.{is_among, granules_meeting}
 use Rattle.ms_base.specs.FreeParts.{free_in_slot, free_parts}
 use Rattle.ms_base.specs.State.{PoolState}
-use Rattle.ms_base.specs.Pick.{candidates, found_at, is_committed_enough, levels_down, levels_up, picked}
-use Rattle.ms_base.specs.Causes.{granules_missing, meets_reserve_limit}
+use Rattle.ms_base.specs.PoolSteps.Pick.{candidates, found_at, is_committed_enough, levels_down, levels_up, picked}
+use Rattle.ms_base.specs.PoolSteps.Causes.{granules_missing, meets_reserve_limit}
 use Rattle.ms_buddy.specs.Leaves.{LentLeaf, free_of}
 
 -- The words of the smallest granule of all policies.

@@ -11,7 +11,7 @@ ghost use Rattle.ms_pool.specs.Growing.{has_room, reached};
 ghost use Rattle.ms_pool.specs.Releasing.{is_lent_in, with_released};
 ghost use Rattle.ms_base.specs.Spaces.{by_space, first_class_slot};
 ghost use Rattle.ms_base.specs.Front.{front_for};
-ghost use Rattle.ms_base.specs.Pick.{lowest_unreserved};
+ghost use Rattle.ms_base.specs.PoolSteps.Pick.{lowest_unreserved};
 ghost use Rattle.ms_commit.specs.Nodes.{AreInReserved, AreSound, all_slots, granules_with, slots_of, with_granules};
 ghost use Rattle.ms_pool.specs.Account.{has_chunk_at};
 ghost use Rattle.ms_pool.specs.Lending.{Adds, Grows, MayTake, span_of};

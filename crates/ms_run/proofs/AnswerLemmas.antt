@@ -12,7 +12,7 @@ use Rattle.ms_base.specs.declared.step.Step.{Step}
 use Rattle.ms_base.specs.declared.step.Step.TheVariants.{New}
 use Rattle.ms_base.specs.declared.step.Reply.{Reply}
 use Rattle.ms_base.specs.declared.step.Reply.TheVariants.{Ok as Done, At, Refused}
-use Rattle.ms_base.specs.Alone.{OwnReply}
+use Rattle.ms_base.specs.Run.Alone.{OwnReply}
 use Rattle.ms_base.specs.Names.{named, with_new}
 use Rattle.ms_base.specs.Request.{alloc_in}
 use Rattle.ms_base.proofs.entries.LookupLemmas.{named_new_same, named_new_other, named_changed_same}

@@ -11,7 +11,7 @@ use Rattle.ms_base.specs.declared.step.Step.{Step}
 use Rattle.ms_base.specs.declared.step.Step.TheVariants.{New, Alloc, Calloc, Write, Read, Free, Unload, Purge}
 use Rattle.ms_base.specs.declared.step.Reply.{Reply}
 use Rattle.ms_base.specs.declared.step.Reply.TheVariants.{Ok as Done, At, Value, Refused}
-use Rattle.ms_base.specs.Alone.{OwnReply}
+use Rattle.ms_base.specs.Run.Alone.{OwnReply}
 use Rattle.ms_base.specs.Names.{AreNamed, named, without}
 use Rattle.ms_base.specs.Request.{loader_of}
 use Rattle.ms_base.proofs.entries.LookupLemmas.{named_changed_same, named_without_other}

@@ -32,7 +32,7 @@ use Rattle.ms_base.specs.Asks.{asks_growth}
 use Rattle.ms_base.specs.State.{ArenaState, arena_of}
 use Rattle.ms_base.specs.Transition.{zeroed}
 use Rattle.ms_base.specs.Request.{alloc_in}
-use Rattle.ms_base.specs.Alone.{OwnLoader, IsAllocWant, CanAlloc, AddsOwnBlock, AnswersAlloc, OwnReply}
+use Rattle.ms_base.specs.Run.Alone.{OwnLoader, IsAllocWant, CanAlloc, AddsOwnBlock, AnswersAlloc, OwnReply}
 use Rattle.ms_base.proofs.entries.EntryLemmas.{Gap, gap_at}
 use Rattle.ms_base.proofs.entries.LookupLemmas.{named_changed_same}
 use Rattle.ms_base.proofs.runs.ApartLemmas.{list_all-rest_of}

@@ -5,7 +5,7 @@ use Rattle.ms_base.specs.declared.step.Step.TheVariants.{New, Unload}
 use Rattle.ms_base.specs.declared.step.Reply.TheVariants.{Ok as Done, Refused}
 use Rattle.ms_base.specs.declared.refusal.Refusal.{Refusal}
 use Rattle.ms_base.specs.declared.refusal.Refusal.TheVariants.{LoaderExists, NoLoader, IdsUsedUp}
-use Rattle.ms_base.specs.Alone.{OwnLoader, OwnReply}
+use Rattle.ms_base.specs.Run.Alone.{OwnLoader, OwnReply}
 use Rattle.ms_base.specs.Names.{AreNamed, named, without}
 use Rattle.ms_base.proofs.events.SeenEntryLemmas.{named_without_same}
 use Rattle.ms_loaders.specs.Loader.{LoaderView}

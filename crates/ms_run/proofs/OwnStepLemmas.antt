@@ -29,7 +29,7 @@ use Rattle.ms_base.specs.Good.{IsGood}
 use Rattle.ms_base.specs.Transition.{HasLoader, Transition, Leaves, Cause, NewCause, AllocCause, BlockCause, WordCause}
 use Rattle.ms_base.specs.Transition.{ServesStep, Makes, Allocates, Writes, Reads, Frees, Unloads, with_allocated}
 use Rattle.ms_base.specs.Transition.{with_block, with_freed, zeroed}
-use Rattle.ms_base.specs.Alone.{OwnLoader, OwnReply}
+use Rattle.ms_base.specs.Run.Alone.{OwnLoader, OwnReply}
 use Rattle.ms_base.proofs.entries.LookupLemmas.{named_changed_same, named_changed_other, named_new_same}
 use Rattle.ms_base.proofs.entries.LookupLemmas.{named_new_other, named_without_other}
 use Rattle.ms_base.proofs.events.SeenEntryLemmas.{all_values, named_without_same}

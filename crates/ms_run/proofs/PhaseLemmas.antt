@@ -19,7 +19,7 @@ use Rattle.ms_base.specs.Names.{named, AreNamed}
 use Rattle.ms_base.specs.Request.{loader_of, is_name}
 use Rattle.ms_base.specs.State.{LoaderState, Machine}
 use Rattle.ms_base.specs.Good.{IsGood}
-use Rattle.ms_base.specs.Alone.{OwnLoader, OwnReplies}
+use Rattle.ms_base.specs.Run.Alone.{OwnLoader, OwnReplies}
 use Rattle.ms_trace.specs.declared.trace.Line.{Line}
 use Rattle.ms_loaders.specs.declared.replies.Answer.{Answer}
 use Rattle.ms_loaders.specs.Loader.{LoaderView}

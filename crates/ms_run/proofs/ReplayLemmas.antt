@@ -33,7 +33,7 @@ use Rattle.ms_base.specs.Request.{loader_of, is_name}
 use Rattle.ms_base.specs.State.{Limits, Machine, empty_machine, limits_of, pool_of}
 use Rattle.ms_base.specs.Good.{IsGood, IsSoundLoader, IsSoundPool}
 use Rattle.ms_base.specs.Transition.{Transition}
-use Rattle.ms_base.specs.Alone.{OwnLoader}
+use Rattle.ms_base.specs.Run.Alone.{OwnLoader}
 use Rattle.ms_trace.specs.declared.trace.Command.{Command}
 use Rattle.ms_trace.specs.declared.trace.Command.TheVariants.{Step as Asks, Sync, Report}
 use Rattle.ms_trace.specs.declared.trace.Line.{Line}

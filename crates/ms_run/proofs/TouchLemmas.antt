@@ -14,7 +14,7 @@ use Rattle.ms_base.specs.declared.step.Step.TheVariants.{Write, Read, Free}
 use Rattle.ms_base.specs.declared.step.Reply.TheVariants.{Ok as Done, Value, Refused}
 use Rattle.ms_base.specs.declared.refusal.Refusal.{Refusal}
 use Rattle.ms_base.specs.declared.refusal.Refusal.TheVariants.{OutOfRange, NoBlock}
-use Rattle.ms_base.specs.Alone.{OwnLoader, OwnReply}
+use Rattle.ms_base.specs.Run.Alone.{OwnLoader, OwnReply}
 use Rattle.ms_base.specs.Committed.{is_among}
 use Rattle.ms_base.specs.Names.{named, with_new, with_changed}
 use Rattle.ms_base.specs.Spaces.{by_space, space_at}

@@ -25,7 +25,7 @@ use Rattle.ms_loaders.specs.Loader.{WritesWord, FreesBlock}
 use Rattle.ms_shared.specs.History.{Event}
 use Rattle.ms_shared.specs.Weaving.{events_of as events_in_acts, said_of as said_in_acts}
 use Rattle.ms_shared.specs.SeatView.{SeatState}
-use Rattle.ms_base.specs.Alone.{OwnReply}
+use Rattle.ms_base.specs.Run.Alone.{OwnReply}
 use Rattle.ms_loaders.specs.System.{states_of}
 use Rattle.ms_run.specs.Own.{Said, own_in}
 

@@ -8,7 +8,7 @@ use Rattle.ms_base.specs.declared.step.Reply.TheVariants.{Ok as Done}
 use Rattle.ms_base.specs.Names.{named}
 use Rattle.ms_base.specs.Request.{loader_of, is_name}
 use Rattle.ms_base.specs.State.{LoaderState}
-use Rattle.ms_base.specs.Alone.{OwnLoader, OwnReplies}
+use Rattle.ms_base.specs.Run.Alone.{OwnLoader, OwnReplies}
 
 -- A request and its reply.
 abbrev pub Said : Type 0

@@ -1,7 +1,7 @@
 -- The peaks of a run: the most of each thing that it had at once (this project's choice).
 use Rattle.std.specs.Prelude.{◌≡◌, ◌≤◌, ℕ, List, Option, IfSome, length}
 use Rattle.std.specs.List.{All, Contains}
-use Rattle.ms_base.specs.PeakLaws.{granules_of_both}
+use Rattle.ms_base.specs.Laws.Peak.{granules_of_both}
 use Rattle.ms_base.specs.State.{Machine, slots_in}
 use Rattle.ms_base.specs.Totals.{over_spaces}
 use Rattle.ms_loaders.specs.declared.peaks.Peaks.{Peaks}

@@ -3,7 +3,7 @@
 //! Kept true: what a loader gets in use is added once it has it, and what an unloaded one had is taken
 //! off before it is closed. One atomic step a line at most, and no lock beside that of the line itself.
 ghost use Rattle.std.specs.Prelude.{◌≡◌, ◌≢◌, ◌+◌, ℕ, Bool, Some};
-ghost use Rattle.ms_base.specs.Alone.{OwnReply};
+ghost use Rattle.ms_base.specs.Run.Alone.{OwnReply};
 ghost use Rattle.ms_base.specs.Names.{AreNamed, named};
 ghost use Rattle.ms_base.specs.Request.{loader_of};
 ghost use Rattle.ms_loaders.specs.System.{states_of};

@@ -12,9 +12,9 @@ use Rattle.ms_base.specs.Spaces.{by_space}
 use Rattle.ms_base.specs.Level.{size_of}
 use Rattle.ms_base.specs.Policy.{keeps}
 use Rattle.ms_base.specs.Front.{granules_for}
-use Rattle.ms_base.specs.Causes.{has_room, committed_count, node_limit, granules_needed, granules_missing, needs_none}
-use Rattle.ms_base.specs.Causes.{meets_reserve_limit, meets_commit_limit}
-use Rattle.ms_base.specs.Pick.{chunk_picked, granule_in}
+use Rattle.ms_base.specs.PoolSteps.Causes.{has_room, committed_count, node_limit, granules_needed, granules_missing, needs_none}
+use Rattle.ms_base.specs.PoolSteps.Causes.{meets_reserve_limit, meets_commit_limit}
+use Rattle.ms_base.specs.PoolSteps.Pick.{chunk_picked, granule_in}
 use Rattle.ms_base.specs.PoolSteps.{taken, grown, within_limit, with_front, parent_with_front, may_become_parent}
 use Rattle.ms_pool.specs.Account.{AccountState}
 use Rattle.ms_pool.specs.Ledger.{Ledger, IsSoundLedger, state_in}

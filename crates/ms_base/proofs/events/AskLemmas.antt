@@ -21,9 +21,9 @@ use Rattle.ms_base.specs.State.{recommitted}
 use Rattle.ms_base.specs.Good.{IsGood}
 use Rattle.ms_base.specs.Transition.{HasLoader, with_loader, Change, MayChange, IsServable, AllocCause, Transition}
 use Rattle.ms_base.specs.Request.{alloc_in}
-use Rattle.ms_base.specs.Event.{taking, growing, acting, lent, replied, refused, Takes, TakesNone, GrowsChunk, with_chunk_at}
-use Rattle.ms_base.specs.Spread.{SpreadStep, Part, AreWhole, AsksChunk, words_for}
-use Rattle.ms_base.specs.Serial.{is_place}
+use Rattle.ms_base.specs.Run.Event.{taking, growing, acting, lent, replied, refused, Takes, TakesNone, GrowsChunk, with_chunk_at}
+use Rattle.ms_base.specs.Run.Spread.{SpreadStep, Part, AreWhole, AsksChunk, words_for}
+use Rattle.ms_base.specs.Run.Serial.{is_place}
 use Rattle.ms_base.proofs.granules.NeedLemmas.{taken_is}
 use Rattle.ms_base.proofs.machine.ChangeLemmas.{slots_same}
 use Rattle.ms_base.proofs.events.GrownEventLemmas.{grows_well, set_same}

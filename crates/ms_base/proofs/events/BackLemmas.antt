@@ -10,9 +10,9 @@ use Rattle.ms_base.specs.Names.{AreNamed, named}
 use Rattle.ms_base.specs.State.{LoaderState, Machine, PoolState, chunks_held, committed_now, pool_of, recommitted}
 use Rattle.ms_base.specs.Run.{Run}
 use Rattle.ms_base.specs.Transition.{Transition}
-use Rattle.ms_base.specs.Event.{Event, Answer}
-use Rattle.ms_base.specs.Spread.{SpreadStep}
-use Rattle.ms_base.specs.Serial.{is_place, done_by, steps_of, replies_of}
+use Rattle.ms_base.specs.Run.Event.{Event, Answer}
+use Rattle.ms_base.specs.Run.Spread.{SpreadStep}
+use Rattle.ms_base.specs.Run.Serial.{is_place, done_by, steps_of, replies_of}
 use Rattle.ms_base.proofs.events.StageLemmas.{Stage, Shows, GoesBack}
 
 -- What counts as done at an event, by whether it is the place.

@@ -16,13 +16,13 @@ use Rattle.ms_base.specs.declared.refusal.Refusal.TheVariants.{BlockExists, IdsU
 use Rattle.ms_base.specs.Names.{named}
 use Rattle.ms_base.specs.Request.{alloc_in, loader_of}
 use Rattle.ms_base.specs.State.{LoaderState, Machine, PoolState}
-use Rattle.ms_base.specs.Pick.{chunk_picked}
-use Rattle.ms_base.specs.Causes.{committed_count, node_limit, granules_needed, meets_reserve_limit, meets_commit_limit}
-use Rattle.ms_base.specs.Causes.{ReserveCause, CommitCause}
+use Rattle.ms_base.specs.PoolSteps.Pick.{chunk_picked}
+use Rattle.ms_base.specs.PoolSteps.Causes.{committed_count, node_limit, granules_needed, meets_reserve_limit, meets_commit_limit}
+use Rattle.ms_base.specs.PoolSteps.Causes.{ReserveCause, CommitCause}
 use Rattle.ms_base.specs.Transition.{HasBlock, LacksBlock, IsServable, NewCause, AllocCause, BlockCause, WordCause}
 use Rattle.ms_base.specs.Transition.{Cause, Leaves}
-use Rattle.ms_base.specs.Event.{LendsNone, ActsNotCause}
-use Rattle.ms_base.specs.Spread.{IsOwnReply}
+use Rattle.ms_base.specs.Run.Event.{LendsNone, ActsNotCause}
+use Rattle.ms_base.specs.Run.Spread.{IsOwnReply}
 
 -- Why the pool lends no chunk, as the machine tells it.
 abbrev pub NoneCause : PoolState → ℕ → ℕ → ℕ → Refusal → Type 0

@@ -9,9 +9,9 @@ use Rattle.ms_base.specs.declared.step.Reply.TheVariants.{Ok as Done, At, Value,
 use Rattle.ms_base.specs.declared.refusal.Refusal.{Refusal}
 use Rattle.ms_base.specs.Request.{alloc_in, loader_of}
 use Rattle.ms_base.specs.State.{Machine}
-use Rattle.ms_base.specs.Event.{Event, taking, acting, Answer, lent, replied, refused, Happens}
-use Rattle.ms_base.specs.Spread.{SpreadStep, IsOwnReply, Part, AreWhole, HasNoSpan, not_asked, not_had, GoesOn}
-use Rattle.ms_base.specs.Serial.{is_place}
+use Rattle.ms_base.specs.Run.Event.{Event, taking, acting, Answer, lent, replied, refused, Happens}
+use Rattle.ms_base.specs.Run.Spread.{SpreadStep, IsOwnReply, Part, AreWhole, HasNoSpan, not_asked, not_had, GoesOn}
+use Rattle.ms_base.specs.Run.Serial.{is_place}
 use Rattle.ms_base.proofs.events.StageLemmas.{Stage, rest_of, GoesOnBy, FirstGoesOn}
 use Rattle.ms_base.proofs.events.AllocEventLemmas.{IsPlain}
 use Rattle.ms_base.proofs.events.AskLemmas.{goes_on_taken, goes_on_refused}

@@ -15,10 +15,10 @@ use Rattle.ms_base.specs.State.{ArenaState, LoaderState, Machine, PoolState, are
 use Rattle.ms_base.specs.State.{slots_in, committed_in, committed_now, pool_of, recommitted}
 use Rattle.ms_base.specs.Live.{runs_in}
 use Rattle.ms_base.specs.Good.{IsSoundLoader, IsGood}
-use Rattle.ms_base.specs.Causes.{granules_missing}
+use Rattle.ms_base.specs.PoolSteps.Causes.{granules_missing}
 use Rattle.ms_base.specs.Transition.{with_loader, IsGrown}
-use Rattle.ms_base.specs.SumLaws.{GrowsWell, with_chunk_grown}
-use Rattle.ms_base.specs.Event.{GrowsChunk, with_chunk_at}
+use Rattle.ms_base.specs.Laws.Sum.{GrowsWell, with_chunk_grown}
+use Rattle.ms_base.specs.Run.Event.{GrowsChunk, with_chunk_at}
 use Rattle.ms_base.proofs.entries.EntryLemmas.{Split, split_at}
 use Rattle.ms_base.proofs.machine.GoodLemmas.{chunks_split, loader_is_sound}
 use Rattle.ms_base.proofs.machine.ChangeLemmas.{changed, slots_same, recommitted_same}

@@ -17,10 +17,10 @@ use Rattle.ms_base.specs.State.{ArenaState, LoaderState, Machine, arena_of, with
 use Rattle.ms_base.specs.Live.{block_words}
 use Rattle.ms_base.specs.Good.{IsGood}
 use Rattle.ms_base.specs.Transition.{HasLoader, with_loader, zeroed}
-use Rattle.ms_base.specs.Event.{Event, opening, taking, growing, closing, purging, telling, acting, Answer, accepted}
-use Rattle.ms_base.specs.Event.{lent, counted, told, replied, refused, Happens, Acts, PlacesBlock, AddsBlock, emptied}
-use Rattle.ms_base.specs.Event.{IsSoundAfter}
-use Rattle.ms_base.specs.SpreadLaws.{LeavesOthers}
+use Rattle.ms_base.specs.Run.Event.{Event, opening, taking, growing, closing, purging, telling, acting, Answer, accepted}
+use Rattle.ms_base.specs.Run.Event.{lent, counted, told, replied, refused, Happens, Acts, PlacesBlock, AddsBlock, emptied}
+use Rattle.ms_base.specs.Run.Event.{IsSoundAfter}
+use Rattle.ms_base.specs.Laws.Spread.{LeavesOthers}
 use Rattle.ms_base.proofs.entries.LookupLemmas.{named_changed_same, named_changed_other, named_new_other}
 use Rattle.ms_base.proofs.entries.LookupLemmas.{named_without_other}
 use Rattle.ms_base.proofs.machine.GoodLemmas.{good_with_new_loader, good_with_loader, good_without_loader}

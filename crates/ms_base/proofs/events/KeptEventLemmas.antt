@@ -12,16 +12,16 @@ use Rattle.ms_base.specs.Interval.{lies_in}
 use Rattle.ms_base.specs.Part.{slot_of, is_reserved}
 use Rattle.ms_base.specs.Spaces.{other_space, is_in}
 use Rattle.ms_base.specs.Committed.{committed_with, is_committed, granules_of}
-use Rattle.ms_base.specs.Pick.{granule_in, has_committed}
+use Rattle.ms_base.specs.PoolSteps.Pick.{granule_in, has_committed}
 use Rattle.ms_base.specs.Names.{with_changed}
 use Rattle.ms_base.specs.State.{ArenaState, LoaderState, Machine, arena_of, with_arena, chunks_held, committed_in}
 use Rattle.ms_base.specs.State.{pool_of}
 use Rattle.ms_base.specs.Live.{runs_in}
 use Rattle.ms_base.specs.Good.{topped, IsSound, IsSoundLoader, IsGood}
-use Rattle.ms_base.specs.Causes.{committed_count, granules_missing}
+use Rattle.ms_base.specs.PoolSteps.Causes.{committed_count, granules_missing}
 use Rattle.ms_base.specs.PoolSteps.{taken}
 use Rattle.ms_base.specs.Place.{with_chunk}
-use Rattle.ms_base.specs.Event.{IsAskable, Takes}
+use Rattle.ms_base.specs.Run.Event.{IsAskable, Takes}
 use Rattle.ms_base.proofs.entries.EntryLemmas.{Split, split_at}
 use Rattle.ms_base.proofs.machine.GoodLemmas.{each_space, chunks_split, loader_is_sound}
 use Rattle.ms_base.proofs.machine.AddedLemmas.{MayReserve, IsAddable, slots_then, good_with_chunk}

@@ -9,9 +9,9 @@ use Rattle.ms_base.specs.Request.{loader_of}
 use Rattle.ms_base.specs.State.{LoaderState, Machine}
 use Rattle.ms_base.specs.Good.{IsGood}
 use Rattle.ms_base.specs.Transition.{HasLoader, with_loader, Transition}
-use Rattle.ms_base.specs.Event.{acting, replied, ActsNotCause}
-use Rattle.ms_base.specs.Spread.{SpreadStep, Part, AreWhole, IsOwnReply}
-use Rattle.ms_base.specs.Serial.{is_place}
+use Rattle.ms_base.specs.Run.Event.{acting, replied, ActsNotCause}
+use Rattle.ms_base.specs.Run.Spread.{SpreadStep, Part, AreWhole, IsOwnReply}
+use Rattle.ms_base.specs.Run.Serial.{is_place}
 use Rattle.ms_base.proofs.entries.EntryLemmas.{rises_with_changed}
 use Rattle.ms_base.proofs.entries.LookupLemmas.{named_changed_same, named_changed_other}
 use Rattle.ms_base.proofs.events.SeenEntryLemmas.{changed_back}

@@ -13,9 +13,9 @@ use Rattle.ms_base.specs.Names.{named, with_new, with_changed, without}
 use Rattle.ms_base.specs.State.{LoaderState, Machine, arena_of, chunks_held, empty_loader, recommitted}
 use Rattle.ms_base.specs.Good.{IsGood}
 use Rattle.ms_base.specs.Transition.{NewCause}
-use Rattle.ms_base.specs.Event.{opening, closing, acting, accepted, replied, refused, Opens, Closes, Empties, emptied}
-use Rattle.ms_base.specs.Spread.{SpreadStep, Part, AreWhole}
-use Rattle.ms_base.specs.Serial.{is_place, done_by}
+use Rattle.ms_base.specs.Run.Event.{opening, closing, acting, accepted, replied, refused, Opens, Closes, Empties, emptied}
+use Rattle.ms_base.specs.Run.Spread.{SpreadStep, Part, AreWhole}
+use Rattle.ms_base.specs.Run.Serial.{is_place, done_by}
 use Rattle.ms_base.proofs.entries.NameLemmas.{rises_with_new}
 use Rattle.ms_base.proofs.entries.EntryLemmas.{Split, split_at, rises_without}
 use Rattle.ms_base.proofs.entries.LookupLemmas.{named_changed_same, named_new_same, named_new_other}

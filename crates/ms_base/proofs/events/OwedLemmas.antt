@@ -12,9 +12,9 @@ use Rattle.ms_base.specs.Request.{alloc_in, loader_of}
 use Rattle.ms_base.specs.State.{LoaderState, Machine, slots_in, with_slots, recommitted}
 use Rattle.ms_base.specs.Good.{IsSoundLoader, IsGood}
 use Rattle.ms_base.specs.Transition.{HasLoader, with_loader, Change, Allocates, IsServable}
-use Rattle.ms_base.specs.Event.{growing, acting, replied, refused, Happens, PlacesBlock, ActsNotCause, IsSoundAfter, GrowsNone}
-use Rattle.ms_base.specs.Spread.{SpreadStep, Part, AreWhole}
-use Rattle.ms_base.specs.Serial.{is_place}
+use Rattle.ms_base.specs.Run.Event.{growing, acting, replied, refused, Happens, PlacesBlock, ActsNotCause, IsSoundAfter, GrowsNone}
+use Rattle.ms_base.specs.Run.Spread.{SpreadStep, Part, AreWhole}
+use Rattle.ms_base.specs.Run.Serial.{is_place}
 use Rattle.ms_base.proofs.entries.LookupLemmas.{named_changed_same}
 use Rattle.ms_base.proofs.machine.ChangeLemmas.{unchanged_pools}
 use Rattle.ms_base.proofs.events.SeenEntryLemmas.{changed_back}

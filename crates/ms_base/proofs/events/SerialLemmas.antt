@@ -20,11 +20,11 @@ use Rattle.ms_base.specs.State.{LoaderState, Machine, chunks_held, recommitted}
 use Rattle.ms_base.specs.Good.{IsGood}
 use Rattle.ms_base.specs.Run.{Run}
 use Rattle.ms_base.specs.Transition.{purged}
-use Rattle.ms_base.specs.Event.{Event, purging, telling, Answer, counted, told, Happens, loader_of_event}
-use Rattle.ms_base.specs.Spread.{SpreadStep, Spreads, Moment, part_of, parts_by, Follow, IsByItself, IsAskedFor}
-use Rattle.ms_base.specs.Spread.{words_asked}
-use Rattle.ms_base.specs.Serial.{done_by, done_at, serial, steps_of, replies_of, is_place}
-use Rattle.ms_base.specs.SpreadLaws.{LeavesOthers, IsKeptAt, SpreadsAreSerial}
+use Rattle.ms_base.specs.Run.Event.{Event, purging, telling, Answer, counted, told, Happens, loader_of_event}
+use Rattle.ms_base.specs.Run.Spread.{SpreadStep, Spreads, Moment, part_of, parts_by, Follow, IsByItself, IsAskedFor}
+use Rattle.ms_base.specs.Run.Spread.{words_asked}
+use Rattle.ms_base.specs.Run.Serial.{done_by, done_at, serial, steps_of, replies_of, is_place}
+use Rattle.ms_base.specs.Laws.Spread.{LeavesOthers, IsKeptAt, SpreadsAreSerial}
 use Rattle.ms_base.proofs.granules.FrontSumLemmas.{nothing_is_left}
 use Rattle.ms_base.proofs.events.SeenEntryLemmas.{same_entries}
 use Rattle.ms_base.proofs.events.KeptEventLemmas.{TakingIsAddable}

@@ -16,10 +16,10 @@ use Rattle.ms_base.specs.State.{LoaderState, Machine, empty_loader, chunks_held}
 use Rattle.ms_base.specs.Good.{IsSoundLoader, IsGood}
 use Rattle.ms_base.specs.Run.{Run}
 use Rattle.ms_base.specs.Request.{alloc_in}
-use Rattle.ms_base.specs.Event.{Event, closing, acting, Answer, accepted, replied, Happens, AddsBlock, emptied}
-use Rattle.ms_base.specs.Event.{loader_of_event}
-use Rattle.ms_base.specs.Spread.{SpreadStep, Part, AreWhole, HasNoSpan, GoesOn, IsAskedFor, words_asked}
-use Rattle.ms_base.specs.Serial.{is_place, done_by, steps_of, replies_of}
+use Rattle.ms_base.specs.Run.Event.{Event, closing, acting, Answer, accepted, replied, Happens, AddsBlock, emptied}
+use Rattle.ms_base.specs.Run.Event.{loader_of_event}
+use Rattle.ms_base.specs.Run.Spread.{SpreadStep, Part, AreWhole, HasNoSpan, GoesOn, IsAskedFor, words_asked}
+use Rattle.ms_base.specs.Run.Serial.{is_place, done_by, steps_of, replies_of}
 
 -- How far a loader's step has come: none is begun, or one is whose growth was refused; its block is
 -- owed, or a refusal; it is emptied, and is to be closed; or it is to be closed for want of memory.

@@ -22,11 +22,11 @@ use Rattle.ms_base.specs.State.{LoaderState, Machine}
 use Rattle.ms_base.specs.Good.{IsGood}
 use Rattle.ms_base.specs.Transition.{HasLoader, with_loader, with_block, with_freed}
 use Rattle.ms_base.specs.Request.{alloc_in}
-use Rattle.ms_base.specs.Event.{Event, opening, growing, closing, acting, Answer, accepted, lent, replied, refused}
-use Rattle.ms_base.specs.Event.{Happens}
-use Rattle.ms_base.specs.Spread.{SpreadStep, Spreads, IsWhole, IsAlone, Part, spread_parts, AreWhole, HasNoSpan, not_asked}
-use Rattle.ms_base.specs.Spread.{not_had, GoesOn, SpreadsAlloc}
-use Rattle.ms_base.specs.Serial.{is_place}
+use Rattle.ms_base.specs.Run.Event.{Event, opening, growing, closing, acting, Answer, accepted, lent, replied, refused}
+use Rattle.ms_base.specs.Run.Event.{Happens}
+use Rattle.ms_base.specs.Run.Spread.{SpreadStep, Spreads, IsWhole, IsAlone, Part, spread_parts, AreWhole, HasNoSpan, not_asked}
+use Rattle.ms_base.specs.Run.Spread.{not_had, GoesOn, SpreadsAlloc}
+use Rattle.ms_base.specs.Run.Serial.{is_place}
 use Rattle.ms_base.proofs.events.StageLemmas.{Stage, idle, turned_down, owes_block, owes_refusal, unloading, retracting}
 use Rattle.ms_base.proofs.events.StageLemmas.{Was, Left, rest_of, GoesOnBy, FirstGoesOn}
 use Rattle.ms_base.proofs.events.AllocEventLemmas.{IsPlain}

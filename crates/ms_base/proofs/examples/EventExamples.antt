@@ -10,8 +10,8 @@ use Rattle.ms_base.specs.declared.step.Reply.TheVariants.{Refused}
 use Rattle.ms_base.specs.declared.refusal.Refusal.TheVariants.{CommitLimit, NoLoader, NoRoom, ReserveLimit, IdsUsedUp}
 use Rattle.ms_base.specs.State.{ArenaState, LoaderState, Machine, empty_machine, empty_arena, empty_loader, arena_of}
 use Rattle.ms_base.specs.Transition.{zeroed, Cause}
-use Rattle.ms_base.specs.Event.{opening, taking, growing, closing, purging, acting, accepted, lent, counted, replied}
-use Rattle.ms_base.specs.Event.{refused, Happens, emptied}
+use Rattle.ms_base.specs.Run.Event.{opening, taking, growing, closing, purging, acting, accepted, lent, counted, replied}
+use Rattle.ms_base.specs.Run.Event.{refused, Happens, emptied}
 
 abbrev chunk : ℕ → ℕ → ℕ → Chunk
 chunk at level front = record { start = at; level = level; front = front }

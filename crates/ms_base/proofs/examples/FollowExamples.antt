@@ -9,8 +9,8 @@ use Rattle.ms_base.specs.Names.{named}
 use Rattle.ms_base.specs.State.{LoaderState, arena_of, empty_loader}
 use Rattle.ms_base.specs.Live.{runs_in}
 use Rattle.ms_base.specs.Good.{IsSound, IsSoundLoader}
-use Rattle.ms_base.specs.Event.{acting, replied, Happens, emptied}
-use Rattle.ms_base.specs.Spread.{Follow}
+use Rattle.ms_base.specs.Run.Event.{acting, replied, Happens, emptied}
+use Rattle.ms_base.specs.Run.Spread.{Follow}
 use Rattle.ms_base.proofs.examples.StepExamples.{none_rise, one_rises}
 use Rattle.ms_base.proofs.examples.SpreadExamples.{arena_with, chunk, full, with_its_chunk, with_its_block, two}
 use Rattle.ms_base.proofs.examples.SpreadExamples.{at_the_end, moments, chunk_is_taken, loader_is_closed}

@@ -21,10 +21,10 @@ use Rattle.ms_base.specs.State.{LoaderState, Machine, pool_of, empty_loader, emp
 use Rattle.ms_base.specs.Good.{IsGood, IsSoundLoader, IsSoundPool}
 use Rattle.ms_base.specs.Totals.{PoolSums}
 use Rattle.ms_base.specs.Transition.{zeroed}
-use Rattle.ms_base.specs.Event.{opening, taking, growing, purging, telling, acting, accepted, lent, counted, told}
-use Rattle.ms_base.specs.Event.{replied, refused}
-use Rattle.ms_base.specs.Spread.{SpreadStep, Moment}
-use Rattle.ms_base.specs.Serial.{serial}
+use Rattle.ms_base.specs.Run.Event.{opening, taking, growing, purging, telling, acting, accepted, lent, counted, told}
+use Rattle.ms_base.specs.Run.Event.{replied, refused}
+use Rattle.ms_base.specs.Run.Spread.{SpreadStep, Moment}
+use Rattle.ms_base.specs.Run.Serial.{serial}
 use Rattle.ms_base.proofs.examples.StepExamples.{chunk, first_chunk, with_one_block, chunk_is_part, chunk_has_front}
 use Rattle.ms_base.proofs.examples.StepExamples.{arenas_are_sound, one_rises}
 use Rattle.ms_base.proofs.examples.SpreadExamples.{arena_with}

@@ -13,10 +13,10 @@ use Rattle.ms_base.specs.Names.{named}
 use Rattle.ms_base.specs.State.{arena_of, empty_loader}
 use Rattle.ms_base.specs.Live.{runs_in}
 use Rattle.ms_base.specs.Good.{IsSound}
-use Rattle.ms_base.specs.Event.{opening, taking, growing, purging, telling, acting, accepted, lent, counted, told}
-use Rattle.ms_base.specs.Event.{replied, refused, Happens, loader_of_event}
-use Rattle.ms_base.specs.Spread.{Moment, Follow, IsWhole, IsByItself, IsAskedFor, words_asked, AreWhole}
-use Rattle.ms_base.specs.Spread.{IsSpread, not_asked, parts_by}
+use Rattle.ms_base.specs.Run.Event.{opening, taking, growing, purging, telling, acting, accepted, lent, counted, told}
+use Rattle.ms_base.specs.Run.Event.{replied, refused, Happens, loader_of_event}
+use Rattle.ms_base.specs.Run.Spread.{Moment, Follow, IsWhole, IsByItself, IsAskedFor, words_asked, AreWhole}
+use Rattle.ms_base.specs.Run.Spread.{IsSpread, not_asked, parts_by}
 use Rattle.ms_base.proofs.examples.StepExamples.{chunk, with_one_block}
 use Rattle.ms_base.proofs.examples.StepExamples.{none_rise, one_rises}
 use Rattle.ms_base.proofs.examples.SpreadExamples.{arena_with}

@@ -8,10 +8,10 @@ use Rattle.ms_base.specs.declared.span.Chunk.{Chunk}
 use Rattle.ms_base.specs.declared.refusal.Refusal.TheVariants.{CommitLimit}
 use Rattle.ms_base.specs.Committed.{committed_with}
 use Rattle.ms_base.specs.State.{PoolState, Limits, committed_now}
-use Rattle.ms_base.specs.Pick.{picked}
-use Rattle.ms_base.specs.Causes.{has_committed_room, granules_missing, granules_needed}
+use Rattle.ms_base.specs.PoolSteps.Pick.{picked}
+use Rattle.ms_base.specs.PoolSteps.Causes.{has_committed_room, granules_missing, granules_needed}
 use Rattle.ms_base.specs.PoolSteps.{taken, grown, slots_with}
-use Rattle.ms_base.specs.SumLaws.{with_chunk_grown}
+use Rattle.ms_base.specs.Laws.Sum.{with_chunk_grown}
 
 abbrev chunk : ℕ → ℕ → ℕ → Chunk
 chunk start level front = record { start = start; level = level; front = front }

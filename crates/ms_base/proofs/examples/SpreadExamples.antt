@@ -15,11 +15,11 @@ use Rattle.ms_base.specs.declared.step.Reply.TheVariants.{Ok as Done, At, Value,
 use Rattle.ms_base.specs.declared.refusal.Refusal.TheVariants.{CommitLimit, OutOfMemory, NoRoom}
 use Rattle.ms_base.specs.State.{ArenaState, LoaderState, Machine, empty_machine, empty_arena, empty_loader, arena_of}
 use Rattle.ms_base.specs.Transition.{zeroed}
-use Rattle.ms_base.specs.Event.{Event, opening, taking, growing, closing, purging, acting, Answer, accepted, lent}
-use Rattle.ms_base.specs.Event.{counted, replied, refused, Happens, emptied, loader_of_event}
-use Rattle.ms_base.specs.Spread.{SpreadStep, Moment, GoesOn, HasNoSpan, Spreads, IsWhole, IsByItself, IsAskedFor}
-use Rattle.ms_base.specs.Spread.{words_asked, Part, spread_parts, AreWhole, IsSpread, not_asked, not_had, parts_by}
-use Rattle.ms_base.specs.Serial.{is_accepted, is_taking, is_closing, is_acting, is_place, serial}
+use Rattle.ms_base.specs.Run.Event.{Event, opening, taking, growing, closing, purging, acting, Answer, accepted, lent}
+use Rattle.ms_base.specs.Run.Event.{counted, replied, refused, Happens, emptied, loader_of_event}
+use Rattle.ms_base.specs.Run.Spread.{SpreadStep, Moment, GoesOn, HasNoSpan, Spreads, IsWhole, IsByItself, IsAskedFor}
+use Rattle.ms_base.specs.Run.Spread.{words_asked, Part, spread_parts, AreWhole, IsSpread, not_asked, not_had, parts_by}
+use Rattle.ms_base.specs.Run.Serial.{is_accepted, is_taking, is_closing, is_acting, is_place, serial}
 
 abbrev pub chunk : ℕ → ℕ → ℕ → Chunk
 chunk at level front = record { start = at; level = level; front = front }

@@ -13,7 +13,7 @@ use Rattle.ms_base.specs.Level.{size_of}
 use Rattle.ms_base.specs.Part.{node_words}
 use Rattle.ms_base.specs.FreeParts.{free_within, free_in_slot, free_parts}
 use Rattle.ms_base.specs.Committed.{is_among, is_committed_now, granules_of}
-use Rattle.ms_base.specs.FreeLaws.{AreAlike, LeavesTheSame}
+use Rattle.ms_base.specs.Laws.Free.{AreAlike, LeavesTheSame}
 use Rattle.ms_base.proofs.free.HalvesLemmas.{words_over}
 use Rattle.ms_base.proofs.free.FreeLemmas.{part_over, meets_over}
 

@@ -16,7 +16,7 @@ use Rattle.ms_base.specs.Level.{size_of}
 use Rattle.ms_base.specs.Part.{IsPart, parent_start}
 use Rattle.ms_base.specs.Held.{meets_chunk}
 use Rattle.ms_base.specs.FreeParts.{IsFreePart, free_parts}
-use Rattle.ms_base.specs.FreeLaws.{LiesIn, AreBuddies}
+use Rattle.ms_base.specs.Laws.Free.{LiesIn, AreBuddies}
 use Rattle.ms_base.proofs.free.HalvesLemmas.{size_some, size_of_halves, multiple_of_smaller, steps_apart}
 use Rattle.ms_base.proofs.free.RoomLemmas.{clear_within, clear_lies_in_free, listed_is_free}
 

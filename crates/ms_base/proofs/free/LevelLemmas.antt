@@ -7,7 +7,7 @@ use Rattle.std.proofs.lemmas.Bool.{cases_eq, cases_Bool, both_ways, leb-true, le
 use Rattle.std.proofs.lemmas.List.Sums.{sum_by-cons, count_by-le-length}
 use Rattle.std.proofs.Math.Nat.{pow-le-pow_right}
 use Rattle.ms_base.specs.Level.{size_of, level_that_holds}
-use Rattle.ms_base.specs.LevelLaws.{IsGreatest}
+use Rattle.ms_base.specs.Laws.Level.{IsGreatest}
 use Rattle.ms_base.proofs.runs.PermutedLemmas.{one_if}
 
 -- A test that passes wherever it passes at the next number.

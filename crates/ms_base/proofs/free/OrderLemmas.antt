@@ -23,12 +23,12 @@ use Rattle.ms_base.specs.Policy.{keeps}
 use Rattle.ms_base.specs.Front.{HasFront, front_for, granules_for}
 use Rattle.ms_base.specs.FreeParts.{free_parts}
 use Rattle.ms_base.specs.State.{PoolState, committed_now}
-use Rattle.ms_base.specs.Pick.{Search, granule_in, is_committed_enough, searches, new_root, found_first, chunk_picked}
-use Rattle.ms_base.specs.Causes.{committed_count, node_limit, has_room, has_committed_room, granules_missing}
-use Rattle.ms_base.specs.Causes.{granules_needed, needs_none, meets_reserve_limit, meets_commit_limit}
+use Rattle.ms_base.specs.PoolSteps.Pick.{Search, granule_in, is_committed_enough, searches, new_root, found_first, chunk_picked}
+use Rattle.ms_base.specs.PoolSteps.Causes.{committed_count, node_limit, has_room, has_committed_room, granules_missing}
+use Rattle.ms_base.specs.PoolSteps.Causes.{granules_needed, needs_none, meets_reserve_limit, meets_commit_limit}
 use Rattle.ms_base.specs.PoolSteps.{may_become_parent, with_front, parent_with_front, within_limit, grown, taken}
 use Rattle.ms_base.specs.Totals.{PoolSums, all_levels, lent_by_level, free_by_level, capacity_of, fronts_of, pool_sums}
-use Rattle.ms_base.specs.FreeLaws.{AreAlike, with_held, AnswersTheSame}
+use Rattle.ms_base.specs.Laws.Free.{AreAlike, with_held, AnswersTheSame}
 use Rattle.ms_base.proofs.free.AlikeLemmas.{alike_leave_the_same, permuted_are_alike}
 
 same_free : (pool : PoolState) (other : List Chunk) → AreAlike pool.held other

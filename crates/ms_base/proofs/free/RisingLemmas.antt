@@ -12,7 +12,7 @@ use Rattle.ms_base.specs.declared.span.Span.{Span}
 use Rattle.ms_base.specs.Level.{size_of}
 use Rattle.ms_base.specs.Part.{node_words}
 use Rattle.ms_base.specs.FreeParts.{free_within, free_in_slot, free_parts}
-use Rattle.ms_base.specs.FreeLaws.{start_of}
+use Rattle.ms_base.specs.Laws.Free.{start_of}
 use Rattle.ms_base.proofs.free.HalvesLemmas.{words_over, IsStart, size_some, size_of_halves}
 use Rattle.ms_base.proofs.free.FreeLemmas.{by_halves}
 use Rattle.ms_base.proofs.free.RoomLemmas.{root_of, roots_are_whole}

@@ -17,8 +17,8 @@ use Rattle.ms_base.specs.Part.{IsPart, slot_of, is_reserved, node_words}
 use Rattle.ms_base.specs.Held.{meets_chunk}
 use Rattle.ms_base.specs.FreeParts.{IsFreePart, free_within, free_in_slot, free_parts}
 use Rattle.ms_base.specs.State.{PoolState}
-use Rattle.ms_base.specs.Causes.{has_room}
-use Rattle.ms_base.specs.FreeLaws.{part_at, IsClearIn, IsClear, LiesIn, LiesInFree, HasRoomWhereClear}
+use Rattle.ms_base.specs.PoolSteps.Causes.{has_room}
+use Rattle.ms_base.specs.Laws.Free.{part_at, IsClearIn, IsClear, LiesIn, LiesInFree, HasRoomWhereClear}
 use Rattle.ms_base.proofs.free.HalvesLemmas.{size_falls, size_some, multiple_of_smaller, steps_apart}
 use Rattle.ms_base.proofs.free.FreeLemmas.{has_part, IsInside, clear_is_in_free, IsFreeWithin, widened, listed_are_free}
 

@@ -16,11 +16,11 @@ use Rattle.ms_base.specs.Level.{size_of}
 use Rattle.ms_base.specs.FreeParts.{IsFreePart, free_parts}
 use Rattle.ms_base.specs.Committed.{is_committed, granules_meeting}
 use Rattle.ms_base.specs.State.{PoolState}
-use Rattle.ms_base.specs.Pick.{granule_in, has_committed, is_committed_enough}
-use Rattle.ms_base.specs.Causes.{has_committed_room}
+use Rattle.ms_base.specs.PoolSteps.Pick.{granule_in, has_committed, is_committed_enough}
+use Rattle.ms_base.specs.PoolSteps.Causes.{has_committed_room}
 use Rattle.ms_base.specs.Good.{IsSoundPool}
-use Rattle.ms_base.specs.FreeLaws.{part_at, IsClearIn, is_enough_at, LiesIn, IsCommittedBySize, IsEnoughBySize}
-use Rattle.ms_base.specs.FreeLaws.{HasCommittedRoomWhereClear}
+use Rattle.ms_base.specs.Laws.Free.{part_at, IsClearIn, is_enough_at, LiesIn, IsCommittedBySize, IsEnoughBySize}
+use Rattle.ms_base.specs.Laws.Free.{HasCommittedRoomWhereClear}
 use Rattle.ms_base.proofs.granules.PolicyLemmas.{granule_is_level, granule_some}
 use Rattle.ms_base.proofs.granules.GranuleLemmas.{committed_where_front, committed_by_front}
 use Rattle.ms_base.proofs.free.RoomLemmas.{clear_lies_in_free, listed_is_free, lowest_is_clear}

@@ -22,7 +22,7 @@ use Rattle.ms_base.specs.Level.{size_of}
 use Rattle.ms_base.specs.Part.{IsPart, slot_of, is_reserved, node_words}
 use Rattle.ms_base.specs.Held.{AreHeld, words_of, meets_chunk}
 use Rattle.ms_base.specs.FreeParts.{free_within, free_in_slot, free_parts}
-use Rattle.ms_base.specs.FreeLaws.{words_of_part, runs_in_roots}
+use Rattle.ms_base.specs.Laws.Free.{words_of_part, runs_in_roots}
 use Rattle.ms_base.proofs.free.HalvesLemmas.{words_over, IsStart, size_of_halves}
 use Rattle.ms_base.proofs.free.FreeLemmas.{part_over, meets_over, by_halves}
 use Rattle.ms_base.proofs.free.RoomLemmas.{root_of, roots_are_whole}

@@ -24,12 +24,12 @@ use Rattle.ms_base.specs.Committed.{is_committed, is_committed_now, committed_wi
 use Rattle.ms_base.specs.declared.kind.Space.{Space}
 use Rattle.ms_base.specs.declared.kind.Space.TheVariants.{NonClass}
 use Rattle.ms_base.specs.FreeParts.{free_parts}
-use Rattle.ms_base.specs.Pick.{granule_in}
+use Rattle.ms_base.specs.PoolSteps.Pick.{granule_in}
 use Rattle.ms_base.specs.Transition.{purged}
 use Rattle.ms_base.specs.State.{Machine, PoolState, slots_in, committed_in, chunks_held, pool_of}
 use Rattle.ms_base.specs.Good.{IsSoundLoader, IsSoundPool, IsGood}
 use Rattle.ms_base.specs.Totals.{fronts_of}
-use Rattle.ms_base.specs.SumLaws.{is_word_of, has_word, words_in, IsBounded, IsGivenBack, HoldsNothing}
+use Rattle.ms_base.specs.Laws.Sum.{is_word_of, has_word, words_in, IsBounded, IsGivenBack, HoldsNothing}
 use Rattle.ms_base.proofs.granules.PolicyLemmas.{granule_some}
 use Rattle.ms_base.proofs.free.EmptyLemmas.{filter-none, roots_are_free}
 use Rattle.ms_base.proofs.granules.GranuleLemmas.{committed_where_front}

@@ -27,10 +27,10 @@ use Rattle.ms_base.specs.Part.{IsPart, node_words, slot_of, is_reserved}
 use Rattle.ms_base.specs.Committed.{is_committed, is_committed_now, committed_with, granules_of, granules_meeting}
 use Rattle.ms_base.specs.State.{PoolState, committed_now}
 use Rattle.ms_base.specs.PoolSteps.{slots_with}
-use Rattle.ms_base.specs.SumLaws.{with_lent}
+use Rattle.ms_base.specs.Laws.Sum.{with_lent}
 use Rattle.ms_base.proofs.machine.SlotLemmas.{reserved_with, slots_rise_with}
-use Rattle.ms_base.specs.Pick.{granule_in, has_committed}
-use Rattle.ms_base.specs.Causes.{granules_missing}
+use Rattle.ms_base.specs.PoolSteps.Pick.{granule_in, has_committed}
+use Rattle.ms_base.specs.PoolSteps.Causes.{granules_missing}
 use Rattle.ms_base.specs.Good.{IsSoundPool}
 use Rattle.ms_base.specs.Laws.{is_number}
 use Rattle.ms_base.proofs.granules.PolicyLemmas.{granules_make_nodes, granule_some}

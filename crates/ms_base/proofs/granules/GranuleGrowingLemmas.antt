@@ -18,12 +18,12 @@ use Rattle.ms_base.specs.Front.{front_for, HasFront}
 use Rattle.ms_base.specs.Held.{meets_chunk}
 use Rattle.ms_base.specs.FreeParts.{IsFreePart, free_parts}
 use Rattle.ms_base.specs.State.{PoolState, committed_now}
-use Rattle.ms_base.specs.Pick.{granule_in, has_committed}
-use Rattle.ms_base.specs.Causes.{committed_count, granules_missing}
+use Rattle.ms_base.specs.PoolSteps.Pick.{granule_in, has_committed}
+use Rattle.ms_base.specs.PoolSteps.Causes.{committed_count, granules_missing}
 use Rattle.ms_base.specs.PoolSteps.{is_free, may_become_parent, with_front, parent_with_front, within_limit, grown}
 use Rattle.ms_base.specs.Good.{IsSoundPool}
 use Rattle.ms_base.specs.Transition.{IsGrown}
-use Rattle.ms_base.specs.SumLaws.{with_chunk_grown, GrowsWell}
+use Rattle.ms_base.specs.Laws.Sum.{with_chunk_grown, GrowsWell}
 use Rattle.ms_base.proofs.free.HalvesLemmas.{size_of_halves}
 use Rattle.ms_base.proofs.free.RoomLemmas.{listed_is_free}
 use Rattle.ms_base.proofs.arena.GrownLemmas.{GrowsClear}

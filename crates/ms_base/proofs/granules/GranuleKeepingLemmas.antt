@@ -6,7 +6,7 @@ use Rattle.std.proofs.lemmas.List.Elements.{filter_agree}
 use Rattle.ms_base.specs.Policy.{keeps}
 use Rattle.ms_base.specs.Committed.{is_committed, is_committed_now, granules_of}
 use Rattle.ms_base.specs.State.{PoolState}
-use Rattle.ms_base.specs.Pick.{granule_in, has_committed}
+use Rattle.ms_base.specs.PoolSteps.Pick.{granule_in, has_committed}
 use Rattle.ms_base.specs.Good.{IsSoundPool}
 use Rattle.ms_base.specs.Laws.{UncommitsNothing}
 use Rattle.ms_base.proofs.granules.GranuleCountLemmas.{meets_front}

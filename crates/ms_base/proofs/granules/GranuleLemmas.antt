@@ -23,7 +23,7 @@ use Rattle.ms_base.specs.Held.{AreHeld}
 use Rattle.ms_base.specs.Laws.{is_number, IsCounted}
 use Rattle.ms_base.specs.Committed.{is_committed, is_committed_now, is_among, granules_of}
 use Rattle.ms_base.specs.State.{PoolState}
-use Rattle.ms_base.specs.Pick.{granule_in, has_committed}
+use Rattle.ms_base.specs.PoolSteps.Pick.{granule_in, has_committed}
 use Rattle.ms_base.specs.Good.{IsSoundPool}
 use Rattle.ms_base.proofs.granules.PolicyLemmas.{granules_make_nodes}
 use Rattle.ms_base.proofs.free.PartLemmas.{by_number}

@@ -22,10 +22,10 @@ use Rattle.ms_base.specs.Part.{IsPart, node_words, slot_of, is_reserved}
 use Rattle.ms_base.specs.Front.{granules_for, HasFront}
 use Rattle.ms_base.specs.FreeParts.{IsFreePart, free_parts}
 use Rattle.ms_base.specs.State.{PoolState}
-use Rattle.ms_base.specs.Pick.{granule_in, has_committed, is_committed_enough, found_first, picked, chunk_picked}
-use Rattle.ms_base.specs.Pick.{lowest_unreserved}
-use Rattle.ms_base.specs.Causes.{committed_count, has_committed_room, granules_missing, granules_needed, needs_none}
-use Rattle.ms_base.specs.Causes.{meets_reserve_limit, meets_commit_limit}
+use Rattle.ms_base.specs.PoolSteps.Pick.{granule_in, has_committed, is_committed_enough, found_first, picked, chunk_picked}
+use Rattle.ms_base.specs.PoolSteps.Pick.{lowest_unreserved}
+use Rattle.ms_base.specs.PoolSteps.Causes.{committed_count, has_committed_room, granules_missing, granules_needed, needs_none}
+use Rattle.ms_base.specs.PoolSteps.Causes.{meets_reserve_limit, meets_commit_limit}
 use Rattle.ms_base.specs.Good.{IsSoundPool}
 use Rattle.ms_base.proofs.granules.PolicyLemmas.{granules_make_nodes, granule_some}
 use Rattle.ms_base.proofs.free.HalvesLemmas.{size_falls}

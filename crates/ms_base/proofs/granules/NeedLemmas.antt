@@ -23,10 +23,10 @@ use Rattle.ms_base.specs.Front.{granules_for, front_for}
 use Rattle.ms_base.specs.FreeParts.{free_parts}
 use Rattle.ms_base.specs.Committed.{granules_meeting}
 use Rattle.ms_base.specs.State.{PoolState}
-use Rattle.ms_base.specs.Pick.{granule_in, has_committed, is_committed_enough, levels_up, levels_down, found_at}
-use Rattle.ms_base.specs.Pick.{candidates, found_first, new_root, picked, chunk_picked, lowest_unreserved}
-use Rattle.ms_base.specs.Causes.{committed_count, node_limit, has_committed_room, granules_missing, granules_needed}
-use Rattle.ms_base.specs.Causes.{needs_none, meets_reserve_limit, meets_commit_limit}
+use Rattle.ms_base.specs.PoolSteps.Pick.{granule_in, has_committed, is_committed_enough, levels_up, levels_down, found_at}
+use Rattle.ms_base.specs.PoolSteps.Pick.{candidates, found_first, new_root, picked, chunk_picked, lowest_unreserved}
+use Rattle.ms_base.specs.PoolSteps.Causes.{committed_count, node_limit, has_committed_room, granules_missing, granules_needed}
+use Rattle.ms_base.specs.PoolSteps.Causes.{needs_none, meets_reserve_limit, meets_commit_limit}
 use Rattle.ms_base.specs.PoolSteps.{taken}
 use Rattle.ms_base.specs.Good.{IsSoundPool}
 use Rattle.ms_base.specs.declared.refusal.Refusal.{Refusal}

@@ -18,7 +18,7 @@ use Rattle.ms_base.specs.Held.{words_of}
 use Rattle.ms_base.specs.State.{ArenaState, LoaderState, Machine, arena_of, chunks_held, pool_of}
 use Rattle.ms_base.specs.Live.{runs_in}
 use Rattle.ms_base.specs.Good.{topped, is_in_use, IsSoundLoader, IsGood}
-use Rattle.ms_base.specs.BlockLaws.{all_blocks, IsPacked}
+use Rattle.ms_base.specs.Laws.Block.{all_blocks, IsPacked}
 use Rattle.ms_base.proofs.runs.ApartLemmas.{later-apart}
 use Rattle.ms_base.proofs.machine.BackedLemmas.{run_in_space, in_use_in_front, apart_in_parts, some_front}
 

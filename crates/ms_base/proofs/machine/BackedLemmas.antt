@@ -29,7 +29,7 @@ use Rattle.ms_base.specs.State.{ArenaState, LoaderState, Machine, arena_of, slot
 use Rattle.ms_base.specs.Live.{run_of, runs_in}
 use Rattle.ms_base.specs.Good.{is_in_use, IsSoundLoader, IsGood}
 use Rattle.ms_base.specs.Transition.{HasLoader, HasBlock}
-use Rattle.ms_base.specs.BlockLaws.{lies_in_own_front, IsBacked}
+use Rattle.ms_base.specs.Laws.Block.{lies_in_own_front, IsBacked}
 use Rattle.ms_base.proofs.entries.EntryLemmas.{Split, split_at, same_name}
 use Rattle.ms_base.proofs.runs.ApartLemmas.{All-rest_of, All-middle_of, list_any-rest_of, apart-rest_of, list_any-with}
 use Rattle.ms_base.proofs.runs.ApartLemmas.{meet_turned}

@@ -20,7 +20,7 @@ use Rattle.ms_base.specs.declared.kind.Space.{Space}
 use Rattle.ms_base.specs.declared.kind.Space.TheVariants.{NonClass, Class}
 use Rattle.ms_base.specs.Spaces.{other_space, class_slots, IsSlotOf}
 use Rattle.ms_base.specs.Committed.{committed_with, is_committed_now}
-use Rattle.ms_base.specs.Causes.{node_limit}
+use Rattle.ms_base.specs.PoolSteps.Causes.{node_limit}
 use Rattle.ms_base.specs.declared.span.Chunk.{Chunk}
 use Rattle.ms_base.specs.Names.{named, with_new, with_changed, without}
 use Rattle.ms_base.specs.Held.{AreHeld, has_chunk_in}

@@ -16,7 +16,7 @@ use Rattle.ms_base.specs.Good.{IsGood, IsSoundPool}
 use Rattle.ms_base.specs.Transition.{LacksBlock, IsServable, NewCause, AllocCause, BlockCause, WordCause, Cause, Leaves}
 use Rattle.ms_base.specs.Transition.{ServesStep, Transition}
 use Rattle.ms_base.specs.Run.{Run}
-use Rattle.ms_base.specs.PeakLaws.{granules_of_both, under_limit, is_within_limit, RunsBelow}
+use Rattle.ms_base.specs.Laws.Peak.{granules_of_both, under_limit, is_within_limit, RunsBelow}
 
 -- A good state is good under every limit that its granules keep.
 pub good_under : (limit : ℕ) (m : Machine) → granules_of_both m ≤ limit → IsGood m → IsGood (under_limit limit m)

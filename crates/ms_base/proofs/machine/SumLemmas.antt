@@ -25,7 +25,7 @@ use Rattle.ms_base.specs.declared.kind.Space.{Space}
 use Rattle.ms_base.specs.declared.kind.Space.TheVariants.{NonClass, Class}
 use Rattle.ms_base.specs.Spaces.{IsSlotOf, most_slots}
 use Rattle.ms_base.specs.Committed.{is_committed_now}
-use Rattle.ms_base.specs.Pick.{granule_in}
+use Rattle.ms_base.specs.PoolSteps.Pick.{granule_in}
 use Rattle.ms_base.specs.State.{ArenaState, LoaderState, Machine, PoolState, arena_of, slots_in, pool_of}
 use Rattle.ms_base.specs.Live.{runs_in}
 use Rattle.ms_base.specs.Good.{topped, is_in_use, IsSound, IsSoundLoader, IsSoundPool, IsGood}

@@ -21,7 +21,7 @@ use Rattle.ms_base.specs.Transition.{Allocates, Writes, Reads, Frees, Unloads, M
 use Rattle.ms_base.specs.Transition.{with_allocated, with_freed, zeroed}
 use Rattle.ms_base.specs.Run.{Run}
 use Rattle.ms_base.specs.Request.{alloc_in}
-use Rattle.ms_base.specs.WordLaws.{changes_word, leave_word, ReadsAfter}
+use Rattle.ms_base.specs.Laws.Word.{changes_word, leave_word, ReadsAfter}
 use Rattle.ms_base.proofs.entries.LookupLemmas.{named_changed_same, named_changed_other, named_new_same}
 use Rattle.ms_base.proofs.entries.LookupLemmas.{named_new_other, named_without_other}
 

@@ -18,9 +18,9 @@ use Rattle.ms_base.specs.Level.{level_that_holds}
 use Rattle.ms_base.specs.Names.{named, with_changed}
 use Rattle.ms_base.specs.Live.{block_words}
 use Rattle.ms_base.specs.Asks.{wanted_level}
-use Rattle.ms_base.specs.Pick.{chunk_picked}
-use Rattle.ms_base.specs.Causes.{meets_reserve_limit, meets_commit_limit, committed_count, node_limit, granules_needed}
-use Rattle.ms_base.specs.Causes.{ReserveCause, CommitCause}
+use Rattle.ms_base.specs.PoolSteps.Pick.{chunk_picked}
+use Rattle.ms_base.specs.PoolSteps.Causes.{meets_reserve_limit, meets_commit_limit, committed_count, node_limit, granules_needed}
+use Rattle.ms_base.specs.PoolSteps.Causes.{ReserveCause, CommitCause}
 use Rattle.ms_base.specs.PoolSteps.{taken}
 use Rattle.ms_base.specs.State.{ArenaState, PoolState, Machine, arena_of, chunks_held, pool_of}
 use Rattle.ms_base.specs.Transition.{LacksBlock, IsServable, AllocCause, Transition}

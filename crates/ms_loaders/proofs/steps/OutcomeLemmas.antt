@@ -20,9 +20,9 @@ use Rattle.ms_base.specs.State.{ArenaState, PoolState}
 use Rattle.ms_base.specs.Place.{placed, placed_in, place_at_top, best_fit, current, current_top, last_place, with_top}
 use Rattle.ms_base.specs.Place.{with_used, retired_chunk}
 use Rattle.ms_base.specs.Asks.{wanted_level}
-use Rattle.ms_base.specs.Causes.{meets_reserve_limit, meets_commit_limit, committed_count, node_limit, granules_needed}
-use Rattle.ms_base.specs.Causes.{granules_missing}
-use Rattle.ms_base.specs.Pick.{chunk_picked}
+use Rattle.ms_base.specs.PoolSteps.Causes.{meets_reserve_limit, meets_commit_limit, committed_count, node_limit, granules_needed}
+use Rattle.ms_base.specs.PoolSteps.Causes.{granules_missing}
+use Rattle.ms_base.specs.PoolSteps.Pick.{chunk_picked}
 use Rattle.ms_base.specs.PoolSteps.{taken, grown, within_limit, with_front, parent_with_front, may_become_parent}
 use Rattle.ms_pool.specs.Lending.{span_of, chunk_at, reaching, parent_of}
 use Rattle.ms_pool.specs.Tallies.{Tallies}

@@ -25,7 +25,7 @@ use Rattle.ms_base.specs.State.{recommitted as machine_recommitted}
 use Rattle.ms_base.specs.Good.{IsGood}
 use Rattle.ms_base.specs.Transition.{HasLoader, LacksLoader, with_loader, with_allocated, zeroed, Change, MayChange}
 use Rattle.ms_base.specs.Transition.{Allocates, Transition}
-use Rattle.ms_base.specs.SumLaws.{GrowsWell}
+use Rattle.ms_base.specs.Laws.Sum.{GrowsWell}
 use Rattle.ms_base.proofs.entries.EntryLemmas.{split_at}
 use Rattle.ms_base.proofs.runs.ApartLemmas.{All-middle_of}
 use Rattle.ms_base.proofs.machine.GoodLemmas.{chunks_split}

@@ -21,7 +21,7 @@ use Rattle.ms_base.specs.Level.{size_of}
 use Rattle.ms_base.specs.Part.{IsPart, buddy_start, is_leader, is_reserved, slot_of}
 use Rattle.ms_base.specs.Spaces.{IsSlotOf, is_in}
 use Rattle.ms_base.specs.State.{PoolState}
-use Rattle.ms_base.specs.Causes.{committed_count, granules_missing}
+use Rattle.ms_base.specs.PoolSteps.Causes.{committed_count, granules_missing}
 use Rattle.ms_base.specs.PoolSteps.{grown, is_free, parent_with_front, with_front}
 use Rattle.ms_base.proofs.granules.FrontLemmas.{has_front_for}
 use Rattle.ms_base.proofs.granules.GranuleLemmas.{ends_in_node}

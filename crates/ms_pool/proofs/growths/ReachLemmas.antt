@@ -10,7 +10,7 @@ use Rattle.ms_base.specs.declared.span.Chunk.{Chunk}
 use Rattle.ms_base.specs.Front.{front_for}
 use Rattle.ms_base.specs.Level.{size_of}
 use Rattle.ms_base.specs.State.{PoolState}
-use Rattle.ms_base.specs.Causes.{committed_count, granules_missing}
+use Rattle.ms_base.specs.PoolSteps.Causes.{committed_count, granules_missing}
 use Rattle.ms_base.specs.PoolSteps.{grown, may_become_parent, parent_with_front, with_front, within_limit}
 use Rattle.ms_pool.specs.Growing.{has_room, reached}
 

@@ -17,7 +17,7 @@ use Rattle.ms_base.specs.Level.{size_of}
 use Rattle.ms_base.specs.Part.{IsPart, slot_of, node_words}
 use Rattle.ms_base.specs.Spaces.{IsSlotOf, is_in}
 use Rattle.ms_base.specs.Held.{meets_chunk}
-use Rattle.ms_base.specs.Causes.{node_limit}
+use Rattle.ms_base.specs.PoolSteps.Causes.{node_limit}
 use Rattle.ms_base.specs.Totals.{capacity_of}
 use Rattle.ms_base.proofs.free.HalvesLemmas.{size_falls}
 use Rattle.ms_base.proofs.machine.SumLemmas.{capacity_within}

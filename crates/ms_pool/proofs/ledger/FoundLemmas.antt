@@ -18,9 +18,9 @@ use Rattle.ms_base.specs.Part.{IsPart, slot_of, is_reserved, node_words}
 use Rattle.ms_base.specs.Held.{meets_chunk}
 use Rattle.ms_base.specs.FreeParts.{free_parts}
 use Rattle.ms_base.specs.State.{PoolState}
-use Rattle.ms_base.specs.Causes.{has_room}
+use Rattle.ms_base.specs.PoolSteps.Causes.{has_room}
 use Rattle.ms_base.specs.Laws.{is_number}
-use Rattle.ms_base.specs.Pick.{candidates, found_at, levels_up, levels_down, lowest_unreserved}
+use Rattle.ms_base.specs.PoolSteps.Pick.{candidates, found_at, levels_up, levels_down, lowest_unreserved}
 use Rattle.ms_base.proofs.granules.GranuleLemmas.{ends_in_node}
 use Rattle.ms_base.proofs.granules.NeedLemmas.{committed_found, down_has, found_in_turn, others_found, up_has}
 

@@ -14,10 +14,10 @@ use Rattle.ms_base.specs.Part.{IsPart, is_leader, buddy_start}
 use Rattle.ms_base.specs.Front.{HasFront}
 use Rattle.ms_base.specs.Held.{words_of, meets_chunk}
 use Rattle.ms_base.specs.State.{PoolState}
-use Rattle.ms_base.specs.Causes.{committed_count, granules_missing}
+use Rattle.ms_base.specs.PoolSteps.Causes.{committed_count, granules_missing}
 use Rattle.ms_base.specs.PoolSteps.{grown, is_free, may_become_parent, within_limit, with_front, parent_with_front}
 use Rattle.ms_base.specs.Transition.{IsGrown}
-use Rattle.ms_base.specs.SumLaws.{GrowsWell}
+use Rattle.ms_base.specs.Laws.Sum.{GrowsWell}
 use Rattle.ms_base.specs.Good.{IsSoundPool}
 use Rattle.ms_base.proofs.arena.GrownLemmas.{GrowsClear, clear_from_runs, parent_clear, parent_size}
 use Rattle.ms_base.proofs.granules.GranuleGrowingLemmas.{growing_keeps_the_limit, growing_is_clear}

@@ -17,8 +17,8 @@ use Rattle.ms_base.specs.Spaces.{IsSlotOf, is_in, other_space}
 use Rattle.ms_base.specs.Held.{AreHeld}
 use Rattle.ms_base.specs.Committed.{is_committed, committed_with}
 use Rattle.ms_base.specs.State.{PoolState}
-use Rattle.ms_base.specs.Pick.{granule_in}
-use Rattle.ms_base.specs.Causes.{granules_missing}
+use Rattle.ms_base.specs.PoolSteps.Pick.{granule_in}
+use Rattle.ms_base.specs.PoolSteps.Causes.{granules_missing}
 use Rattle.ms_base.specs.PoolSteps.{grown}
 use Rattle.ms_base.proofs.arena.GrownLemmas.{GrowsClear, Parted, parted_at}
 use Rattle.ms_base.proofs.granules.GranuleCountLemmas.{meets_front, count_with_front, committed_in_slots}

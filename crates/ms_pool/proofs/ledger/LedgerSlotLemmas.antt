@@ -18,8 +18,8 @@ use Rattle.ms_base.specs.declared.span.Chunk.{Chunk}
 use Rattle.ms_base.specs.Part.{slot_of, is_reserved}
 use Rattle.ms_base.specs.Spaces.{IsSlotOf, is_in}
 use Rattle.ms_base.specs.Committed.{granules_of}
-use Rattle.ms_base.specs.Pick.{granule_in, has_committed}
-use Rattle.ms_base.specs.Causes.{node_limit}
+use Rattle.ms_base.specs.PoolSteps.Pick.{granule_in, has_committed}
+use Rattle.ms_base.specs.PoolSteps.Causes.{node_limit}
 use Rattle.ms_base.specs.PoolSteps.{slots_with}
 use Rattle.ms_base.proofs.granules.GranuleCountLemmas.{committed_in_slots, committed_with_slot, not_there}
 use Rattle.ms_base.proofs.machine.SlotLemmas.{length_with, reserved_with, slots_rise_with}

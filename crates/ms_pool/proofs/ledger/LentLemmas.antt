@@ -8,8 +8,8 @@ use Rattle.ms_base.specs.Part.{slot_of}
 use Rattle.ms_base.specs.Spaces.{other_space, is_in}
 use Rattle.ms_base.specs.Committed.{is_committed, committed_with}
 use Rattle.ms_base.specs.State.{PoolState}
-use Rattle.ms_base.specs.Pick.{granule_in}
-use Rattle.ms_base.specs.Causes.{granules_missing}
+use Rattle.ms_base.specs.PoolSteps.Pick.{granule_in}
+use Rattle.ms_base.specs.PoolSteps.Causes.{granules_missing}
 use Rattle.ms_base.specs.PoolSteps.{slots_with}
 use Rattle.ms_base.proofs.runs.ApartLemmas.{list_any-with}
 use Rattle.ms_base.proofs.granules.GranuleCountLemmas.{meets_front, count_with_front}

@@ -17,8 +17,8 @@ use Rattle.ms_base.specs.FreeParts.{free_parts}
 use Rattle.ms_base.specs.Held.{meets_chunk}
 use Rattle.ms_base.specs.Laws.{IsFound}
 use Rattle.ms_base.specs.State.{PoolState}
-use Rattle.ms_base.specs.Pick.{candidates, found_first, lowest_unreserved, new_root, picked}
-use Rattle.ms_base.specs.Causes.{committed_count, granules_missing, has_room, meets_reserve_limit, node_limit}
+use Rattle.ms_base.specs.PoolSteps.Pick.{candidates, found_first, lowest_unreserved, new_root, picked}
+use Rattle.ms_base.specs.PoolSteps.Causes.{committed_count, granules_missing, has_room, meets_reserve_limit, node_limit}
 use Rattle.ms_base.specs.PoolSteps.{taken}
 use Rattle.ms_base.specs.Good.{IsSoundPool}
 use Rattle.ms_base.proofs.free.HalvesLemmas.{size_falls}

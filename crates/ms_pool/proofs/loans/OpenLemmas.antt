@@ -10,7 +10,7 @@ use Rattle.std.proofs.lemmas.Map.Keys.{sorted_from_strictly_increasing}
 use Rattle.ms_base.specs.declared.kind.Space.{Space}
 use Rattle.ms_base.specs.declared.kind.Space.TheVariants.{NonClass, Class}
 use Rattle.ms_base.specs.Part.{is_reserved, slot_of}
-use Rattle.ms_base.specs.Pick.{lowest_unreserved}
+use Rattle.ms_base.specs.PoolSteps.Pick.{lowest_unreserved}
 use Rattle.ms_base.specs.Spaces.{by_space, class_slots, is_in}
 use Rattle.ms_base.proofs.granules.MissingLemmas.{lowest_is_not_reserved}
 use Rattle.ms_commit.specs.NumberSet.{is_in_range}

@@ -11,9 +11,9 @@ use Rattle.ms_base.specs.declared.span.Span.{Span}
 use Rattle.ms_base.specs.Level.{size_of}
 use Rattle.ms_base.specs.Part.{IsPart, slot_of}
 use Rattle.ms_base.specs.Front.{HasFront, front_for}
-use Rattle.ms_base.specs.Pick.{chunk_picked, picked}
-use Rattle.ms_base.specs.Causes.{committed_count, granules_missing, granules_needed, meets_commit_limit}
-use Rattle.ms_base.specs.Causes.{meets_reserve_limit, node_limit}
+use Rattle.ms_base.specs.PoolSteps.Pick.{chunk_picked, picked}
+use Rattle.ms_base.specs.PoolSteps.Causes.{committed_count, granules_missing, granules_needed, meets_commit_limit}
+use Rattle.ms_base.specs.PoolSteps.Causes.{meets_reserve_limit, node_limit}
 use Rattle.ms_base.specs.PoolSteps.{taken}
 use Rattle.ms_base.specs.State.{PoolState}
 use Rattle.ms_base.proofs.free.HalvesLemmas.{size_falls}

@@ -3,7 +3,7 @@ use Rattle.std.proofs.Common.{◌≡◌, ℕ, ◌+◌, ◌*◌, List, [], ◌∷
 use Rattle.std.specs.List.{flat_map, range_with_len}
 use Rattle.ms_base.specs.declared.span.Chunk.{Chunk}
 use Rattle.ms_base.specs.declared.span.Span.{Span}
-use Rattle.ms_base.specs.FreeLaws.{AreAlike, with_held}
+use Rattle.ms_base.specs.Laws.Free.{AreAlike, with_held}
 use Rattle.ms_base.specs.FreeParts.{free_within}
 use Rattle.ms_base.specs.Interval.{meet}
 use Rattle.ms_base.specs.Level.{root_words, size_of}

@@ -18,7 +18,7 @@ use Rattle.ms_base.specs.Part.{IsPart, slot_of, is_reserved}
 use Rattle.ms_base.specs.Held.{meets_chunk}
 use Rattle.ms_base.specs.Spaces.{is_in}
 use Rattle.ms_base.specs.FreeParts.{IsFreePart, free_parts, free_within}
-use Rattle.ms_base.specs.FreeLaws.{LiesIn, LiesInFree}
+use Rattle.ms_base.specs.Laws.Free.{LiesIn, LiesInFree}
 use Rattle.ms_base.proofs.free.FreeLemmas.{IsFreeWithin, listed_are_free}
 use Rattle.ms_base.proofs.free.HalvesLemmas.{size_some}
 use Rattle.ms_base.proofs.free.MovedLemmas.{raised_part}

@@ -7,10 +7,10 @@ use Rattle.std.proofs.lemmas.List.Elements.{recursion_from_All}
 use Rattle.ms_base.specs.declared.span.Span.{Span}
 use Rattle.ms_base.specs.Level.{size_of}
 use Rattle.ms_base.specs.Policy.{keeps}
-use Rattle.ms_base.specs.FreeLaws.{IsEnoughBySize}
+use Rattle.ms_base.specs.Laws.Free.{IsEnoughBySize}
 use Rattle.ms_base.specs.FreeParts.{IsFreePart, free_parts}
 use Rattle.ms_base.specs.Good.{IsSoundPool}
-use Rattle.ms_base.specs.Pick.{granule_in, is_committed_enough}
+use Rattle.ms_base.specs.PoolSteps.Pick.{granule_in, is_committed_enough}
 use Rattle.ms_base.specs.State.{PoolState}
 use Rattle.ms_base.proofs.free.RoomLemmas.{listed_is_free}
 use Rattle.ms_base.proofs.granules.CommittedRoomLemmas.{enough_by_size}

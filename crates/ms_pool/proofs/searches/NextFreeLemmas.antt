@@ -11,7 +11,7 @@ use Rattle.std.proofs.lemmas.Bool.Decides.{nat_tests}
 use Rattle.std.proofs.lemmas.Map.Keys.{sorted_from_strictly_increasing}
 use Rattle.ms_base.specs.declared.span.Span.{Span}
 use Rattle.ms_base.specs.Level.{root_words}
-use Rattle.ms_base.specs.FreeLaws.{start_of}
+use Rattle.ms_base.specs.Laws.Free.{start_of}
 use Rattle.ms_base.specs.FreeParts.{free_parts, free_within}
 use Rattle.ms_base.proofs.free.RisingLemmas.{free_parts_rise}
 use Rattle.ms_buddy.proofs.TreeHalvesLemmas.{size_of-some}

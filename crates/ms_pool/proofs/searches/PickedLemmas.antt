@@ -13,8 +13,8 @@ use Rattle.std.proofs.lemmas.List.Elements.{All-contains}
 use Rattle.std.proofs.lemmas.List.Folds.{Any-from_list_any}
 use Rattle.ms_base.specs.State.{PoolState}
 use Rattle.ms_base.specs.Laws.{IsFound}
-use Rattle.ms_base.specs.Pick.{candidates, lowest_unreserved, new_root}
-use Rattle.ms_base.specs.Causes.{has_room, node_limit}
+use Rattle.ms_base.specs.PoolSteps.Pick.{candidates, lowest_unreserved, new_root}
+use Rattle.ms_base.specs.PoolSteps.Causes.{has_room, node_limit}
 use Rattle.ms_base.proofs.free.PickLemmas.{candidates_are_free}
 use Rattle.ms_pool.specs.Searching.{first_found, is_full, part_picked}
 use Rattle.ms_pool.proofs.ledger.FoundLemmas.{room_is_found}

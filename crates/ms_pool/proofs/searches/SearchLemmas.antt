@@ -8,7 +8,7 @@ use Rattle.std.specs.List.{filter, find, flat_map, list_all, range_with_len}
 use Rattle.std.proofs.lemmas.List.Folds.{find-append}
 use Rattle.ms_base.specs.FreeParts.{free_parts}
 use Rattle.ms_base.specs.State.{PoolState}
-use Rattle.ms_base.specs.Pick.{found_at, levels_down, levels_up}
+use Rattle.ms_base.specs.PoolSteps.Pick.{found_at, levels_down, levels_up}
 use Rattle.ms_pool.specs.Searching.{first_at, first_down, first_found, first_up, grants}
 
 -- The first of a list, and the first that passes a test.

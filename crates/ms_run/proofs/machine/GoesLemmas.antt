@@ -11,7 +11,7 @@ use Rattle.ms_base.specs.declared.refusal.Refusal.{Refusal}
 use Rattle.ms_base.specs.declared.refusal.Refusal.TheVariants.{LoaderExists}
 use Rattle.ms_base.specs.Names.{named, with_changed}
 use Rattle.ms_base.specs.Request.{loader_of}
-use Rattle.ms_base.specs.Alone.{OwnLoader, OwnReply}
+use Rattle.ms_base.specs.Run.Alone.{OwnLoader, OwnReply}
 use Rattle.ms_base.specs.Transition.{Transition, WordCause, BlockCause}
 use Rattle.ms_base.proofs.entries.LookupLemmas.{named_changed_same, named_changed_other}
 use Rattle.ms_pool.specs.Ledger.{Ledger}

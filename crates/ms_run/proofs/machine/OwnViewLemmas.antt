@@ -7,7 +7,7 @@ use Rattle.ms_base.specs.declared.step.Reply.TheVariants.{Ok as Done, At, Value,
 use Rattle.ms_base.specs.declared.refusal.Refusal.{Refusal}
 use Rattle.ms_base.specs.declared.refusal.Refusal.TheVariants.{NoLoader, NoBlock, OutOfRange, LoaderExists}
 use Rattle.ms_base.specs.Names.{named}
-use Rattle.ms_base.specs.Alone.{OwnLoader, OwnReply}
+use Rattle.ms_base.specs.Run.Alone.{OwnLoader, OwnReply}
 use Rattle.ms_base.specs.State.{LoaderState}
 use Rattle.ms_loaders.specs.Loader.{LoaderView, HasWord, LacksWord, LacksName}
 use Rattle.ms_loaders.specs.System.{states_of}

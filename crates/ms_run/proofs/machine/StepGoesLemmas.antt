@@ -11,7 +11,7 @@ use Rattle.ms_base.specs.declared.refusal.Refusal.{Refusal}
 use Rattle.ms_base.specs.declared.refusal.Refusal.TheVariants.{NoLoader}
 use Rattle.ms_base.specs.Names.{named}
 use Rattle.ms_base.specs.Request.{loader_of, alloc_in}
-use Rattle.ms_base.specs.Alone.{OwnLoader, OwnReply}
+use Rattle.ms_base.specs.Run.Alone.{OwnLoader, OwnReply}
 use Rattle.ms_pool.specs.Account.{AccountState}
 use Rattle.ms_pool.specs.Ledger.{Ledger}
 use Rattle.ms_loaders.specs.Loader.{LoaderView, new_loader, IsSoundView}

@@ -11,7 +11,7 @@ use Rattle.ms_base.specs.declared.step.Step.{Step}
 use Rattle.ms_base.specs.declared.step.Step.TheVariants.{Purge}
 use Rattle.ms_base.specs.declared.step.Reply.{Reply}
 use Rattle.ms_base.specs.declared.step.Reply.TheVariants.{Ok as Done}
-use Rattle.ms_base.specs.Alone.{OwnLoader, OwnReply, OwnReplies}
+use Rattle.ms_base.specs.Run.Alone.{OwnLoader, OwnReply, OwnReplies}
 use Rattle.ms_base.specs.Names.{named}
 use Rattle.ms_base.specs.Request.{loader_of, is_name}
 use Rattle.ms_loaders.specs.Loader.{LoaderView}

@@ -1,6 +1,6 @@
 use Rattle.std.proofs.Common.{◌*◌, length, sym, ap, ◌∙◌}
 use Rattle.std.proofs.lemmas.Option.{IfSome_then}
-use Rattle.ms_base.specs.Pick.{lowest_unreserved}
+use Rattle.ms_base.specs.PoolSteps.Pick.{lowest_unreserved}
 use Rattle.ms_base.specs.Committed.{is_among}
 use Rattle.ms_commit.proofs.LowestLemmas.{IfNone_then}
 use Rattle.ms_commit.proofs.MaskLemmas.{is_among-members}

@@ -1,7 +1,7 @@
 use Rattle.std.proofs.Common.{◌≡◌, ◌+◌, ◌-◌}
 use Rattle.std.specs.Prelude.{slice_get}
 use Rattle.std.specs.List.{flat_map, range_with_len}
-use Rattle.ms_base.specs.Pick.{found_at, levels_down}
+use Rattle.ms_base.specs.PoolSteps.Pick.{found_at, levels_down}
 use Rattle.ms_pool.specs.Ledger.{state_in}
 use Rattle.ms_pool.specs.Keeping.{ledger_of}
 use Rattle.ms_pool.proofs.lender.Lender.larger.Given as goal

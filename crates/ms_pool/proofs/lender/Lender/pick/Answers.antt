@@ -3,7 +3,7 @@ use Rattle.ms_base.specs.declared.kind.Space.{Space}
 use Rattle.ms_base.specs.declared.span.Span.{Span}
 use Rattle.ms_base.specs.declared.kind.Space.TheVariants.{NonClass, Class}
 use Rattle.ms_base.specs.Part.{is_reserved, node_words, slot_of}
-use Rattle.ms_base.specs.Pick.{lowest_unreserved}
+use Rattle.ms_base.specs.PoolSteps.Pick.{lowest_unreserved}
 use Rattle.ms_base.specs.Spaces.{by_space, class_slots}
 use Rattle.ms_commit.specs.Nodes.{slots_of}
 use Rattle.ms_pool.specs.Ledger.{state_in}

@@ -1,7 +1,7 @@
 use Rattle.std.proofs.Common.{ℕ, ◌+◌, sym, ap, ◌∙◌, arith}
 use Rattle.std.specs.Prelude.{slice_get}
 use Rattle.std.specs.List.{flat_map}
-use Rattle.ms_base.specs.Pick.{found_at, levels_up}
+use Rattle.ms_base.specs.PoolSteps.Pick.{found_at, levels_up}
 use Rattle.ms_base.proofs.free.HalvesLemmas.{size_falls}
 use Rattle.ms_pool.specs.Ledger.{state_in}
 use Rattle.ms_pool.specs.Keeping.{ledger_of}

@@ -9,9 +9,9 @@ use Rattle.ms_base.specs.Laws.{roots_of}
 use Rattle.ms_base.specs.declared.kind.Space.{Space}
 use Rattle.ms_base.specs.declared.span.Chunk.{Chunk}
 use Rattle.ms_base.specs.Level.{size_of}
-use Rattle.ms_base.specs.Causes.{committed_count, granules_missing, granules_needed, meets_reserve_limit}
-use Rattle.ms_base.specs.Causes.{meets_commit_limit}
-use Rattle.ms_base.specs.Pick.{chunk_picked}
+use Rattle.ms_base.specs.PoolSteps.Causes.{committed_count, granules_missing, granules_needed, meets_reserve_limit}
+use Rattle.ms_base.specs.PoolSteps.Causes.{meets_commit_limit}
+use Rattle.ms_base.specs.PoolSteps.Pick.{chunk_picked}
 use Rattle.ms_base.specs.Front.{HasFront}
 use Rattle.ms_base.specs.PoolSteps.{taken, grown, slots_with}
 use Rattle.ms_base.specs.Spaces.{most_slots}

@@ -13,9 +13,9 @@ use Rattle.ms_base.specs.Held.{AreHeld, words_of, meets_chunk}
 use Rattle.ms_base.specs.FreeParts.{IsFreePart, free_parts}
 use Rattle.ms_base.specs.Committed.{committed_with}
 use Rattle.ms_base.specs.State.{PoolState}
-use Rattle.ms_base.specs.Pick.{granule_in, has_committed, is_committed_enough}
+use Rattle.ms_base.specs.PoolSteps.Pick.{granule_in, has_committed, is_committed_enough}
 use Rattle.ms_base.specs.Good.{IsSoundPool}
-use Rattle.ms_base.specs.Causes.{has_room, has_committed_room}
+use Rattle.ms_base.specs.PoolSteps.Causes.{has_room, has_committed_room}
 use Rattle.ms_base.specs.PoolSteps.{taken, grown}
 
 -- The part of a level that starts at a word.

@@ -4,8 +4,8 @@ use Rattle.std.specs.Prelude.{if◌then◌else◌}
 use Rattle.std.specs.List.{list_any, flat_map}
 use Rattle.ms_base.specs.declared.step.Step.{Step}
 use Rattle.ms_base.specs.declared.step.Reply.{Reply}
-use Rattle.ms_base.specs.Event.{Event, opening, taking, growing, closing, acting, Answer, lent}
-use Rattle.ms_base.specs.Spread.{SpreadStep, Moment}
+use Rattle.ms_base.specs.Run.Event.{Event, opening, taking, growing, closing, acting, Answer, lent}
+use Rattle.ms_base.specs.Run.Spread.{SpreadStep, Moment}
 
 -- Kinds of events: a growth that is asked for, a chunk that is, an opening, a closing, and a local
 -- event.

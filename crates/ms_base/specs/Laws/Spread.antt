@@ -7,10 +7,10 @@ use Rattle.ms_base.specs.Request.{is_name}
 use Rattle.ms_base.specs.State.{Machine}
 use Rattle.ms_base.specs.Good.{IsGood}
 use Rattle.ms_base.specs.Run.{Run}
-use Rattle.ms_base.specs.SumLaws.{HoldsNothing}
-use Rattle.ms_base.specs.Event.{Event, loader_of_event}
-use Rattle.ms_base.specs.Spread.{Moment, Follow, IsSpread}
-use Rattle.ms_base.specs.Serial.{serial, steps_of, replies_of}
+use Rattle.ms_base.specs.Laws.Sum.{HoldsNothing}
+use Rattle.ms_base.specs.Run.Event.{Event, loader_of_event}
+use Rattle.ms_base.specs.Run.Spread.{Moment, Follow, IsSpread}
+use Rattle.ms_base.specs.Run.Serial.{serial, steps_of, replies_of}
 
 -- An event leaves all that is another loader's: its chunks, books and blocks.
 abbrev pub LeavesOthers : Machine → Event → Machine → Type 0

@@ -18,8 +18,8 @@ use Rattle.ms_base.specs.Live.{block_words}
 use Rattle.ms_base.specs.Place.{current}
 use Rattle.ms_base.specs.Asks.{may_enlarge, total_asked, wanted_level}
 use Rattle.ms_base.specs.Transition.{HasLoader}
-use Rattle.ms_base.specs.Event.{Event, opening, taking, growing, closing, purging, telling, acting, Answer, accepted}
-use Rattle.ms_base.specs.Event.{lent, counted, replied, refused, Happens, loader_of_event}
+use Rattle.ms_base.specs.Run.Event.{Event, opening, taking, growing, closing, purging, telling, acting, Answer, accepted}
+use Rattle.ms_base.specs.Run.Event.{lent, counted, replied, refused, Happens, loader_of_event}
 
 -- A step as it is spread: a request, its reply, and its events with their answers, in their order.
 pub record SpreadStep : Type 0 where
