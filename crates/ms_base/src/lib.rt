@@ -19,6 +19,8 @@ mod settings;
 mod sizes;
 mod span;
 mod step;
+#[cfg(test)]
+mod tests;
 mod words;
 
 pub use kind::{Kind, Space, growth};

@@ -16,6 +16,8 @@
 #![tactic(auto)]
 
 mod free_blocks;
+#[cfg(test)]
+mod tests;
 mod tree;
 
 pub use free_blocks::FreeBlocks;

@@ -11,6 +11,7 @@ pub mod Searching
 pub mod Growing
 pub mod Releasing
 pub mod Placing
+pub mod Serving
 pub mod LimitCounts
 pub mod Owners
 pub mod Mapping

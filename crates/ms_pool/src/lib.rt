@@ -17,6 +17,8 @@ mod mapping;
 mod pool;
 mod search;
 mod source;
+#[cfg(test)]
+mod tests;
 mod totals;
 mod trees;
 

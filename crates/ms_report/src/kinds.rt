@@ -202,3 +202,6 @@ pub fn kind_cell(kind: Kind) -> &'static str
         Kind::Hidden => "      hidden",
     }
 }
+
+#[cfg(test)]
+mod tests;

@@ -38,3 +38,6 @@ pub use refused::{Refusals, tally};
 pub use reply_lines::lines;
 pub use sections::text;
 pub use usage::{Amount, Usage, Usages, weigh};
+
+#[cfg(test)]
+mod tests;

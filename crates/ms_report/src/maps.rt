@@ -134,3 +134,6 @@ fn meaning(place: Place) -> &'static str
         Place::LentWholly => "lent as a whole, committed",
     }
 }
+
+#[cfg(test)]
+mod tests;
