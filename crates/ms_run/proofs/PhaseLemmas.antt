@@ -42,7 +42,7 @@ use Rattle.ms_run.specs.Shares.{AreAt}
 use Rattle.std.specs.Prelude.{slice_index_or}
 use Rattle.ms_run.proofs.sharing.StandByLemmas.{same_merged, all_placed}
 use Rattle.ms_run.specs.Shares.{place_for}
-use Rattle.ms_run.specs.Turn.{TurnState, place_in, place_of, worker_in}
+use Rattle.ms_run.specs.Turn.{TurnState, place_in, place_of, worker_in, IsSameTurn}
 use Rattle.ms_run.proofs.ReplayLemmas.{AddsPhase, AsksStep, steps_replay}
 use Rattle.ms_run.specs.declared.share.Task.{Task}
 use Rattle.ms_run.specs.declared.share.Share.{Share}
@@ -434,18 +434,18 @@ merges_still place others lines before after told = (
   same_merged place others lines told.0 told.1 told.3 told.4,
 )
 
--- All of a worker's lines go to one share, by the place of each that turns before and after have.
-same_worker : (old new : TurnState) → new.first ≡ old.first → new.phase ≡ old.phase → new.workers ≡ old.workers
-    → (name : Option ℕ) → place_in new name ≡ place_of new (worker_in old name)
-same_worker old new first phase workers None = refl
-same_worker old new first phase workers (Some name) = ap (place_of new)
-    (ap (λ (l : List ℕ). (slice_index_or l name 0 + new.phase) % new.workers) first
-    ∙ ap (λ (n : ℕ). (slice_index_or old.first name 0 + n) % new.workers) phase
-    ∙ ap (λ (n : ℕ). (slice_index_or old.first name 0 + old.phase) % n) workers)
+-- All of a worker's lines go to its share, once it is found which workers have lines.
+same_worker : (old new : TurnState) → IsSameTurn old new → (name : Option ℕ)
+    → place_in new name ≡ place_of new (worker_in old name)
+same_worker old new same None = refl
+same_worker old new same (Some name) = ap (place_of new)
+    (ap (λ (l : List ℕ). (slice_index_or l name 0 + new.phase) % new.workers) same.first
+    ∙ ap (λ (n : ℕ). (slice_index_or old.first name 0 + n) % new.workers) same.phase
+    ∙ ap (λ (n : ℕ). (slice_index_or old.first name 0 + old.phase) % n) same.workers)
 
 pub ended : (old_turn turn : TurnState) (shared : LockState) (shares others : List Share) (lines : List Line)
     (before after : List Answer) (loaders : List (ℕ × LoaderView)) (old new : Machine)
-    → turn.first ≡ old_turn.first → turn.phase ≡ old_turn.phase → turn.workers ≡ old_turn.workers
+    → IsSameTurn old_turn turn
     → old.loaders ≡ states_of loaders → AreDealt (place_for (place_in turn) lines) shared shares lines loaders
     → AllWorked shares others
     → Merges (place_in turn) others lines before after
@@ -453,7 +453,7 @@ pub ended : (old_turn turn : TurnState) (shared : LockState) (shares others : Li
     → old ≡ machine_of shared.first loaders → AreTogether shared.first loaders → IsMadeFrom shared.first others new
     → new.limits ≡ shared.first.limits → shared.first.limits ≡ old.limits
     → Adds (worker_in old_turn) lines before after old new
-ended old_turn turn shared shares others lines before after loaders old new first phase workers old_is dealt all merges gathered
+ended old_turn turn shared shares others lines before after loaders old new same_turn old_is dealt all merges gathered
     good machine together made limits same =
     let place : Place = place_for (place_in turn) lines in
     let still = merges_still (place_in turn) others lines before after merges in (
@@ -463,5 +463,5 @@ ended old_turn turn shared shares others lines before after loaders old new firs
           all still.3 still.4 (gathered place (still_apart place shares others lines dealt.apart dealt.tasks all)) good machine
           together made (limits ∙ same)
           (all_placed (place_in turn) (λ name. place_of turn (worker_in old_turn name))
-          (same_worker old_turn turn first phase workers) lines still.0 still.1 still.3),
+          (same_worker old_turn turn same_turn) lines still.0 still.1 still.3),
     )

@@ -116,7 +116,7 @@ there_or_last (x ∷ names) last (suc number) name found =
       | inr is ↦ inr (ap (λ (n : ℕ). suc n) is.0, is.1)
     ]
 
-next_worker : (n m : ℕ) → (n % m + 1) % m ≡ (n + 1) % m
+pub next_worker : (n m : ℕ) → (n % m + 1) % m ≡ (n + 1) % m
 next_worker n m = turned (n % m) 1 ∙ add-mod-mod 1 n m ∙ turned 1 n
   where
     turned : (a b : ℕ) → (a + b) % m ≡ (b + a) % m
@@ -230,7 +230,7 @@ module _ (lines : List Line) (workers : ℕ) (first : List ℕ) (next : ℕ) (it
 pub by_turn : (lines : List Line) (workers : ℕ) (first : List ℕ) (at phase : ℕ) → AreFirst lines workers first
     → at ≡ phase % workers → IsByTurn lines workers phase (worker_by first at workers)
 by_turn lines workers first at phase numbered is = record {
-  purges = refl;
+  purge = refl;
   loaders = λ number name found.
       ap (λ (n : ℕ). (n + at) % workers) (numbered number name found)
       ∙ ap (λ (n : ℕ). (number % workers + n) % workers) is ∙ sym (add-mod number phase workers);

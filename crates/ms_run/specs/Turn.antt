@@ -41,6 +41,12 @@ pub record IsTurn (turn : TurnState) : Type 0 where
   pub few : shares_in turn ≤ 8
   pub workers : 1 ≤ turn.workers
 
+-- The loaders are still the same workers'.
+pub record IsSameTurn (old new : TurnState) : Type 0 where
+  pub first : new.first ≡ old.first
+  pub phase : new.phase ≡ old.phase
+  pub workers : new.workers ≡ old.workers
+
 -- In phase 0 the loaders of lines are their workers' by turns.
 abbrev pub AreFirst : List Line → ℕ → List ℕ → Type 0
 AreFirst lines workers first =

@@ -18,7 +18,7 @@ ghost use Rattle.ms_run.specs.Replay.{AreKept, GoesOn, IsDetailed, IsWanting};
 ghost use Rattle.ms_shared.specs.MeterRule.{MeterSeatState};
 ghost use Rattle.ms_run.specs.Shares.{AreSteps};
 ghost use Rattle.ms_run.specs.Metering.{used_words_of, amount_of};
-ghost use Rattle.ms_run.specs.Turn.{worker_in};
+ghost use Rattle.ms_run.specs.Turn.{worker_in, IsSameTurn};
 
 use crate::alone::{Metered, answer_lines};
 use crate::dealing::deal;
@@ -55,9 +55,7 @@ pub fn run_phase<R: Threads + Wait + Sync, G: Gate + Sync>(
         → (added : List AnswerOf) × (later : Course)
         × (answers.new.items ≡ answers.old.items ++ added)
         × GoesOn (worker_in turn.old) course lines.now added later × HasTaken later after) }
-    ensures first { turn.new.first ≡ turn.old.first }
-    ensures number { turn.new.phase ≡ turn.old.phase }
-    ensures workers { turn.new.workers ≡ turn.old.workers }
+    ensures turn { IsSameTurn turn.old turn.new }
     ensures used { IfOk result (λ after. after.used ≡ used_words_of after.system) }
     ensures kept { IfOk result (λ after. AreKept detail after.peaks) }
     ensures wanting { IfErr result IsWanting }

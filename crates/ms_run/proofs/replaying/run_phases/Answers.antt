@@ -10,8 +10,10 @@ use Rattle.ms_run.proofs.replaying.run_phases.Goals as goal
 
 pub loop-at-init : goal.loop-at-init
 loop-at-init g c = record {
-  phases = phases_start c.args.settings c.args.lines.now c.in_ok-answers.answers.items _ c.in_ok-answers.ensures.items
-      (begins _ (empty_machine (limits_of c.args.settings)) c.in_ok-system.ensures c.begin-peaks.ensures.peaks);
+  phases = phases_start c.args.settings c.args.lines.now c.in_ok-answers.answers.items _ c.in_ok-turn.turn
+      c.in_ok-answers.ensures.items
+      (begins _ (empty_machine (limits_of c.args.settings)) c.in_ok-system.ensures c.begin-peaks.ensures.peaks)
+      c.in_ok-turn.ensures.first c.in_ok-turn.ensures.workers c.in_ok-turn.ensures.phase c.args.settings.workers_some;
   kept = c.begin-peaks.ensures.kept;
   used = used_none c.in_ok-system.system c.args.settings c.in_ok-system.ensures;
   detailed = none_detailed c.args.detail c.in_ok-answers.answers.items c.in_ok-answers.ensures.items;
@@ -22,7 +24,7 @@ begin-peaks-requires g c = sym (used_none c.in_ok-system.system c.args.settings 
 
 pub run_phase-requires-clause-good : goal.run_phase-requires-clause-good
 run_phase-requires-clause-good g c κs within =
-    subst IsGood (sym c.loop-at.invariant.phases.3.state) c.loop-at.invariant.phases.4
+    subst IsGood (sym c.loop-at.invariant.phases.taken.state) c.loop-at.invariant.phases.good
 
 pub run_phase-requires-clause-steps : goal.run_phase-requires-clause-steps
 run_phase-requires-clause-steps g c κs within =
@@ -36,18 +38,22 @@ answer_between-requires-clause-no_step g c =
 pub loop-at-preserved : goal.loop-at-preserved
 loop-at-preserved g c =
     let more =
-    phases_more _ _ _ c.args.lines.now c.loop-at.at c.steps_first-count.result _ _ c.loop-at.invariant.phases
-    c.steps_first-count.ensures.within c.in_ok-run.ensures.phase in
+    phases_more _ _ _ _ c.loop-at.turn c.in_ok-run.new.turn c.args.lines.now c.loop-at.at c.steps_first-count.result _ _
+    c.loop-at.invariant.phases c.steps_first-count.ensures.within c.in_ok-run.ensures.phase c.in_ok-run.ensures.turn in
     let detailed = c.in_ok-run.ensures.detailed c.loop-at.invariant.detailed in
     elim c.if-at-lines.branch [
-      | then-at-lines+in_ok-answer_between w ↦ rw (w.answers-is, w.at-is) (record {
-        phases = phases_next _ _ c.args.lines.now _ _ _ _ more w.if-at-lines.true
-            w.in_ok-answer_between.ensures.answered;
+      | then-at-lines+in_ok-answer_between w ↦ rw (w.answers-is, w.at-is, w.turn-is) (record {
+        phases = phases_next _ _ _ _ _ c.args.lines.now _ _ _ _ more w.if-at-lines.true
+            w.in_ok-answer_between.ensures.answered (record {
+              first = w.go_on.ensures.first;
+              phase = w.go_on.ensures.phase;
+              workers = w.go_on.ensures.workers;
+            });
         kept = c.in_ok-run.ensures.kept;
         used = c.in_ok-run.ensures.used;
         detailed = w.in_ok-answer_between.ensures.detailed detailed;
       })
-      | else-at-lines w ↦ rw (w.answers-is, w.at-is) (record {
+      | else-at-lines w ↦ rw (w.answers-is, w.at-is, w.turn-is) (record {
         phases = more;
         kept = c.in_ok-run.ensures.kept;
         used = c.in_ok-run.ensures.used;
@@ -58,4 +64,4 @@ loop-at-preserved g c =
 pub returns-clause-own : goal.returns-clause-own
 returns-clause-own g c =
     phases_end c.args.settings c.args.lines.now c.loop-at.at c.loop-at.answers.items c.loop-at.run
-    c.loop-at.invariant.phases (omega (arith, c.loop-at-test.false))
+    c.loop-at.turn c.loop-at.invariant.phases (omega (arith, c.loop-at-test.false))
