@@ -298,7 +298,7 @@ steps_more lines at line step more first is =
     (All-from_recursion (λ (one : Line). (asked : Step) × (step_of one.command ≡ Some asked))
     (get_or lines at line ∷ []) ((step, ap step_of is), tt)))
 
-none_asked : (command : Command) → ((step : Step) → command ≡ Asks step → ⊥) → step_of command ≡ None
+pub none_asked : (command : Command) → ((step : Step) → command ≡ Asks step → ⊥) → step_of command ≡ None
 none_asked (Asks step) none = absurd (none step refl)
 none_asked Sync none = refl
 none_asked Report none = refl

@@ -2,20 +2,27 @@
 -- replaying.rt.
 use Rattle.std.proofs.Common.{◌≡◌, ◌≢◌, ◌≤◌, ◌<◌, ◌+◌, ◌%◌, ℕ, zero, suc, Bool, true, false, not, cond, ◌||◌, Option, Some, None}
 use Rattle.std.proofs.Common.{List, [], ◌∷◌, ◌++◌, length, slice_get, refl, sym, ap, ◌∙◌, subst, arith, eq-eqb}
-use Rattle.std.proofs.Common.{length-append, length-set, get_or-set_same, ◌⊎◌, inl, inr}
+use Rattle.std.proofs.Common.{length-append, get_or-set_same, ◌⊎◌, inl, inr, take, drop, get_or, replicate}
+use Rattle.std.proofs.Common.{drop_of_length-le}
 use Rattle.std.specs.Prelude.{◌==◌, slice_index_or, slice_set}
 use Rattle.std.specs.List.{filter}
 use Rattle.std.proofs.Math.Nat.{add-mod, add-mod-mod, mod-eq_of_lt}
+use Rattle.std.proofs.Math.Seq.{take-length}
 use Rattle.std.proofs.lemmas.Bool.{eqb-true}
 use Rattle.std.proofs.lemmas.Bool.Decides.{nat_tests}
-use Rattle.std.proofs.lemmas.List.{get_or-set_other}
+use Rattle.std.proofs.lemmas.List.{get_or-set_other, append-nil, take_more}
 use Rattle.std.proofs.lemmas.List.Elements.{filter-append}
 use Rattle.std.proofs.lemmas.List.Folds.{list_any-append}
 use Rattle.std.proofs.lemmas.Nat.{mod_below}
 use Rattle.std.proofs.lemmas.Option.{slice_get_within}
-use Rattle.ms_run.specs.Workers.{named_by, name_first, loaders_in, IsByTurn}
+use Rattle.ms_run.specs.Workers.{loader_if, named_by, name_first, loaders_in, IsByTurn}
+use Rattle.ms_base.specs.declared.step.Step.{Step}
 use Rattle.ms_base.specs.Committed.{is_among}
+use Rattle.ms_base.specs.Request.{loader_of}
+use Rattle.ms_trace.specs.declared.trace.Command.{Command}
+use Rattle.ms_trace.specs.declared.trace.Command.TheVariants.{Step as Asks}
 use Rattle.ms_trace.specs.declared.trace.Line.{Line}
+use Rattle.ms_trace.specs.Steps.{step_of}
 use Rattle.ms_run.specs.Turn.{worker_by, AreFirst, IsNumbered, AssignsTo, Assigns}
 
 -- A name after others, where it isn't among them.
@@ -222,9 +229,43 @@ module _ (lines : List Line) (workers : ℕ) (first : List ℕ) (next : ℕ) (it
         next_is = its.next_is ∙ ap (λ (l : List ℕ). length l % workers) (sym are);
       })
 
-  pub line_numbered : (line : Line) (new : List ℕ) (came : Bool) → Assigns first (named_by line) next new came
-      → IsNumbered (lines ++ line ∷ []) workers new (cond came ((next + 1) % workers) next)
-  line_numbered line new came told = named_numbered (named_by line) line new came refl told
+  pub step_numbered : (line : Line) (step : Step) (named : Option ℕ) (worker : ℕ) (new : List ℕ) (came is : Bool)
+      → line.command ≡ Asks step → named ≡ loader_of step → worker ≡ next → Assigns first named worker new came
+      → came ≡ is → IsNumbered (lines ++ line ∷ []) workers new (cond is ((next + 1) % workers) next)
+  step_numbered line step named worker new came is asks names same told are =
+      subst (λ b. IsNumbered (lines ++ line ∷ []) workers new (cond b ((next + 1) % workers) next)) are
+      (named_numbered named line new came (ap (λ (command : Command). loader_if (step_of command)) asks ∙ sym names)
+      (subst (λ (n : ℕ). Assigns first named n new came) same told))
+
+  pub end_numbered : (line : Line) → step_of line.command ≡ None → IsNumbered (lines ++ line ∷ []) workers first next
+  end_numbered line none = named_numbered None line first false (ap loader_if none) (refl, refl)
+
+pub numbered_more : (lines : List Line) (at : ℕ) (line : Line) (workers : ℕ) (first : List ℕ) (next : ℕ)
+    → at < length lines → IsNumbered (take at lines ++ get_or lines at line ∷ []) workers first next
+    → IsNumbered (take (at + 1) lines) workers first next
+numbered_more lines at line workers first next more its = rw (take_more lines at line more) its
+
+pub all_numbered : (lines : List Line) (at workers : ℕ) (first : List ℕ) (next : ℕ) → at ≡ length lines
+    → IsNumbered (take at lines) workers first next → AreFirst lines workers first
+all_numbered lines at workers first next ends its =
+    subst (λ (l : List Line). AreFirst l workers first) (ap (λ (n : ℕ). take n lines) ends ∙ take-length lines)
+    its.loaders
+
+-- A slice that was written is all of what lent it.
+pub written_back : (count : ℕ) (new old : List ℕ) → length new ≡ length old → count ≡ length old
+    → take count (new ++ drop (length new) old) ≡ new
+written_back count new old same is =
+    ap (λ (l : List ℕ). take count (new ++ l)) (drop_of_length-le (length new) old (omega (arith, same)))
+    ∙ ap (take count) (append-nil new) ∙ ap (λ (n : ℕ). take n new) (is ∙ sym same) ∙ take-length new
+
+pub all_unnamed : (count : ℕ) (items : List ℕ) → items ≡ replicate count 255 → (name : ℕ)
+    → slice_index_or items name 255 ≡ 255
+all_unnamed count items are name = ap (λ (l : List ℕ). slice_index_or l name 255) are ∙ each count name
+  where
+    each : (n at : ℕ) → slice_index_or (replicate n 255) at 255 ≡ 255
+    each zero at = refl
+    each (suc n) zero = refl
+    each (suc n) (suc at) = each n at
 
 -- Workers that are told by number, and by the phase, come by turns.
 pub by_turn : (lines : List Line) (workers : ℕ) (first : List ℕ) (at phase : ℕ) → AreFirst lines workers first

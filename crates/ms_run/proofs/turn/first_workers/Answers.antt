@@ -1,0 +1,30 @@
+use Rattle.std.proofs.Common.{◌≡◌, ◌∙◌, ℕ, sym, length, take, arith}
+use Rattle.ms_run.proofs.TurnLemmas.{none_numbered, numbered_more, all_numbered, written_back, all_unnamed}
+use Rattle.ms_run.proofs.turn.first_workers.Goals as goal
+
+pub loop-line-init : goal.loop-line-init
+loop-line-init c = record {
+  below = omega (arith, c.requires.some);
+  names = sym c.in_ok-first.first.ok.0 ∙ c.in_ok-first.ensures.len;
+  numbered = none_numbered c.args.workers c.in_ok-first.first.items c.requires.some
+      (all_unnamed 65536 c.in_ok-first.first.items c.in_ok-first.ensures.items);
+}
+
+pub loop-line-preserved : goal.loop-line-preserved
+loop-line-preserved c =
+    rw (written_back c.loop-line.first.len c.number-next.new.first c.loop-line.first.items c.number-next.ensures.names
+        c.loop-line.first.ok.0)
+    (record {
+      below = c.number-next.ensures.below;
+      names = c.number-next.ensures.names ∙ c.loop-line.invariant.names;
+      numbered = numbered_more c.args.lines.now c.loop-line.line-index _ c.args.workers c.number-next.new.first
+          c.number-next.result c.loop-line-test.true
+          (c.number-next.ensures.numbered (take c.loop-line.line-index c.args.lines.now) c.loop-line.invariant.numbered);
+    })
+
+pub returns : goal.returns
+returns c = record {
+  first = all_numbered c.args.lines.now c.loop-line.line-index c.args.workers c.loop-line.first.items c.loop-line.next
+      (let end = c.loop-line.auto.line-index-end in omega (arith, c.loop-line-test.false, end))
+      c.loop-line.invariant.numbered;
+}
