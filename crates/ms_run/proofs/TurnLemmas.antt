@@ -1,6 +1,6 @@
 -- Loaders numbered by their first lines, and the workers that they come to by turns; for turn.rt and
 -- replaying.rt.
-use Rattle.std.proofs.Common.{◌≡◌, ◌≢◌, ◌≤◌, ◌<◌, ◌+◌, ◌%◌, ℕ, zero, suc, Bool, true, false, not, cond, ◌||◌, Option, Some, None}
+use Rattle.std.proofs.Common.{◌≡◌, ◌≤◌, ◌<◌, ◌+◌, ◌%◌, ℕ, zero, suc, Bool, true, false, not, cond, ◌||◌, Option, Some, None}
 use Rattle.std.proofs.Common.{List, [], ◌∷◌, ◌++◌, length, slice_get, refl, sym, ap, ◌∙◌, subst, arith, eq-eqb}
 use Rattle.std.proofs.Common.{length-append, get_or-set_same, ◌⊎◌, inl, inr, take, drop, get_or, replicate}
 use Rattle.std.proofs.Common.{drop_of_length-le}
@@ -14,7 +14,6 @@ use Rattle.std.proofs.lemmas.List.{get_or-set_other, append-nil, take_more}
 use Rattle.std.proofs.lemmas.List.Elements.{filter-append}
 use Rattle.std.proofs.lemmas.List.Folds.{list_any-append}
 use Rattle.std.proofs.lemmas.Nat.{mod_below}
-use Rattle.std.proofs.lemmas.Option.{slice_get_within}
 use Rattle.ms_run.specs.Workers.{loader_if, named_by, name_first, loaders_in, IsByTurn}
 use Rattle.ms_base.specs.declared.step.Step.{Step}
 use Rattle.ms_base.specs.Committed.{is_among}
@@ -255,17 +254,17 @@ all_numbered lines at workers first next ends its =
 pub written_back : (count : ℕ) (new old : List ℕ) → length new ≡ length old → count ≡ length old
     → take count (new ++ drop (length new) old) ≡ new
 written_back count new old same is =
-    ap (λ (l : List ℕ). take count (new ++ l)) (drop_of_length-le (length new) old (omega (arith, same)))
+    ap (λ (l : List ℕ). take count (new ++ l)) (drop_of_length-le old (omega (arith, same)))
     ∙ ap (take count) (append-nil new) ∙ ap (λ (n : ℕ). take n new) (is ∙ sym same) ∙ take-length new
 
 pub all_unnamed : (count : ℕ) (items : List ℕ) → items ≡ replicate count 255 → (name : ℕ)
     → slice_index_or items name 255 ≡ 255
-all_unnamed count items are name = ap (λ (l : List ℕ). slice_index_or l name 255) are ∙ each count name
+all_unnamed count items are name = ap (λ (l : List ℕ). slice_index_or l name 255) are ∙ each count name 255
   where
-    each : (n at : ℕ) → slice_index_or (replicate n 255) at 255 ≡ 255
-    each zero at = refl
-    each (suc n) zero = refl
-    each (suc n) (suc at) = each n at
+    each : (n at value : ℕ) → slice_index_or (replicate n value) at value ≡ value
+    each zero at value = refl
+    each (suc n) zero value = refl
+    each (suc n) (suc at) value = each n at value
 
 -- Workers that are told by number, and by the phase, come by turns.
 pub by_turn : (lines : List Line) (workers : ℕ) (first : List ℕ) (at phase : ℕ) → AreFirst lines workers first

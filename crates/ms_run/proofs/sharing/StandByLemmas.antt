@@ -173,14 +173,14 @@ pub same_merged : (place : Place) (others : List Share) (lines : List Line) (ans
     → AreSaid lines answers said → AreMerged place others said → AreMerged (place_for place lines) others said
 same_merged place others lines answers said told merged = λ at share found.
     alike (λ (s : Said). place_for place lines (loader_of s.0) == at) (λ (s : Said). place (loader_of s.0) == at) said
-    (tests_alike said (all_placed place place (λ name. refl) lines answers said told))
+    (tests_alike at said (all_placed place place (λ name. refl) lines answers said told))
     ∙ merged at share found
   where
-    tests_alike : {at : ℕ} (said : List Said)
+    tests_alike : (at : ℕ) (said : List Said)
         → AllByRecursion (λ (s : Said). place_for place lines (loader_of s.0) ≡ place (loader_of s.0)) said
         → AllByRecursion (λ (s : Said). (place_for place lines (loader_of s.0) == at) ≡ (place (loader_of s.0) == at)) said
-    tests_alike [] all = tt
-    tests_alike {at} (s ∷ said) all = (ap (λ (n : ℕ). n == at) all.0, tests_alike said all.1)
+    tests_alike at [] all = tt
+    tests_alike at (s ∷ said) all = (ap (λ (n : ℕ). n == at) all.0, tests_alike at said all.1)
 
 -- All go to one of the shares still.
 pub within_still : (place : Place) (lines : List Line) (count : ℕ) → 1 ≤ count → AreWithin place count

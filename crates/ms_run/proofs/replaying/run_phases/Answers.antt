@@ -5,7 +5,6 @@ use Rattle.ms_run.proofs.AloneLemmas.{begins}
 use Rattle.ms_run.proofs.ReplayLemmas.{phases_start, steps_there, stops_next, phases_more, phases_next, phases_end}
 use Rattle.ms_run.proofs.ReplayLemmas.{used_none}
 use Rattle.ms_run.proofs.DetailLemmas.{none_detailed}
-use Rattle.ms_run.proofs.replaying.run_phases.Goals.{then-at-lines+in_ok-answer_between, else-at-lines}
 use Rattle.ms_run.proofs.replaying.run_phases.Goals as goal
 
 pub loop-at-init : goal.loop-at-init
@@ -35,31 +34,33 @@ answer_between-requires-clause-no_step g c =
     stops_next c.args.lines.now c.loop-at.at c.steps_first-count.result _ c.steps_first-count.ensures.stops
     c.if-at-lines.true
 
-pub loop-at-preserved : goal.loop-at-preserved
-loop-at-preserved g c =
+pub loop-at-preserved-then-at-lines : goal.loop-at-preserved-then-at-lines
+loop-at-preserved-then-at-lines g c =
     let more =
     phases_more _ _ _ _ c.loop-at.turn c.in_ok-run.new.turn c.args.lines.now c.loop-at.at c.steps_first-count.result _ _
     c.loop-at.invariant.phases c.steps_first-count.ensures.within c.in_ok-run.ensures.phase c.in_ok-run.ensures.turn in
-    let detailed = c.in_ok-run.ensures.detailed c.loop-at.invariant.detailed in
-    elim c.if-at-lines.branch [
-      | then-at-lines+in_ok-answer_between w ↦ rw (w.answers-is, w.at-is, w.turn-is) (record {
-        phases = phases_next _ _ _ _ _ c.args.lines.now _ _ _ _ more w.if-at-lines.true
-            w.in_ok-answer_between.ensures.answered (record {
-              first = w.go_on.ensures.first;
-              phase = w.go_on.ensures.phase;
-              workers = w.go_on.ensures.workers;
-            });
-        kept = c.in_ok-run.ensures.kept;
-        used = c.in_ok-run.ensures.used;
-        detailed = w.in_ok-answer_between.ensures.detailed detailed;
-      })
-      | else-at-lines w ↦ rw (w.answers-is, w.at-is, w.turn-is) (record {
-        phases = more;
-        kept = c.in_ok-run.ensures.kept;
-        used = c.in_ok-run.ensures.used;
-        detailed = detailed;
-      })
-    ]
+    record {
+      phases = phases_next _ _ _ _ _ c.args.lines.now _ _ _ _ more c.if-at-lines.true
+          c.in_ok-answer_between.ensures.answered (record {
+            first = c.go_on.ensures.first;
+            phase = c.go_on.ensures.phase;
+            workers = c.go_on.ensures.workers;
+          });
+      kept = c.in_ok-run.ensures.kept;
+      used = c.in_ok-run.ensures.used;
+      detailed = c.in_ok-answer_between.ensures.detailed
+          (c.in_ok-run.ensures.detailed c.loop-at.invariant.detailed);
+    }
+
+pub loop-at-preserved : goal.loop-at-preserved
+loop-at-preserved g c = record {
+  phases =
+      phases_more _ _ _ _ c.loop-at.turn c.in_ok-run.new.turn c.args.lines.now c.loop-at.at c.steps_first-count.result _ _
+      c.loop-at.invariant.phases c.steps_first-count.ensures.within c.in_ok-run.ensures.phase c.in_ok-run.ensures.turn;
+  kept = c.in_ok-run.ensures.kept;
+  used = c.in_ok-run.ensures.used;
+  detailed = c.in_ok-run.ensures.detailed c.loop-at.invariant.detailed;
+}
 
 pub returns-clause-own : goal.returns-clause-own
 returns-clause-own g c =

@@ -1,4 +1,4 @@
-use Rattle.std.proofs.Common.{◌≡◌, ◌∙◌, ℕ, sym, length, take, arith}
+use Rattle.std.proofs.Common.{◌∙◌, sym, take, arith}
 use Rattle.ms_run.proofs.TurnLemmas.{none_numbered, numbered_more, all_numbered, written_back, all_unnamed}
 use Rattle.ms_run.proofs.turn.first_workers.Goals as goal
 
