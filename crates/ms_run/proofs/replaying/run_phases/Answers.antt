@@ -37,7 +37,7 @@ answer_between-requires-clause-no_step g c =
 pub loop-at-preserved-then-at-lines : goal.loop-at-preserved-then-at-lines
 loop-at-preserved-then-at-lines g c =
     let more =
-    phases_more _ _ _ _ c.loop-at.turn c.in_ok-run.new.turn c.args.lines.now c.loop-at.at c.steps_first-count.result _ _
+    phases_more _ _ _ _ c.loop-at.turn _ c.args.lines.now c.loop-at.at c.steps_first-count.result _ _
     c.loop-at.invariant.phases c.steps_first-count.ensures.within c.in_ok-run.ensures.phase c.in_ok-run.ensures.turn in
     record {
       phases = phases_next _ _ _ _ _ c.args.lines.now _ _ _ _ more c.if-at-lines.true
@@ -55,7 +55,7 @@ loop-at-preserved-then-at-lines g c =
 pub loop-at-preserved : goal.loop-at-preserved
 loop-at-preserved g c = record {
   phases =
-      phases_more _ _ _ _ c.loop-at.turn c.in_ok-run.new.turn c.args.lines.now c.loop-at.at c.steps_first-count.result _ _
+      phases_more _ _ _ _ c.loop-at.turn _ c.args.lines.now c.loop-at.at c.steps_first-count.result _ _
       c.loop-at.invariant.phases c.steps_first-count.ensures.within c.in_ok-run.ensures.phase c.in_ok-run.ensures.turn;
   kept = c.in_ok-run.ensures.kept;
   used = c.in_ok-run.ensures.used;
