@@ -223,10 +223,10 @@ module _ (lines : List Line) (workers : ℕ) (first : List ℕ) (next : ℕ) (it
           → IsNumbered (lines ++ line ∷ []) workers new (cond came ((next + 1) % workers) next)
       same_again are stays =
           rw (stays, told.new_is ∙ ap (λ b. cond b (slice_set first name next) first) stays) (record {
-        loaders = λ number other found. its.loaders number other (subst (λ (l : List ℕ). slice_get l number ≡ Some other) are found);
-        others = λ other away. its.others other (ap (λ (l : List ℕ). is_among l other) (sym are) ∙ away);
-        next_is = its.next_is ∙ ap (λ (l : List ℕ). length l % workers) (sym are);
-      })
+            loaders = λ number other found. its.loaders number other (subst (λ (l : List ℕ). slice_get l number ≡ Some other) are found);
+            others = λ other away. its.others other (ap (λ (l : List ℕ). is_among l other) (sym are) ∙ away);
+            next_is = its.next_is ∙ ap (λ (l : List ℕ). length l % workers) (sym are);
+          })
 
   pub step_numbered : (line : Line) (step : Step) (named : Option ℕ) (worker : ℕ) (new : List ℕ) (came is : Bool)
       → line.command ≡ Asks step → named ≡ loader_of step → worker ≡ next → Assigns first named worker new came
