@@ -10,6 +10,7 @@ mod SeatStaysLemmas
 mod AnswerLemmas
 mod AnsweredLemmas
 mod PhaseSettleLemmas
+mod TurnLemmas
 mod OrderLemmas
 mod machine
 mod PhaseLemmas

@@ -3,7 +3,7 @@
 use Rattle.std.proofs.Common.{◌≡◌, ◌≢◌, ◌<◌, ◌==◌, ℕ, zero, suc, Bool, true, false, cond, Some, None, Option, List, []}
 use Rattle.std.proofs.Common.{◌∷◌}
 use Rattle.std.proofs.Common.{map, length, refl, sym, ap, ◌∙◌, subst, arith, slice_get, get_or, option_map}
-use Rattle.std.proofs.Common.{◌++◌}
+use Rattle.std.proofs.Common.{◌++◌, ◌+◌, ◌%◌}
 use Rattle.std.specs.List.{All, AllByRecursion, filter}
 use Rattle.std.proofs.lemmas.Bool.{eq-eqb, eqb-true, false_from_ne_true}
 use Rattle.std.proofs.lemmas.Option.{slice_get-get_or, slice_get_within, get_or_from_slice_get}
@@ -40,13 +40,14 @@ use Rattle.ms_run.proofs.OrderLemmas.{HasPart, IsOrdered, ordered}
 use Rattle.ms_run.proofs.machine.WholeLemmas.{one_run}
 use Rattle.ms_run.specs.Shares.{AreAt}
 use Rattle.std.specs.Prelude.{slice_index_or}
-use Rattle.ms_run.proofs.sharing.StandByLemmas.{same_merged}
+use Rattle.ms_run.proofs.sharing.StandByLemmas.{same_merged, all_placed}
 use Rattle.ms_run.specs.Shares.{place_for}
-use Rattle.ms_run.proofs.ReplayLemmas.{AddsPhase, answers_replay}
+use Rattle.ms_run.specs.Turn.{TurnState, place_in, place_of, worker_in, IsSameTurn}
+use Rattle.ms_run.proofs.ReplayLemmas.{AddsPhase, AsksStep, steps_replay}
 use Rattle.ms_run.specs.declared.share.Task.{Task}
 use Rattle.ms_run.specs.declared.share.Share.{Share}
 use Rattle.ms_run.specs.Shares.{said_in, IsReady, IsWorked, AllWorked, Place, tasks_of, AreApart, HaveTasks, AreDealt}
-use Rattle.ms_run.specs.Shares.{AreAnswered, AreMerged, IsGathered}
+use Rattle.ms_run.specs.Shares.{AreAnswered, AreMerged, IsGathered, AreSteps}
 
 -- The share that became one that is worked.
 pub record WorkedFrom (shares : List Share) (at : ℕ) (done : Share) : Type 0 where
@@ -256,26 +257,28 @@ loaders_at (x ∷ shares) zero share found = let same : x ≡ share = cc in ap l
 loaders_at (x ∷ shares) (suc at) share found = loaders_at shares at share found
 
 -- What a phase's parts say of it together.
-pub phase_of : (place : Place) (shared : LockState) (shares others : List Share) (lines : List Line)
+pub phase_of : (worker : Option ℕ → ℕ) (share : ℕ → ℕ) (place : Place) (shared : LockState) (shares others : List Share) (lines : List Line)
     (added : List Answer) (said : List Said)
     (loaders : List (ℕ × LoaderView)) (old new : Machine)
     → old.loaders ≡ states_of loaders → AreDealt place shared shares lines loaders → AllWorked shares others
     → AreSaid lines added said → AreMerged place others said → IsGathered place others new.loaders → IsGood new
     → old ≡ machine_of shared.first loaders → AreTogether shared.first loaders → IsMadeFrom shared.first others new
     → new.limits ≡ old.limits
-    → IsPhase old lines added new
-phase_of place shared shares others lines added said loaders old new old_is dealt all said_are merged gathered good
-    machine together made limits = record {
+    → AllByRecursion (λ (s : Said). place (loader_of s.0) ≡ share (worker (loader_of s.0))) said
+    → IsPhase worker old lines added new
+phase_of worker share place shared shares others lines added said loaders old new old_is dealt all said_are merged
+    gathered good machine together made limits placed = record {
       said = said;
       said_are = said_are;
       own = own;
       purges = purges;
-      one_run = subst (λ (m : Machine). IsOneRun m said new) (sym machine)
-          (subst (λ (m : Machine). IsOneRun (machine_of shared.first loaders) said m) (sym made.ends.machine)
-          (one_run place shared.first made.last before after loaders made.ends.loaders said woven.order together
+      one_run = subst (λ (m : Machine). IsOneRun worker m said new) (sym machine)
+          (subst (λ (m : Machine). IsOneRun worker (machine_of shared.first loaders) said m) (sym made.ends.machine)
+          (one_run place shared.first made.last before after loaders made.ends.loaders said woven.order worker share
+          together
           (λ name. omega (arith, many, same_count shares others all, dealt.within name))
           (λ at less. begins_at at (done_at at less)) (λ at less. ends_at at (done_at at less)) woven.runs woven.keeps
-          (subst (λ (m : Machine). AreNamed m.loaders) made.ends.machine good.names)));
+          (subst (λ (m : Machine). AreNamed m.loaders) made.ends.machine good.names) placed));
       good = good;
       limits = limits;
     }
@@ -367,28 +370,30 @@ phase_of place shared shares others lines added said loaders old new old_is deal
         (subst (AllByRecursion IsDoneIfPurge) (sym whole) its))
 
 -- A phase comes after what there was before it.
-goes_on : (lines : List Line) (added : List Answer) (course : Course) (new : Machine)
-    → IsPhase course.state lines added new → GoesOn course lines added (on_to new course)
-goes_on lines added course new phase = record {
-  replays = λ first before said so_far. runs before lines said added course new so_far phase;
-  good = phase.good;
+goes_on : (worker : Option ℕ → ℕ) (lines : List Line) (added : List Answer) (course : Course) (new : Machine)
+    → IsPhase worker course.state lines added new → GoesOn worker course lines added (on_to new course)
+goes_on worker lines added course new its = record {
+  replays = λ trace workers first phase before said turns so_far.
+      runs phase worker before lines said added course new so_far turns its;
+  good = its.good;
 }
 
 -- What has been answered, with the answers of a phase.
-abbrev pub Adds : List Line → List Answer → List Answer → Machine → Machine → Type 0
-Adds lines before after old new = (added : List Answer) × (after ≡ before ++ added) × IsPhase old lines added new
+abbrev pub Adds : (Option ℕ → ℕ) → List Line → List Answer → List Answer → Machine → Machine → Type 0
+Adds worker lines before after old new =
+    (added : List Answer) × (after ≡ before ++ added) × IsPhase worker old lines added new
 
 -- A run whose system goes through a phase, and whose peaks are raised at its end, goes on.
-pub phase_added : (lines : List Line) (before after : List Answer) (old new : Metered)
-    → Adds lines before after old.system new.system
+pub phase_added : (worker : Option ℕ → ℕ) (lines : List Line) (before after : List Answer) (old new : Metered)
+    → Adds worker lines before after old.system new.system
     → ((states : List Machine) → ArePeaksIfKept states old.peaks → ArePeaksIfKept (new.system ∷ states) new.peaks)
-    → AddsPhase old lines before after new
-phase_added lines before after old new told raised = λ course taken. (
+    → AddsPhase worker old lines before after new
+phase_added worker lines before after old new told raised = λ course taken. (
   told.0,
   on_to new.system course,
   told.1,
-  goes_on lines told.0 course new.system
-      (subst (λ (m : Machine). IsPhase m lines told.0 new.system) taken.state told.2),
+  goes_on worker lines told.0 course new.system
+      (subst (λ (m : Machine). IsPhase worker m lines told.0 new.system) taken.state told.2),
   record {
     state = refl;
     peaks = raised (passed course) taken.peaks;
@@ -396,16 +401,18 @@ phase_added lines before after old new told raised = λ course taken. (
 )
 
 -- So does one by whose worker alone the lines are answered.
-pub ended_alone : (lines : List Line) (before after : List Answer) (old new : Metered) → IsGood old.system
-    → IsGood new.system → HasAnswered old lines before after new → AddsPhase old lines before after new
-ended_alone lines before after old new was good answered = λ course taken.
+pub ended_alone : (worker : Option ℕ → ℕ) (lines : List Line) (before after : List Answer) (old new : Metered)
+    → IsGood old.system → IsGood new.system → AreSteps lines → HasAnswered old lines before after new
+    → AddsPhase worker old lines before after new
+ended_alone worker lines before after old new was good steps answered = λ course taken.
     let told = answered course taken in (
       told.0,
       told.1,
       told.2,
       record {
-        replays = λ first earlier said so_far.
-            answers_replay first course told.1 earlier lines said told.0 so_far (subst IsGood taken.state was) told.3;
+        replays = λ trace workers first phase earlier said turns so_far.
+            steps_replay trace workers first phase worker turns course told.1 earlier lines said told.0
+            (recursion_from_All AsksStep lines steps) so_far (subst IsGood taken.state was) told.3;
         good = subst IsGood told.4.state good;
       },
       told.4,
@@ -417,7 +424,7 @@ Merges place others lines before after =
     (added : List Answer) × (said : List Said) × (after ≡ before ++ added) × AreSaid lines added said
     × AreMerged place others said
 
-pub merges_still : (place : Place) (others : List Share) (lines : List Line) (before after : List Answer)
+merges_still : (place : Place) (others : List Share) (lines : List Line) (before after : List Answer)
     → Merges place others lines before after → Merges (place_for place lines) others lines before after
 merges_still place others lines before after told = (
   told.0,
@@ -427,17 +434,34 @@ merges_still place others lines before after told = (
   same_merged place others lines told.0 told.1 told.3 told.4,
 )
 
-pub ended : (place : Place) (shared : LockState) (shares others : List Share) (lines : List Line)
+-- All of a worker's lines go to its share, once it is found which workers have lines.
+same_worker : (old new : TurnState) → IsSameTurn old new → (name : Option ℕ)
+    → place_in new name ≡ place_of new (worker_in old name)
+same_worker old new same None = refl
+same_worker old new same (Some name) = ap (place_of new)
+    (ap (λ (l : List ℕ). (slice_index_or l name 0 + new.phase) % new.workers) same.first
+    ∙ ap (λ (n : ℕ). (slice_index_or old.first name 0 + n) % new.workers) same.phase
+    ∙ ap (λ (n : ℕ). (slice_index_or old.first name 0 + old.phase) % n) same.workers)
+
+pub ended : (old_turn turn : TurnState) (shared : LockState) (shares others : List Share) (lines : List Line)
     (before after : List Answer) (loaders : List (ℕ × LoaderView)) (old new : Machine)
-    → old.loaders ≡ states_of loaders → AreDealt place shared shares lines loaders → AllWorked shares others
-    → Merges place others lines before after
+    → IsSameTurn old_turn turn
+    → old.loaders ≡ states_of loaders → AreDealt (place_for (place_in turn) lines) shared shares lines loaders
+    → AllWorked shares others
+    → Merges (place_in turn) others lines before after
     → ((where_to : Place) → AreApart where_to others → IsGathered where_to others new.loaders) → IsGood new
     → old ≡ machine_of shared.first loaders → AreTogether shared.first loaders → IsMadeFrom shared.first others new
-    → new.limits ≡ shared.first.limits → shared.first.limits ≡ old.limits → Adds lines before after old new
-ended place shared shares others lines before after loaders old new old_is dealt all merges gathered good machine together made
-    limits same = (
-      merges.0,
-      merges.2,
-      phase_of place shared shares others lines merges.0 merges.1 loaders old new old_is dealt all merges.3 merges.4
-          (gathered place (still_apart place shares others lines dealt.apart dealt.tasks all)) good machine together made (limits ∙ same),
+    → new.limits ≡ shared.first.limits → shared.first.limits ≡ old.limits
+    → Adds (worker_in old_turn) lines before after old new
+ended old_turn turn shared shares others lines before after loaders old new same_turn old_is dealt all merges gathered
+    good machine together made limits same =
+    let place : Place = place_for (place_in turn) lines in
+    let still = merges_still (place_in turn) others lines before after merges in (
+      still.0,
+      still.2,
+      phase_of (worker_in old_turn) (place_of turn) place shared shares others lines still.0 still.1 loaders old new old_is dealt
+          all still.3 still.4 (gathered place (still_apart place shares others lines dealt.apart dealt.tasks all)) good machine
+          together made (limits ∙ same)
+          (all_placed (place_in turn) (λ name. place_of turn (worker_in old_turn name))
+          (same_worker old_turn turn same_turn) lines still.0 still.1 still.3),
     )

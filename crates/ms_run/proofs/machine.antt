@@ -6,4 +6,5 @@ pub mod AllocFilledLemmas
 pub mod AllocGoesLemmas
 pub mod StepGoesLemmas
 pub mod PartsLemmas
+pub mod KeptLemmas
 pub mod WholeLemmas

@@ -2,6 +2,7 @@ pub mod Own
 pub mod Acts
 pub mod Course
 pub mod Peaks
+pub mod Workers
 pub mod Replay
 pub mod Manned
 pub mod Shares

@@ -2,7 +2,7 @@
 use Rattle.std.specs.List.{filter}
 use Rattle.std.specs.List.Sorted.{IsPermutation}
 use Rattle.std.specs.Option.{is_some}
-use Rattle.std.specs.Prelude.{◌≡◌, ◌<◌, ◌==◌, ℕ, ⊤, Bool, true, false, List, [], ◌∷◌, ◌++◌, Option, Some, None}
+use Rattle.std.specs.Prelude.{◌≡◌, ◌==◌, ℕ, suc, ⊤, Bool, true, false, List, [], ◌∷◌, ◌++◌, Option, Some, None}
 use Rattle.std.specs.Prelude.{Box, IfSome, map}
 use Rattle.std.specs.declared.alloc.Global.{Global}
 use Rattle.ms_base.specs.declared.step.Step.{Step}
@@ -27,8 +27,8 @@ use Rattle.ms_loaders.specs.Sums.{sums_in}
 use Rattle.ms_base.specs.Request.{loader_of}
 use Rattle.ms_run.specs.Course.{Course, begun, on_to, passed}
 use Rattle.ms_run.specs.Peaks.{ArePeaksIfKept}
-use Rattle.ms_run.specs.Shares.{Place, AreWithin}
 use Rattle.ms_run.specs.Own.{Said, own_said, own_in, OwnRun, ArePurged}
+use Rattle.ms_run.specs.Workers.{IsByTurn}
 use Rattle.ms_run.specs.declared.fault.RunFault.{RunFault}
 use Rattle.ms_run.specs.declared.fault.RunFault.TheVariants.{Unsettled}
 
@@ -87,29 +87,26 @@ AreSaid (line ∷ lines) (answer ∷ answers) (s ∷ said) =
     × AreSaid lines answers said
 AreSaid _ _ _ = ⊥
 
--- Some workers said it, each what its place's loaders or a purge were asked. All that was said has one
--- order, in which each worker's lines stand as they were said, and in that order it is one run of the
--- machine.
-pub record IsOneRun (old : Machine) (said : List Said) (new : Machine) : Type 0 where
-  pub place : Place
-  pub workers : ℕ
-  pub within : AreWithin place workers
+-- Workers said it, each what its loaders or a purge were asked. All that was said has one order, in which
+-- each worker's lines stand as they were said, and in that order it is one run of the machine.
+pub record IsOneRun (worker : Option ℕ → ℕ) (old : Machine) (said : List Said) (new : Machine) : Type 0 where
   pub order : List Said
   pub permutes : IsPermutation order said
-  pub keeps : (at : ℕ) → at < workers
-      → filter (λ (s : Said). place (loader_of s.0) == at) order
-      ≡ filter (λ (s : Said). place (loader_of s.0) == at) said
+  pub keeps : (one : ℕ) → filter (λ (s : Said). worker (loader_of s.0) == one) order
+      ≡ filter (λ (s : Said). worker (loader_of s.0) == one) said
   pub run : Run old (map (λ (s : Said). s.0) order) (map (λ (s : Said). s.1) order) new
 
 -- A phase from one good state to another with the same limits. The replies to each loader's lines
 -- are its own: they follow from its lines and from which of them were refused for want, and leave
--- what the new state has of it. Each purge is done. All of it, in some order, is one run of the machine.
-pub record IsPhase (old : Machine) (lines : List Line) (answers : List Answer) (new : Machine) : Type 0 where
+-- what the new state has of it. Each purge is done. All of it, in some order that keeps each worker's
+-- lines, is one run of the machine.
+pub record IsPhase (worker : Option ℕ → ℕ) (old : Machine) (lines : List Line) (answers : List Answer)
+    (new : Machine) : Type 0 where
   pub said : List Said
   pub said_are : AreSaid lines answers said
   pub own : (name : ℕ) → OwnRun (own_in old.loaders name) (own_said name said) (own_in new.loaders name)
   pub purges : ArePurged said
-  pub one_run : IsOneRun old said new
+  pub one_run : IsOneRun worker old said new
   pub good : IsGood new
   pub limits : new.limits ≡ old.limits
 
@@ -120,26 +117,34 @@ pub record IsEnd (course : Course) (line : Line) (answer : Answer) : Type 0 wher
   pub done : answer.reply ≡ Done
   pub report : Reports line.command course answer.report
 
--- The lines of a trace are answered phase by phase; the course goes on at the end of each phase.
-pub data Replays (first : Machine) : List Line → List Answer → Course → Type 0 where
-  starts : Replays first [] [] (begun first)
-  runs : (lines later : List Line) (answers others : List Answer) (old : Course) (new : Machine)
-      → Replays first lines answers old → IsPhase old.state later others new
-      → Replays first (lines ++ later) (answers ++ others) (on_to new old)
-  ends : (lines : List Line) (answers : List Answer) (course : Course) (line : Line) (answer : Answer)
-      → Replays first lines answers course → IsEnd course line answer
-      → Replays first (lines ++ line ∷ []) (answers ++ answer ∷ []) course
+-- The first lines of a trace are answered phase by phase, each by the workers whose turn it is in the phase
+-- of that number; the course goes on at the end of each phase. A line that asks no step ends a phase, and the
+-- next one has the next number.
+pub data Replays (trace : List Line) (workers : ℕ) (first : Machine) : ℕ → List Line → List Answer → Course → Type 0 where
+  starts : Replays trace workers first 0 [] [] (begun first)
+  runs : (phase : ℕ) (worker : Option ℕ → ℕ) (lines later : List Line) (answers others : List Answer)
+      (old : Course) (new : Machine)
+      → Replays trace workers first phase lines answers old → IsByTurn trace workers phase worker
+      → IsPhase worker old.state later others new
+      → Replays trace workers first phase (lines ++ later) (answers ++ others) (on_to new old)
+  ends : (phase : ℕ) (lines : List Line) (answers : List Answer) (course : Course) (line : Line) (answer : Answer)
+      → Replays trace workers first phase lines answers course → IsEnd course line answer
+      → Replays trace workers first (suc phase) (lines ++ line ∷ []) (answers ++ answer ∷ []) course
 
--- From a course on that was taken, the lines are answered phase by phase, up to a good state.
-pub record GoesOn (old : Course) (lines : List Line) (answers : List Answer) (new : Course) : Type 0 where
-  pub replays : (first : Machine) (before : List Line) (said : List Answer) → Replays first before said old
-      → Replays first (before ++ lines) (said ++ answers) new
+-- From a course on that was taken, the lines are answered as a phase, or part by part of one, by the workers
+-- that it has, up to a good state.
+pub record GoesOn (worker : Option ℕ → ℕ) (old : Course) (lines : List Line) (answers : List Answer)
+    (new : Course) : Type 0 where
+  pub replays : (trace : List Line) (workers : ℕ) (first : Machine) (phase : ℕ) (before : List Line) (said : List Answer)
+      → IsByTurn trace workers phase worker → Replays trace workers first phase before said old
+      → Replays trace workers first phase (before ++ lines) (said ++ answers) new
   pub good : IsGood new.state
 
--- A whole trace is, from a machine on that has nothing.
-pub record IsReplay (limits : Limits) (lines : List Line) (answers : List Answer) : Type 0 where
+-- A whole trace is, by so many workers, from a machine on that has nothing.
+pub record IsReplay (limits : Limits) (workers : ℕ) (lines : List Line) (answers : List Answer) : Type 0 where
+  pub phase : ℕ
   pub last : Course
-  pub replays : Replays (empty_machine limits) lines answers last
+  pub replays : Replays lines workers (empty_machine limits) phase lines answers last
 
 -- The fault of a run is want, of memory or of a thread.
 abbrev pub IsWanting : RunFault → Type 0

@@ -1,5 +1,9 @@
 -- Whose turn it is in a phase.
-use Rattle.std.specs.Prelude.{ℕ, ◌+◌, ◌%◌, ◌≤◌, List, length, Option, Some, None, slice_index_or}
+use Rattle.std.specs.Prelude.{◌≡◌, ℕ, Bool, false, cond, ◌+◌, ◌%◌, ◌==◌, ◌<◌, ◌≤◌, List, length, Option, Some, None}
+use Rattle.std.specs.Prelude.{slice_get, slice_index_or, slice_set}
+use Rattle.ms_base.specs.Committed.{is_among}
+use Rattle.ms_trace.specs.declared.trace.Line.{Line}
+use Rattle.ms_run.specs.Workers.{loaders_in}
 
 -- By loader name its worker in phase 0; the phase's number; how many workers there are; those that
 -- have a share, in the order of the shares; and by worker the place of its share.
@@ -23,12 +27,45 @@ worker_by first phase workers (Some name) = (slice_index_or first name 0 + phase
 abbrev pub worker_in : TurnState → Option ℕ → ℕ
 worker_in turn name = worker_by turn.first turn.phase turn.workers name
 
+-- The place of a worker's share.
+abbrev pub place_of : TurnState → ℕ → ℕ
+place_of turn worker = slice_index_or turn.places worker 0 % shares_in turn
+
 -- The place of the share that has the lines of a loader, and of a purge.
 abbrev pub place_in : TurnState → Option ℕ → ℕ
-place_in turn name = slice_index_or turn.places (worker_in turn name) 0 % shares_in turn
+place_in turn name = place_of turn (worker_in turn name)
 
 -- There is a share, and at most eight are.
 pub record IsTurn (turn : TurnState) : Type 0 where
   pub some : 1 ≤ shares_in turn
   pub few : shares_in turn ≤ 8
   pub workers : 1 ≤ turn.workers
+
+-- The loaders are still the same workers'.
+pub record IsSameTurn (old new : TurnState) : Type 0 where
+  pub first : new.first ≡ old.first
+  pub phase : new.phase ≡ old.phase
+  pub workers : new.workers ≡ old.workers
+
+-- In phase 0 the loaders of lines are their workers' by turns.
+abbrev pub AreFirst : List Line → ℕ → List ℕ → Type 0
+AreFirst lines workers first =
+    (number name : ℕ) → slice_get (loaders_in lines) number ≡ Some name
+    → slice_index_or first name 0 ≡ number % workers
+
+-- The loaders of lines have their workers, other names have none, and the worker is told that the next loader
+-- comes to.
+pub record IsNumbered (lines : List Line) (workers : ℕ) (first : List ℕ) (next : ℕ) : Type 0 where
+  pub loaders : AreFirst lines workers first
+  pub others : (name : ℕ) → is_among (loaders_in lines) name ≡ false → slice_index_or first name 255 ≡ 255
+  pub next_is : next ≡ length (loaders_in lines) % workers
+
+-- A name that has no worker yet comes to one, and it is told whether it came.
+pub record AssignsTo (old : List ℕ) (name worker : ℕ) (new : List ℕ) (came : Bool) : Type 0 where
+  pub within : name < length old
+  pub came_is : came ≡ (slice_index_or old name 0 == 255)
+  pub new_is : new ≡ cond came (slice_set old name worker) old
+
+abbrev pub Assigns : List ℕ → Option ℕ → ℕ → List ℕ → Bool → Type 0
+Assigns old None worker new came = (came ≡ false) × (new ≡ old)
+Assigns old (Some name) worker new came = AssignsTo old name worker new came

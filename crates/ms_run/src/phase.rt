@@ -18,6 +18,7 @@ ghost use Rattle.ms_run.specs.Replay.{AreKept, GoesOn, IsDetailed, IsWanting};
 ghost use Rattle.ms_shared.specs.MeterRule.{MeterSeatState};
 ghost use Rattle.ms_run.specs.Shares.{AreSteps};
 ghost use Rattle.ms_run.specs.Metering.{used_words_of, amount_of};
+ghost use Rattle.ms_run.specs.Turn.{worker_in, IsSameTurn};
 
 use crate::alone::{Metered, answer_lines};
 use crate::dealing::deal;
@@ -53,7 +54,8 @@ pub fn run_phase<R: Threads + Wait + Sync, G: Gate + Sync>(
     ensures phase { IfOk result (λ after. (course : Course) → HasTaken course run
         → (added : List AnswerOf) × (later : Course)
         × (answers.new.items ≡ answers.old.items ++ added)
-        × GoesOn course lines.now added later × HasTaken later after) }
+        × GoesOn (worker_in turn.old) course lines.now added later × HasTaken later after) }
+    ensures turn { IsSameTurn turn.old turn.new }
     ensures used { IfOk result (λ after. after.used ≡ used_words_of after.system) }
     ensures kept { IfOk result (λ after. AreKept detail after.peaks) }
     ensures wanting { IfErr result IsWanting }

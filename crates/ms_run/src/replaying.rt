@@ -46,8 +46,8 @@ pub fn replay<R: Threads + Wait + Sync, G: Gate + Sync>(
     detail: Detail,
     gate: &G,
 ) -> Result<Replies, RunFault>
-    ensures own { IfOk result (λ replies. IsReplay (limits_of settings) trace.now.lines
-        replies.answers.items) }
+    ensures own { IfOk result (λ replies. IsReplay (limits_of settings) settings.workers
+        trace.now.lines replies.answers.items) }
     ensures run { settings.workers ≡ 1 → IfOk result (λ replies. (last : Course) × Answers
         (begun (empty_machine (limits_of settings))) trace.now.lines replies.answers.items last) }
     ensures detailed { IfOk result (λ replies. All (IsDetailed detail) replies.answers.items) }
@@ -72,8 +72,8 @@ fn run_phases<R: Threads + Wait + Sync, G: Gate + Sync>(
     detail: Detail,
     lines: &[Line],
 ) -> Result<Replies, RunFault>
-    ensures own { IfOk result (λ replies. IsReplay (limits_of settings) lines.now
-        replies.answers.items) }
+    ensures own { IfOk result (λ replies. IsReplay (limits_of settings) settings.workers
+        lines.now replies.answers.items) }
     ensures detailed { IfOk result (λ replies. All (IsDetailed detail) replies.answers.items) }
     ensures wanting { IfErr result IsWanting }
 {
@@ -95,8 +95,8 @@ fn run_phases<R: Threads + Wait + Sync, G: Gate + Sync>(
         if at < lines.len() {
             answer_between(&run, Some(run.used), detail, &lines[at], &mut answers)?;
             at += 1;
+            turn.go_on();
         }
-        turn.go_on();
     }
     Ok(Replies { answers })
 }

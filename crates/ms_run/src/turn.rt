@@ -4,9 +4,11 @@
 //!
 //! A loader's number is its place by first appearance in the trace, from 0 on. A `purge` is worked by
 //! worker 0. Only workers with lines have a share. Takes memory once, for a place for each name.
-ghost use Rattle.std.specs.Prelude.{◌≡◌, ◌+◌, ◌%◌, ◌<◌, ◌≤◌, IfOk, vec_len, vec_capacity, slice_index_or};
+ghost use Rattle.std.specs.Prelude.{◌≡◌, ◌+◌, ◌%◌, ◌<◌, ◌≤◌, ◌++◌, ◌∷◌, [], List, IfOk, length};
+ghost use Rattle.std.specs.Prelude.{vec_len, vec_capacity, slice_index_or};
 ghost use Rattle.ms_base.specs.Request.{loader_of};
-ghost use Rattle.ms_run.specs.Turn.{IsTurn, shares_in, place_in, worker_by};
+ghost use Rattle.ms_trace.specs.declared.trace.Line.{Line as LineOf};
+ghost use Rattle.ms_run.specs.Turn.{IsTurn, shares_in, place_in, worker_by, AreFirst, IsNumbered, Assigns};
 ghost use Rattle.ms_run.specs.Shares.{AreWithin};
 
 use ms_base::{Settings, Step};
@@ -64,6 +66,7 @@ impl Turn {
     pub fn new(alloc: Global, settings: Settings, lines: &[Line]) -> Result<Turn, AllocError>
         ensures workers { IfOk result (λ turn. turn.workers ≡ settings.workers) }
         ensures phase { IfOk result (λ turn. turn.phase ≡ 0) }
+        ensures first { IfOk result (λ turn. AreFirst lines.now settings.workers turn.first) }
     {
         let workers = settings.workers as usize;
         let first = first_workers(alloc, workers, lines)?;
@@ -187,6 +190,7 @@ fn worker_at(first: &[u8], phase: usize, workers: usize, name: Option<u16>) -> u
 fn first_workers(alloc: Global, workers: usize, lines: &[Line]) -> Result<Vec<u8>, AllocError>
     requires some { 1 ≤ workers }
     requires few { workers ≤ 8 }
+    ensures first { IfOk result (λ first. AreFirst lines.now workers first.items) }
 {
     let mut first = vec![in alloc; UNNAMED; NAMES]?;
     let mut next = 0;
@@ -201,7 +205,11 @@ fn first_workers(alloc: Global, workers: usize, lines: &[Line]) -> Result<Vec<u8
 fn number(first: &mut [u8], line: &Line, workers: usize, next: usize) -> usize
     requires below { next < workers }
     requires few { workers ≤ 8 }
-    ensures { result < workers }
+    requires names { length first.old ≡ 65536 }
+    ensures below { result < workers }
+    ensures names { length first.new ≡ length first.old }
+    ensures numbered { (lines : List LineOf) → IsNumbered lines workers first.old next
+        → IsNumbered (lines ++ line.now ∷ []) workers first.new result }
 {
     let Command::Step(step) = line.command else {
         return next;
@@ -213,17 +221,20 @@ fn number(first: &mut [u8], line: &Line, workers: usize, next: usize) -> usize
 }
 
 /// Gives a name its worker where it has none yet, and tells whether it had none.
-fn assign(first: &mut [u8], name: Option<u16>, worker: u8) -> bool {
+fn assign(first: &mut [u8], name: Option<u16>, worker: u8) -> bool
+    requires names { length first.old ≡ 65536 }
+    ensures names { length first.new ≡ length first.old }
+    ensures assigns { Assigns first.old name worker first.new result }
+{
     let Some(name) = name else {
         return false;
     };
-    match first.get_mut(usize::from(name)) {
-        Some(entry) if *entry == UNNAMED => {
-            *entry = worker;
-            true
-        }
-        _ => false,
+    let at = usize::from(name);
+    if first[at] != UNNAMED {
+        return false;
     }
+    first[at] = worker;
+    true
 }
 
 /// Finds the workers that have lines, in order of their first lines, and by worker the place of its

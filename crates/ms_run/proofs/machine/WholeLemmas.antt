@@ -4,6 +4,7 @@ use Rattle.std.proofs.Common.{◌≡◌, ◌≢◌, ◌<◌, ◌==◌, ℕ, Bool
 use Rattle.std.proofs.Common.{length-set, get_or-set_same, eq-eqb, refl, sym, ap, ◌∙◌, subst, arith}
 use Rattle.std.specs.Prelude.{⊤, slice_index_or, slice_set}
 use Rattle.std.specs.List.{AllByRecursion, filter}
+use Rattle.std.specs.List.Sorted.{IsPermutation}
 use Rattle.std.proofs.lemmas.Bool.{eqb-true}
 use Rattle.std.proofs.lemmas.List.{get_or-set_other}
 use Rattle.std.proofs.lemmas.List.Elements.{recursion_from_All, All-from_recursion}
@@ -35,6 +36,7 @@ use Rattle.ms_run.proofs.machine.FilledLemmas.{filled, filled_sound, AreWhole}
 use Rattle.ms_run.proofs.machine.GoesLemmas.{GoesTo}
 use Rattle.ms_run.proofs.machine.StepGoesLemmas.{step_goes}
 use Rattle.ms_run.proofs.machine.PartsLemmas.{same_elements}
+use Rattle.ms_run.proofs.machine.KeptLemmas.{kept_by_worker, kept_all}
 
 -- A new loader is sound.
 no_chunks : (space : Space) → AreChunks space []
@@ -241,32 +243,35 @@ same_states place count parts all ending within here there rises ends =
         ∙ (there (place (Some name)) (within (Some name))).here name refl
 
 -- An order of steps of workers, from a pool and loaders that are together to others, is one run of the
--- machine, in which each worker's keep theirs.
+-- machine, in which each worker's keep theirs, where all of a worker's are at one place.
 module _ (place : Place) (first last : Ledger)
     (before after : List (List (ℕ × LoaderView))) (loaders ending : List (ℕ × LoaderView)) (said : List Said)
-    (order : List (ℕ × Said)) where
+    (order : List (ℕ × Said)) (worker : Option ℕ → ℕ) (share : ℕ → ℕ) where
   pub one_run : AreTogether first loaders → AreWithin place (length before)
       → ((at : ℕ) → at < length before → AreAt place at loaders (slice_index_or before at []))
       → ((at : ℕ) → at < length before → AreAt place at ending (slice_index_or after at []))
       → Runs IsStep [] (seen first, before) order (seen last, after)
       → ((at : ℕ) → at < length before → of at order ≡ filter (λ (s : Said). place (loader_of s.0) == at) said)
       → AreNamed (states_of ending)
-      → IsOneRun (machine_of first loaders) said (machine_of last ending)
-  one_run together within begins ends runs keeps names =
+      → AllByRecursion (λ (s : Said). place (loader_of s.0) ≡ share (worker (loader_of s.0))) said
+      → IsOneRun worker (machine_of first loaders) said (machine_of last ending)
+  one_run together within begins ends runs keeps names shared =
       let placed = placed_all place (length before) (seen first, before) order (seen last, after) refl runs
       (λ at less. subst (λ (l : List Said). AllByRecursion (λ (s : Said). place (loader_of s.0) ≡ at) l)
       (sym (keeps at less)) (passes place at said)) in
       let whole = runs_whole place (seen first, before) order (seen last, after) placed runs
       (record { all = loaders; whole = whole_at_first first loaders together; parts = begins }) in
+      let permutes : IsPermutation (without_numbers order) said =
+      same_elements (λ (s : Said). place (loader_of s.0)) (length before) (λ s. within (loader_of s.0))
+      (without_numbers order) said (λ at less. kept_there place at order placed ∙ keeps at less) in
       record {
-        place = place;
-        workers = length before;
-        within = within;
         order = without_numbers order;
-        permutes =
-            same_elements (λ (s : Said). place (loader_of s.0)) (length before) (λ s. within (loader_of s.0))
-            (without_numbers order) said (λ at less. kept_there place at order placed ∙ keeps at less);
-        keeps = λ at less. kept_there place at order placed ∙ keeps at less;
+        permutes = permutes;
+        keeps =
+            kept_by_worker (λ (s : Said). place (loader_of s.0)) (λ (s : Said). worker (loader_of s.0)) share
+            (without_numbers order) said permutes shared
+            (kept_all (λ (s : Said). place (loader_of s.0)) (length before) (without_numbers order) said
+            (λ s. within (loader_of s.0)) (λ at less. kept_there place at order placed ∙ keeps at less));
         run = subst (λ (l : List (ℕ × LoaderState)). Run (machine_of first loaders)
             (map (λ (s : Said). s.0) (without_numbers order)) (map (λ (s : Said). s.1) (without_numbers order))
             (record (machine_of last loaders) { loaders = l }))

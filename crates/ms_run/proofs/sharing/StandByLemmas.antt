@@ -148,25 +148,39 @@ same_tasks place lines at =
     (λ (task : Task). place (loader_of task.step) == at) (tasks_of lines)
     (tasks_alike place (names_in (tasks_of lines)) at (tasks_of lines) (λ name e. e))
 
-said_alike : (place : Place) (all : List ℕ) (at : ℕ) (lines : List Line) (answers : List Answer) (said : List Said)
-    → AreSaid lines answers said → IsIn (names_in (tasks_of lines)) all
-    → AllByRecursion (λ (s : Said). (placed_by place all (loader_of s.0) == at) ≡ (place (loader_of s.0) == at)) said
-said_alike place all at [] [] [] told sub = tt
-said_alike place all at (line ∷ lines) (answer ∷ answers) (s ∷ said) told sub =
+-- What was said is at the places that a place, and one that is the same, has for it.
+placed_all : (place other : Place) → ((name : Option ℕ) → place name ≡ other name) → (all : List ℕ) (lines : List Line)
+    (answers : List Answer) (said : List Said) → AreSaid lines answers said → IsIn (names_in (tasks_of lines)) all
+    → AllByRecursion (λ (s : Said). placed_by place all (loader_of s.0) ≡ other (loader_of s.0)) said
+placed_all place other same all [] [] [] told sub = tt
+placed_all place other same all (line ∷ lines) (answer ∷ answers) (s ∷ said) told sub =
     let mine : IsIn (name_with (loader_of s.0) (names_in (tasks_of lines))) all =
     subst (λ (o : Option Step). IsIn (names_in (task_of line o (tasks_of lines))) all) told.0 sub in (
-      ap (λ (n : ℕ). n == at) (kept_place place (loader_of s.0) (names_in (tasks_of lines)) all mine),
-      said_alike place all at lines answers said told.4 (first_in (loader_of s.0) (names_in (tasks_of lines)) all mine),
+      kept_place place (loader_of s.0) (names_in (tasks_of lines)) all mine ∙ same (loader_of s.0),
+      placed_all place other same all lines answers said told.4
+          (first_in (loader_of s.0) (names_in (tasks_of lines)) all mine),
     )
-said_alike place all at _ _ _ told sub = absurd told
+placed_all place other same all _ _ _ told sub = absurd told
+
+pub all_placed : (place other : Place) → ((name : Option ℕ) → place name ≡ other name) → (lines : List Line)
+    (answers : List Answer) (said : List Said) → AreSaid lines answers said
+    → AllByRecursion (λ (s : Said). place_for place lines (loader_of s.0) ≡ other (loader_of s.0)) said
+all_placed place other same lines answers said told =
+    placed_all place other same (names_in (tasks_of lines)) lines answers said told (λ name e. e)
 
 -- And so do the replies.
 pub same_merged : (place : Place) (others : List Share) (lines : List Line) (answers : List Answer) (said : List Said)
     → AreSaid lines answers said → AreMerged place others said → AreMerged (place_for place lines) others said
 same_merged place others lines answers said told merged = λ at share found.
     alike (λ (s : Said). place_for place lines (loader_of s.0) == at) (λ (s : Said). place (loader_of s.0) == at) said
-    (said_alike place (names_in (tasks_of lines)) at lines answers said told (λ name e. e))
+    (tests_alike at said (all_placed place place (λ name. refl) lines answers said told))
     ∙ merged at share found
+  where
+    tests_alike : (at : ℕ) (said : List Said)
+        → AllByRecursion (λ (s : Said). place_for place lines (loader_of s.0) ≡ place (loader_of s.0)) said
+        → AllByRecursion (λ (s : Said). (place_for place lines (loader_of s.0) == at) ≡ (place (loader_of s.0) == at)) said
+    tests_alike at [] all = tt
+    tests_alike at (s ∷ said) all = (ap (λ (n : ℕ). n == at) all.0, tests_alike at said all.1)
 
 -- All go to one of the shares still.
 pub within_still : (place : Place) (lines : List Line) (count : ℕ) → 1 ≤ count → AreWithin place count

@@ -4,19 +4,19 @@ use Rattle.ms_base.specs.State.{Machine}
 use Rattle.ms_pool.specs.Ledger.{Ledger}
 use Rattle.ms_run.specs.Metering.{used_words_of, meter_of}
 use Rattle.ms_loaders.specs.System.{machine_of, AreTogether}
-use Rattle.ms_run.specs.Turn.{place_in}
+use Rattle.ms_run.specs.Turn.{place_in, worker_in}
 use Rattle.ms_run.specs.Shares.{place_for}
 use Rattle.ms_run.proofs.sharing.StandByLemmas.{same_tasks}
 use Rattle.ms_run.proofs.PhaseLemmas.{own_seats, all_manned, same_count, all_answered, still_apart, ended}
-use Rattle.ms_run.proofs.PhaseLemmas.{ended_alone, merges_still, phase_added}
+use Rattle.ms_run.proofs.PhaseLemmas.{ended_alone, phase_added}
 use Rattle.ms_run.proofs.DetailLemmas.{said_detailed}
 use Rattle.ms_run.proofs.metered.MeterSumLemmas.{ready_for, own_meters, used_machine, used_after}
 use Rattle.ms_run.proofs.phase.run_phase.Goals as goal
 
 pub returns-then-shares-eq1-clause-phase : goal.returns-then-shares-eq1-clause-phase
 returns-then-shares-eq1-clause-phase g c =
-    ended_alone c.args.lines.now c.args.answers.now.items _ c.args.run _ c.requires.good
-    c.in_ok-answer_lines.ensures.counted.good c.in_ok-answer_lines.ensures.answers
+    ended_alone (worker_in c.args.turn.now) c.args.lines.now c.args.answers.now.items _ c.args.run _ c.requires.good
+    c.in_ok-answer_lines.ensures.counted.good c.requires.steps c.in_ok-answer_lines.ensures.answers
 
 pub merge-requires-clause-count : goal.merge-requires-clause-count
 merge-requires-clause-count g c =
@@ -66,14 +66,19 @@ close-requires-clause-count g c =
     ∙ sym c.in_ok-system.meters.ok.0
 
 pub returns-clause-phase : goal.returns-clause-phase
-returns-clause-phase g c = phase_added c.args.lines.now c.args.answers.now.items _ c.args.run _
-    (ended (place_for (place_in c.activate.new.self) c.args.lines.now) c.in_ok-shared.shared
-    c.in_ok-shared.shares.items c.in_ok-shares.shares.items
-    c.args.lines.now
+returns-clause-phase g c = phase_added (worker_in c.args.turn.now) c.args.lines.now c.args.answers.now.items _
+    c.args.run _
+    (ended c.args.turn.now c.activate.new.self c.in_ok-shared.shared c.in_ok-shared.shares.items
+    c.in_ok-shares.shares.items c.args.lines.now
     _ _ c.into_parts-pool.result.1 c.args.run.system _
+    (record {
+      first = c.activate.ensures.first;
+      phase = c.activate.ensures.phase;
+      workers = c.activate.ensures.workers;
+    })
     (ap (λ (m : Machine). m.loaders) (sym c.into_parts-pool.ensures.machine))
     c.in_ok-shared.ensures.dealt c.in_ok-shares.ensures.worked
-    (merges_still (place_in c.activate.new.self) _ c.args.lines.now _ _ c.in_ok-merge.ensures)
+    c.in_ok-merge.ensures
     c.in_ok-system.ensures.gathered c.in_ok-system.ensures.good
     (sym c.into_parts-pool.ensures.machine
     ∙ ap (λ (l : Ledger). machine_of l c.into_parts-pool.result.1) (sym c.in_ok-shared.ensures.first))

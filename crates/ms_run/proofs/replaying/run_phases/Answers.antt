@@ -5,13 +5,14 @@ use Rattle.ms_run.proofs.AloneLemmas.{begins}
 use Rattle.ms_run.proofs.ReplayLemmas.{phases_start, steps_there, stops_next, phases_more, phases_next, phases_end}
 use Rattle.ms_run.proofs.ReplayLemmas.{used_none}
 use Rattle.ms_run.proofs.DetailLemmas.{none_detailed}
-use Rattle.ms_run.proofs.replaying.run_phases.Goals.{then-at-lines+in_ok-answer_between, else-at-lines}
 use Rattle.ms_run.proofs.replaying.run_phases.Goals as goal
 
 pub loop-at-init : goal.loop-at-init
 loop-at-init g c = record {
-  phases = phases_start c.args.settings c.args.lines.now c.in_ok-answers.answers.items _ c.in_ok-answers.ensures.items
-      (begins _ (empty_machine (limits_of c.args.settings)) c.in_ok-system.ensures c.begin-peaks.ensures.peaks);
+  phases = phases_start c.args.settings c.args.lines.now c.in_ok-answers.answers.items _ c.in_ok-turn.turn
+      c.in_ok-answers.ensures.items
+      (begins _ (empty_machine (limits_of c.args.settings)) c.in_ok-system.ensures c.begin-peaks.ensures.peaks)
+      c.in_ok-turn.ensures.first c.in_ok-turn.ensures.workers c.in_ok-turn.ensures.phase c.args.settings.workers_some;
   kept = c.begin-peaks.ensures.kept;
   used = used_none c.in_ok-system.system c.args.settings c.in_ok-system.ensures;
   detailed = none_detailed c.args.detail c.in_ok-answers.answers.items c.in_ok-answers.ensures.items;
@@ -22,7 +23,7 @@ begin-peaks-requires g c = sym (used_none c.in_ok-system.system c.args.settings 
 
 pub run_phase-requires-clause-good : goal.run_phase-requires-clause-good
 run_phase-requires-clause-good g c κs within =
-    subst IsGood (sym c.loop-at.invariant.phases.3.state) c.loop-at.invariant.phases.4
+    subst IsGood (sym c.loop-at.invariant.phases.taken.state) c.loop-at.invariant.phases.good
 
 pub run_phase-requires-clause-steps : goal.run_phase-requires-clause-steps
 run_phase-requires-clause-steps g c κs within =
@@ -33,29 +34,35 @@ answer_between-requires-clause-no_step g c =
     stops_next c.args.lines.now c.loop-at.at c.steps_first-count.result _ c.steps_first-count.ensures.stops
     c.if-at-lines.true
 
-pub loop-at-preserved : goal.loop-at-preserved
-loop-at-preserved g c =
+pub loop-at-preserved-then-at-lines : goal.loop-at-preserved-then-at-lines
+loop-at-preserved-then-at-lines g c =
     let more =
-    phases_more _ _ _ c.args.lines.now c.loop-at.at c.steps_first-count.result _ _ c.loop-at.invariant.phases
-    c.steps_first-count.ensures.within c.in_ok-run.ensures.phase in
-    let detailed = c.in_ok-run.ensures.detailed c.loop-at.invariant.detailed in
-    elim c.if-at-lines.branch [
-      | then-at-lines+in_ok-answer_between w ↦ rw (w.answers-is, w.at-is) (record {
-        phases = phases_next _ _ c.args.lines.now _ _ _ _ more w.if-at-lines.true
-            w.in_ok-answer_between.ensures.answered;
-        kept = c.in_ok-run.ensures.kept;
-        used = c.in_ok-run.ensures.used;
-        detailed = w.in_ok-answer_between.ensures.detailed detailed;
-      })
-      | else-at-lines w ↦ rw (w.answers-is, w.at-is) (record {
-        phases = more;
-        kept = c.in_ok-run.ensures.kept;
-        used = c.in_ok-run.ensures.used;
-        detailed = detailed;
-      })
-    ]
+    phases_more _ _ _ _ c.loop-at.turn _ c.args.lines.now c.loop-at.at c.steps_first-count.result _ _
+    c.loop-at.invariant.phases c.steps_first-count.ensures.within c.in_ok-run.ensures.phase c.in_ok-run.ensures.turn in
+    record {
+      phases = phases_next _ _ _ _ _ c.args.lines.now _ _ _ _ more c.if-at-lines.true
+          c.in_ok-answer_between.ensures.answered (record {
+            first = c.go_on.ensures.first;
+            phase = c.go_on.ensures.phase;
+            workers = c.go_on.ensures.workers;
+          });
+      kept = c.in_ok-run.ensures.kept;
+      used = c.in_ok-run.ensures.used;
+      detailed = c.in_ok-answer_between.ensures.detailed
+          (c.in_ok-run.ensures.detailed c.loop-at.invariant.detailed);
+    }
+
+pub loop-at-preserved : goal.loop-at-preserved
+loop-at-preserved g c = record {
+  phases =
+      phases_more _ _ _ _ c.loop-at.turn _ c.args.lines.now c.loop-at.at c.steps_first-count.result _ _
+      c.loop-at.invariant.phases c.steps_first-count.ensures.within c.in_ok-run.ensures.phase c.in_ok-run.ensures.turn;
+  kept = c.in_ok-run.ensures.kept;
+  used = c.in_ok-run.ensures.used;
+  detailed = c.in_ok-run.ensures.detailed c.loop-at.invariant.detailed;
+}
 
 pub returns-clause-own : goal.returns-clause-own
 returns-clause-own g c =
     phases_end c.args.settings c.args.lines.now c.loop-at.at c.loop-at.answers.items c.loop-at.run
-    c.loop-at.invariant.phases (omega (arith, c.loop-at-test.false))
+    c.loop-at.turn c.loop-at.invariant.phases (omega (arith, c.loop-at-test.false))
