@@ -48,3 +48,33 @@ fn a_run_answers_each_step_in_order(rt: HostRuntime) {
     assert_eq!(&rt; system.committed(), 8192);
     assert_eq!(&rt; system.used(), 10);
 }
+
+/// Has a loader allocate, and asks whose the block's first word is.
+fn expect_own_word(rt: &impl Abort, system: &mut System, step: Step, name: u16) {
+    let Reply::At(start) = answer_to(system, step) else {
+        panic!(rt; "{step:?} was refused");
+    };
+    assert_eq!(rt; system.holder(start), Some(name), "of {step:?}");
+}
+
+#[test]
+fn a_word_is_its_loaders_after_unloads_and_renewals(rt: HostRuntime) {
+    let mut system = system_of(&rt, settings_of(40960, Policy::Balanced, 16));
+    for name in 0..1000 {
+        assert_eq!(&rt; new_loader_at_last(&mut system, name, Kind::Hidden), Ok(()));
+        expect_own_word(&rt, &mut system, alloc(name, 1, 10), name);
+    }
+    for name in 0..500 {
+        assert_eq!(&rt; system.unload(2 * name), Ok(()));
+    }
+    assert_eq!(&rt; system.holder(0), None);
+    for name in 0..250 {
+        assert_eq!(&rt; new_loader_at_last(&mut system, 4 * name, Kind::Boot), Ok(()));
+    }
+    for name in 0..1000 {
+        if name % 4 != 2 {
+            expect_own_word(&rt, &mut system, alloc(name, 2, 10), name);
+            expect_own_word(&rt, &mut system, calloc(name, 3, 10), name);
+        }
+    }
+}
