@@ -57,10 +57,10 @@ impl Owners {
         ensures noted { OnOk result (self.new ≡ with_new self.old owner name) }
         ensures unchanged { OnErr result (self.new ≡ self.old) }
     {
-        match self.names.insert(owner, name) {
-            Ok(_) => Ok(()),
-            Err(_) => Err(AllocError),
-        }
+        let Ok(_) = self.names.insert(owner, name) else {
+            return Err(AllocError);
+        };
+        Ok(())
     }
 
     /// Notes nothing any more of an owner number.
