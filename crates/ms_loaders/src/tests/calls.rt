@@ -69,7 +69,10 @@ fn a_word_is_its_loaders_after_unloads_and_renewals(rt: HostRuntime) {
     }
     assert_eq!(&rt; system.holder(0), None);
     for name in 0..250 {
-        assert_eq!(&rt; new_loader_at_last(&mut system, 4 * name, Kind::Boot), Ok(()));
+        assert_eq!(&rt;
+            new_loader_at_last(&mut system, 4 * name, Kind::Boot),
+            Ok(())
+        );
     }
     for name in 0..1000 {
         if name % 4 != 2 {
