@@ -255,8 +255,8 @@ uint32_t nizgrabul_counts(nizgrabul_handle *handle, nizgrabul_limit_counts *out)
 uint64_t nizgrabul_used_by(nizgrabul_handle *handle, uint16_t loader);
 
 /* Tells whose a word is: `value` is the number of the loader in whose chunk the word lies, in use or not.
- * Answers NO_LOADER where it lies in nobody's. Takes no memory, goes down one path of a tree, and then
- * compares a number of each loader until it is found. */
+ * Answers NO_LOADER where it lies in nobody's. Takes no memory, and answers in the depth of a tree and
+ * one look-up. */
 nizgrabul_answer nizgrabul_holder(nizgrabul_handle *handle, uint64_t word);
 
 /* Tells whether a granule is committed: the words from its number times a granule's words on, which are

@@ -2,14 +2,17 @@
 -- number, which is one of a loader's. `System::holder` uses these.
 use Rattle.std.proofs.Common.{◌≡◌, ◌&&◌, ℕ, Bool, true, false, cond, Some, None, List, [], ◌∷◌, map, refl, sym, ap, ◌∙◌}
 use Rattle.std.proofs.Common.{inl, inr, subst}
-use Rattle.std.specs.Prelude.{◌==◌, IsTrue, IfSome, IfNone, Option}
+use Rattle.std.specs.Prelude.{◌==◌, ◌||◌, IsTrue, IfSome, IfNone, Option}
 use Rattle.std.specs.List.{AllByRecursion, list_any, filter, find}
 use Rattle.std.specs.Option.{option_map}
 use Rattle.std.proofs.lemmas.Bool.{and_parts, and_from, or_cases, or_left, or_right, or_from, both_ways, eqb-true, eq-eqb}
+use Rattle.std.proofs.lemmas.List.Folds.{list_any-append}
 use Rattle.std.proofs.lemmas.List.Sorted.{list_any-IsPermutation}
 use Rattle.ms_base.specs.declared.span.Chunk.{Chunk}
 use Rattle.ms_base.specs.declared.kind.Space.TheVariants.{NonClass, Class}
 use Rattle.ms_base.specs.Committed.{is_among}
+use Rattle.ms_base.specs.Names.{named}
+use Rattle.ms_base.proofs.entries.EntryLemmas.{split_at}
 use Rattle.ms_pool.specs.Account.{AccountState}
 use Rattle.ms_pool.specs.Ledger.{Loan, Ledger, Serves, chunks_of, is_owned_by}
 use Rattle.ms_pool.specs.Owners.{is_in_chunk, is_in_loan, owner_at}
@@ -168,6 +171,18 @@ owner_is_a_loaders ledger loaders word owner no_other e none =
     let known = owner_known (λ (n : ℕ). IsTrue (is_among (owners_of loaders) n)) ledger.loans word owner no_other e in
     let named = owner_named loaders owner known in
     both_ways (list_any (has_owner named.0 owner) loaders) (none named.0) named.1
+
+-- The loader that has a name is among those with an account of a number, where it has one.
+pub looked_up : (loaders : List (ℕ × LoaderView)) (name owner : ℕ) (loader : LoaderView)
+    → named loaders name ≡ Some loader → is_owner owner loader ≡ true → list_any (has_owner name owner) loaders ≡ true
+looked_up loaders name owner loader found its =
+    let split = split_at loaders name loader found in
+    let after = list_any (has_owner name owner) split.after in
+    ap (list_any (has_owner name owner)) split.is
+    ∙ list_any-append (has_owner name owner) split.before ((name, loader) ∷ split.after)
+    ∙ or_right (list_any (has_owner name owner) split.before) (has_owner name owner (name, loader) || after)
+    (or_left (has_owner name owner (name, loader)) after
+    (and_from (name == name) (is_owner owner loader) (eq-eqb name name refl) its))
 
 -- What a look for the owner's loader finds, or not, is the holder.
 pub holder_told : (ledger : Ledger) (loaders : List (ℕ × LoaderView)) (word owner : ℕ) (found : Option ℕ)

@@ -4,7 +4,8 @@
 //!     7 ──── box of 7 and its loader        from `insert` until it is taken out
 //!
 //! So names need no search, and a walk over the places gives them in order. Kept true: each loader
-//! stands at its name, none below `first`, and there are `count`. Apart from the system so that
+//! stands at its name, none below `first`, and there are `count`. Beside them a map guesses a loader's
+//! name from an owner number (`owners`), of which nothing is kept true. Apart from the system so that
 //! loaders can be handed to workers and gathered again. Only `insert` takes memory.
 ghost use Rattle.std.specs.Prelude.{◌≡◌, ◌<◌, ◌^◌, ◌∷◌, None, IfSome, OnOk, IfErr, OnErr, [], length};
 ghost use Rattle.std.specs.Option.{option_copied, option_copied_mut, is_some};
@@ -17,6 +18,7 @@ ghost use Rattle.ms_loaders.specs.Loaders.{LendsLoader, InsertRefused};
 ghost use Rattle.ms_loaders.specs.Used.{used_at};
 
 mod boxed;
+mod owners;
 mod page;
 mod places;
 mod walks;
@@ -24,6 +26,7 @@ mod walks;
 use crate::loader::Loader;
 use boxed::Boxed;
 use ms_base::Refusal;
+use owners::Owners;
 use places::Places;
 use std::alloc::Global;
 use std::marker::Model;
@@ -40,6 +43,8 @@ pub struct Loaders {
     first: usize,
     // How many there are.
     count: usize,
+    // The name of each by the first of its owner numbers, as it was noted when it came.
+    owners: Owners,
 }
 
 impl Model for Loaders {
@@ -64,6 +69,7 @@ impl Loaders {
             places: Places::new(alloc),
             first: usize::MAX,
             count: 0,
+            owners: Owners::new(alloc),
         }
     }
 
@@ -79,12 +85,18 @@ impl Loaders {
         if self.contains(name) {
             return Err((Refusal::LoaderExists, loader));
         }
+        let owner = first_owner(&loader);
+        if self.owners.reserve().is_err() {
+            return Err((Refusal::OutOfMemory, loader));
+        }
         let boxed = match Boxed::new(self.alloc, name, loader) {
             Ok(boxed) => boxed,
             Err(loader) => return Err((Refusal::OutOfMemory, loader)),
         };
         match self.places.put(self.alloc, name, boxed) {
             Ok(()) => {
+                // In the room that was made.
+                let _ = self.owners.note(owner, name);
                 self.first = self.first.min(usize::from(name));
                 self.count += 1;
                 Ok(())
@@ -105,6 +117,8 @@ impl Loaders {
             Some(boxed) => {
                 self.count -= 1;
                 let (_, loader) = boxed.into_named();
+                let owner = first_owner(&loader);
+                self.owners.forget(owner);
                 Some(loader)
             }
             None => None,
@@ -124,7 +138,10 @@ impl Loaders {
             Some(boxed) => {
                 self.first = usize::from(least);
                 self.count -= 1;
-                Some(boxed.into_named())
+                let (name, loader) = boxed.into_named();
+                let owner = first_owner(&loader);
+                self.owners.forget(owner);
+                Some((name, loader))
             }
             None => None,
         }
@@ -153,6 +170,16 @@ impl Loaders {
         ensures { result ≡ is_some (named self.now name) }
     {
         self.get(name).is_some()
+    }
+
+    /// Tells the name that was noted of an owner number, or of the one below, where one was: that of the
+    /// loader with an account of that number, if none was changed in its place. A guess, of which
+    /// nothing is promised; whoever asks looks at the loader. Takes no memory.
+    pub(crate) fn noted(&self, owner: u32) -> Option<u16> {
+        match self.owners.get(owner) {
+            Some(name) => Some(name),
+            None => self.owners.get(owner.wrapping_sub(1)),
+        }
     }
 
     /// Tells the words in use of the loader of a name, in both spaces, and 0 where there is none. Takes
@@ -201,4 +228,12 @@ impl Loaders {
     {
         Iter::over(&self.places)
     }
+}
+
+/// Tells the first of the loader's owner numbers, by which it is noted.
+fn first_owner(loader: &Loader) -> u32
+    ensures { result ≡ loader.now.owner }
+{
+    let (account, _) = loader.accounts();
+    account.owner()
 }

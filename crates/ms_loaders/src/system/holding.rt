@@ -10,7 +10,8 @@ use crate::loaders::Loaders;
 impl System {
     /// Tells the name of the loader in whose chunk a word lies, in either space, if it lies in one:
     /// in use or not, committed or not. Takes no memory, goes down one path of one tree of the pool,
-    /// and compares a number of each loader until it is found. This project's choice.
+    /// and looks the owner up. Each loader is looked at only where one was exchanged in its place, or
+    /// has owner numbers that weren't given together. This project's choice.
     pub fn holder(&self, word: u64) -> Option<u16>
         ensures held { IfSome result (λ name. IsTrue (holds self.now name word)) }
         ensures only { IfSome result
@@ -26,6 +27,33 @@ impl System {
 
 /// Tells the name of the loader with an account of that owner's number.
 fn name_of(loaders: &Loaders, owner: u32) -> Option<u16>
+    ensures some { IfSome result (λ name. IsTrue (list_any (has_owner name owner) loaders.now)) }
+    ensures none { IfNone result ((name : ℕ) → IsFalse (list_any (has_owner name owner) loaders.now)) }
+{
+    match name_by_note(loaders, owner) {
+        Some(name) => Some(name),
+        None => name_by_walk(loaders, owner),
+    }
+}
+
+/// Tells the name that was noted of the number, where the loader that has it owns the number.
+fn name_by_note(loaders: &Loaders, owner: u32) -> Option<u16>
+    ensures { IfSome result (λ name. IsTrue (list_any (has_owner name owner) loaders.now)) }
+{
+    let Some(name) = loaders.noted(owner) else {
+        return None;
+    };
+    let Some(loader) = loaders.get(name) else {
+        return None;
+    };
+    if owns(loader, owner) {
+        return Some(name);
+    }
+    None
+}
+
+/// Tells the name of the loader with an account of that number, by a look at each.
+fn name_by_walk(loaders: &Loaders, owner: u32) -> Option<u16>
     ensures some { IfSome result (λ name. IsTrue (list_any (has_owner name owner) loaders.now)) }
     ensures none { IfNone result ((name : ℕ) → IsFalse (list_any (has_owner name owner) loaders.now)) }
 {

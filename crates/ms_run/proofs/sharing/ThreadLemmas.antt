@@ -24,6 +24,7 @@ use Rattle.ms_shared.below.atomic_table.proofs.shared.Seat.TheSendSync as table_
 use Rattle.ms_loaders.below.ms_blocks.proofs.tree.Tree.TheLaws.TheKnot.{send-Tree, send-Fork}
 use Rattle.ms_loaders.below.ms_arena.proofs.rows.Rows.TheSendSync as rows
 use Rattle.ms_loaders.proofs.naming.Names.TheSendSync as names
+use Rattle.ms_loaders.proofs.loaders.owners.Owners.TheSendSync as owners
 use Rattle.ms_loaders.below.ms_buddy.proofs.node.Node.TheLaws.TheKnot as node
 use Rattle.ms_loaders.below.ms_commit.proofs.mask.Mask.TheSendSync as mask
 use Rattle.ms_loaders.below.ms_commit.proofs.nodes.Nodes.TheSendSync as nodes
@@ -50,7 +51,7 @@ page_send : IsSend page.the_row
 page_send = search (boxed_send, sendable, crosses, option.the_send) depth 20
 
 loaders_send : IsSend loaders.the_row
-loaders_send = search (page_send, sendable, crosses, global.the_send) depth 20
+loaders_send = search (page_send, owners.the_send, sendable, crosses, global.the_send) depth 20
 
 seat_send : IsSend seat.the_row
 seat_send =

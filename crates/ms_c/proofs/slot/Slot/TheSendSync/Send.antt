@@ -16,6 +16,7 @@ use Rattle.std_heap.proofs.Global.TheSendSync as handle
 use Rattle.ms_pool.proofs.account.Account.TheSendSync as account
 use Rattle.ms_arena.proofs.rows.Rows.TheSendSync as rows
 use Rattle.ms_loaders.proofs.naming.Names.TheSendSync as names
+use Rattle.ms_loaders.proofs.loaders.owners.Owners.TheSendSync as owners
 use Rattle.ms_loaders.below.ms_blocks.proofs.tree.Tree.TheLaws.TheKnot.{send-Tree, send-Fork}
 use Rattle.ms_loaders.below.ms_buddy.proofs.node.Node.TheLaws.TheKnot as node
 use Rattle.ms_loaders.below.ms_commit.proofs.mask.Mask.TheSendSync as mask
@@ -37,7 +38,7 @@ page_send : IsSend page.the_row
 page_send = search (boxed_send, sendable, crosses, option.the_send) depth 20
 
 loaders_send : IsSend loaders.the_row
-loaders_send = search (page_send, sendable, crosses, handle.the_send) depth 20
+loaders_send = search (page_send, owners.the_send, sendable, crosses, handle.the_send) depth 20
 
 pool_send : IsSend pool.the_row
 pool_send = search (sendable, crosses, node.send-Node, mask.the_send, nodes.the_send) depth 60 fits 30000

@@ -10,8 +10,8 @@ pub returns-then-contains-clause-refused : goal.returns-then-contains-clause-ref
 returns-then-contains-clause-refused c =
     found (named c.args.self.now c.args.name) (sym c.contains.ensures ∙ c.if-contains.true)
 
-pub invariant_of-self : goal.invariant_of-self
-invariant_of-self c = kept_new c.self.inside.places c.put.new.self c.self.inside.first c.self.inside.count c.args.name
+pub invariant_of-self-in-Ok-put : goal.invariant_of-self-in-Ok-put
+invariant_of-self-in-Ok-put c = kept_new c.self.inside.places c.put.new.self c.self.inside.first c.self.inside.count c.args.name
     c.min-self-inside.result c.args.loader c.self.invariant (search rules) c.in-Ok-put.ensures.few
     (ap (λ (loaders : List (ℕ × LoaderView)). named loaders c.args.name) c.self.view_is
     ∙ missing (named c.args.self.now c.args.name) (sym c.contains.ensures ∙ c.if-contains.false))

@@ -22,4 +22,4 @@ pub returns-in-Some-take-clause-first : goal.returns-in-Some-take-clause-first
 returns-in-Some-take-clause-first c = rw (← c.self.view_is) (first_taken c.self.inside.places c.take.new.self
     c.self.inside.first c.self.inside.count c.in-Some.field-0-0 c.name.result.now c.in-Some.boxed.now
     c.in-Some-take.boxed c.self.invariant c.in-Some.ensures.next c.name.ensures c.take.ensures.gone
-    c.in-Some-take.ensures.found ∙ ap (λ taken. taken ∷ rest_of c.take.new.self 0) (sym c.into_named.ensures))
+    c.in-Some-take.ensures.found ∙ ap (λ taken. taken ∷ rest_of c.take.new.self 0) (sym c.into_named-name.ensures))
