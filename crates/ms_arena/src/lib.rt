@@ -11,8 +11,6 @@ mod books;
 mod kept;
 mod pages;
 mod rows;
-#[cfg(test)]
-mod tests;
 mod totals;
 
 pub use arena::Arena;

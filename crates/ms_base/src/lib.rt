@@ -19,8 +19,6 @@ mod settings;
 mod sizes;
 mod span;
 mod step;
-#[cfg(test)]
-mod tests;
 mod words;
 
 pub use kind::{Kind, Space, growth};

@@ -16,8 +16,6 @@
 #![tactic(auto)]
 
 mod free_blocks;
-#[cfg(test)]
-mod tests;
 mod tree;
 
 pub use free_blocks::FreeBlocks;

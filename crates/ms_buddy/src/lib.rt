@@ -12,8 +12,6 @@ pub mod laws;
 mod leaves;
 mod levels;
 mod node;
-#[cfg(test)]
-mod tests;
 mod tree;
 
 pub use leaves::FreeLeaves;

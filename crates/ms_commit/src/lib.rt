@@ -8,8 +8,6 @@
 pub mod laws;
 mod mask;
 mod nodes;
-#[cfg(test)]
-mod tests;
 
 pub use mask::Mask;
 pub use nodes::Nodes;

@@ -35,6 +35,3 @@ pub use replies::{Answer, Replies};
 pub use serving::serve;
 pub use system::{Allocation, GranuleRun, LoaderTotals, System};
 pub use totals::{LoaderRow, SpaceTotals, Totals};
-
-#[cfg(test)]
-mod tests;

@@ -77,6 +77,3 @@ pub struct Totals {
     /// The most that the run had at once so far, where a full report asks for it.
     pub peaks: Option<Peaks>,
 }
-
-#[cfg(test)]
-mod tests;

@@ -4,7 +4,6 @@ pub mod OwnerLemmas
 pub mod maps
 pub mod WholeRootLemmas
 pub mod PurgingLemmas
-pub mod ServingLemmas
 pub mod searches
 pub mod counts
 pub mod loans

@@ -11,7 +11,6 @@ pub mod Searching
 pub mod Growing
 pub mod Releasing
 pub mod Placing
-pub mod Serving
 pub mod LimitCounts
 pub mod Owners
 pub mod Mapping

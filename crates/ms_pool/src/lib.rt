@@ -17,8 +17,6 @@ mod mapping;
 mod pool;
 mod search;
 mod source;
-#[cfg(test)]
-mod tests;
 mod totals;
 mod trees;
 

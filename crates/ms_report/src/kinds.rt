@@ -202,6 +202,3 @@ pub fn kind_cell(kind: Kind) -> &'static str
         Kind::Hidden => "      hidden",
     }
 }
-
-#[cfg(test)]
-mod tests;

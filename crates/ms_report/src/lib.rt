@@ -38,6 +38,3 @@ pub use refused::{Refusals, tally};
 pub use reply_lines::lines;
 pub use sections::text;
 pub use usage::{Amount, Usage, Usages, weigh};
-
-#[cfg(test)]
-mod tests;

@@ -134,6 +134,3 @@ fn meaning(place: Place) -> &'static str
         Place::LentWholly => "lent as a whole, committed",
     }
 }
-
-#[cfg(test)]
-mod tests;

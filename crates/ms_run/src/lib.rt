@@ -30,6 +30,3 @@ pub use fault::RunFault;
 pub use gate::{Gate, NoGate};
 pub use ms_loaders::Detail;
 pub use replaying::replay;
-
-#[cfg(test)]
-mod tests;

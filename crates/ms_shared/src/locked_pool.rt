@@ -10,9 +10,6 @@ ghost use Rattle.ms_pool.specs.Account.{AccountState};
 ghost use Rattle.ms_pool.specs.Calls.{Opened, new_account};
 ghost use Rattle.ms_shared.specs.SeatView.{ServesBy, OverLock, opened_by, ids_of_open, raise};
 
-#[cfg(test)]
-mod tests;
-
 use crate::lock_rule::LockView;
 use crate::seat::PoolSeat;
 use crate::shared_pool::SharedPool;

@@ -10,9 +10,6 @@ ghost use Rattle.std.specs.Prelude.{vec_len, replicate, []};
 ghost use Rattle.std.specs.List.{All, sum_by};
 ghost use Rattle.ms_shared.specs.MeterRule.{added, taken_off, meter_view};
 
-#[cfg(test)]
-mod tests;
-
 use crate::meter_rule::{AddsAmount, CutSeat, JoinSeats, Looks, MeterView, Metered, Subtracts};
 use atomic_table::{Seat, Table};
 use ms_base::Refusal;

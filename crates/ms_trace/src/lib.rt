@@ -25,6 +25,3 @@ pub use fault::{FaultKind, ParseFault, TraceFault};
 pub use printing::print;
 pub use reading::parse;
 pub use trace::{Command, Line, Lines, Trace};
-
-#[cfg(test)]
-mod tests;

@@ -1,0 +1,292 @@
+//! What no clause says: that a replay answers where memory and threads are ample, that two workers
+//! really run side by side, which worker works which line, and which words in use the gate is told.
+//! Traces that were worked by hand, and races for the limits, are system tests.
+ghost use Rattle.std.specs.Prelude.{◌≤◌};
+
+use ms_base::{Policy, Reply, Settings};
+use ms_loaders::Detail;
+use ms_run::{Gate, replay};
+use ms_trace::parse;
+use std::alloc::{AllocError, Global};
+use std::process::Abort;
+use std::sync::Wait;
+use std::sync::atomic::{AtomicU64, Ordering};
+use std::test::Fail;
+use std::thread;
+use std::thread::Threads;
+
+/// The settings with so many workers, and the limits of nodes, granules and class nodes.
+fn settings(workers: u32, nodes: u32, max_granules: u64, class_nodes: u32) -> Settings
+    requires some { 1 ≤ workers }
+    requires few { workers ≤ 8 }
+    requires nodes_some { 1 ≤ nodes }
+    requires nodes_few { nodes ≤ 64 }
+    requires granules_some { 1 ≤ max_granules }
+    requires granules_few { max_granules ≤ 40960 }
+    requires class_few { class_nodes ≤ 16 }
+{
+    Settings {
+        workers,
+        nodes,
+        max_granules,
+        policy: Policy::Balanced,
+        class_nodes,
+    }
+}
+
+/// Holds each of two workers at its first line until the other has come to its own.
+#[derive(Drop)]
+struct Meeting {
+    first: AtomicU64,
+    second: AtomicU64,
+    missed: AtomicU64,
+}
+
+impl Gate for Meeting {
+    fn before(&self, worker: usize, _line: u32) {
+        let (mine, other) = if worker == 0 {
+            (&self.first, &self.second)
+        } else {
+            (&self.second, &self.first)
+        };
+        mine.store(1, Ordering::SeqCst);
+        for _ in 0..100_000 {
+            if other.load(Ordering::SeqCst) == 1 {
+                return;
+            }
+            thread::yield_now();
+        }
+        self.missed.fetch_add(1, Ordering::SeqCst);
+    }
+
+    fn after(&self, _worker: usize, _line: u32, _used: u64) {}
+}
+
+#[test]
+fn gate_two_workers(rt: HostRuntime) -> Result<(), Fail> {
+    let text = "new 1 standard\nnew 2 standard\n";
+    let trace = parse(rt.alloc(), text.as_bytes()).ok().ok_or("no trace")?;
+    let gate = Meeting {
+        first: AtomicU64::new(0),
+        second: AtomicU64::new(0),
+        missed: AtomicU64::new(0),
+    };
+    let replies = replay(
+        &rt,
+        rt.alloc(),
+        &trace,
+        settings(2, 64, 8192, 0),
+        Detail::Basic,
+        &gate,
+    );
+    let replies = replies.ok().ok_or("no replies")?;
+    assert_eq!(rt; gate.missed.load(Ordering::SeqCst), 0);
+    assert_eq!(rt; replies.answers.len(), 2);
+    for answer in &replies.answers {
+        assert_eq!(rt; answer.reply, Reply::Ok);
+    }
+    Ok(())
+}
+
+/// Keeps the words in use that it was told after the last line, and the most that it was told.
+#[derive(Drop)]
+struct Watching {
+    last: AtomicU64,
+    most: AtomicU64,
+}
+
+impl Gate for Watching {
+    fn before(&self, _worker: usize, _line: u32) {}
+
+    fn after(&self, _worker: usize, _line: u32, used: u64) {
+        self.last.store(used, Ordering::SeqCst);
+        self.most.fetch_max(used, Ordering::SeqCst);
+    }
+}
+
+/// Replays a text with a gate that watches the words in use: the last and the most that it was told.
+fn watched(
+    rt: &(impl Abort + AllocGlobal + Threads + Wait + Sync),
+    settings: Settings,
+    text: &str,
+) -> Result<(u64, u64), Fail> {
+    let trace = parse(rt.alloc(), text.as_bytes()).ok().ok_or("no trace")?;
+    let gate = Watching {
+        last: AtomicU64::new(0),
+        most: AtomicU64::new(0),
+    };
+    let replies = replay(rt, rt.alloc(), &trace, settings, Detail::Basic, &gate);
+    let _ = replies.ok().ok_or("no replies")?;
+    let last = gate.last.load(Ordering::SeqCst);
+    Ok((last, gate.most.load(Ordering::SeqCst)))
+}
+
+#[test]
+fn who_reads_last_reads_what_all_have_in_use(rt: HostRuntime) -> Result<(), Fail> {
+    let text = "new 1 standard\nnew 2 standard\nalloc 1 1 5\nalloc 2 1 7\n";
+    for workers in [1, 2, 4, 8] {
+        for _ in 0..20 {
+            let (_, most) = watched(&rt, settings(workers, 64, 8192, 0), text)?;
+            assert_eq!(rt; most, 12);
+        }
+    }
+    Ok(())
+}
+
+#[test]
+fn words_in_use_are_counted_on_from_phase_to_phase(rt: HostRuntime) -> Result<(), Fail> {
+    let text = "new 1 standard\nnew 2 standard\nalloc 1 1 5\ncalloc 2 1 7\nsync
+unload 1\nsync\nalloc 2 2 4\nwrite 2 2 0 9\nfree 2 2\nread 2 1 0\n";
+    for workers in [1, 2, 4, 8] {
+        let (last, most) = watched(&rt, settings(workers, 64, 8192, 1), text)?;
+        assert_eq!(rt; last, 11);
+        assert_eq!(rt; most, 12);
+    }
+    Ok(())
+}
+
+#[test]
+fn what_a_phase_gives_back_goes_off_the_running_amount(rt: HostRuntime) -> Result<(), Fail> {
+    // The second phase's meter ends at 18446744073709551606, to which the running 10 comes.
+    let text = "new 1 standard\nalloc 1 1 10\nreport\nunload 1\n";
+    for workers in [1, 2, 4, 8] {
+        let (last, most) = watched(&rt, settings(workers, 64, 8192, 0), text)?;
+        assert_eq!(rt; last, 0);
+        assert_eq!(rt; most, 10);
+    }
+    Ok(())
+}
+
+/// Keeps for each line who came before it and who came after it: the sum of those workers, each
+/// counted from 1 on.
+#[derive(Drop)]
+struct Listening {
+    before: Vec<AtomicU64>,
+    after: Vec<AtomicU64>,
+}
+
+impl Gate for Listening {
+    fn before(&self, worker: usize, line: u32) {
+        hear(self.before.as_slice(), worker, line);
+    }
+
+    fn after(&self, worker: usize, line: u32, _used: u64) {
+        hear(self.after.as_slice(), worker, line);
+    }
+}
+
+/// Adds a worker to what was heard of a line.
+fn hear(heard: &[AtomicU64], worker: usize, line: u32) {
+    if let Some(sum) = heard.get(line as usize) {
+        sum.fetch_add((worker as u64).wrapping_add(1), Ordering::SeqCst);
+    }
+}
+
+/// Makes sums of 0 for the lines from 0 to 24.
+fn sums(alloc: Global) -> Result<Vec<AtomicU64>, AllocError> {
+    let mut sums = Vec::with_capacity(alloc, 25)?;
+    for _ in 0..25 {
+        sums.push(AtomicU64::new(0))?;
+    }
+    Ok(sums)
+}
+
+/// Expects that each line was heard of once, from its worker; 9 stands for a line that asks no step.
+fn expect_workers(rt: &impl Abort, heard: &[AtomicU64], wanted: [u64; 25]) {
+    for (line, worker) in wanted.into_iter().enumerate() {
+        let sum = match heard.get(line) {
+            Some(sum) => sum.load(Ordering::SeqCst),
+            None => 0,
+        };
+        let want = if worker == 9 {
+            0
+        } else {
+            worker.wrapping_add(1)
+        };
+        assert_eq!(rt; sum, want, "line {line}");
+    }
+}
+
+/// Five phases: in the third only one loader has lines. By first appearance loader 3 is number 0, 5
+/// is number 1, 1 is number 2, 9 is number 3 and 65535 is number 4.
+const FIVE_PHASES: &str = "new 3 standard
+new 5 boot
+new 1 hidden
+new 9 standard
+new 65535 reflection
+sync
+alloc 1 1 10
+alloc 3 1 10
+purge
+alloc 9 1 10
+report
+alloc 5 1 10
+alloc 5 2 10
+sync
+unload 5
+free 1 1
+purge
+read 3 1 0
+sync
+write 9 1 0 7
+purge
+alloc 65535 1 10
+unload 3
+unload 1
+";
+
+/// Replays five phases, and expects that each line is worked by its worker.
+fn listen(
+    rt: &(impl Abort + AllocGlobal + Threads + Wait + Sync),
+    workers: u32,
+    wanted: [u64; 25],
+) -> Result<(), Fail>
+    requires some { 1 ≤ workers }
+    requires few { workers ≤ 8 }
+{
+    let text = FIVE_PHASES.as_bytes();
+    let trace = parse(rt.alloc(), text).ok().ok_or("no trace")?;
+    let gate = Listening {
+        before: sums(rt.alloc())?,
+        after: sums(rt.alloc())?,
+    };
+    let replies = replay(
+        rt,
+        rt.alloc(),
+        &trace,
+        settings(workers, 64, 8192, 0),
+        Detail::Basic,
+        &gate,
+    );
+    let replies = replies.ok().ok_or("no replies")?;
+    assert_eq!(rt; replies.answers.len(), 24);
+    expect_workers(rt, gate.before.as_slice(), wanted);
+    expect_workers(rt, gate.after.as_slice(), wanted);
+    Ok(())
+}
+
+// Loader number j has worker (j + k) mod W in phase k, and a purge has worker 0.
+#[test]
+fn each_line_is_worked_by_the_worker_whose_turn_it_is(rt: HostRuntime) -> Result<(), Fail> {
+    listen(
+        &rt,
+        2,
+        [
+            9, 0, 1, 0, 1, 0, 9, 1, 1, 0, 0, 9, 1, 1, 9, 0, 1, 0, 1, 9, 1, 0, 0, 0, 0,
+        ],
+    )?;
+    listen(
+        &rt,
+        3,
+        [
+            9, 0, 1, 2, 0, 1, 9, 0, 1, 0, 1, 9, 0, 0, 9, 1, 2, 0, 0, 9, 1, 0, 2, 1, 0,
+        ],
+    )?;
+    listen(
+        &rt,
+        8,
+        [
+            9, 0, 1, 2, 3, 4, 9, 3, 1, 0, 4, 9, 3, 3, 9, 4, 5, 0, 3, 9, 7, 0, 0, 4, 6,
+        ],
+    )
+}
