@@ -1,7 +1,7 @@
 -- What is true of the lent leaves of each tree, and what the callers of a split tree learn of it.
 use Rattle.std.proofs.Common.{◌≡◌, ◌<◌, ◌≤◌, ℕ, ◌+◌, Bool, true, false, ◌&&◌, ◌||◌, cond, List, [], ◌∷◌, ◌++◌, Some}
 use Rattle.std.proofs.Common.{refl, ap, subst, arith}
-use Rattle.std.specs.Prelude.{◌==◌, ◌≢◌, ◌↔◌, IsTrue, IsFalse, Result, Ok, Err, OnOk, OnErr}
+use Rattle.std.specs.Prelude.{◌==◌, ◌≢◌, ◌↔◌, IsTrue, IsFalse, Result, Ok, Err}
 use Rattle.std.specs.List.{AllByRecursion, find}
 use Rattle.std.proofs.lemmas.Bool.Decides.{nat_tests}
 use Rattle.ms_base.specs.declared.span.Span.{Span}
@@ -9,12 +9,10 @@ use Rattle.ms_base.specs.declared.refusal.Refusal.{Refusal}
 use Rattle.ms_base.specs.declared.refusal.Refusal.TheVariants.{NoRoom, OutOfMemory}
 use Rattle.ms_base.specs.Level.{root_words, size_of}
 use Rattle.ms_base.specs.Part.{IsPart}
-use Rattle.ms_buddy.specs.declared.node.Lack.{Lack}
 use Rattle.ms_buddy.specs.declared.node.Node.{Node}
 use Rattle.ms_buddy.specs.declared.node.Node.TheVariants.{Free, Lent, Split'}
 use Rattle.ms_buddy.specs.declared.node.Leaf.{Leaf}
 use Rattle.ms_buddy.specs.declared.node.Leaf.TheVariants.{Free as FreeLeaf, Lent as LentTo}
-use Rattle.ms_buddy.specs.Carving.{told}
 use Rattle.ms_buddy.specs.Leaves.{LentLeaf, AreInOrder, AreLeaves, CarveAnswers, IsCarveRefusal, IsLeafAt, fits_in}
 use Rattle.ms_buddy.specs.Leaves.{is_lent, is_same, leaf_of, span_of}
 use Rattle.ms_buddy.specs.Tree.{IsPlace, IsTree, lent_in}
@@ -136,13 +134,3 @@ no_room_exactly part free (Err refused) answers = (
     back (NoRoom level) h e = ap NoRoom h.0
     back OutOfMemory h e = absurd (contrary (fits_in part free) h.0 e)
     back _ h e = absurd h
-
--- What is lacking is told of a call that fails, and nothing of one that succeeds.
-pub ok_told : {A : Type 0} (X : Type 0) (level : ℕ) (carved : Result A Lack) → OnOk carved X → OnOk (told level carved) X
-ok_told X level (Ok value) h = h
-ok_told X level (Err lack) h = h
-
-pub err_told : {A : Type 0} (X Y : Type 0) (level : ℕ) (carved : Result A Lack) → (X → Y) → OnErr carved X
-    → OnErr (told level carved) Y
-err_told X Y level (Ok value) f h = h
-err_told X Y level (Err lack) f h = f h

@@ -57,15 +57,9 @@ pub record Moves (old : Counted) (gone come : List Chunk) (new : Counted) : Type
   pub capacity : new.capacity + total words_in gone ≡ old.capacity + total words_in come
   pub fronts : new.fronts + total front_in gone ≡ old.fronts + total front_in come
 
--- What was counted in a space, and what there is once something else is.
+-- What was counted in a space.
 abbrev pub counted_in : Space → Lent → Counted
 counted_in space lent = by_space space lent.space lent.class_space
-
-abbrev pub with_counted : Space → Counted → Lent → Lent
-with_counted space counted lent = record lent {
-  space = by_space space counted lent.space;
-  class_space = by_space space lent.class_space counted;
-}
 
 -- In a space chunks go and others come, and those of the other space stay.
 pub record MovesIn (space : Space) (old : Lent) (gone come : List Chunk) (new : Lent) : Type 0 where

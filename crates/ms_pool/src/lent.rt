@@ -6,7 +6,7 @@ ghost use Rattle.std.specs.Prelude.{◌≡◌, ◌+◌, ◌<◌, ◌≤◌, ◌^
 ghost use Rattle.ms_base.specs.declared.kind.Space.{Space};
 ghost use Rattle.ms_buddy.specs.Counts.{AreRaised};
 ghost use Rattle.ms_pool.specs.Counting.{AreCounted, HasLeast, HasRoomFor, HaveLeast, Moves, MovesIn};
-ghost use Rattle.ms_pool.specs.Counting.{counted_in, with_counted};
+ghost use Rattle.ms_pool.specs.Counting.{counted_in};
 
 use crate::account::Account;
 use crate::totals::LEVELS;

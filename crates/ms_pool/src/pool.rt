@@ -58,18 +58,6 @@ impl Pool {
         })
     }
 
-    /// Makes a pool of which nothing is kept but that it has given so many owner numbers out.
-    #[cfg(test)]
-    pub(crate) fn with_given(
-        alloc: Global,
-        settings: Settings,
-        given: u32,
-    ) -> Result<Pool, AllocError> {
-        let mut pool = Pool::new(alloc, settings)?;
-        pool.lender.given = given;
-        Ok(pool)
-    }
-
     /// Opens an account in a space, under the next owner number. Refused with `IdsUsedUp` exactly
     /// where all numbers, 1 to 4294967295, were given out. Takes no memory.
     pub fn open(&mut self, space: Space) -> Result<Account, Refusal>

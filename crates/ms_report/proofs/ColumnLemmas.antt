@@ -1,6 +1,6 @@
 -- Columns written from the right into blank bytes. Used by `columns`.
 use Rattle.std.proofs.Common.{◌≡◌, ◌≤◌, ◌<◌, ◌^◌, ℕ, zero, suc, ◌-◌, List, ◌++◌, length, replicate, drop, take, sym, ◌∙◌, ap}
-use Rattle.std.proofs.Common.{[], ◌∷◌, ◌+◌, min, codes, arith, append_assoc}
+use Rattle.std.proofs.Common.{◌+◌, min, codes, arith, append_assoc}
 use Rattle.std.proofs.lemmas.Fmt.{IsAscii-decimal, length-decimal-le}
 use Rattle.std.proofs.lemmas.List.{take-append-drop, take-replicate, drop-replicate, drop-append-le, take-append-le}
 use Rattle.std.proofs.lemmas.List.{length-drop, length-replicate, length-take-le, drop-drop, drop_at}
@@ -49,15 +49,6 @@ digits_right new rest digits places from start low count blank written =
     ∙ ap (λ (later : List ℕ). spaces ++ later) written
     ∙ sym (append_assoc spaces digits rest)
 
--- So are those that end at byte 20, with as many blank bytes before them as their places want.
-pub digits_placed : (old new : List ℕ) (places number from start : ℕ) → number < 2 ^ 64 → places ≤ 20
-    → take 20 old ≡ replicate 20 32 → start + length (decimal number) ≡ 20 → take start new ≡ take start old
-    → drop start new ≡ decimal number ++ drop 20 old → from ≡ min start (20 - places)
-    → drop from new ≡ right_in places (decimal number) ++ drop 20 old
-digits_placed old new places number from start small few blank end before written least =
-    digits_right new (drop 20 old) (decimal number) places from start (omega (arith, least))
-    (omega (arith, least, end, few)) (before ∙ blank_below old start 20 (omega (arith, end)) blank) written
-
 -- They are ASCII.
 spaces_are_ascii : (n : ℕ) → IsAscii (replicate n 32)
 spaces_are_ascii zero = IsAscii-nil
@@ -67,29 +58,6 @@ pub right_is_ascii : (places n : ℕ) → n < 2 ^ 64 → IsAscii (right_in place
 right_is_ascii places n small =
     IsAscii-append (replicate (places - length (decimal n)) 32) (decimal n)
     (spaces_are_ascii (places - length (decimal n))) (IsAscii-decimal n small)
-
--- Four of them, one before the other, and what ends them.
-pub record AreFour (bytes one two three four end : List ℕ) : Type 0 where
-  pub bytes_are : bytes ≡ one ++ (two ++ (three ++ (four ++ end)))
-  pub ascii : IsAscii bytes
-
-pub four_columns : (first second third fourth end one two three four : List ℕ) → first ≡ one ++ second
-    → second ≡ two ++ third → third ≡ three ++ fourth → fourth ≡ four ++ end
-    → IsAscii one → IsAscii two → IsAscii three → IsAscii four → IsAscii end → AreFour first one two three four end
-four_columns first second third fourth end one two three four e1 e2 e3 e4 a1 a2 a3 a4 a5 =
-    let whole : first ≡ one ++ (two ++ (three ++ (four ++ end))) =
-    e1 ∙ ap (λ (later : List ℕ). one ++ later) (e2 ∙ ap (λ (later : List ℕ). two ++ later)
-    (e3 ∙ ap (λ (later : List ℕ). three ++ later) e4)) in
-    record {
-      bytes_are = whole;
-      ascii = rw whole (IsAscii-append one (two ++ (three ++ (four ++ end))) a1
-          (IsAscii-append two (three ++ (four ++ end)) a2
-          (IsAscii-append three (four ++ end) a3 (IsAscii-append four end a4 a5))));
-    }
-
--- The end of a line is ASCII.
-pub end_is_ascii : IsAscii (10 ∷ [])
-end_is_ascii = IsAscii-cons 10 [] (omega arith) IsAscii-nil
 
 -- A number of five digits at most in five places, with two spaces before them, stands in seven.
 pub two_more_places : (n : ℕ) → n < 2 ^ 16 → right_in 7 (decimal n) ≡ codes "  " ++ right_in 5 (decimal n)

@@ -31,14 +31,6 @@ adds_seven old t1 t2 t3 t4 t5 t6 t7 a b c d e f g first second third fourth fift
     adds_two old t6 t7 (a ++ b ++ c ++ d ++ e ++ f) g
     (adds_six old t1 t2 t3 t4 t5 t6 a b c d e f first second third fourth fifth sixth) seventh
 
--- A row of a table: what stands before its columns, four stretches of them, and the line's end.
-pub adds_row : (old t1 t2 t3 t4 t5 t6 a b c d e f : List ℕ) → t1 ≡ old ++ a → t2 ≡ t1 ++ b → t3 ≡ t2 ++ c
-    → t4 ≡ t3 ++ d → t5 ≡ t4 ++ e → t6 ≡ t5 ++ f → t6 ≡ old ++ (a ++ (b ++ (c ++ (d ++ e))) ++ f)
-adds_row old t1 t2 t3 t4 t5 t6 a b c d e f first second third fourth fifth sixth =
-    let columns = adds_two t2 t3 t5 c (d ++ e) third (adds_two t3 t4 t5 d e fourth fifth) in
-    adds_two old t5 t6 (a ++ (b ++ (c ++ (d ++ e)))) f
-    (adds_two old t1 t5 a (b ++ (c ++ (d ++ e))) first (adds_two t1 t2 t5 b (c ++ (d ++ e)) second columns)) sixth
-
 -- The same with three stretches.
 pub adds_line : (old t1 t2 t3 t4 t5 a b c d e : List ℕ) → t1 ≡ old ++ a → t2 ≡ t1 ++ b → t3 ≡ t2 ++ c
     → t4 ≡ t3 ++ d → t5 ≡ t4 ++ e → t5 ≡ old ++ (a ++ (b ++ (c ++ d)) ++ e)

@@ -180,6 +180,7 @@ fn push_row(text: &mut String, row: &LoaderRow) -> Result<(), AllocError>
 }
 
 /// Puts the first two columns of a loader's line, with the spaces before them.
+#[inline(always)]
 pub fn put_name(line: &mut Line, name: u16, kind: Kind)
     requires { length line.old + 32 ≤ 192 }
     ensures { line.new

@@ -12,7 +12,7 @@ use Rattle.ms_loaders.specs.declared.replies.Answer.{Answer}
 use Rattle.ms_run.specs.Counting.{HasAnswered, HasTaken}
 use Rattle.ms_run.specs.Course.{Course, begun, on_to, passed}
 use Rattle.ms_run.specs.Peaks.{ArePeaksIfKept}
-use Rattle.ms_run.specs.Replay.{Answers, IsEnd}
+use Rattle.ms_run.specs.Replay.{Answers}
 use Rattle.ms_run.specs.declared.alone.Metered.{Metered}
 
 -- The answers to some lines, and then to others.
@@ -71,20 +71,6 @@ step_answered old new line step answer answers whole asks adds number none told 
     peaks = raised (passed course) taken.peaks;
   },
 )
-
--- A line that asks none is answered: the course stays.
-pub end_answered : (run : Metered) (line : Line) (answers whole : List Answer)
-    → ((course : Course) → HasTaken course run
-    → (added : Answer) × (whole ≡ answers ++ added ∷ []) × IsEnd course line added)
-    → HasAnswered run (line ∷ []) answers whole run
-end_answered run line answers whole between = λ course taken.
-    let told = between course taken in (
-      told.0 ∷ [],
-      course,
-      told.1,
-      (course, told.2.number, rw told.2.no_step (told.2.done, refl), told.2.report, (refl, refl)),
-      taken,
-    )
 
 -- A run that begins has taken the course that begins there.
 pub begins : (run : Metered) (first : Machine) → run.system ≡ first → ArePeaksIfKept (run.system ∷ []) run.peaks

@@ -119,6 +119,7 @@ fn answer_line<G: Gate>(
 
 /// Tells the words in use of the loader whose tops a step may move, and 0 where it moves none, or where
 /// they aren't counted.
+#[inline(always)]
 fn used_by(counts: bool, system: &System, step: &Step) -> u64
     ensures { IsTrue counts → result ≡ used_around step.now system.now.loaders }
 {

@@ -98,11 +98,6 @@ pub not_last : (text : List ℕ) (at : ℕ) → at < length text → eqb (get_or
 not_last text at inside other ended =
     omega (arith, inside, length-drop (at + 1) text, ended_some (drop (at + 1) text) (ended_drop text at inside other ended))
 
--- Whether it does is told by its last byte.
-pub is_ended-none : (text : List ℕ) → length text ≡ 0 → is_ended text ≡ false
-is_ended-none [] none = refl
-is_ended-none (byte ∷ bytes) none = absurd (omega (arith, none))
-
 pub is_ended-last : (text : List ℕ) → 0 < length text → is_ended text ≡ eqb (get_or text (length text - 1) 0) 10
 is_ended-last [] some = absurd (omega arith)
 is_ended-last (byte ∷ []) some = refl

@@ -261,7 +261,7 @@ fn the_version_goes_to_standard_output(rt: HostRuntime) {
         let mut err = Vec::new(rt.alloc());
         let status = start(&rt, rt.alloc(), &words, &mut input, &mut out, &mut err);
         let text =
-            b"metarun 1.0.0 (proved with rattle-kit-13b logic dac8208d650f15bf)\n".as_slice();
+            b"metarun 1.0.0 (proved with rattle-kit-13f logic dac8208d650f15bf)\n".as_slice();
         assert_eq!(rt; out.as_slice(), text);
         assert_eq!(rt; status, 0);
         assert!(rt; err.is_empty());

@@ -1,11 +1,11 @@
 -- What the free leaves of a root's tree say of its places: a place is free where one meets it, and lent but
 -- where it lies in one. `note` and `found_in` use these.
-use Rattle.std.proofs.Common.{◌≡◌, ◌≤◌, ◌<◌, ℕ, ◌+◌, ◌*◌, ◌/◌, ◌==◌, Bool, true, false, cond, not, ◌&&◌, ◌||◌}
-use Rattle.std.proofs.Common.{List, [], ◌∷◌, get_or, length, map, replicate, set, refl, sym, ap, ap₂, subst, ◌∙◌}
-use Rattle.std.proofs.Common.{arith, inl, inr, get_or-set_same, get_or-set_other}
+use Rattle.std.proofs.Common.{◌≡◌, ◌≤◌, ◌<◌, ℕ, ◌+◌, ◌*◌, ◌/◌, Bool, true, false, not, ◌&&◌, ◌||◌}
+use Rattle.std.proofs.Common.{List, [], ◌∷◌, get_or, map, replicate, refl, sym, ap, ap₂, ◌∙◌}
+use Rattle.std.proofs.Common.{arith, inl, inr}
 use Rattle.std.specs.Prelude.{nat_le, nat_lt}
 use Rattle.std.specs.List.{AllByRecursion, list_any}
-use Rattle.std.proofs.lemmas.Bool.{and_parts, cases_eq, cases_lt, or_parts}
+use Rattle.std.proofs.lemmas.Bool.{cases_lt, or_parts}
 use Rattle.std.proofs.lemmas.Bool.Decides.{nat_tests}
 use Rattle.std.proofs.lemmas.List.{get_or-replicate}
 use Rattle.std.proofs.lemmas.List.Elements.{All-weaker, recursion_from_All}
@@ -67,74 +67,6 @@ pub record AreUpTo (whole : Bool) (first end : ℕ) (lent_old free_old lent_new 
       → get_or lent_new k false ≡ (get_or lent_old k false && not (is_from first end k && whole))
   pub free : (k : ℕ) → k < root_places
       → get_or free_new k false ≡ (get_or free_old k false || is_from first end k)
-
-none_from : (first k : ℕ) → is_from first first k ≡ false
-none_from first k = grind (arith, nat_tests)
-
-pub none_noted : (whole : Bool) (first : ℕ) (lent free : List Bool) → AreUpTo whole first first lent free lent free
-none_noted whole first lent free = record {
-  lent = λ k h. sym (ap (λ b. get_or lent k false && not (b && whole)) (none_from first k) ∙ kept (get_or lent k false));
-  free = λ k h. sym (ap (λ b. get_or free k false || b) (none_from first k) ∙ same (get_or free k false));
-}
-  where
-    kept : (b : Bool) → (b && true) ≡ b
-    kept true = refl
-    kept false = refl
-
-    same : (b : Bool) → (b || false) ≡ b
-    same true = refl
-    same false = refl
-
--- One more of them.
-last_from : (first at : ℕ) → first ≤ at → is_from first (at + 1) at ≡ true
-last_from first at h = grind (arith, nat_tests)
-
-not_yet : (first at : ℕ) → is_from first at at ≡ false
-not_yet first at = grind (arith, nat_tests)
-
-others_from : (first at k : ℕ) → (k ≡ at → ⊥) → is_from first at k ≡ is_from first (at + 1) k
-others_from first at k other = grind (arith, nat_tests, other)
-
-pub one_noted : (whole : Bool) (first at : ℕ) (lent free l f : List Bool) → first ≤ at → at < root_places
-    → length l ≡ root_places → length f ≡ root_places → AreUpTo whole first at lent free l f
-    → AreUpTo whole first (at + 1) lent free (set l at (get_or l at false && not whole)) (set f at true)
-one_noted whole first at lent free l f low high long wide so_far = record { lent = lent_at; free = free_at }
-  where
-    narrowed : (b w : Bool) → ((b && true) && not w) ≡ (b && not w)
-    narrowed true w = refl
-    narrowed false w = refl
-
-    widened : (b : Bool) → (b || true) ≡ true
-    widened true = refl
-    widened false = refl
-
-    lent_at : (k : ℕ) → k < root_places → get_or (set l at (get_or l at false && not whole)) k false
-        ≡ (get_or lent k false && not (is_from first (at + 1) k && whole))
-    lent_at k h = elim (cases_eq k at) [
-      | inl same ↦ subst
-          (λ (n : ℕ). get_or (set l at (get_or l at false && not whole)) n false
-          ≡ (get_or lent n false && not (is_from first (at + 1) n && whole))) (sym same)
-          (get_or-set_same l at (get_or l at false && not whole) false (omega (arith, long, high))
-          ∙ ap (λ b. b && not whole) (so_far.lent at high
-          ∙ ap (λ b. get_or lent at false && not (b && whole)) (not_yet first at))
-          ∙ narrowed (get_or lent at false) whole
-          ∙ sym (ap (λ b. get_or lent at false && not (b && whole)) (last_from first at low)))
-      | inr other ↦ get_or-set_other l at k (get_or l at false && not whole) false other
-          ∙ so_far.lent k h
-          ∙ ap (λ b. get_or lent k false && not (b && whole)) (others_from first at k other)
-    ]
-
-    free_at : (k : ℕ) → k < root_places
-        → get_or (set f at true) k false ≡ (get_or free k false || is_from first (at + 1) k)
-    free_at k h = elim (cases_eq k at) [
-      | inl same ↦ subst
-          (λ (n : ℕ). get_or (set f at true) n false ≡ (get_or free n false || is_from first (at + 1) n)) (sym same)
-          (get_or-set_same f at true false (omega (arith, wide, high))
-          ∙ sym (ap (λ b. get_or free at false || b) (last_from first at low) ∙ widened (get_or free at false)))
-      | inr other ↦ get_or-set_other f at k true false other
-          ∙ so_far.free k h
-          ∙ ap (λ b. get_or free k false || b) (others_from first at k other)
-    ]
 
 -- All of them: what the leaf says of each place.
 pub all_noted : (part : Span) (words first end : ℕ) (lent free l f : List Bool) → IsPart part.start part.level

@@ -46,11 +46,6 @@ inside_space : (space : Space) (nodes : NodesState) (root : ℕ) → first_root 
 inside_space NonClass nodes root low high offset within = lt-ltb (offset + root * root_words) 67108864 (omega arith)
 inside_space Class nodes root low high offset within = le-leb 67108864 (offset + root * root_words) (omega arith)
 
-pub place_is_of : (space : Space) (nodes : NodesState) (root number : ℕ) → first_root space ≤ root
-    → root < end_root space nodes → number < root_places → IsRunOf space (place_start root number) place_words
-place_is_of NonClass nodes root number low high within = omega arith
-place_is_of Class nodes root number low high within = omega arith
-
 -- What is lent there.
 pub lent_there : (space : Space) (lender : Lender) (root number : ℕ) → IsKept lender → first_root space ≤ root
     → root < end_root space lender.nodes → number < root_places

@@ -1,11 +1,11 @@
 -- The index of the trees: what a root's levels told anew do to it, and that it is exact over whole trees.
 -- `Index` and `Trees` use these.
 use Rattle.std.proofs.Common.{◌≡◌, ◌<◌, ◌≤◌, ℕ, suc, zero, ◌+◌, Bool, true, false, ◌||◌, ◌==◌, List, []}
-use Rattle.std.proofs.Common.{length, get_or, set, refl, sym, ap, subst, ◌∙◌, inl, inr, arith, bit_or}
+use Rattle.std.proofs.Common.{length, get_or, refl, sym, ap, ◌∙◌, inl, inr, arith, bit_or}
 use Rattle.std.specs.Prelude.{replicate}
 use Rattle.std.specs.List.{list_any}
 use Rattle.std.proofs.lemmas.Bool.{cases_eq}
-use Rattle.std.proofs.lemmas.List.{get_or-replicate, get_or-set_other}
+use Rattle.std.proofs.lemmas.List.{get_or-replicate}
 use Rattle.ms_buddy.specs.Leaves.{LentLeaf, free_of, has_level, is_of}
 use Rattle.ms_buddy.proofs.FreeLeafLemmas.{free_of-none}
 use Rattle.ms_buddy.proofs.LeafLevelLemmas.{has_level-one, has_level-or}
@@ -29,18 +29,6 @@ one_more levels at_ from roots so_far level root there asked has =
 
     left : (a b : Bool) → a ≡ true → (a || b) ≡ true
     left a b e = ap (λ c. c || b) e
-
--- The levels of roots beside the one that is told anew.
-pub kept_beside : (levels at_ now : ℕ) (roots : List ℕ) (IsAsked : ℕ → Type 0) → HaveLevels levels roots IsAsked
-    → (IsAsked at_ → ⊥) → HaveLevels levels (set roots at_ now) IsAsked
-kept_beside levels at_ now roots IsAsked have apart level root there asked has = elim (cases_eq root at_) [
-  | inl here ↦ absurd (apart (subst_asked here))
-  | inr other ↦ have level root there asked
-      (ap (λ bits. has_level bits level) (sym (get_or-set_other roots at_ root now 0 other)) ∙ has)
-]
-  where
-    subst_asked : root ≡ at_ → IsAsked at_
-    subst_asked here = subst IsAsked here asked
 
 -- Each root has level 0, and so has each space.
 pub whole_gathered : AreGathered (replicate 160 1) 1 1
