@@ -67,6 +67,11 @@ def gives_all_memory_back(bench):
     return printed([linked(bench, FOLDER, "wanting", WRAPPED)]).decode().strip()
 
 
+def tells_whose_each_word_is(bench):
+    """With 1,000 loaders, while a third of them is gone, and once others have come under their numbers."""
+    return printed([linked(bench, FOLDER, "holders"), "1000"]).decode().strip()
+
+
 CPP = """#include "nizgrabul.h"
 int main() {
     nizgrabul_handle handle = {};
@@ -144,6 +149,7 @@ def tests():
     yield Test("library: each call answers from C", answers_each_call)
     yield Test("library: real memory follows the account", commits_real_memory)
     yield Test("library: each growth is refused in turn", gives_all_memory_back)
+    yield Test("library: whose each word is, of 1,000 loaders", tells_whose_each_word_is)
     yield Test("library: the header is C++ too", fits_a_cpp_program)
     yield Test("library: exports have the prefix", exports_are_the_headers)
     yield Test("library: the header has the docs' words", comments_are_the_crates)
