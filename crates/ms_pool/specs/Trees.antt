@@ -1,5 +1,5 @@
 -- The trees of the roots that may be reserved, and which of them have a free leaf of a level.
-use Rattle.std.specs.Prelude.{◌≡◌, ℕ, ◌*◌, ◌<◌, ◌≤◌, Bool, true, false, List, [], length, get_or}
+use Rattle.std.specs.Prelude.{◌≡◌, ℕ, ◌*◌, ◌/◌, ◌<◌, ◌≤◌, Bool, true, false, List, [], length, get_or}
 use Rattle.std.specs.List.{list_any}
 use Rattle.ms_base.specs.declared.kind.Space.{Space}
 use Rattle.ms_base.specs.declared.kind.Space.TheVariants.{NonClass, Class}
@@ -23,15 +23,21 @@ abbrev pub IsRootOf : Space → ℕ → Type 0
 IsRootOf NonClass root = root < 2 * first_class_slot
 IsRootOf Class root = 2 * first_class_slot ≤ root
 
--- Among the levels are those of each root that is asked for.
+-- Among the levels are those of each entry that is asked for: of each root, or of each group.
 abbrev pub HaveLevels : ℕ → List ℕ → (ℕ → Type 0) → Type 0
-HaveLevels levels roots IsAsked = (level root : ℕ) → root < all_roots → IsAsked root
-    → has_level (get_or roots root 0) level ≡ true → has_level levels level ≡ true
+HaveLevels levels entries IsAsked = (level entry : ℕ) → entry < all_roots → IsAsked entry
+    → has_level (get_or entries entry 0) level ≡ true → has_level levels level ≡ true
 
--- The levels of each space are those of its roots.
-pub record AreGathered (roots : List ℕ) (levels class_levels : ℕ) : Type 0 where
-  pub space : HaveLevels levels roots (IsRootOf NonClass)
-  pub class_space : HaveLevels class_levels roots (IsRootOf Class)
+-- Sixteen roots are a group: among its levels are those of each of them.
+abbrev pub HaveGroups : List ℕ → List ℕ → Type 0
+HaveGroups groups roots = (level root : ℕ) → root < all_roots → has_level (get_or roots root 0) level ≡ true
+    → has_level (get_or groups (root / 16) 0) level ≡ true
+
+-- The groups have the levels of their roots, and each space has those of its groups.
+pub record AreGathered (roots groups : List ℕ) (levels class_levels : ℕ) : Type 0 where
+  pub members : HaveGroups groups roots
+  pub space : HaveLevels levels groups (λ group. group < 8)
+  pub class_space : HaveLevels class_levels groups (λ group. 8 ≤ group)
 
 -- The index has exactly the levels of which each root's tree has a free leaf.
 pub record IsIndex (roots : List ℕ) (trees : List (List LentLeaf)) : Type 0 where

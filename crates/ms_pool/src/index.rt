@@ -1,14 +1,16 @@
-//! The index of the trees: of which levels each root has free leaves, and any root of a space.
+//! The index of the trees: of which levels each root has free leaves, and any root of a group of
+//! sixteen, and of a space.
 //!
-//!     root   0        1             127      128           159
-//!          +--------+--------+ .. +--------+--------+ .. +--------+
-//!          | levels | levels |    | levels | levels |    | levels |      (a bit for each level)
-//!          +--------+--------+ .. +--------+--------+ .. +--------+
-//!          |<--- all of them: space ------>|<--- class_space ---->|
+//!     root   0             15            112           127      128           143
+//!          +--------+ .. +--------+ .. +--------+ .. +--------+--------+ .. +--------+ ..
+//!          | levels |    | levels |    | levels |    | levels | levels |    | levels |   (bits)
+//!          +--------+ .. +--------+ .. +--------+ .. +--------+--------+ .. +--------+ ..
+//!          |<----- group 0 ------>|    |<----- group 7 ------>|<----- group 8 ------>|
+//!          |<----------------- space ------------------------>|<--- class_space --- ..
 //!
-//! Kept true: what a root has, its space has too. So a search asks one number whether to look for a
-//! level at all, and looks for the root then. With each change the levels of its space are put
-//! together anew, from the first root to the last. Takes no memory.
+//! Kept true: what a root has, its group has too, and its space. So a search asks one number whether
+//! to look for a level at all, and looks for the root then. With each change the levels of the
+//! root's group are put together anew, and from the groups those of the space. Takes no memory.
 ghost use Rattle.std.specs.Prelude.{◌≡◌, ℕ, ◌<◌, ◌≤◌, true, false, get_or, length, replicate, IfSome, IfNone};
 ghost use Rattle.ms_buddy.specs.Leaves.{has_level};
 ghost use Rattle.ms_pool.specs.Trees.{HaveLevels, IsRootOf, all_roots};
@@ -18,14 +20,20 @@ use std::marker::Model;
 
 /// How many roots there may be: two for each slot, of both spaces.
 const ROOTS: usize = 2 * (SLOTS + CLASS_SLOTS) as usize;
+/// The roots of a group.
+const GROUP: usize = 16;
+/// How many groups there are.
+const GROUPS: usize = ROOTS / GROUP;
 /// The first of them that is of the class space.
-const FIRST_CLASS_ROOT: usize = 2 * SLOTS as usize;
+const FIRST_CLASS_GROUP: usize = 2 * SLOTS as usize / GROUP;
 
 /// The levels of free leaves, as bits, that of level 0 the lowest. Contracts see those of each root.
 #[derive(Drop)]
 pub(crate) struct Index {
     /// Of each root, by its number.
     roots: [u16; ROOTS],
+    /// Of any root of a group, by its number.
+    groups: [u16; GROUPS],
     /// Of any root below those of the class space.
     space: u16,
     /// Of any root of the class space.
@@ -40,7 +48,7 @@ impl Model for Index {
 
     ghost view = { λ index. index.roots };
 
-    ghost invariant = { λ index. AreGathered index.roots index.space index.class_space };
+    ghost invariant = { λ index. AreGathered index.roots index.groups index.space index.class_space };
 }
 
 impl Index {
@@ -49,8 +57,10 @@ impl Index {
         ensures { result ≡ replicate all_roots 1 }
     {
         let roots = [1; ROOTS];
+        let groups = [1; GROUPS];
         Index {
             roots,
+            groups,
             space: 1,
             class_space: 1,
         }
@@ -94,10 +104,12 @@ impl Index {
             return;
         }
         self.roots[root] = levels;
-        if root < FIRST_CLASS_ROOT {
-            self.space = gathered(&self.roots, 0, FIRST_CLASS_ROOT);
+        let group = root / GROUP;
+        self.groups[group] = gathered(&self.roots, group * GROUP, group * GROUP + GROUP);
+        if group < FIRST_CLASS_GROUP {
+            self.space = gathered(&self.groups, 0, FIRST_CLASS_GROUP);
         } else {
-            self.class_space = gathered(&self.roots, FIRST_CLASS_ROOT, ROOTS);
+            self.class_space = gathered(&self.groups, FIRST_CLASS_GROUP, GROUPS);
         }
     }
 }
@@ -109,14 +121,15 @@ pub(crate) fn has_level(levels: u16, level: Level) -> bool
     levels >> level.number() & 1 == 1
 }
 
-/// The levels of all roots from one up to another.
-fn gathered(roots: &[u16; ROOTS], from: usize, end: usize) -> u16
-    requires within { end ≤ all_roots }
-    ensures { HaveLevels result roots.now (λ root. (from ≤ root) × (root < end)) }
+/// The levels of all entries from one up to another.
+fn gathered(entries: &[u16], from: usize, end: usize) -> u16
+    requires within { end ≤ length entries.now }
+    requires few { end ≤ all_roots }
+    ensures { HaveLevels result entries.now (λ entry. (from ≤ entry) × (entry < end)) }
 {
     let mut levels = 0;
-    for root in from..end {
-        levels |= roots[root];
+    for entry in from..end {
+        levels |= entries[entry];
     }
     levels
 }
