@@ -1,0 +1,41 @@
+"""Where a crate's proof time goes: python3 bench/proof_times.py FOLDER [SECONDS].
+
+FOLDER is what `rt check --jobs 1` has left in crates/NAME/out/incremental, from nothing. With one job a module's file is
+written when it is done, so the gap before it is the time that the module took. Prints the seconds of each function, and
+the modules that took at least so many (2 if not said).
+"""
+import collections
+import os
+import re
+import sys
+
+# What follows a function's name in the name of a module: its parts, which begin with a capital letter.
+PARTS = re.compile(r"(\.[A-Z]\w*)*$")
+
+
+def written(folder):
+    """The modules in the order in which they were written, each with its time."""
+    for place, _, names in os.walk(folder):
+        if "-offers" not in place and "records" not in place:
+            for name in names:
+                if name.endswith(".oantt"):
+                    yield os.stat(os.path.join(place, name)).st_mtime, name.removesuffix(".oantt")
+
+
+def main(folder, least):
+    modules = sorted(written(folder))
+    gaps = [(end - begin, name) for (begin, _), (end, name) in zip(modules, modules[1:])]
+    functions = collections.Counter()
+    for gap, name in gaps:
+        functions[PARTS.sub("", name)] += gap
+    print(f"{sum(gap for gap, _ in gaps):8.1f} all of {len(modules)} modules")
+    for name, seconds in functions.most_common(40):
+        print(f"{seconds:8.1f} {name}")
+    print("by module:")
+    for gap, name in sorted(gaps, reverse=True):
+        if gap >= least:
+            print(f"{gap:8.1f} {name}")
+
+
+if __name__ == "__main__":
+    main(sys.argv[1], float(sys.argv[2]) if len(sys.argv) > 2 else 2.0)
