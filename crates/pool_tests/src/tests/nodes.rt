@@ -1,9 +1,8 @@
-//! That the definitions are the ones meant, on a worked row and at the borders of mask words, and
-//! that each call does what it says when it is run. Everything else is in the clauses.
+//! That the definitions are the ones meant, on two worked rows. Everything else is in the clauses.
 ghost use Rattle.ms_commit.specs.Nodes.{AreInReserved};
 
 use ms_base::Refusal;
-use ms_commit::{Mask, Nodes};
+use ms_commit::Nodes;
 use std::process::Abort;
 
 /// What a row of the table calls.
@@ -55,11 +54,6 @@ fn commit(rt: &impl Abort, nodes: &mut Nodes, first: u64, count: u64) -> Result<
 fn uncommit(rt: &impl Abort, nodes: &mut Nodes, first: u64, count: u64) {
     sees_reserved(rt, nodes, first, count);
     nodes.uncommit(first, count);
-}
-
-fn missing(rt: &impl Abort, nodes: &Nodes, first: u64, count: u64) -> u64 {
-    assert!(rt; first < 8192 && count < 8192);
-    nodes.missing(first, count)
 }
 
 fn unreserve(rt: &impl Abort, nodes: &mut Nodes, slot: u32) {
@@ -163,168 +157,4 @@ fn both_spaces_share_five_granules_of_2048_words(rt: HostRuntime) {
     for (call, want) in rows {
         assert_eq!(rt; carry_out(&rt, &mut nodes, call), want, "at {call:?}");
     }
-}
-
-#[test]
-fn ranges_may_start_and_end_anywhere_in_a_word(rt: HostRuntime) {
-    let rows = [
-        (0, 1),
-        (0, 63),
-        (0, 64),
-        (0, 65),
-        (0, 128),
-        (0, 129),
-        (1, 62),
-        (1, 63),
-        (1, 64),
-        (1, 128),
-        (62, 1),
-        (63, 1),
-        (63, 2),
-        (63, 65),
-        (63, 66),
-        (64, 1),
-        (64, 64),
-        (64, 65),
-        (127, 1),
-        (127, 2),
-        (127, 129),
-        (128, 128),
-        (191, 2),
-        (255, 1),
-    ];
-    for (first, count) in rows {
-        let mut nodes = Nodes::new(2, 8192, 8192, 0);
-        assert_eq!(rt; nodes.reserve(), Ok(0));
-        assert_eq!(rt; nodes.reserve(), Ok(1));
-        assert_eq!(rt;
-            commit(&rt, &mut nodes, first, count),
-            Ok(count),
-            "{first}, {count}"
-        );
-        assert_eq!(rt; missing(&rt, &nodes, first, count), 0, "{first}, {count}");
-        assert_eq!(rt;
-            commit(&rt, &mut nodes, first, count),
-            Ok(0),
-            "{first}, {count}"
-        );
-        assert_eq!(rt; nodes.committed(), count, "{first}, {count}");
-        for granule in 0..256 {
-            assert_eq!(rt;
-                nodes.is_committed(granule),
-                first <= granule && granule - first < count,
-                "{first}, {count}, {granule}"
-            );
-        }
-        uncommit(&rt, &mut nodes, first, count);
-        assert_eq!(rt; nodes.committed(), 0, "{first}, {count}");
-        assert_eq!(rt;
-            missing(&rt, &nodes, first, count),
-            count,
-            "{first}, {count}"
-        );
-    }
-}
-
-#[test]
-fn the_lowest_member_of_a_range_is_found_in_any_word(rt: HostRuntime) {
-    let mut mask: Mask<3> = Mask::empty();
-    assert_eq!(rt; mask.lowest_within(0, 192), None);
-    mask.insert(63);
-    mask.insert(64);
-    mask.insert(190);
-    assert_eq!(rt; mask.lowest_within(0, 192), Some(63));
-    assert_eq!(rt; mask.lowest_within(64, 128), Some(64));
-    assert_eq!(rt; mask.lowest_within(65, 125), None);
-    assert_eq!(rt; mask.lowest_within(65, 126), Some(190));
-    mask.remove(63);
-    assert_eq!(rt; mask.lowest_within(0, 192), Some(64));
-    assert_eq!(rt; mask.lowest_within(0, 0), None);
-    assert_eq!(rt; mask.lowest_within(192, 1000), None);
-}
-
-#[test]
-fn the_first_and_last_granules_of_the_first_and_last_slots(rt: HostRuntime) {
-    let mut nodes = Nodes::new(64, 4, 8192, 0);
-    for slot in 0..64 {
-        assert_eq!(rt; nodes.reserve(), Ok(slot));
-    }
-    for granule in [0, 127, 8064, 8191] {
-        assert_eq!(rt; commit(&rt, &mut nodes, granule, 1), Ok(1));
-        assert!(rt; nodes.is_committed(granule));
-    }
-    for granule in [1, 126, 128, 8063, 8065, 8190, 8192, 1_000_000] {
-        assert!(rt; !nodes.is_committed(granule), "{granule}");
-    }
-    let limit = Refusal::CommitLimit {
-        committed: 4,
-        limit: 4,
-        need: 1,
-    };
-    assert_eq!(rt; commit(&rt, &mut nodes, 8190, 2), Err(limit));
-    assert!(rt; nodes.is_reserved(63) && !nodes.is_reserved(64));
-    unreserve(&rt, &mut nodes, 63);
-    assert_eq!(rt; nodes.committed(), 2);
-    assert!(rt; nodes.is_committed(127) && !nodes.is_committed(8191));
-}
-
-#[test]
-fn everything_is_committed_and_taken_back(rt: HostRuntime) {
-    let mut nodes = Nodes::new(64, 40960, 8192, 0);
-    assert_eq!(rt; nodes.node_limit(), 64);
-    assert_eq!(rt; nodes.granule_limit(), 40960);
-    for slot in 0..64 {
-        assert_eq!(rt; nodes.reserve(), Ok(slot));
-        assert_eq!(rt;
-            commit(&rt, &mut nodes, u64::from(slot) * 128, 128),
-            Ok(128)
-        );
-    }
-    assert_eq!(rt; nodes.reserved(), 64);
-    assert_eq!(rt; nodes.next_reserved(63), Some(63));
-    assert_eq!(rt; nodes.next_reserved(64), None);
-    assert_eq!(rt; nodes.committed(), 8192);
-    assert_eq!(rt;
-        nodes.reserve(),
-        Err(Refusal::ReserveLimit {
-            nodes: 64,
-            limit: 64
-        })
-    );
-    for slot in 0..64 {
-        unreserve(&rt, &mut nodes, slot);
-    }
-    assert_eq!(rt; nodes.reserved(), 0);
-    assert_eq!(rt; nodes.next_reserved(0), None);
-    assert_eq!(rt; nodes.committed(), 0);
-}
-
-#[test]
-fn granules_of_2048_words_fill_eighty_slots(rt: HostRuntime) {
-    let mut nodes = Nodes::new(64, 40960, 2048, 16);
-    assert_eq!(rt; nodes.class_slots(), 16);
-    for slot in 0..64 {
-        assert_eq!(rt; nodes.reserve(), Ok(slot));
-    }
-    for slot in 0..80 {
-        assert_eq!(rt; commit(&rt, &mut nodes, slot * 512, 512), Ok(512));
-    }
-    assert_eq!(rt; nodes.committed(), 40960);
-    assert_eq!(rt; nodes.reserved(), 64);
-    assert!(rt; nodes.is_reserved(79) && !nodes.is_reserved(80));
-    assert!(rt; nodes.is_committed(40959) && !nodes.is_committed(40960));
-    let full = Refusal::ReserveLimit {
-        nodes: 64,
-        limit: 64,
-    };
-    assert_eq!(rt; nodes.reserve(), Err(full));
-    for slot in 0..64 {
-        unreserve(&rt, &mut nodes, slot);
-    }
-    assert_eq!(rt; nodes.reserved(), 0);
-    assert_eq!(rt; nodes.committed(), 8192);
-    for slot in 64..80 {
-        uncommit(&rt, &mut nodes, slot * 512, 512);
-    }
-    assert_eq!(rt; nodes.committed(), 0);
 }

@@ -39,18 +39,6 @@ fn enlarge_at<A: Allocator>(
     }
 }
 
-/// Changes the front of the leaf that covers the offset, where it is lent and the front is in
-/// range.
-fn set_front_at<A: Allocator>(tree: &mut SplitTree<A>, offset: u64, front: u64)
-    requires { offset < ROOT_WORDS }
-{
-    if let (span, Leaf::Lent { .. }) = tree.leaf_at(offset) {
-        if front > 0 && front <= span.level.words() {
-            tree.set_front(span, front);
-        }
-    }
-}
-
 fn span(start: u64, level: u8) -> Span
     requires { level ≤ 12 }
 {
@@ -117,61 +105,6 @@ fn lends_and_merges_on_a_heap_of_its_own(rt: HostRuntime) -> Result<(), Fail> {
     let heap = LocalHeap::new(rt.alloc(), 65536)?;
     lends_and_merges(&rt, &heap)?;
     assert_eq!(rt; heap.used(), 0);
-    Ok(())
-}
-
-#[test]
-fn tells_and_changes_leaves(rt: HostRuntime) -> Result<(), Fail> {
-    let mut tree = SplitTree::new();
-    assert!(rt; tree.is_whole());
-    assert!(rt; tree.carve(rt.alloc(), Level::new(11), 0, 7, 100).is_ok());
-    assert!(rt; !tree.is_whole());
-    let lent = Leaf::Lent {
-        owner: 7,
-        front: 100,
-    };
-    assert_eq!(rt; tree.leaf_at(255), (span(0, 11), lent));
-    assert_eq!(rt; tree.leaf_at(256), (span(256, 11), Leaf::Free));
-    assert_eq!(rt; tree.leaf_at(524287), (span(262144, 1), Leaf::Free));
-    assert_eq!(rt; enlarge_at(&mut tree, 0, 512), Some(Ok(span(0, 10))));
-    let (found, _) = tree.leaf_at(511);
-    assert_eq!(rt; found, span(0, 10));
-    set_front_at(&mut tree, 0, 300);
-    let lent = Leaf::Lent {
-        owner: 7,
-        front: 300,
-    };
-    assert_eq!(rt; tree.leaf_at(511), (span(0, 10), lent));
-    assert_eq!(rt; tree.free_leaves().next(), Some(span(512, 10)));
-    assert_eq!(rt; tree.free_leaves().last(), Some(span(262144, 1)));
-    assert_eq!(rt; release_at(&mut tree, 511), Some(span(0, 0)));
-    Ok(())
-}
-
-#[test]
-fn finds_the_lowest_of_a_level(rt: HostRuntime) -> Result<(), Fail> {
-    let mut tree = SplitTree::new();
-    assert_eq!(rt; tree.free_levels(), 1);
-    assert_eq!(rt; tree.lowest_free(Level::new(0)), Some(span(0, 0)));
-    assert_eq!(rt; tree.next_free(Level::new(0), 1), None);
-    assert!(rt; tree.carve(rt.alloc(), Level::new(12), 0, 1, 128).is_ok());
-    assert!(rt; tree.carve(rt.alloc(), Level::new(12), 1024, 1, 128).is_ok());
-    // Free are 128, 256, 512, 1152, 1280, 1536, 2048 and so on: each level but 0 and 9.
-    assert_eq!(rt; tree.free_levels(), 0b1_1101_1111_1110);
-    assert_eq!(rt; tree.lowest_free(Level::new(9)), None);
-    assert_eq!(rt; tree.lowest_free(Level::new(8)), Some(span(2048, 8)));
-    assert_eq!(rt; tree.lowest_free(Level::new(12)), Some(span(128, 12)));
-    assert_eq!(rt; tree.next_free(Level::new(12), 128), Some(span(128, 12)));
-    assert_eq!(rt; tree.next_free(Level::new(12), 129), Some(span(1152, 12)));
-    assert_eq!(rt; tree.next_free(Level::new(12), 1153), None);
-    assert_eq!(rt; tree.next_free(Level::new(1), 524288), None);
-    assert_eq!(rt; release_at(&mut tree, 0), Some(span(0, 9)));
-    assert_eq!(rt; tree.free_levels(), 0b1_1111_1111_1110);
-    assert_eq!(rt; tree.lowest_free(Level::new(9)), Some(span(0, 9)));
-    assert_eq!(rt; tree.lowest_free(Level::new(12)), Some(span(1152, 12)));
-    assert_eq!(rt; enlarge_at(&mut tree, 1024, 256), Some(Ok(span(1024, 11))));
-    assert_eq!(rt; tree.free_levels(), 0b1111_1111_1110);
-    assert_eq!(rt; tree.lowest_free(Level::new(12)), None);
     Ok(())
 }
 
