@@ -80,9 +80,13 @@ pub fn take_fit<A: Allocator>(tree: &mut Tree<A>, words: u64) -> Option<Box<Fork
         Tree::Empty => None,
         Tree::Forked(fork) => {
             if fork.block.words < words {
-                let found = take_fit(&mut fork.right, words);
-                level(tree);
-                return found;
+                return match take_fit(&mut fork.right, words) {
+                    Some(found) => {
+                        level(tree);
+                        Some(found)
+                    }
+                    None => None,
+                };
             }
             match take_fit(&mut fork.left, words) {
                 Some(found) => {
@@ -169,12 +173,30 @@ fn alone<A: Allocator>(mut spare: Box<Fork<A>, A>) -> Tree<A>
     Tree::Forked(spare)
 }
 
-/// Levels a tree on top, whose sides are level.
+/// Levels a tree on top, whose sides are level. Nothing is moved where neither is higher by two.
 fn level<A: Allocator>(tree: &mut Tree<A>)
     ensures { blocks_of tree.new ≡ blocks_of tree.old }
 {
+    if is_level(tree) {
+        return;
+    }
     if let Tree::Forked(fork) = mem::replace(tree, Tree::Empty) {
         *tree = leveled(fork);
+    }
+}
+
+/// Tells whether neither side of the fork on top is higher by two, and its height anew.
+fn is_level<A: Allocator>(tree: &mut Tree<A>) -> bool
+    ensures { blocks_of tree.new ≡ blocks_of tree.old }
+{
+    match tree {
+        Tree::Empty => true,
+        Tree::Forked(fork) => {
+            let left = height_of(&fork.left);
+            let right = height_of(&fork.right);
+            fork.height = left.max(right).saturating_add(1);
+            left <= right.saturating_add(1) && right <= left.saturating_add(1)
+        }
     }
 }
 
