@@ -6,7 +6,7 @@ ghost use Rattle.std.specs.Prelude.{◌≡◌, ◌≤◌};
 use linked_list_allocator::LocalHeap;
 use ms_base::{Block, Refusal};
 use ms_blocks::FreeBlocks;
-use std::alloc::{AllocError, Allocator, Global};
+use std::alloc::{AllocError, Allocator};
 use std::process::Abort;
 use std::test::Fail;
 

@@ -6,7 +6,7 @@ ghost use Rattle.ms_pool.specs.Ledger.{Serves, empty_ledger};
 ghost use Rattle.ms_loaders.specs.Loader.{account_in};
 
 use super::*;
-use ms_base::{Block, Chunk, Level, Space};
+use ms_base::{Block, Space};
 use ms_loaders::{Loader, Loaders};
 use ms_pool::Pool;
 
@@ -105,37 +105,6 @@ fn a_loader_has_blocks_by_name(rt: HostRuntime) {
 }
 
 #[test]
-fn a_loader_gives_its_accounts_back(rt: HostRuntime) {
-    let mut pool = pool_of(&rt, Settings::DEFAULT);
-    let mut loader = first_loader(&rt, &mut pool, Kind::Standard, Settings::DEFAULT);
-    let block = match loader.alloc(&mut pool, 1, 10) {
-        Err(Refusal::OutOfMemory) => loader.alloc(&mut pool, 1, 10),
-        answer => answer,
-    };
-    assert_eq!(&rt;
-        block,
-        Ok(Block {
-            start: 0,
-            words: 10
-        })
-    );
-    let (account, class_account) = loader.accounts();
-    assert_eq!(&rt; account.held(), 1);
-    assert_eq!(&rt; class_account.held(), 0);
-    let (account, class_account) = loader.into_accounts();
-    assert_eq!(&rt; account.space(), Space::NonClass);
-    assert_eq!(&rt; class_account.space(), Space::Class);
-    assert_eq!(&rt; class_account.held(), 0);
-    assert_eq!(&rt; account.held(), 1);
-    let chunk = Chunk {
-        start: 0,
-        level: Level::new(10),
-        front: 512,
-    };
-    assert_eq!(&rt; account.chunk(0), chunk);
-}
-
-#[test]
 fn a_class_block_lies_in_the_class_space(rt: HostRuntime) {
     let settings = settings_of(8192, Policy::Balanced, 1);
     let mut pool = pool_of(&rt, settings);
@@ -149,48 +118,6 @@ fn a_class_block_lies_in_the_class_space(rt: HostRuntime) {
         words: 10,
     };
     assert_eq!(&rt; block, Ok(place));
-    assert_eq!(&rt; loader.write(1, 9, 3), Ok(()));
-    assert_eq!(&rt; loader.read(1, 9), Ok(3));
-    assert_eq!(&rt; loader.free(1), Ok(()));
-    assert_eq!(&rt; loader.read(1, 9), Err(Refusal::NoBlock));
-}
-
-#[test]
-fn a_refused_allocation_makes_no_name(rt: HostRuntime) {
-    let settings = settings_of(1, Policy::Balanced, 0);
-    let mut pool = pool_of(&rt, settings);
-    let mut loader = first_loader(&rt, &mut pool, Kind::Standard, settings);
-    let first = allocate_at_last(&mut loader, &mut pool, Space::NonClass, 1, 8192);
-    assert_eq!(&rt;
-        first,
-        Ok(Block {
-            start: 0,
-            words: 8192
-        })
-    );
-    let refusal = Refusal::CommitLimit {
-        committed: 1,
-        limit: 1,
-        need: 1,
-    };
-    let second = allocate_at_last(&mut loader, &mut pool, Space::NonClass, 2, 1);
-    assert_eq!(&rt; second, Err(refusal));
-    assert_eq!(&rt; loader.read(2, 0), Err(Refusal::NoBlock));
-    let zero = allocate_at_last(&mut loader, &mut pool, Space::NonClass, 2, 0);
-    assert_eq!(&rt; zero, Err(Refusal::ZeroWords));
-    let large = allocate_at_last(&mut loader, &mut pool, Space::NonClass, 2, 524289);
-    assert_eq!(&rt; large, Err(Refusal::TooLarge));
-    assert_eq!(&rt; loader.free(2), Err(Refusal::NoBlock));
-}
-
-#[test]
-fn without_class_nodes_a_loader_is_refused_class_blocks(rt: HostRuntime) {
-    let mut pool = pool_of(&rt, Settings::DEFAULT);
-    let mut loader = first_loader(&rt, &mut pool, Kind::Boot, Settings::DEFAULT);
-    let block = allocate_at_last(&mut loader, &mut pool, Space::Class, 1, 10);
-    let refusal = Refusal::ReserveLimit { nodes: 0, limit: 0 };
-    assert_eq!(&rt; block, Err(refusal));
-    assert_eq!(&rt; loader.read(1, 0), Err(Refusal::NoBlock));
 }
 
 /// Reads the first word of a loader's block 1.
@@ -222,20 +149,4 @@ fn loaders_are_kept_by_their_names(rt: HostRuntime) {
     assert!(&rt; loaders.remove(5).is_none());
     assert!(&rt; loaders.remove(9).is_some());
     assert_eq!(&rt; loaders.len(), 0);
-}
-
-#[test]
-fn a_loader_whose_name_is_used_is_handed_back(rt: HostRuntime) {
-    let mut pool = pool_of(&rt, Settings::DEFAULT);
-    let first = next_loader(&rt, &mut pool, Kind::Hidden);
-    let second = next_loader(&rt, &mut pool, Kind::Boot);
-    let mut loaders = Loaders::new(rt.alloc());
-    assert!(&rt; insert_at_last(&mut loaders, 9, first).is_none());
-    let back = insert_at_last(&mut loaders, 9, second);
-    let Some((refusal, second)) = back else {
-        panic!(&rt; "the name was used");
-    };
-    assert_eq!(&rt; refusal, Refusal::LoaderExists);
-    assert!(&rt; insert_at_last(&mut loaders, 5, second).is_none());
-    assert_eq!(&rt; loaders.len(), 2);
 }

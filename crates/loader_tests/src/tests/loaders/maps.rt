@@ -45,24 +45,3 @@ fn a_map_tells_what_is_lent_and_committed(rt: HostRuntime) {
     ];
     expect_places(&rt, &maps[0], &places);
 }
-
-/// Under policy none what was committed stays so: the root that is given back is shown committed.
-#[test]
-fn a_map_of_classes_tells_what_stays_committed(rt: HostRuntime) {
-    let mut system = system_of(&rt, settings_of(8192, Policy::None, 1));
-    let rows = [
-        made(1, Kind::Standard),
-        class_allocated(1, 1, 10_000, 67_108_864),
-    ];
-    expect_replies(&rt, &mut system, &rows);
-    assert_eq!(&rt; system.unload(1), Ok(()));
-    let maps = maps_at_last(&rt, &system);
-    assert_eq!(&rt; maps.len(), 2);
-    assert_eq!(&rt; maps[0].root, 128);
-    let places = [
-        (0, Place::FreeCommitted),
-        (1, Place::FreeCommitted),
-        (2, Place::Free),
-    ];
-    expect_places(&rt, &maps[0], &places);
-}

@@ -66,18 +66,3 @@ fn a_system_is_settled_once_the_last_loader_is_back(rt: HostRuntime) {
     ];
     expect_replies(&rt, &mut system, &rows);
 }
-
-#[test]
-fn a_system_of_no_loader_is_settled(rt: HostRuntime) {
-    let (pool, loaders) = system_of(&rt, Settings::DEFAULT).into_parts();
-    assert_eq!(&rt; pool.accounts(), 0);
-    assert_eq!(&rt; loaders.len(), 0);
-    let Ok(mut system) = System::settle(rt.alloc(), pool, loaders) else {
-        panic!(&rt; "no loader is held back");
-    };
-    expect_replies(
-        &rt,
-        &mut system,
-        &[made(1, Kind::Boot), allocated(1, 1, 1, 0)],
-    );
-}

@@ -9,23 +9,6 @@ use ms_loaders::{Loader, LoaderRow, SpaceTotals, System};
 use ms_pool::Pool;
 use std::process::Abort;
 
-/// A space of which nothing was asked.
-const UNUSED: SpaceTotals = SpaceTotals {
-    nodes: 0,
-    reserved: 0,
-    granules: 0,
-    committed: 0,
-    chunks: 0,
-    capacity: 0,
-    fronts: 0,
-    used: 0,
-    live: 0,
-    free_blocks: 0,
-    waste: 0,
-    held: [0, 0, 0, 0, 0, 0, 0, 0, 0, 0, 0, 0, 0],
-    free: [0, 0, 0, 0, 0, 0, 0, 0, 0, 0, 0, 0, 0],
-};
-
 /// A space of one node, with one granule committed, whose chunks are whole fronts and have no free
 /// block.
 fn one_node(
@@ -70,16 +53,6 @@ fn after(rt: &(impl Abort + AllocGlobal), class_nodes: u32, steps: &[Step]) -> S
         assert!(rt; !matches!(&reply, Reply::Refused(_)));
     }
     system
-}
-
-#[test]
-fn a_new_system_has_only_its_class_space(rt: HostRuntime) {
-    let system = after(&rt, 0, &[]);
-    let totals = system.totals().expect(&rt, "totals");
-    assert_eq!(rt; totals.loaders, 0);
-    assert_eq!(rt; totals.space, UNUSED);
-    assert_eq!(rt; totals.class_space, UNUSED);
-    assert_eq!(rt; totals.rows.len(), 0);
 }
 
 // Of a free block of ten words one is left over by a block of nine: it is waste.

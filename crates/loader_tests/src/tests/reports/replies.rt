@@ -1,5 +1,5 @@
 //! The lines of replies, and the reports that follow them.
-use super::samples::{ONE_BLOCK, of_one_block};
+
 use ms_base::{Refusal, Reply, Settings};
 use ms_loaders::{Answer, Replies};
 use ms_report::{Detail, lines};
@@ -88,40 +88,5 @@ fn refusals_are_told_by_their_names(rt: HostRuntime) -> Result<(), Fail> {
     for (refusal, line) in rows {
         expect_line(&rt, Reply::Refused(refusal), line, line)?;
     }
-    Ok(())
-}
-
-#[test]
-fn a_report_follows_its_ok(rt: HostRuntime) -> Result<(), Fail> {
-    let mut answers = Vec::new(rt.alloc());
-    answers.push(Answer {
-        line: 1,
-        reply: Reply::Ok,
-        report: None,
-    })?;
-    answers.push(Answer {
-        line: 2,
-        reply: Reply::At(0),
-        report: None,
-    })?;
-    answers.push(Answer {
-        line: 3,
-        reply: Reply::Ok,
-        report: Some(Box::new(rt.alloc(), of_one_block(rt.alloc())?)?),
-    })?;
-    answers.push(Answer {
-        line: 4,
-        reply: Reply::Ok,
-        report: None,
-    })?;
-    let written = lines(
-        rt.alloc(),
-        &Replies { answers },
-        true,
-        Detail::Basic,
-        &Settings::DEFAULT,
-    )?;
-    let wanted = format!(in rt.alloc(); "1 ok\n2 at 0\n3 ok\n{ONE_BLOCK}4 ok\n")?;
-    assert_eq!(rt; written.as_str(), wanted.as_str());
     Ok(())
 }

@@ -2,9 +2,9 @@
 ghost use Rattle.std.specs.Prelude.{◌≡◌, ◌+◌};
 
 use super::samples::{NONE, NOTHING, ONE_BLOCK, largest, of_one_block, unreserved};
-use ms_base::{Policy, Reply, Settings};
-use ms_loaders::{Answer, Replies, SpaceTotals, Totals};
-use ms_report::{Amount, Detail, full_text, lines, tally, weigh};
+use ms_base::{Policy, Settings};
+use ms_loaders::{SpaceTotals, Totals};
+use ms_report::{Amount, full_text, tally, weigh};
 use std::test::Fail;
 
 /// The default settings.
@@ -216,20 +216,5 @@ fn amounts_are_values_before_they_are_text(rt: HostRuntime) -> Result<(), Fail> 
             }
     );
     assert!(rt; usages.both == usages.space);
-    Ok(())
-}
-
-#[test]
-fn a_full_report_follows_its_ok(rt: HostRuntime) -> Result<(), Fail> {
-    let mut answers = Vec::new(rt.alloc());
-    answers.push(Answer {
-        line: 3,
-        reply: Reply::Ok,
-        report: Some(Box::new(rt.alloc(), of_one_block(rt.alloc())?)?),
-    })?;
-    let replies = Replies { answers };
-    let written = lines(rt.alloc(), &replies, true, Detail::Full, &Settings::DEFAULT)?;
-    let wanted = format!(in rt.alloc(); "3 ok\n{ONE_BLOCK}{SETTINGS}{USAGE}{UNREFUSED}")?;
-    assert_eq!(rt; written.as_str(), wanted.as_str());
     Ok(())
 }
