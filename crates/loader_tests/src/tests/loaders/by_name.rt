@@ -73,8 +73,9 @@ fn a_loader_has_blocks_by_name(rt: HostRuntime) {
     let mut loader = first_loader(&rt, &mut pool, Kind::Standard, Settings::DEFAULT);
     let first = allocate_at_last(&mut loader, &mut pool, Space::NonClass, 1, 10);
     let second = allocate_at_last(&mut loader, &mut pool, Space::NonClass, 2, 1);
+    let (start, words) = (0, 10);
+    assert_eq!(&rt; first, Ok(Block { start, words }));
     let (start, words) = (10, 2);
-    assert!(&rt; first.is_ok());
     assert_eq!(&rt; second, Ok(Block { start, words }));
     assert_eq!(&rt; loader.write(2, 1, 7), Ok(()));
     assert_eq!(&rt; loader.read(2, 1), Ok(7));
