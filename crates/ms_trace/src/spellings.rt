@@ -18,18 +18,124 @@ pub(crate) fn command_before(text: &[u8]) -> Option<(Command, &[u8])>
     ensures { IfSome result (λ read. BeginsWith text.now read.0 read.1.now) }
 {
     match text {
-        [b'a', b'l', b'l', b'o', b'c', b' ', rest @ ..] => alloc_before(rest),
-        [b'r', b'e', b'a', b'd', b' ', rest @ ..] => read_before(rest),
-        [b'w', b'r', b'i', b't', b'e', b' ', rest @ ..] => write_before(rest),
-        [b'f', b'r', b'e', b'e', b' ', rest @ ..] => free_before(rest),
-        [b'n', b'e', b'w', b' ', rest @ ..] => new_before(rest),
-        [b'u', b'n', b'l', b'o', b'a', b'd', b' ', rest @ ..] => unload_before(rest),
-        [b'c', b'a', b'l', b'l', b'o', b'c', b' ', rest @ ..] => calloc_before(rest),
-        [b'p', b'u', b'r', b'g', b'e', b'\n', rest @ ..] => {
-            Some((Command::Step(Step::Purge), rest))
-        }
-        [b's', b'y', b'n', b'c', b'\n', rest @ ..] => Some((Command::Sync, rest)),
-        [b'r', b'e', b'p', b'o', b'r', b't', b'\n', rest @ ..] => Some((Command::Report, rest)),
+        [b'a', rest @ ..] => after_a(rest),
+        [b'r', rest @ ..] => after_r(rest),
+        [b'w', rest @ ..] => after_w(rest),
+        [b'f', rest @ ..] => after_f(rest),
+        [b'n', rest @ ..] => after_n(rest),
+        [b'u', rest @ ..] => after_u(rest),
+        [b'c', rest @ ..] => after_c(rest),
+        [b'p', rest @ ..] => after_p(rest),
+        [b's', rest @ ..] => after_s(rest),
+        _ => None,
+    }
+}
+
+/// Reads the rest of a command that begins with a.
+#[inline(always)]
+fn after_a(text: &[u8]) -> Option<(Command, &[u8])>
+    requires { IsTrue (is_ended (97 ∷ text.now)) }
+    ensures { IfSome result (λ read. BeginsWith (97 ∷ text.now) read.0 read.1.now) }
+{
+    match text {
+        [b'l', b'l', b'o', b'c', b' ', rest @ ..] => alloc_before(rest),
+        _ => None,
+    }
+}
+
+/// Reads the rest of a command that begins with r.
+#[inline(always)]
+fn after_r(text: &[u8]) -> Option<(Command, &[u8])>
+    requires { IsTrue (is_ended (114 ∷ text.now)) }
+    ensures { IfSome result (λ read. BeginsWith (114 ∷ text.now) read.0 read.1.now) }
+{
+    match text {
+        [b'e', b'a', b'd', b' ', rest @ ..] => read_before(rest),
+        [b'e', b'p', b'o', b'r', b't', b'\n', rest @ ..] => Some((Command::Report, rest)),
+        _ => None,
+    }
+}
+
+/// Reads the rest of a command that begins with w.
+#[inline(always)]
+fn after_w(text: &[u8]) -> Option<(Command, &[u8])>
+    requires { IsTrue (is_ended (119 ∷ text.now)) }
+    ensures { IfSome result (λ read. BeginsWith (119 ∷ text.now) read.0 read.1.now) }
+{
+    match text {
+        [b'r', b'i', b't', b'e', b' ', rest @ ..] => write_before(rest),
+        _ => None,
+    }
+}
+
+/// Reads the rest of a command that begins with f.
+#[inline(always)]
+fn after_f(text: &[u8]) -> Option<(Command, &[u8])>
+    requires { IsTrue (is_ended (102 ∷ text.now)) }
+    ensures { IfSome result (λ read. BeginsWith (102 ∷ text.now) read.0 read.1.now) }
+{
+    match text {
+        [b'r', b'e', b'e', b' ', rest @ ..] => free_before(rest),
+        _ => None,
+    }
+}
+
+/// Reads the rest of a command that begins with n.
+#[inline(always)]
+fn after_n(text: &[u8]) -> Option<(Command, &[u8])>
+    requires { IsTrue (is_ended (110 ∷ text.now)) }
+    ensures { IfSome result (λ read. BeginsWith (110 ∷ text.now) read.0 read.1.now) }
+{
+    match text {
+        [b'e', b'w', b' ', rest @ ..] => new_before(rest),
+        _ => None,
+    }
+}
+
+/// Reads the rest of a command that begins with u.
+#[inline(always)]
+fn after_u(text: &[u8]) -> Option<(Command, &[u8])>
+    requires { IsTrue (is_ended (117 ∷ text.now)) }
+    ensures { IfSome result (λ read. BeginsWith (117 ∷ text.now) read.0 read.1.now) }
+{
+    match text {
+        [b'n', b'l', b'o', b'a', b'd', b' ', rest @ ..] => unload_before(rest),
+        _ => None,
+    }
+}
+
+/// Reads the rest of a command that begins with c.
+#[inline(always)]
+fn after_c(text: &[u8]) -> Option<(Command, &[u8])>
+    requires { IsTrue (is_ended (99 ∷ text.now)) }
+    ensures { IfSome result (λ read. BeginsWith (99 ∷ text.now) read.0 read.1.now) }
+{
+    match text {
+        [b'a', b'l', b'l', b'o', b'c', b' ', rest @ ..] => calloc_before(rest),
+        _ => None,
+    }
+}
+
+/// Reads the rest of a command that begins with p.
+#[inline(always)]
+fn after_p(text: &[u8]) -> Option<(Command, &[u8])>
+    requires { IsTrue (is_ended (112 ∷ text.now)) }
+    ensures { IfSome result (λ read. BeginsWith (112 ∷ text.now) read.0 read.1.now) }
+{
+    match text {
+        [b'u', b'r', b'g', b'e', b'\n', rest @ ..] => Some((Command::Step(Step::Purge), rest)),
+        _ => None,
+    }
+}
+
+/// Reads the rest of a command that begins with s.
+#[inline(always)]
+fn after_s(text: &[u8]) -> Option<(Command, &[u8])>
+    requires { IsTrue (is_ended (115 ∷ text.now)) }
+    ensures { IfSome result (λ read. BeginsWith (115 ∷ text.now) read.0 read.1.now) }
+{
+    match text {
+        [b'y', b'n', b'c', b'\n', rest @ ..] => Some((Command::Sync, rest)),
         _ => None,
     }
 }
@@ -144,21 +250,46 @@ fn kind_before(text: &[u8]) -> Option<(Kind, &[u8])>
     ensures { IfSome result (λ read. text.now ≡ kind_word read.0 ++ 10 ∷ read.1.now) }
 {
     match text {
+        [b's', rest @ ..] => standard_before(rest),
+        [b'b', rest @ ..] => boot_before(rest),
+        [b'r', rest @ ..] => reflection_before(rest),
+        [b'h', rest @ ..] => hidden_before(rest),
+        _ => None,
+    }
+}
+
+/// Reads the rest of `standard`, and its newline.
+#[inline(always)]
+fn standard_before(text: &[u8]) -> Option<(Kind, &[u8])>
+    ensures { IfSome result (λ read. 115 ∷ text.now ≡ kind_word read.0 ++ 10 ∷ read.1.now) }
+{
+    match text {
+        [b't', b'a', b'n', b'd', b'a', b'r', b'd', b'\n', rest @ ..] => Some((
+            Kind::Standard,
+            rest,
+        )),
+        _ => None,
+    }
+}
+
+/// Reads the rest of `boot`, and its newline.
+#[inline(always)]
+fn boot_before(text: &[u8]) -> Option<(Kind, &[u8])>
+    ensures { IfSome result (λ read. 98 ∷ text.now ≡ kind_word read.0 ++ 10 ∷ read.1.now) }
+{
+    match text {
+        [b'o', b'o', b't', b'\n', rest @ ..] => Some((Kind::Boot, rest)),
+        _ => None,
+    }
+}
+
+/// Reads the rest of `reflection`, and its newline.
+#[inline(always)]
+fn reflection_before(text: &[u8]) -> Option<(Kind, &[u8])>
+    ensures { IfSome result (λ read. 114 ∷ text.now ≡ kind_word read.0 ++ 10 ∷ read.1.now) }
+{
+    match text {
         [
-            b's',
-            b't',
-            b'a',
-            b'n',
-            b'd',
-            b'a',
-            b'r',
-            b'd',
-            b'\n',
-            rest @ ..,
-        ] => { Some((Kind::Standard, rest)) }
-        [b'b', b'o', b'o', b't', b'\n', rest @ ..] => Some((Kind::Boot, rest)),
-        [
-            b'r',
             b'e',
             b'f',
             b'l',
@@ -170,8 +301,18 @@ fn kind_before(text: &[u8]) -> Option<(Kind, &[u8])>
             b'n',
             b'\n',
             rest @ ..,
-        ] => { Some((Kind::Reflection, rest)) }
-        [b'h', b'i', b'd', b'd', b'e', b'n', b'\n', rest @ ..] => Some((Kind::Hidden, rest)),
+        ] => Some((Kind::Reflection, rest)),
+        _ => None,
+    }
+}
+
+/// Reads the rest of `hidden`, and its newline.
+#[inline(always)]
+fn hidden_before(text: &[u8]) -> Option<(Kind, &[u8])>
+    ensures { IfSome result (λ read. 104 ∷ text.now ≡ kind_word read.0 ++ 10 ∷ read.1.now) }
+{
+    match text {
+        [b'i', b'd', b'd', b'e', b'n', b'\n', rest @ ..] => Some((Kind::Hidden, rest)),
         _ => None,
     }
 }
