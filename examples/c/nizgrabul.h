@@ -256,7 +256,7 @@ uint64_t nizgrabul_used_by(nizgrabul_handle *handle, uint16_t loader);
 
 /* Tells whose a word is: `value` is the number of the loader in whose chunk the word lies, in use or not.
  * Answers NO_LOADER where it lies in nobody's. Takes no memory, and answers in the depth of a tree and
- * one look-up, two for a word of the class space. */
+ * one look-up. */
 nizgrabul_answer nizgrabul_holder(nizgrabul_handle *handle, uint64_t word);
 
 /* Tells whether a granule is committed: the words from its number times a granule's words on, which are

@@ -7,7 +7,7 @@
 //!      ..                                  down to 128 words at level 12
 //!
 //! Apart because the model in `specs/` stands below every crate: its definitions are cited by all,
-//! and it cites none. Nothing here takes memory, but for the words of a block.
+//! and it cites none. Nothing here takes memory.
 #![tactic(auto)]
 
 mod kind;
@@ -27,6 +27,6 @@ pub use policy::{Policy, granule};
 pub use refusal::Refusal;
 pub use settings::Settings;
 pub use sizes::{CLASS_SLOTS, NODE_WORDS, ROOT_WORDS, SLOTS};
-pub use span::{Block, Chunk, Span, share_word};
+pub use span::{Block, Chunk, Span};
 pub use step::{Reply, Step};
 pub use words::{LiveBlock, Words};

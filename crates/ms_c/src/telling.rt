@@ -53,7 +53,7 @@ pub extern "C" fn nizgrabul_used_by(alloc: Global, handle: &mut Handle, loader: 
 
 /// Tells whose a word is: `value` is the number of the loader in whose chunk the word lies, in use or not.
 /// Answers NO_LOADER where it lies in nobody's. Takes no memory, and answers in the depth of a tree and
-/// one look-up, two for a word of the class space.
+/// one look-up.
 #[unsafe(no_mangle)]
 pub extern "C" fn nizgrabul_holder(alloc: Global, handle: &mut Handle, word: u64) -> Answer
     ensures holder { TellsHolder handle.old.slot.held word result }

@@ -51,7 +51,7 @@ impl Model for Loader {
 }
 
 /// Tells whether a word lies in the class space.
-fn is_class(start: u64) -> bool
+pub(crate) fn is_class(start: u64) -> bool
     ensures { result ≡ is_in Class start }
 {
     start >= u64::from(SLOTS) * NODE_WORDS

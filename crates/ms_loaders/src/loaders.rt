@@ -172,14 +172,11 @@ impl Loaders {
         self.get(name).is_some()
     }
 
-    /// Tells the name that was noted of an owner number, or of the one below, where one was: that of the
-    /// loader with an account of that number, if none was changed in its place. A guess, of which
-    /// nothing is promised; whoever asks looks at the loader. Takes no memory.
+    /// Tells the name that was noted of an owner number, where one was: that of the loader whose first
+    /// number it is, if none was changed in its place. A guess, of which nothing is promised; whoever
+    /// asks looks at the loader. Takes no memory.
     pub(crate) fn noted(&self, owner: u32) -> Option<u16> {
-        match self.owners.get(owner) {
-            Some(name) => Some(name),
-            None => self.owners.get(owner.wrapping_sub(1)),
-        }
+        self.owners.get(owner)
     }
 
     /// Tells the words in use of the loader of a name, in both spaces, and 0 where there is none. Takes

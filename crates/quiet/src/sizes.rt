@@ -2,7 +2,7 @@
 ghost use Rattle.std.specs.Prelude.{◌≤◌};
 
 use crate::row::mark;
-use ms_base::{Kind, Level, Policy, Space, granule, growth, level_for, share_word};
+use ms_base::{Kind, Level, Policy, Space, granule, growth, level_for};
 use std::io;
 
 /// Tells the row.
@@ -20,11 +20,7 @@ pub fn tell(rt: &HostRuntime) -> io::Result<()> {
     for policy in [Policy::Balanced, Policy::Aggressive, Policy::None] {
         println!(rt; "sizes granule {policy:?} {}", granule(policy))?;
     }
-    println!(rt;
-        "sizes share {} {}",
-        share_word(0, 10, 9, 2),
-        share_word(0, 10, 10, 2)
-    )
+    Ok(())
 }
 
 /// Tells the words of a level.

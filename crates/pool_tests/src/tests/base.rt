@@ -3,7 +3,6 @@
 //! definitions which the contracts cite are the ones that were meant.
 use ms_base::{
     Kind, Level, LiveBlock, Policy, Refusal, Settings, Space, Words, granule, growth, level_for,
-    share_word,
 };
 use std::test::Fail;
 
@@ -104,35 +103,14 @@ fn an_aggressive_granule_is_a_quarter(rt: HostRuntime) {
 }
 
 #[test]
-fn neighbours_share_no_word(rt: HostRuntime) {
-    assert!(rt; !share_word(0, 10, 10, 10));
-    assert!(rt; !share_word(10, 10, 0, 10));
-    assert!(rt; share_word(0, 11, 10, 10));
-    assert!(rt; share_word(10, 10, 0, 11));
-    assert!(rt; share_word(0, 100, 40, 2));
-}
-
-#[test]
-fn words_are_read_as_they_were_written(rt: HostRuntime) -> Result<(), Fail> {
-    let mut words = Words::zeros(rt.alloc(), 3)?;
-    words.set(1, 7);
-    assert_eq!(rt; words.len(), 3);
-    assert!(rt; !words.is_empty());
-    assert_eq!(rt; (words.get(0), words.get(1), words.get(2)), (0, 7, 0));
-    let items = words.into_vec();
-    assert_eq!(rt; items.as_slice(), [0, 7, 0].as_slice());
+fn a_block_has_the_words_of_its_vector(rt: HostRuntime) -> Result<(), Fail> {
+    let items = Vec::from_slice(rt.alloc(), [0, 7, 0].as_slice())?;
     let block = LiveBlock {
         start: 512,
         contents: Words::from_vec(items),
     };
-    assert_eq!(rt; block.contents.get(1), 7);
-    assert!(rt; Words::zeros(rt.alloc(), 0)?.is_empty());
+    assert_eq!(rt; block.contents.into_vec().as_slice(), [0, 7, 0].as_slice());
     Ok(())
-}
-
-#[test]
-fn more_words_than_memory_has_are_refused(rt: HostRuntime) {
-    assert!(rt; Words::zeros(rt.alloc(), usize::MAX).is_err());
 }
 
 #[test]
