@@ -40,7 +40,8 @@ def input_is_no_text(bench):
     folder = os.open("/", os.O_RDONLY)
     null = os.open("/dev/null", os.O_WRONLY)
     for device in (CLOSED, folder, null):
-        expect_ended(bench.run(devices=(device, None, None)), 5, INPUT_FAILED, b"")
+        for words in ([], ["--addresses"]):
+            expect_ended(bench.run(words, devices=(device, None, None)), 5, INPUT_FAILED, b"")
         for word in TEXTS:
             ended = bench.run([word], devices=(device, None, None))
             expect(ended.status == 0 and ended.output and not ended.errors, ended)
@@ -61,6 +62,14 @@ def input_fails_in_the_midst(bench):
             expect_ended(ended, 5, INPUT_FAILED, b"")
         expect(3 < number < 99, "so many reads failed", number - 1)
         expect(ended[:3] == wanted[:3], ended, wanted)
+
+
+def input_fails_after_bytes(bench):
+    """The read of the first, the second, .. byte fails, or the one behind the last, also behind a faulty line."""
+    for text in (b"x" * 10, FAULTY):
+        for number in range(1, len(text) + 2):
+            ended = bench.run_with("devices", {"READ_MOST": 1, "READ_FAILS": number}, (), text)
+            expect_ended(ended, 5, INPUT_FAILED, b"")
 
 
 def input_comes_in_pieces(bench):
@@ -105,15 +114,16 @@ def output_takes_nothing(bench):
 
 
 def output_fails_in_the_midst(bench):
-    """The first, the second, .. write of seven bytes fails or takes nothing: a beginning of the text went out."""
-    whole = whole_of(bench, TRACE)
-    count = -(-len(whole) // 7)
-    for rule in ("WRITE_FAILS", "WRITE_STOPS"):
-        for number in range(1, count + 1):
-            ended = bench.run_with("devices", {"WRITE_MOST": 7, rule: number}, (), TRACE)
-            expect_ended(ended, 5, OUTPUT_FAILED, whole[:7 * (number - 1)])
-        ended = bench.run_with("devices", {"WRITE_MOST": 7, rule: count + 1}, (), TRACE)
-        expect_ended(ended, 0, b"", whole)
+    """The first, the second, .. write of seven bytes, or of one, fails or takes nothing: a beginning went out."""
+    for text, most in ((TRACE, 7), (b"new 1 standard\n", 1)):
+        whole = whole_of(bench, text)
+        count = -(-len(whole) // most)
+        for rule in ("WRITE_FAILS", "WRITE_STOPS"):
+            for number in range(1, count + 1):
+                ended = bench.run_with("devices", {"WRITE_MOST": most, rule: number}, (), text)
+                expect_ended(ended, 5, OUTPUT_FAILED, whole[:most * (number - 1)])
+            ended = bench.run_with("devices", {"WRITE_MOST": most, rule: count + 1}, (), text)
+            expect_ended(ended, 0, b"", whole)
 
 
 def output_takes_pieces(bench):
@@ -211,6 +221,7 @@ def write_slowly(pipe):
 def tests():
     yield Test("an input that is no text fails", input_is_no_text)
     yield Test("an input fails in the midst", input_fails_in_the_midst)
+    yield Test("an input fails after no byte, after one, ..", input_fails_after_bytes)
     yield Test("an input comes in pieces", input_comes_in_pieces)
     yield Test("an input is reset by the other end", input_is_reset)
     yield Test("an output that takes nothing fails", output_takes_nothing)

@@ -68,6 +68,10 @@ class Program:
         """Runs the program over a text."""
         return self.wait(self.start(words, given, devices, environment, limits), seconds)
 
+    def bytes_read(self):
+        """How many bytes of the file in memory the last run read, by how far the file was gone through."""
+        return os.lseek(self.given, 0, os.SEEK_CUR)
+
 
 def refill(file, content):
     """Gives a file this content, to be read from its beginning."""

@@ -18,8 +18,8 @@ sys.dont_write_bytecode = True
 from workbench import Workbench, build
 from claims import Skipped, Wrong
 
-SUBJECTS = ("hostile", "growths", "limits", "devices", "texts", "examples", "rows", "schedules", "orders",
-            "scripts", "calls", "library", "twin")
+SUBJECTS = ("hostile", "growths", "limits", "devices", "texts", "faults", "options", "examples", "rows", "schedules",
+            "orders", "scripts", "calls", "library", "twin")
 PASSED, FAILED, SKIPPED = "ok", "FAILED", "skipped"
 bench = None
 

@@ -78,6 +78,3 @@ fn answer_to<T: Threads + Wait + Sync, R: Read>(
         &options.settings,
     )?)
 }
-
-#[cfg(test)]
-mod tests;

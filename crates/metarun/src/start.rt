@@ -86,6 +86,3 @@ fn tell<W: Write, E: Write>(refused: Refused, output: &mut W, errors: &mut E) ->
         Refused::OutOfMemory => Failure::OutOfMemory.tell(errors),
     }
 }
-
-#[cfg(test)]
-mod tests;
