@@ -1,6 +1,6 @@
 -- A walk over loaders that adds up what each holds, and makes its row: what is added so far and what
 -- is left come to the whole. `gather` uses these.
-use Rattle.std.proofs.Common.{◌≡◌, ◌+◌, ℕ, List, [], ◌∷◌, ◌++◌, map, refl, ap, ◌∙◌, arith, inl, inr}
+use Rattle.std.proofs.Common.{◌≡◌, ◌+◌, ◌<◌, ◌^◌, ℕ, List, [], ◌∷◌, ◌++◌, map, refl, ap, ◌∙◌, arith, inl, inr}
 use Rattle.std.specs.List.{filter, sum_by}
 use Rattle.std.specs.Map.{values_of}
 use Rattle.std.proofs.lemmas.List.{map-append, append_assoc}
@@ -14,7 +14,7 @@ use Rattle.ms_base.specs.Totals.{LoaderRow, live_in, row_of}
 use Rattle.ms_base.proofs.arena.BlockLemmas.{not_in_other}
 use Rattle.ms_arena.specs.declared.totals.ArenaTotals.{ArenaTotals}
 use Rattle.ms_loaders.specs.Sums.{AreSumsIn, row_in}
-use Rattle.ms_loaders.specs.Collecting.{chunks_in, used_in, kept_in, row_made}
+use Rattle.ms_loaders.specs.Collecting.{AreFew, chunks_in, used_in, kept_in, row_made}
 use Rattle.ms_loaders.specs.declared.in_use.InUse.{InUse}
 use Rattle.ms_loaders.specs.declared.totals.LoaderRow.{LoaderRow as Row}
 use Rattle.ms_loaders.proofs.calls.MatchLemmas.{where_is}
@@ -90,6 +90,25 @@ leads_on space sums new arena name loader left all so_far its chunks used live f
         free_blocks,
       );
 }
+
+-- What is added so far is few enough for the next loader's arena.
+pub few_so_far : (space : Space) (sums : InUse) (arena : ArenaTotals) (name : ℕ) (loader : LoaderState)
+    (left all : List (ℕ × LoaderState)) → Leads space sums ((name, loader) ∷ left) all → AreSumsIn space arena loader
+    → AreFew all → sums.chunks + arena.chunks < 2 ^ 32
+few_so_far space sums arena name loader left all so_far its few =
+    omega (
+      arith,
+      so_far.chunks,
+      sum_by-cons (chunks_in space) loader (values_of left),
+      its.chunks,
+      few.chunks space,
+    )
+
+pub fits_so_far : (space : Space) (sums : InUse) (arena : ArenaTotals) (name : ℕ) (loader : LoaderState)
+    (left all : List (ℕ × LoaderState)) → Leads space sums ((name, loader) ∷ left) all → AreSumsIn space arena loader
+    → AreFew all → sums.used + arena.used < 2 ^ 64
+fits_so_far space sums arena name loader left all so_far its few =
+    omega (arith, so_far.used, sum_by-cons (used_in space) loader (values_of left), its.used, few.words space)
 
 -- So are the rows.
 abbrev pub RowsLead : List Row → List (ℕ × LoaderState) → List (ℕ × LoaderState) → Type 0

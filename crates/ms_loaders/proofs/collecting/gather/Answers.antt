@@ -3,8 +3,26 @@ use Rattle.ms_base.specs.declared.kind.Kind.{Kind}
 use Rattle.ms_base.specs.declared.kind.Space.TheVariants.{NonClass, Class}
 use Rattle.ms_loaders.specs.System.{states_of}
 use Rattle.ms_loaders.specs.Collecting.{row_made}
-use Rattle.ms_loaders.proofs.sums.CollectLemmas.{leads_on, row_is, rows_lead_on}
+use Rattle.ms_loaders.proofs.sums.CollectLemmas.{few_so_far, fits_so_far, leads_on, row_is, rows_lead_on}
 use Rattle.ms_loaders.proofs.collecting.gather.Goals as goal
+
+pub with-space-requires : goal.with-space-requires
+with-space-requires c =
+    let so_far = rw c.in-Some.ensures.steps at c.loop-name.invariant.space in
+    let left = states_of c.next.new.self in
+    record {
+      few = few_so_far NonClass _ _ _ _ left _ so_far c.totals.ensures.sums c.requires.few;
+      fits = fits_so_far NonClass _ _ _ _ left _ so_far c.totals.ensures.sums c.requires.few;
+    }
+
+pub with-class_space-requires : goal.with-class_space-requires
+with-class_space-requires c =
+    let so_far = rw c.in-Some.ensures.steps at c.loop-name.invariant.class_space in
+    let left = states_of c.next.new.self in
+    record {
+      few = few_so_far Class _ _ _ _ left _ so_far c.totals.ensures.class_sums c.requires.few;
+      fits = fits_so_far Class _ _ _ _ left _ so_far c.totals.ensures.class_sums c.requires.few;
+    }
 
 pub loop-name-preserved : goal.loop-name-preserved
 loop-name-preserved c =
