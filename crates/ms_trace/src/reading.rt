@@ -14,9 +14,12 @@ use crate::spellings::command_before;
 use crate::trace::{Command, Line, Lines, MOST_LINES, Trace};
 use std::alloc::{Allocator, Global};
 
+/// The bytes of the shortest command line with its newline, `sync`.
+const SHORTEST: usize = 5;
+
 /// Reads a text as a trace. The fault is that of the first faulty line, by its first failing
 /// check; OutOfMemory comes only where the allocator refused a growth. One pass over the text,
-/// which isn't copied; memory for the command lines alone. The grammar is this project's choice.
+/// which isn't copied; memory for the command lines alone, in one piece. The grammar is this project's choice.
 pub fn parse(alloc: Global, text: &[u8]) -> Result<Trace, ParseFault>
     ensures reads { IfOk result (λ trace. ReadsAs text.now trace) }
     ensures in_order { IfOk result (λ trace. IsTrue (rises_above 0 trace.lines)) }
@@ -36,7 +39,11 @@ pub(crate) fn read_lines<A: Allocator>(alloc: A, text: &[u8]) -> Result<Vec<Line
     ensures in_order { IfOk result (λ lines. IsTrue (rises_above 0 lines.items)) }
     ensures faults { IfErr result (λ fault. BlamesText text.now fault) }
 {
-    let mut lines: Vec<Line, A> = Vec::new(alloc);
+    // In one piece, which nothing touches but the lines that there are.
+    let most = (text.len() / SHORTEST).min(MOST_LINES as usize);
+    let Ok(mut lines) = Vec::with_capacity(alloc, most) else {
+        return Err(ParseFault::OutOfMemory);
+    };
     let (whole, last) = cut_last(text);
     let mut rest = whole;
     let mut number: u32 = 0;
