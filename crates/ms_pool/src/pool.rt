@@ -30,8 +30,9 @@ use std::marker::Model;
 /// After HotSpot's chunkManager.cpp and virtualSpaceList.cpp.
 #[derive(Drop)]
 pub struct Pool {
-    /// All that is kept; `Lender` has units and ranges.
-    lender: Lender,
+    /// All that is kept; `Lender` has units and ranges. In a box, since it has some kilobytes and a pool
+    /// is moved into and out of locks.
+    lender: Box<Lender>,
 }
 
 impl Model for Pool {
@@ -41,9 +42,9 @@ impl Model for Pool {
 
     ghost use Rattle.ms_pool.specs.Keeping.{IsReady, ledger_of};
 
-    ghost view = { λ pool. ledger_of pool.lender };
+    ghost view = { λ pool. ledger_of pool.lender.value };
 
-    ghost invariant = { λ pool. IsReady pool.lender };
+    ghost invariant = { λ pool. IsReady pool.lender.value };
 }
 
 impl Pool {
@@ -54,7 +55,7 @@ impl Pool {
         ensures { IfOk result (λ pool. pool ≡ empty_ledger (limits_of settings)) }
     {
         Ok(Pool {
-            lender: Lender::new(alloc, settings)?,
+            lender: Box::new(alloc, Lender::new(alloc, settings)?)?,
         })
     }
 

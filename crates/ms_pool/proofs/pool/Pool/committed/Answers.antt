@@ -7,4 +7,5 @@ pub returns-clause-sound : goal.returns-clause-sound
 returns-clause-sound c = rw (← c.self.view_is) c.self.invariant.kept.sound
 
 pub returns-clause-tallies : goal.returns-clause-tallies
-returns-clause-tallies c = subst (λ (ledger : Ledger). AreTallies ledger.tallies) c.self.view_is c.read_tallies.ensures
+returns-clause-tallies c = subst (λ (ledger : Ledger). AreTallies ledger.tallies) c.self.view_is
+    (rw c.deref.ensures at c.read_tallies.ensures)

@@ -6,6 +6,6 @@ use Rattle.ms_pool.proofs.pool.Pool.is_committed.Goals as goal
 -- all granules are those of one space and then the other's
 pub returns : goal.returns
 returns c =
-    rw (← c.self.view_is) (c.is_committed.ensures.answer
+    rw (← c.self.view_is) ((rw c.deref.ensures at c.is_committed.ensures.answer)
     ∙ ap (λ (granules : List ℕ). is_among granules c.args.granule)
-    (are_of_two_spaces c.self.inside.lender.nodes c.self.invariant.kept.nodes).joined)
+    (are_of_two_spaces c.self.inside.lender.value.nodes c.self.invariant.kept.nodes).joined)

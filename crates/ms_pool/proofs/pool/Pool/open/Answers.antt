@@ -4,6 +4,6 @@ use Rattle.ms_pool.proofs.pool.Pool.open.Goals as goal
 
 pub returns-clause-served : goal.returns-clause-served
 returns-clause-served c =
-    opened_is_served (ledger_of c.self.inside.lender) c.args.space c.open.result (ledger_of c.open.new.self)
+    opened_is_served (ledger_of c.self.inside.lender.value) c.args.space c.open.result (ledger_of c.open.new.self)
     c.self.invariant.kept.sound
-    c.open.ensures.opened
+    (rw c.deref_mut.ensures.value at c.open.ensures.opened)

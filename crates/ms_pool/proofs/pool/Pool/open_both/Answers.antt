@@ -4,10 +4,10 @@ use Rattle.ms_pool.proofs.pool.Pool.open_both.Goals as goal
 
 pub returns-clause-served : goal.returns-clause-served
 returns-clause-served c =
-    (both_opened_are_served (ledger_of c.self.inside.lender) c.open_both.result (ledger_of c.open_both.new.self)
-    c.self.invariant.kept.sound c.open_both.ensures.opened).0
+    (both_opened_are_served (ledger_of c.self.inside.lender.value) c.open_both.result (ledger_of c.open_both.new.self)
+    c.self.invariant.kept.sound (rw c.deref_mut.ensures.value at c.open_both.ensures.opened)).0
 
 pub returns-clause-class_served : goal.returns-clause-class_served
 returns-clause-class_served c =
-    (both_opened_are_served (ledger_of c.self.inside.lender) c.open_both.result (ledger_of c.open_both.new.self)
-    c.self.invariant.kept.sound c.open_both.ensures.opened).1
+    (both_opened_are_served (ledger_of c.self.inside.lender.value) c.open_both.result (ledger_of c.open_both.new.self)
+    c.self.invariant.kept.sound (rw c.deref_mut.ensures.value at c.open_both.ensures.opened)).1

@@ -6,7 +6,7 @@ use Rattle.ms_pool.proofs.pool.Pool.totals.Goals as goal
 
 pub returns : goal.returns
 returns c =
-    c.totals.ensures
+    (rw c.deref.ensures at c.totals.ensures)
     ∙ ap (λ (ledger : Ledger). pool_sums (state_in c.space.result ledger) (opened_in ledger c.space.result))
     c.self.view_is
     ∙ ap (λ (space : Space). pool_sums (state_in space c.args.self.now) (opened_in c.args.self.now space))

@@ -1,0 +1,4 @@
+use Rattle.ms_pool.proofs.pool.Pool.close.Goals as goal
+
+pub returns : goal.returns
+returns c = rw (← c.self.view_is) (rw c.deref_mut.ensures.value at c.close.ensures.closed)
