@@ -1,8 +1,9 @@
 -- Columns written from the right into blank bytes. Used by `columns`.
 use Rattle.std.proofs.Common.{◌≡◌, ◌≤◌, ◌<◌, ◌^◌, ℕ, zero, suc, ◌-◌, List, ◌++◌, length, replicate, drop, take, sym, ◌∙◌, ap}
-use Rattle.std.proofs.Common.{◌+◌, min, codes, arith, append_assoc}
+use Rattle.std.proofs.Common.{◌+◌, min, codes, arith, append_assoc, refl, [], ◌∷◌, length-append}
+use Rattle.std.proofs.Common.{Result, Ok, Err, OnOk}
 use Rattle.std.proofs.lemmas.Fmt.{IsAscii-decimal, length-decimal-le}
-use Rattle.std.proofs.lemmas.List.{take-append-drop, take-replicate, drop-replicate, drop-append-le, take-append-le}
+use Rattle.std.proofs.lemmas.List.{take_all, take-append-drop, take-replicate, drop-replicate, drop-append-le, take-append-le}
 use Rattle.std.proofs.lemmas.List.{length-drop, length-replicate, length-take-le, drop-drop, drop_at}
 use borrow.Rule.Slice.PartMut.{put_mid}
 use Rattle.std.proofs.lemmas.Slice.{take-put_mid_below}
@@ -10,8 +11,9 @@ use Rattle.std.proofs.lemmas.Str.{IsAscii-append}
 use Rattle.std.proofs.lemmas.Str.Ascii.{IsAscii-nil, IsAscii-cons}
 use Rattle.std.specs.Fmt.{decimal}
 use Rattle.std.specs.Str.{IsAscii}
-use Rattle.ms_report.specs.Cells.{IsLine}
-use Rattle.ms_report.specs.Layout.{right_in}
+use Rattle.ms_base.specs.Level.{size_of}
+use Rattle.ms_report.specs.Cells.{IsLine, four_line}
+use Rattle.ms_report.specs.Layout.{Table, cells, level_table, level_texts, right_in, table_line}
 
 -- A number has twenty digits at most.
 pub digits_fit : (n : ℕ) → n < 2 ^ 64 → length (decimal n) ≤ 20
@@ -67,6 +69,21 @@ two_more_places n small =
     let more : 7 - length (decimal n) ≡ suc (suc (5 - length (decimal n))) = omega (arith, few) in
     ap (λ (many : ℕ). replicate many 32 ++ decimal n) more
 
+-- Columns of a table, and what stands after them.
+abbrev cells_on : Table → List (List ℕ) → List ℕ → List ℕ
+cells_on columns [] end = end
+cells_on [] (text ∷ texts) end = end
+cells_on (column ∷ columns) (text ∷ texts) end = right_in column.1 text ++ cells_on columns texts end
+
+cells_end : (columns : Table) (texts : List (List ℕ)) (end : List ℕ)
+    → cells columns texts ++ end ≡ cells_on columns texts end
+cells_end [] [] end = refl
+cells_end (column ∷ columns) [] end = refl
+cells_end [] (text ∷ texts) end = refl
+cells_end (column ∷ columns) (text ∷ texts) end =
+    append_assoc (right_in column.1 text) (cells columns texts) end
+    ∙ ap (λ (later : List ℕ). right_in column.1 text ++ later) (cells_end columns texts end)
+
 -- A number that is put before what is written of a line: what the line is then.
 pub record IsPut (old new : List ℕ) (places number end from : ℕ) : Type 0 where
   pub is_line : IsLine from new
@@ -100,6 +117,50 @@ pub room_before : (line bytes : List ℕ) (from words : ℕ) → line ≡ drop f
 room_before line bytes from words is long within room =
     omega (arith, ap length is, length-drop from bytes, long, within, room)
 
+-- Bytes in which a word stands up to a place: what they are from the word on.
+pub word_written : (old word piece : List ℕ) (end : ℕ) → end ≤ length old → length word ≤ end → piece ≡ word
+    → drop (end - length word) (put_mid (end - length word) (end - (end - length word)) old piece)
+    ≡ word ++ drop end old
+word_written old word piece end long fits is =
+    rw is (
+    drop_at (take start old) (word ++ drop (end - start) (drop start old)) start (length-take-le start old low)
+    ∙ ap (λ (later : List ℕ). word ++ later)
+    (drop-drop (end - start) start old ∙ ap (λ (n : ℕ). drop n old) (omega (arith, fits)))
+    )
+  where
+    start : ℕ
+    start = end - length word
+
+    low : start ≤ length old
+    low = omega (arith, long)
+
+-- They are no shorter than what stands before the word.
+pub before_word : (old piece : List ℕ) (start many : ℕ) → start ≤ length old
+    → start ≤ length (put_mid start many old piece)
+before_word old piece start many low =
+    let parts : length (put_mid start many old piece) ≡ length (take start old) + length (piece ++ drop many (drop start old)) =
+    length-append (take start old) (piece ++ drop many (drop start old)) in
+    omega (arith, parts, length-take-le start old low)
+
+-- What is taken of a room from a place on is all that is written there.
+pub written_tail : (room text : List ℕ) (size from : ℕ) → length room ≡ size → drop from room ≡ text
+    → take (size - from) (drop from room) ≡ text
+written_tail room text size from long is =
+    take_all (size - from) (drop from room) (omega (arith, length-drop from room, long)) ∙ is
+
+-- The line of a level is four numbers, of which the first has two places more.
+pub level_added : {X E : Type 0} (result : Result X E) (old new : List ℕ) (level held free : ℕ) → level < 2 ^ 16
+    → OnOk result (new ≡ old ++ four_line (7, level) (8, size_of level) (8, held) (8, free))
+    → OnOk result (new ≡ old ++ table_line level_table (level_texts level held free))
+level_added (Err error) old new level held free small added = tt
+level_added (Ok done) old new level held free small added =
+    let later : List ℕ =
+    right_in 8 (decimal (size_of level)) ++ (right_in 8 (decimal held) ++ (right_in 8 (decimal free) ++ codes "\n")) in
+    added
+    ∙ ap (λ (front : List ℕ). old ++ (front ++ later)) (two_more_places level small)
+    ∙ ap (λ (columns : List ℕ). old ++ (codes "  " ++ columns))
+    (sym (cells_end level_table (level_texts level held free) (codes "\n")))
+
 -- A word that is put before what is written.
 pub word_put : (old word piece : List ℕ) (end : ℕ) → IsLine end old → length old ≡ 192 → length word ≤ end → IsAscii word
     → piece ≡ word → IsLine (end - length word)
@@ -119,6 +180,4 @@ word_put old word piece end line long fits plain is =
     low = omega (arith, line.within, long)
 
     written : drop start (put_mid start (end - start) old word) ≡ word ++ drop end old
-    written = drop_at (take start old) (word ++ drop (end - start) (drop start old)) start (length-take-le start old low)
-        ∙ ap (λ (later : List ℕ). word ++ later)
-        (drop-drop (end - start) start old ∙ ap (λ (n : ℕ). drop n old) (omega (arith, fits)))
+    written = word_written old word word end (omega (arith, line.within, long)) fits refl

@@ -1,7 +1,7 @@
 -- Loaders one after the other: sums over those of a kind, and what each holds. `sum_one` and `push_all` use
 -- these.
 use Rattle.std.proofs.Common.{◌≡◌, ◌<◌, ◌+◌, ℕ, true, false, List, [], ◌∷◌, ◌++◌, length, map, take, drop}
-use Rattle.std.proofs.Common.{get_or}
+use Rattle.std.proofs.Common.{get_or, codes, decimal, if◌then◌else◌, is_ok, Result, Ok, Err, OnOk}
 use Rattle.std.proofs.Common.{refl, sym, ap, ◌∙◌, arith}
 use Rattle.std.specs.List.{filter, sum_by}
 use Rattle.std.proofs.lemmas.List.{map-append, take_more, drop_more, length-append, append-nil, append_assoc}
@@ -13,6 +13,9 @@ use Rattle.ms_loaders.specs.declared.details.LoaderDetails.{LoaderDetails}
 use Rattle.ms_report.specs.declared.kinds.KindTotals.{KindTotals}
 use Rattle.ms_report.specs.Holdings.{holdings, all_holdings}
 use Rattle.ms_report.specs.Kinds.{IsBelow, in_both, is_of, same_kind, sums_over, with_loader}
+use Rattle.ms_report.specs.Kinds.{kind_line, sum_columns, sum_texts}
+use Rattle.ms_report.specs.Layout.{cells, kind_text, right_in}
+use Rattle.ms_report.proofs.TextLemmas.{adds_two}
 
 -- A sum with one more loader.
 sum_more : (amount : LoaderSums → ℕ) (loaders : List LoaderSums) (loader : LoaderSums)
@@ -87,3 +90,16 @@ holdings_more whole old new loaders at other loader more is so_far added =
     ∙ ap (λ (l : List LoaderDetails). old ++ all_holdings (map loader_in l)) (drop_more loaders at other more)
     ∙ ap (λ (d : LoaderDetails). old ++ (holdings (loader_in d) ++ later)) (sym is)
     ∙ sym (append_assoc old (holdings (loader_in loader)) later) ∙ ap (λ (t : List ℕ). t ++ later) (sym added)
+
+-- The line of a kind is its first two columns, its sums, and the line's end.
+pub kind_added : {X E : Type 0} (result : Result X E) (old mid new : List ℕ) (kind : Kind) (totals : KindTotals)
+    → mid ≡ old
+    ++ ((codes "  " ++ (right_in 12 (kind_text kind) ++ right_in 9 (decimal totals.loaders)))
+    ++ cells sum_columns (sum_texts totals))
+    → new ≡ (if is_ok result then mid ++ codes "\n" else mid) → OnOk result (new ≡ old ++ kind_line kind totals)
+kind_added (Err error) old mid new kind totals first second = tt
+kind_added (Ok done) old mid new kind totals first second =
+    adds_two old mid new _ (codes "\n") first second
+    ∙ ap (λ (columns : List ℕ). old ++ ((codes "  " ++ columns) ++ codes "\n"))
+    (append_assoc (right_in 12 (kind_text kind)) (right_in 9 (decimal totals.loaders))
+    (cells sum_columns (sum_texts totals)))

@@ -1,8 +1,8 @@
--- Lengths of padded texts and of lines made of them. Used by `laws`.
+-- Lengths of padded texts and of lines made of them. Used by `laws` and `layout`.
 use Rattle.std.proofs.Common.{◌≡◌, ◌≤◌, ◌<◌, ℕ, ◌+◌, ◌-◌, ◌^◌, List, [], ◌∷◌, ◌++◌, length, replicate}
-use Rattle.std.proofs.Common.{refl, arith, length-append, suc, zero}
+use Rattle.std.proofs.Common.{refl, arith, length-append, suc, zero, ap, min, drop, ◌∙◌}
 use Rattle.std.specs.Fmt.{decimal}
-use Rattle.std.proofs.lemmas.List.{length-replicate}
+use Rattle.std.proofs.lemmas.List.{length-replicate, drop-replicate}
 use Rattle.std.proofs.Math.Nat.{pow-le-pow_right}
 use Rattle.std.proofs.lemmas.Fmt.{length-decimal-le}
 use Rattle.ms_base.specs.Level.{size_of}
@@ -188,3 +188,9 @@ digits_stand_apart places number some few below =
     let small : number < 2 ^ 64 = let most = pow-le-pow_right {n = 10} (omega arith) few in
     omega (arith, below, most) in
     before_short (places + 1) (decimal number) (omega (arith, length-decimal-le places number some below small))
+
+-- What is left of a column of spaces after a label.
+pub spaces_after : (count at : ℕ) → at ≡ min count 12
+    → drop {A = ℕ} at (replicate 12 32) ≡ replicate (12 - count) 32
+spaces_after count at is =
+    drop-replicate at 12 32 ∙ ap (λ (many : ℕ). replicate many 32) (omega (arith, is))

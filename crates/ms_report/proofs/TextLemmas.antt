@@ -1,6 +1,6 @@
 -- Texts that grow at their end: what some calls add, one after the other, is added together. Used
 -- by the functions of `sections` and `reply_lines`.
-use Rattle.std.proofs.Common.{◌≡◌, ℕ, List, ◌++◌, ap, ◌∙◌, append_assoc}
+use Rattle.std.proofs.Common.{◌≡◌, ℕ, List, ◌++◌, ap, ◌∙◌, append_assoc, Result, Ok, Err, OnOk, is_ok, if◌then◌else◌}
 
 pub adds_two : (old mid new a b : List ℕ) → mid ≡ old ++ a → new ≡ mid ++ b → new ≡ old ++ (a ++ b)
 adds_two old mid new a b first second = second ∙ ap (λ (text : List ℕ). text ++ b) first ∙ append_assoc old a b
@@ -31,9 +31,13 @@ adds_seven old t1 t2 t3 t4 t5 t6 t7 a b c d e f g first second third fourth fift
     adds_two old t6 t7 (a ++ b ++ c ++ d ++ e ++ f) g
     (adds_six old t1 t2 t3 t4 t5 t6 a b c d e f first second third fourth fifth sixth) seventh
 
--- The same with three stretches.
-pub adds_line : (old t1 t2 t3 t4 t5 a b c d e : List ℕ) → t1 ≡ old ++ a → t2 ≡ t1 ++ b → t3 ≡ t2 ++ c
-    → t4 ≡ t3 ++ d → t5 ≡ t4 ++ e → t5 ≡ old ++ (a ++ (b ++ (c ++ d)) ++ e)
-adds_line old t1 t2 t3 t4 t5 a b c d e first second third fourth fifth =
-    let columns = adds_two t1 t2 t4 b (c ++ d) second (adds_two t2 t3 t4 c d third fourth) in
-    adds_two old t4 t5 (a ++ (b ++ (c ++ d))) e (adds_two old t1 t4 a (b ++ (c ++ d)) first columns) fifth
+-- The last of them in a call that may fail.
+pub adds_then : {X E : Type 0} (result : Result X E) (old mid new a b : List ℕ) → mid ≡ old ++ a
+    → OnOk result (new ≡ mid ++ b) → OnOk result (new ≡ old ++ (a ++ b))
+adds_then (Ok done) old mid new a b first second = adds_two old mid new a b first second
+adds_then (Err error) old mid new a b first second = tt
+
+pub adds_text : {X E : Type 0} (result : Result X E) (old mid new a b : List ℕ) → mid ≡ old ++ a
+    → new ≡ (if is_ok result then mid ++ b else mid) → OnOk result (new ≡ old ++ (a ++ b))
+adds_text (Ok done) old mid new a b first second = adds_two old mid new a b first second
+adds_text (Err error) old mid new a b first second = tt

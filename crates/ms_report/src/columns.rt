@@ -1,17 +1,19 @@
 //! Numbers that are appended in one piece with what stands beside them.
 //!
 //!     |        12       400\n|    columns, from the right: digits, and the spaces before them
-//!     |         3 ok       |      a number, and what stands after its room of twenty bytes
+//!     |       3 value 4711\n|    two numbers and a word, written from the end of a room
 //!
-//! Kept true: what stands before the digits written so far is blank. Takes memory for the text
-//! alone.
-ghost use Rattle.std.specs.Prelude.{◌≡◌, ◌≤◌, ◌+◌, ◌++◌, OnOk, IsAscii, string_bytes, decimal, length, drop, take, replicate};
+//! Takes memory for the text alone.
+ghost use Rattle.std.specs.Prelude.{◌≡◌, ◌≤◌, ◌+◌, ◌++◌, OnOk, IsAscii, string_bytes, codes, decimal, length, drop};
 ghost use Rattle.ms_report.specs.Cells.{four_line};
 ghost use Rattle.ms_report.specs.Layout.{right_in};
 
 use crate::line::{Line, push_ascii};
 use itoa::write_digits;
 use std::alloc::AllocError;
+
+/// The bytes of two numbers of twenty digits, a word of seven bytes and the line's end.
+const ROOM: usize = 48;
 
 /// A number and the places of its column.
 pub type Placed = (usize, u64);
@@ -39,13 +41,42 @@ pub fn push_four(
     line.push_to(text)
 }
 
-/// Appends a number and what stands after the first twenty bytes, which are its room.
-pub fn push_before(text: &mut String, number: u64, room: &mut [u8]) -> Result<(), AllocError>
-    requires room { 20 ≤ length room.old }
-    requires ascii { IsAscii (drop 20 room.old) }
+/// Appends a number and what stands after it, in one piece.
+#[inline(always)]
+pub fn push_before(text: &mut String, number: u64, word: &str) -> Result<(), AllocError>
+    requires ascii { IsAscii word.now }
+    requires room { length word.now ≤ 28 }
     ensures { OnOk result (string_bytes text.new
-        ≡ string_bytes text.old ++ (decimal number ++ drop 20 room.old)) }
+        ≡ string_bytes text.old ++ (decimal number ++ word.now)) }
 {
-    let from = write_digits(number, room, 20);
+    let mut room = [b'\n'; ROOM];
+    let from = write_before(&mut room, ROOM, number, word);
     push_ascii(text, &room[from..])
+}
+
+/// Appends two numbers with a word between them, and the line's end, in one piece.
+#[inline(always)]
+pub fn push_both(text: &mut String, number: u64, word: &str, last: u64) -> Result<(), AllocError>
+    requires ascii { IsAscii word.now }
+    requires room { length word.now ≤ 7 }
+    ensures { OnOk result (string_bytes text.new
+        ≡ string_bytes text.old ++ (decimal number ++ (word.now ++ (decimal last ++ codes "\n")))) }
+{
+    let mut room = [b'\n'; ROOM];
+    let end = write_digits(last, &mut room, ROOM - 1);
+    let from = write_before(&mut room, end, number, word);
+    push_ascii(text, &room[from..])
+}
+
+/// Writes a number and a word so that they end at a place, and tells where they begin.
+#[inline(always)]
+fn write_before(room: &mut [u8], end: usize, number: u64, word: &str) -> usize
+    requires within { end ≤ length room.old }
+    requires fits { length word.now + 20 ≤ end }
+    ensures begin { result ≤ end }
+    ensures written { drop result room.new ≡ decimal number ++ (word.now ++ drop end room.old) }
+{
+    let start = end - word.len();
+    room[start..end].copy_from_slice(word.as_bytes());
+    write_digits(number, room, start)
 }

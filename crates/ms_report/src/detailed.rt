@@ -23,13 +23,12 @@ ghost use Rattle.ms_report.specs.Peaks.{peaks_part};
 
 use crate::holdings::push_holdings;
 use crate::kinds::push_kinds;
-use crate::layout::{push_label, push_wide};
 use crate::maps::push_maps;
 use crate::peaks::push_peaks;
 use crate::refused::{Refusals, push_refused};
 use crate::sections::push_report;
 use crate::setup::push_settings;
-use crate::sizes::{push_pointed, push_size};
+use crate::sizes::{push_pointed, push_sized};
 use crate::usage::{Amount, Usage, Usages, weigh};
 use ms_base::Settings;
 use ms_loaders::{Detail, Details, Totals};
@@ -206,13 +205,9 @@ fn push_amount_line(text: &mut String, label: &str, amount: Amount) -> Result<()
     ensures { OnOk result (string_bytes text.new
         ≡ string_bytes text.old ++ amount_line label.now amount) }
 {
-    text.push_str("  ")?;
-    push_label(text, label)?;
-    push_wide(text, 12, amount.words)?;
-    push_size(text, amount.words)?;
+    push_sized(text, label, amount.words, amount.words)?;
     push_share(text, amount.share)?;
-    text.push_str("\n")?;
-    Ok(())
+    text.push_str("\n")
 }
 
 /// Appends a share, or a dash where there is none.

@@ -14,36 +14,23 @@ ghost use Rattle.ms_report.specs.Layout.{cells, right_in};
 ghost use Rattle.ms_report.specs.Holdings.{all_holdings, arena_texts, holding, holding_line, holdings, holdings_part};
 ghost use Rattle.ms_report.specs.Holdings.{space_text};
 
-use crate::layout::{Column, push_header};
-use crate::line::Line;
+use crate::line::{COUNT, FREE_BLOCKS, Line, WORDS};
 use crate::sections::put_name;
 use ms_base::Space;
 use ms_loaders::{ArenaTotals, LoaderDetails};
 use std::alloc::AllocError;
 
-/// The columns of the table.
-const HOLDING_TABLE: [Column; 10] = [
-    ("name", 5),
-    ("kind", 12),
-    ("space", 11),
-    ("chunks", 8),
-    ("capacity", 10),
-    ("fronts", 10),
-    ("used", 10),
-    ("live", 10),
-    ("free blocks", 13),
-    ("waste", 10),
-];
+/// The title and the headings of the table.
+const HEADINGS: &str =
+    "Loaders by space\n   name        kind      space  chunks  capacity    fronts      used      live  free blocks     waste\n";
 
 /// Appends the table of what each loader holds.
 pub fn push_holdings(text: &mut String, loaders: &[LoaderDetails]) -> Result<(), AllocError>
     ensures { OnOk result (string_bytes text.new
         ≡ string_bytes text.old ++ holdings_part (map loader_in loaders.now)) }
 {
-    text.push_str("Loaders by space\n")?;
-    push_header(text, &HOLDING_TABLE)?;
-    push_all(text, loaders)?;
-    Ok(())
+    text.push_str(HEADINGS)?;
+    push_all(text, loaders)
 }
 
 /// Appends what each loader holds.
@@ -63,8 +50,7 @@ fn push_loader(text: &mut String, loader: &LoaderDetails) -> Result<(), AllocErr
         ≡ string_bytes text.old ++ holdings (loader_in loader.now)) }
 {
     push_holding(text, loader, Space::NonClass, &loader.space)?;
-    push_holding(text, loader, Space::Class, &loader.class_space)?;
-    Ok(())
+    push_holding(text, loader, Space::Class, &loader.class_space)
 }
 
 /// Appends what a loader holds in a space, where it holds a chunk there.
@@ -106,13 +92,13 @@ fn put_arena(line: &mut Line, arena: &ArenaTotals)
     ensures sums { line.new ≡ cells sum_columns (arena_texts (arena_in arena.now)) ++ line.old }
     ensures near { length line.new ≤ length line.old + 140 }
 {
-    line.put_right(HOLDING_TABLE[9].1, arena.waste);
-    line.put_right(HOLDING_TABLE[8].1, arena.free_blocks);
-    line.put_right(HOLDING_TABLE[7].1, arena.live);
-    line.put_right(HOLDING_TABLE[6].1, arena.used);
-    line.put_right(HOLDING_TABLE[5].1, arena.fronts);
-    line.put_right(HOLDING_TABLE[4].1, arena.capacity);
-    line.put_right(HOLDING_TABLE[3].1, u64::from(arena.chunks));
+    line.put_right(WORDS, arena.waste);
+    line.put_right(FREE_BLOCKS, arena.free_blocks);
+    line.put_right(WORDS, arena.live);
+    line.put_right(WORDS, arena.used);
+    line.put_right(WORDS, arena.fronts);
+    line.put_right(WORDS, arena.capacity);
+    line.put_right(COUNT, u64::from(arena.chunks));
 }
 
 /// Tells the word of a space, right in its column.

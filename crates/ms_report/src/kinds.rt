@@ -4,14 +4,15 @@
 //!
 //! Kept true: each number is exactly the sum over the loaders of the kind, and the text is the bytes
 //! that `specs/Kinds.antt` gives for them. Takes memory for the text alone.
-ghost use Rattle.std.specs.Prelude.{◌≡◌, ◌++◌, ◌+◌, ◌<◌, ◌^◌, ℕ, OnOk, IsAscii, length, map, string_bytes};
+ghost use Rattle.std.specs.Prelude.{◌≡◌, ◌++◌, ◌+◌, ◌<◌, ◌^◌, ℕ, OnOk, IsAscii, codes, decimal, length, map, string_bytes};
 ghost use Rattle.std.specs.List.{filter};
 ghost use Rattle.ms_loaders.specs.Details.{loader_in};
 ghost use Rattle.ms_report.specs.Layout.{cells, kind_text, right_in};
 ghost use Rattle.ms_report.specs.Kinds.{IsBelow, is_of, kind_line, kind_lines, kinds_of, kinds_part, same_kind, sum_columns};
 ghost use Rattle.ms_report.specs.Kinds.{sum_texts, sums_over, with_loader};
 
-use crate::layout::{Column, push_header, push_right, push_wides};
+use crate::layout::push_wides;
+use crate::line::{COUNT, FREE_BLOCKS, Line, WORDS};
 use ms_base::Kind;
 use ms_loaders::LoaderDetails;
 use std::alloc::AllocError;
@@ -63,18 +64,9 @@ const NONE: KindTotals = KindTotals {
     waste: 0,
 };
 
-/// The columns of the table of kinds.
-const KIND_TABLE: [Column; 9] = [
-    ("kind", 12),
-    ("loaders", 9),
-    ("chunks", 8),
-    ("capacity", 10),
-    ("fronts", 10),
-    ("used", 10),
-    ("live", 10),
-    ("free blocks", 13),
-    ("waste", 10),
-];
+/// The title and the headings of the table of kinds.
+const HEADINGS: &str =
+    "Kinds\n          kind  loaders  chunks  capacity    fronts      used      live  free blocks     waste\n";
 
 /// Tells how much the loaders of each kind hold, over both spaces.
 pub fn sum_kinds(loaders: &[LoaderDetails]) -> Kinds
@@ -142,10 +134,8 @@ pub fn push_kinds(text: &mut String, loaders: &[LoaderDetails]) -> Result<(), Al
         ≡ string_bytes text.old ++ kinds_part (map loader_in loaders.now)) }
 {
     let kinds = sum_kinds(loaders);
-    text.push_str("Kinds\n")?;
-    push_header(text, &KIND_TABLE)?;
-    push_kind_lines(text, &kinds)?;
-    Ok(())
+    text.push_str(HEADINGS)?;
+    push_kind_lines(text, &kinds)
 }
 
 /// Appends the line of each kind.
@@ -164,12 +154,21 @@ fn push_kind(text: &mut String, kind: Kind, totals: &KindTotals) -> Result<(), A
     ensures { OnOk result (string_bytes text.new
         ≡ string_bytes text.old ++ kind_line kind totals.now) }
 {
-    text.push_str("  ")?;
-    text.push_str(kind_cell(kind))?;
-    push_right(text, KIND_TABLE[1].1, totals.loaders)?;
+    push_count(text, kind, totals.loaders)?;
     push_sums(text, totals)?;
-    text.push_str("\n")?;
-    Ok(())
+    text.push_str("\n")
+}
+
+/// Appends the first two columns of a kind's line, with the spaces before them.
+fn push_count(text: &mut String, kind: Kind, loaders: u64) -> Result<(), AllocError>
+    ensures { OnOk result (string_bytes text.new ≡ string_bytes text.old
+        ++ (codes "  " ++ (right_in 12 (kind_text kind) ++ right_in 9 (decimal loaders)))) }
+{
+    let mut line = Line::open();
+    line.put_right(9, loaders);
+    line.put_word(kind_cell(kind));
+    line.put_word("  ");
+    line.push_to(text)
 }
 
 /// Appends the sums of a kind, each in its column.
@@ -178,13 +177,13 @@ fn push_sums(text: &mut String, totals: &KindTotals) -> Result<(), AllocError>
         ≡ string_bytes text.old ++ cells sum_columns (sum_texts totals.now)) }
 {
     let columns = [
-        (KIND_TABLE[2].1, totals.chunks),
-        (KIND_TABLE[3].1, totals.capacity),
-        (KIND_TABLE[4].1, totals.fronts),
-        (KIND_TABLE[5].1, totals.used),
-        (KIND_TABLE[6].1, totals.live),
-        (KIND_TABLE[7].1, totals.free_blocks),
-        (KIND_TABLE[8].1, totals.waste),
+        (COUNT, totals.chunks),
+        (WORDS, totals.capacity),
+        (WORDS, totals.fronts),
+        (WORDS, totals.used),
+        (WORDS, totals.live),
+        (FREE_BLOCKS, totals.free_blocks),
+        (WORDS, totals.waste),
     ];
     push_wides(text, &columns)
 }

@@ -1,25 +1,23 @@
 //! Lines of a report: texts in columns that are filled with spaces.
 //!
 //!     |  committed           8192      a line of a label and a number: 12 places left, 12 right
-//!     |  level   words    held    free      a table's headings, each right in its column
+//!     |        4096          7            numbers, each right in its column
 //!
 //! Kept true: a line is the bytes that `specs/Layout.antt` gives for its texts and numbers. All
 //! calls append to a text, and take memory for it alone.
-ghost use Rattle.std.specs.Prelude.{◌≡◌, ◌++◌, OnOk, string_bytes, decimal, replicate};
-ghost use Rattle.ms_report.specs.Layout.{number_line, left_in, number_lines, right_in, header, headings};
+ghost use Rattle.std.specs.Prelude.{◌≡◌, ◌++◌, OnOk, string_bytes, codes, decimal, replicate};
+ghost use Rattle.ms_report.specs.Layout.{number_line, left_in, number_lines, right_in};
 ghost use Rattle.ms_report.specs.Cells.{all_placed, pairs_in};
 
+use crate::line::Line;
 use itoa::Buffer;
 use std::alloc::AllocError;
 
 /// The places of a label, and of the number beside it.
-const COLUMN: usize = 12;
+pub const COLUMN: usize = 12;
 
 /// The spaces of an empty column.
 const SPACES: &str = "            ";
-
-/// A column of a table: its heading, and its places.
-pub type Column = (&'static str, usize);
 
 /// Appends so many spaces, a column of them in one go.
 fn push_spaces(text: &mut String, count: usize) -> Result<(), AllocError>
@@ -30,8 +28,7 @@ fn push_spaces(text: &mut String, count: usize) -> Result<(), AllocError>
         text.push_str(SPACES)?;
         left -= COLUMN;
     }
-    text.push_str(&SPACES[..left])?;
-    Ok(())
+    text.push_str(&SPACES[..left])
 }
 
 /// Appends a line with a label and a number, each in a column of its own.
@@ -39,15 +36,10 @@ pub fn push_number_line(text: &mut String, label: &str, number: u64) -> Result<(
     ensures { OnOk result (string_bytes text.new
         ≡ string_bytes text.old ++ number_line label.now number) }
 {
-    let mut buffer = Buffer::new();
-    let digits = buffer.format(number);
-    text.push_str("  ")?;
-    text.push_str(label)?;
-    push_spaces(text, COLUMN.saturating_sub(label.len()))?;
-    push_spaces(text, COLUMN.saturating_sub(digits.len()))?;
-    text.push_str(digits)?;
-    text.push_str("\n")?;
-    Ok(())
+    push_label(text, label)?;
+    let mut line = Line::end();
+    line.put_right(COLUMN, number);
+    line.push_to(text)
 }
 
 /// Appends a line for each label with its number.
@@ -59,15 +51,6 @@ pub fn push_number_lines(text: &mut String, rows: &[(&'static str, u64)]) -> Res
         push_number_line(text, label, *number)?;
     }
     Ok(())
-}
-
-/// Appends a number with spaces before it to so many places.
-pub fn push_right(text: &mut String, places: usize, number: u64) -> Result<(), AllocError>
-    ensures { OnOk result (string_bytes text.new
-        ≡ string_bytes text.old ++ right_in places (decimal number)) }
-{
-    let mut buffer = Buffer::new();
-    push_word(text, places, buffer.format(number))
 }
 
 /// Appends a number of 128 bits with spaces before it to so many places.
@@ -90,13 +73,14 @@ pub fn push_wides(text: &mut String, columns: &[(usize, u128)]) -> Result<(), Al
     Ok(())
 }
 
-/// Appends a label with spaces after it to the places of a column.
+/// Appends two spaces, and a label with spaces after it to the places of a column.
 pub fn push_label(text: &mut String, label: &str) -> Result<(), AllocError>
-    ensures { OnOk result (string_bytes text.new ≡ string_bytes text.old ++ left_in 12 label.now) }
+    ensures { OnOk result (string_bytes text.new
+        ≡ string_bytes text.old ++ (codes "  " ++ left_in 12 label.now)) }
 {
+    text.push_str("  ")?;
     text.push_str(label)?;
-    push_spaces(text, COLUMN.saturating_sub(label.len()))?;
-    Ok(())
+    text.push_str(&SPACES[label.len().min(COLUMN)..])
 }
 
 /// Appends a text with spaces before it to so many places.
@@ -105,28 +89,5 @@ fn push_word(text: &mut String, places: usize, word: &str) -> Result<(), AllocEr
         ≡ string_bytes text.old ++ right_in places word.now) }
 {
     push_spaces(text, places.saturating_sub(word.len()))?;
-    text.push_str(word)?;
-    Ok(())
-}
-
-/// Appends the line of a table's headings.
-pub fn push_header(text: &mut String, table: &[Column]) -> Result<(), AllocError>
-    ensures { OnOk result (string_bytes text.new
-        ≡ string_bytes text.old ++ header (pairs_in table.now)) }
-{
-    text.push_str("  ")?;
-    push_headings(text, table)?;
-    text.push_str("\n")?;
-    Ok(())
-}
-
-/// Appends the headings of a table, each in its column.
-fn push_headings(text: &mut String, table: &[Column]) -> Result<(), AllocError>
-    ensures { OnOk result (string_bytes text.new
-        ≡ string_bytes text.old ++ headings (pairs_in table.now)) }
-{
-    for (heading, places) in table {
-        push_word(text, *places, heading)?;
-    }
-    Ok(())
+    text.push_str(word)
 }

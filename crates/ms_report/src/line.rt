@@ -5,7 +5,7 @@
 //!
 //! Kept true: what stands before the bytes written so far is blank, and these are ASCII. A line is
 //! appended to a text in one go, and takes memory then alone.
-ghost use Rattle.std.specs.Prelude.{◌≡◌, ◌≤◌, ◌+◌, ◌++◌, OnOk, IsAscii, string_bytes, decimal, codes, length};
+ghost use Rattle.std.specs.Prelude.{◌≡◌, ◌≤◌, ◌+◌, ◌++◌, OnOk, [], IsAscii, string_bytes, decimal, codes, length};
 ghost use Rattle.ms_report.specs.Layout.{right_in};
 
 use itoa::write_digits;
@@ -18,6 +18,18 @@ const ROOM: usize = 192;
 
 /// The place of the line's end.
 const LAST: usize = ROOM - 1;
+
+/// The places of the two spaces that begin a line, and of a name or a level after them.
+pub const NAME: usize = 7;
+
+/// The places of a count of chunks, and of the words of a level.
+pub const COUNT: usize = 8;
+
+/// The places of an amount of words.
+pub const WORDS: usize = 10;
+
+/// The places of the words of free blocks.
+pub const FREE_BLOCKS: usize = 13;
 
 /// A line that is written from its end. Contracts see what is written so far.
 #[derive(Drop)]
@@ -46,6 +58,17 @@ impl Line {
         let mut bytes = [b' '; ROOM];
         bytes[LAST] = b'\n';
         Line { bytes, from: LAST }
+    }
+
+    /// Makes a line of nothing, which goes on after what is put.
+    #[inline(always)]
+    pub fn open() -> Line
+        ensures { result ≡ [] }
+    {
+        Line {
+            bytes: [b' '; ROOM],
+            from: ROOM,
+        }
     }
 
     /// Puts a number before what is written, right in its places.

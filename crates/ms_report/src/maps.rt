@@ -5,26 +5,22 @@
 //!
 //! Kept true: the text is the bytes that `specs/Map.antt` gives for the maps. Only the text takes
 //! memory.
-ghost use Rattle.std.specs.Prelude.{◌≡◌, ◌++◌, IfOk, OnOk, map, string_bytes};
+ghost use Rattle.std.specs.Prelude.{◌≡◌, ◌++◌, ◌/◌, IfOk, OnOk, codes, decimal, map, string_bytes};
 ghost use Rattle.ms_pool.specs.Mapping.{map_in};
-ghost use Rattle.ms_report.specs.Map.{key_line, key_lines, letter, letters, map_line, map_lines};
-ghost use Rattle.ms_report.specs.Map.{map_part, meaning};
+ghost use Rattle.ms_report.specs.Layout.{right_in};
+ghost use Rattle.ms_report.specs.Map.{letter, letters, map_line, map_lines};
+ghost use Rattle.ms_report.specs.Map.{map_part};
 
-use crate::layout::push_right;
+use crate::line::Line;
 use ms_pool::{Place, RootMap};
 use std::alloc::{AllocError, Global};
 
-/// The headings.
-const HEADINGS: &str = "   slot  root  places of 8192 words\n";
+/// The title and the headings.
+const HEADINGS: &str = "Map\n   slot  root  places of 8192 words\n";
 
-/// What a place may be, in the order of the key.
-const KEY: [Place; 5] = [
-    Place::Free,
-    Place::FreeCommitted,
-    Place::LentUncommitted,
-    Place::LentPartly,
-    Place::LentWholly,
-];
+/// The key: what each letter stands for.
+const KEY: &str =
+    "  - free, not committed\n  . free, committed\n  u lent, not committed\n  o lent in part, committed\n  O lent as a whole, committed\n";
 
 /// Writes the maps of roots: a line for each root, with its slot, its number over both spaces and a
 /// letter for each place of 8192 words, and a key to the letters. A root begins at the word of its
@@ -43,11 +39,9 @@ pub fn push_maps(text: &mut String, maps: &[RootMap]) -> Result<(), AllocError>
     ensures { OnOk result (string_bytes text.new
         ≡ string_bytes text.old ++ map_part (map map_in maps.now)) }
 {
-    text.push_str("Map\n")?;
     text.push_str(HEADINGS)?;
     push_lines(text, maps)?;
-    push_key(text, &KEY)?;
-    Ok(())
+    text.push_str(KEY)
 }
 
 /// Appends a line for each root.
@@ -66,13 +60,22 @@ fn push_line(text: &mut String, root: &RootMap) -> Result<(), AllocError>
     ensures { OnOk result (string_bytes text.new
         ≡ string_bytes text.old ++ map_line (map_in root.now)) }
 {
-    text.push_str("  ")?;
-    push_right(text, 5, u64::from(root.root / 2))?;
-    push_right(text, 6, u64::from(root.root))?;
-    text.push_str("  ")?;
+    push_root(text, root.root)?;
     push_letters(text, &root.places)?;
-    text.push_str("\n")?;
-    Ok(())
+    text.push_str("\n")
+}
+
+/// Appends the slot and the number of a root, with the spaces beside them.
+fn push_root(text: &mut String, root: u32) -> Result<(), AllocError>
+    ensures { OnOk result (string_bytes text.new ≡ string_bytes text.old ++ (codes "  "
+        ++ (right_in 5 (decimal (root / 2)) ++ (right_in 6 (decimal root) ++ codes "  ")))) }
+{
+    let mut line = Line::open();
+    line.put_word("  ");
+    line.put_right(6, u64::from(root));
+    line.put_right(5, u64::from(root / 2));
+    line.put_word("  ");
+    line.push_to(text)
 }
 
 /// Appends the letters of places.
@@ -86,29 +89,6 @@ fn push_letters(text: &mut String, places: &[Place]) -> Result<(), AllocError>
     Ok(())
 }
 
-/// Appends what the letters of these places stand for.
-fn push_key(text: &mut String, places: &[Place]) -> Result<(), AllocError>
-    ensures { OnOk result (string_bytes text.new
-        ≡ string_bytes text.old ++ key_lines places.now) }
-{
-    for place in places {
-        push_key_line(text, *place)?;
-    }
-    Ok(())
-}
-
-/// Appends what the letter of a place stands for.
-fn push_key_line(text: &mut String, place: Place) -> Result<(), AllocError>
-    ensures { OnOk result (string_bytes text.new ≡ string_bytes text.old ++ key_line place) }
-{
-    text.push_str("  ")?;
-    text.push_str(letter(place))?;
-    text.push_str(" ")?;
-    text.push_str(meaning(place))?;
-    text.push_str("\n")?;
-    Ok(())
-}
-
 /// Tells the letter of a place.
 fn letter(place: Place) -> &'static str
     ensures { result.now ≡ letter place }
@@ -119,18 +99,5 @@ fn letter(place: Place) -> &'static str
         Place::LentUncommitted => "u",
         Place::LentPartly => "o",
         Place::LentWholly => "O",
-    }
-}
-
-/// Tells what the letter of a place stands for.
-fn meaning(place: Place) -> &'static str
-    ensures { result.now ≡ meaning place }
-{
-    match place {
-        Place::Free => "free, not committed",
-        Place::FreeCommitted => "free, committed",
-        Place::LentUncommitted => "lent, not committed",
-        Place::LentPartly => "lent in part, committed",
-        Place::LentWholly => "lent as a whole, committed",
     }
 }

@@ -10,14 +10,14 @@
 ghost use Rattle.std.specs.Prelude.{◌≡◌, ◌++◌, OnOk, string_bytes};
 ghost use Rattle.ms_report.specs.Peaks.{all_peaks, amount_peaks, peaks_part, sized_line};
 
-use crate::layout::{push_label, push_number_line, push_wide};
-use crate::sizes::push_size;
+use crate::layout::push_number_line;
+use crate::sizes::push_sized;
 use ms_base::{NODE_WORDS, Settings, granule};
 use ms_loaders::Peaks;
 use std::alloc::AllocError;
 
-/// The headings of the peaks.
-const HEADINGS: &str = "                    number        size\n";
+/// The title and the headings of the peaks.
+const HEADINGS: &str = "Peaks\n                    number        size\n";
 
 /// Appends the peaks, where they are told.
 pub fn push_peaks(
@@ -39,11 +39,9 @@ fn push_all_peaks(text: &mut String, settings: &Settings, peaks: Peaks) -> Resul
     ensures { OnOk result (string_bytes text.new
         ≡ string_bytes text.old ++ all_peaks settings.now peaks) }
 {
-    text.push_str("Peaks\n")?;
     text.push_str(HEADINGS)?;
     push_amount_peaks(text, settings, peaks)?;
-    push_number_line(text, "loaders", peaks.loaders)?;
-    Ok(())
+    push_number_line(text, "loaders", peaks.loaders)
 }
 
 /// Appends the peaks that are amounts of memory, each with its size.
@@ -53,8 +51,7 @@ fn push_amount_peaks(text: &mut String, settings: &Settings, peaks: Peaks) -> Re
 {
     push_sized_line(text, "granules", peaks.granules, granule(settings.policy))?;
     push_sized_line(text, "nodes", peaks.nodes, NODE_WORDS)?;
-    push_sized_line(text, "used", peaks.used, 1)?;
-    Ok(())
+    push_sized_line(text, "used", peaks.used, 1)
 }
 
 /// Appends the line of a number of things, each of so many words.
@@ -68,10 +65,6 @@ fn push_sized_line(
         ≡ string_bytes text.old ++ sized_line label.now number words) }
 {
     let number = u128::from(number);
-    text.push_str("  ")?;
-    push_label(text, label)?;
-    push_wide(text, 12, number)?;
-    push_size(text, number * u128::from(words))?;
-    text.push_str("\n")?;
-    Ok(())
+    push_sized(text, label, number, number * u128::from(words))?;
+    text.push_str("\n")
 }

@@ -10,7 +10,7 @@ ghost use Rattle.std.specs.Prelude.{◌≡◌, ◌++◌, IfOk, OnOk, OnErr, stri
 ghost use Rattle.ms_base.specs.ReplyText.{name_of, reply_text, reply_line};
 ghost use Rattle.ms_report.specs.ReplyLines.{report_after, answer_text, answers_text};
 
-use crate::columns::push_before;
+use crate::columns::{push_before, push_both};
 use crate::detailed::push_detailed;
 use crate::refused::{NONE, Refusals, count};
 use ms_base::{Refusal, Reply, Settings};
@@ -83,8 +83,7 @@ fn push_ok(text: &mut String, number: u64) -> Result<(), AllocError>
     ensures { OnOk result (string_bytes text.new
         ≡ string_bytes text.old ++ (decimal number ++ codes " ok\n")) }
 {
-    let mut room = *b"                     ok\n";
-    push_before(text, number, &mut room)
+    push_before(text, number, " ok\n")
 }
 
 /// Appends the line that tells where a block starts.
@@ -92,9 +91,7 @@ fn push_at(text: &mut String, number: u64, start: u64) -> Result<(), AllocError>
     ensures { OnOk result (string_bytes text.new
         ≡ string_bytes text.old ++ (decimal number ++ (codes " at " ++ (decimal start ++ codes "\n")))) }
 {
-    let mut room = *b"                     at ";
-    push_before(text, number, &mut room)?;
-    push_last(text, start)
+    push_both(text, number, " at ", start)
 }
 
 /// Appends the line that tells a word's value.
@@ -102,18 +99,7 @@ fn push_value(text: &mut String, number: u64, value: u64) -> Result<(), AllocErr
     ensures { OnOk result (string_bytes text.new
         ≡ string_bytes text.old ++ (decimal number ++ (codes " value " ++ (decimal value ++ codes "\n")))) }
 {
-    let mut room = *b"                     value ";
-    push_before(text, number, &mut room)?;
-    push_last(text, value)
-}
-
-/// Appends a number and the line's end.
-fn push_last(text: &mut String, number: u64) -> Result<(), AllocError>
-    ensures { OnOk result (string_bytes text.new
-        ≡ string_bytes text.old ++ (decimal number ++ codes "\n")) }
-{
-    let mut room = *b"                    \n";
-    push_before(text, number, &mut room)
+    push_both(text, number, " value ", value)
 }
 
 /// Appends the line that names a refusal.
@@ -121,8 +107,7 @@ fn push_refusal(text: &mut String, number: u64, refusal: Refusal) -> Result<(), 
     ensures { OnOk result (string_bytes text.new
         ≡ string_bytes text.old ++ (decimal number ++ (codes " refused " ++ (name_of refusal ++ codes "\n")))) }
 {
-    let mut room = *b"                     refused ";
-    push_before(text, number, &mut room)?;
+    push_before(text, number, " refused ")?;
     text.push_str(name(refusal))?;
     text.push_str("\n")
 }

@@ -11,24 +11,18 @@ ghost use Rattle.ms_report.specs.Sections.{levels_part, main_part, class_part, c
 
 use crate::columns::push_four;
 use crate::kinds::kind_cell;
-use crate::layout::{Column, push_header, push_number_line, push_number_lines};
-use crate::line::Line;
+use crate::layout::{push_number_line, push_number_lines};
+use crate::line::{COUNT, Line, NAME, WORDS};
 use ms_base::{Kind, Level};
 use ms_loaders::{LoaderRow, SpaceTotals, Totals};
 use std::alloc::{AllocError, Global};
 
-/// The columns of the table of levels.
-const LEVEL_TABLE: [Column; 4] = [("level", 5), ("words", 8), ("held", 8), ("free", 8)];
+/// The headings of the table of levels.
+const LEVEL_HEADINGS: &str = "  level   words    held    free\n";
 
-/// The columns of the table of loaders.
-const LOADER_TABLE: [Column; 6] = [
-    ("name", 5),
-    ("kind", 12),
-    ("chunks", 8),
-    ("capacity", 10),
-    ("used", 10),
-    ("live", 10),
-];
+/// The title and the headings of the table of loaders.
+const LOADER_HEADINGS: &str =
+    "Loaders\n   name        kind  chunks  capacity      used      live\n";
 
 /// Writes the report that shows these totals: the numbers of the whole system and of the space
 /// that is not the class space, its chunks by level, the same of the class space where it has
@@ -49,8 +43,7 @@ pub fn push_report(text: &mut String, totals: &Totals) -> Result<(), AllocError>
 {
     push_main(text, totals)?;
     push_class(text, &totals.class_space)?;
-    push_loaders(text, totals.rows.as_slice())?;
-    Ok(())
+    push_loaders(text, totals.rows.as_slice())
 }
 
 /// Appends the numbers of the whole system, and those of the space that is not the class space.
@@ -115,7 +108,7 @@ fn push_levels(text: &mut String, space: &SpaceTotals) -> Result<(), AllocError>
     ensures { OnOk result (string_bytes text.new
         ≡ string_bytes text.old ++ levels_part (space_in space.now)) }
 {
-    push_header(text, &LEVEL_TABLE)?;
+    text.push_str(LEVEL_HEADINGS)?;
     for number in 0..13 {
         let place = usize::from(number);
         push_level(
@@ -133,13 +126,12 @@ fn push_level(text: &mut String, level: Level, held: u32, free: u32) -> Result<(
     ensures { OnOk result (string_bytes text.new
         ≡ string_bytes text.old ++ table_line level_table (level_texts level held free)) }
 {
-    text.push_str("  ")?;
     push_four(
         text,
-        (LEVEL_TABLE[0].1, u64::from(level.number())),
-        (LEVEL_TABLE[1].1, level.words()),
-        (LEVEL_TABLE[2].1, u64::from(held)),
-        (LEVEL_TABLE[3].1, u64::from(free)),
+        (NAME, u64::from(level.number())),
+        (COUNT, level.words()),
+        (COUNT, u64::from(held)),
+        (COUNT, u64::from(free)),
     )
 }
 
@@ -148,10 +140,8 @@ fn push_loaders(text: &mut String, rows: &[LoaderRow]) -> Result<(), AllocError>
     ensures { OnOk result (string_bytes text.new
         ≡ string_bytes text.old ++ loaders_part (map row_in rows.now)) }
 {
-    text.push_str("Loaders\n")?;
-    push_header(text, &LOADER_TABLE)?;
-    push_rows(text, rows)?;
-    Ok(())
+    text.push_str(LOADER_HEADINGS)?;
+    push_rows(text, rows)
 }
 
 /// Appends a line for each loader.
@@ -171,10 +161,10 @@ fn push_row(text: &mut String, row: &LoaderRow) -> Result<(), AllocError>
         ≡ string_bytes text.old ++ table_line loader_table (loader_texts (row_in row.now))) }
 {
     let mut line = Line::end();
-    line.put_right(LOADER_TABLE[5].1, row.live);
-    line.put_right(LOADER_TABLE[4].1, row.used);
-    line.put_right(LOADER_TABLE[3].1, row.capacity);
-    line.put_right(LOADER_TABLE[2].1, u64::from(row.chunks));
+    line.put_right(WORDS, row.live);
+    line.put_right(WORDS, row.used);
+    line.put_right(WORDS, row.capacity);
+    line.put_right(COUNT, u64::from(row.chunks));
     put_name(&mut line, row.name, row.kind);
     line.push_to(text)
 }
@@ -187,5 +177,5 @@ pub fn put_name(line: &mut Line, name: u16, kind: Kind)
         ≡ codes "  " ++ (right_in 5 (decimal name) ++ (right_in 12 (kind_text kind) ++ line.old)) }
 {
     line.put_word(kind_cell(kind));
-    line.put_right(7, u64::from(name));
+    line.put_right(NAME, u64::from(name));
 }

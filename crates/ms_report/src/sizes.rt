@@ -6,10 +6,11 @@
 //! A size is told in KB of 1024 bytes where it is less than a MB, and else in MB, cut off after one
 //! digit. Kept true: the text is the bytes that `specs/Sizes.antt` gives for the words. Takes memory for
 //! the text alone.
-ghost use Rattle.std.specs.Prelude.{◌≡◌, ◌≤◌, ◌<◌, ◌++◌, OnOk, string_bytes};
+ghost use Rattle.std.specs.Prelude.{◌≡◌, ◌≤◌, ◌<◌, ◌++◌, OnOk, codes, decimal, string_bytes};
+ghost use Rattle.ms_report.specs.Layout.{left_in, right_in};
 ghost use Rattle.ms_report.specs.Sizes.{pointed, size_in, units_in};
 
-use crate::layout::push_wide;
+use crate::layout::{COLUMN, push_label, push_wide};
 use std::alloc::AllocError;
 
 /// The words of a KB and of a MB.
@@ -17,18 +18,31 @@ const KB: u128 = 128;
 
 const MB: u128 = 131_072;
 
+/// Appends a label, a number and a size for people, each in its column.
+pub fn push_sized(
+    text: &mut String,
+    label: &str,
+    number: u128,
+    words: u128,
+) -> Result<(), AllocError>
+    ensures { OnOk result (string_bytes text.new ≡ string_bytes text.old
+        ++ (codes "  " ++ left_in 12 label.now ++ right_in 12 (decimal number) ++ size_in words)) }
+{
+    push_label(text, label)?;
+    push_wide(text, COLUMN, number)?;
+    push_size(text, words)
+}
+
 /// Appends a size for people.
-pub fn push_size(text: &mut String, words: u128) -> Result<(), AllocError>
+fn push_size(text: &mut String, words: u128) -> Result<(), AllocError>
     ensures { OnOk result (string_bytes text.new ≡ string_bytes text.old ++ size_in words) }
 {
     if words < MB {
         push_units(text, KB, words)?;
-        text.push_str(" KB")?;
-        return Ok(());
+        return text.push_str(" KB");
     }
     push_units(text, MB, words)?;
-    text.push_str(" MB")?;
-    Ok(())
+    text.push_str(" MB")
 }
 
 /// Appends how many units of so many words there are.
@@ -52,6 +66,5 @@ pub fn push_pointed(
 {
     push_wide(text, places, whole)?;
     text.push_str(".")?;
-    push_wide(text, 1, tenths)?;
-    Ok(())
+    push_wide(text, 1, tenths)
 }

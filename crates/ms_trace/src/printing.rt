@@ -1,5 +1,5 @@
 //! Printing a trace as a text that reads as it.
-ghost use Rattle.std.specs.Prelude.{◌≡◌, ◌++◌, ◌∷◌, IfOk, OnOk, IsTrue, decimal, replicate};
+ghost use Rattle.std.specs.Prelude.{◌≡◌, ◌++◌, ◌∷◌, [], IfOk, OnOk, IsTrue, codes, decimal, replicate};
 ghost use Rattle.std.specs.List.{join_with_byte};
 ghost use Rattle.ms_trace.specs.Grammar.{kind_word};
 ghost use Rattle.ms_trace.specs.Spelling.{IsValid, IsValidStep, ReadsAs, rises_above, spelling_of, step_fields};
@@ -21,22 +21,32 @@ pub fn print<A: Allocator>(alloc: A, trace: &Trace) -> Result<Vec<u8, A>, AllocE
     let mut text = Vec::new(alloc);
     let mut last: u32 = 0;
     for line in trace.lines.as_slice() {
-        print_gap(&mut text, line.number - last - 1)?;
-        print_command(&mut text, line.command)?;
-        text.extend_from_slice(b"\n".as_slice())?;
+        print_line(&mut text, line.number - last - 1, line.command)?;
         last = line.number;
     }
     Ok(text)
+}
+
+/// Prints so many empty lines, then a command and a newline.
+fn print_line<A: Allocator>(
+    text: &mut Vec<u8, A>,
+    lines: u32,
+    command: Command,
+) -> Result<(), AllocError>
+    ensures printed { OnOk result (text.new.items
+        ≡ text.old.items ++ replicate lines 10 ++ spelling_of command ++ 10 ∷ []) }
+    ensures valid { IsValid command }
+{
+    print_gap(text, lines)?;
+    print_command(text, command)?;
+    text.extend_from_slice(b"\n".as_slice())
 }
 
 /// Prints so many empty lines.
 fn print_gap<A: Allocator>(text: &mut Vec<u8, A>, lines: u32) -> Result<(), AllocError>
     ensures { OnOk result (text.new.items ≡ text.old.items ++ replicate lines 10) }
 {
-    for _ in 0..lines {
-        text.extend_from_slice(b"\n".as_slice())?;
-    }
-    Ok(())
+    text.resize(text.len() + lines as usize, b'\n')
 }
 
 /// Prints a command.
@@ -57,11 +67,7 @@ fn print_step<A: Allocator>(text: &mut Vec<u8, A>, step: Step) -> Result<(), All
     ensures valid { IsValidStep step }
 {
     match step {
-        Step::New { loader, kind } => {
-            text.extend_from_slice(b"new".as_slice())?;
-            print_number(text, u64::from(loader))?;
-            print_kind(text, kind)
-        }
+        Step::New { loader, kind } => print_new(text, loader, kind),
         Step::Alloc {
             loader,
             block,
@@ -77,22 +83,53 @@ fn print_step<A: Allocator>(text: &mut Vec<u8, A>, step: Step) -> Result<(), All
             block,
             index,
             value,
-        } => {
-            print_block_number(text, b"write".as_slice(), loader, block, index)?;
-            print_number(text, value)
-        }
+        } => print_write(text, loader, block, index, value),
         Step::Read {
             loader,
             block,
             index,
         } => print_block_number(text, b"read".as_slice(), loader, block, index),
         Step::Free { loader, block } => print_block(text, b"free".as_slice(), loader, block),
-        Step::Unload { loader } => {
-            text.extend_from_slice(b"unload".as_slice())?;
-            print_number(text, u64::from(loader))
-        }
+        Step::Unload { loader } => print_loader(text, b"unload".as_slice(), loader),
         Step::Purge => text.extend_from_slice(b"purge".as_slice()),
     }
+}
+
+/// Prints the step that opens a loader.
+fn print_new<A: Allocator>(text: &mut Vec<u8, A>, loader: u16, kind: Kind) -> Result<(), AllocError>
+    ensures { OnOk result (text.new.items
+        ≡ text.old.items ++ codes "new" ++ 32 ∷ decimal loader ++ 32 ∷ kind_word kind) }
+{
+    print_loader(text, b"new".as_slice(), loader)?;
+    print_kind(text, kind)
+}
+
+/// Prints the step that writes a word of a block.
+fn print_write<A: Allocator>(
+    text: &mut Vec<u8, A>,
+    loader: u16,
+    block: u32,
+    index: u64,
+    value: u64,
+) -> Result<(), AllocError>
+    ensures { OnOk result (text.new.items
+        ≡ text.old.items ++ codes "write" ++ 32 ∷ decimal loader ++ 32 ∷ decimal block
+        ++ 32 ∷ decimal index ++ 32 ∷ decimal value) }
+{
+    print_block_number(text, b"write".as_slice(), loader, block, index)?;
+    print_number(text, value)
+}
+
+/// Prints a word, then a loader.
+fn print_loader<A: Allocator>(
+    text: &mut Vec<u8, A>,
+    word: &[u8],
+    loader: u16,
+) -> Result<(), AllocError>
+    ensures { OnOk result (text.new.items ≡ text.old.items ++ word.now ++ 32 ∷ decimal loader) }
+{
+    text.extend_from_slice(word)?;
+    print_number(text, u64::from(loader))
 }
 
 /// Prints a word, then a loader and a block.
@@ -105,8 +142,7 @@ fn print_block<A: Allocator>(
     ensures { OnOk result (text.new.items
         ≡ text.old.items ++ word.now ++ 32 ∷ decimal loader ++ 32 ∷ decimal block) }
 {
-    text.extend_from_slice(word)?;
-    print_number(text, u64::from(loader))?;
+    print_loader(text, word, loader)?;
     print_number(text, u64::from(block))
 }
 

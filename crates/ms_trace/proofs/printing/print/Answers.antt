@@ -12,16 +12,13 @@ pub loop-line-preserved : goal.loop-line-preserved
 loop-line-preserved g c =
     let items : List Line = c.as_slice-line-items.result.now in
     record {
-      printed = rw c.in_ok-extend_from_slice.ensures.items
-          (rw c.as_slice.ensures
-          (rw c.in_ok-print_command.ensures.printed
-          (rw c.in_ok-print_gap.ensures
+      printed = rw c.in_ok-print_line.ensures.printed
           (line_printed items c.loop-line.line-index c.loop-line.last _ c.loop-line.text.items
-          (text_from 1 items) c.loop-line-test.true c.loop-line.invariant.printed))));
+          (text_from 1 items) c.loop-line-test.true c.loop-line.invariant.printed);
       rises = rises_on items c.loop-line.line-index c.loop-line.last _ c.loop-line-test.true
           c.loop-line.invariant.rises;
       valid = All-more (λ (line : Line). IsValid line.command) items
-          c.loop-line.line-index _ c.loop-line-test.true c.loop-line.invariant.valid c.print_command.ensures.valid;
+          c.loop-line.line-index _ c.loop-line-test.true c.loop-line.invariant.valid c.print_line.ensures.valid;
     }
 
 pub returns-clause-reads : goal.returns-clause-reads
