@@ -85,14 +85,14 @@ impl Arena {
             alloc,
             tops,
             came,
-            mut live,
+            live: mut rows,
         } = room;
-        live.clear();
+        rows.clear();
         Arena {
             alloc,
             kind,
             books: Books::over(alloc, tops, came, account),
-            live,
+            live: rows,
         }
     }
 

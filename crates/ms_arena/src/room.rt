@@ -8,10 +8,16 @@ use ms_base::Block;
 use std::alloc::Global;
 use std::marker::Model;
 
-/// How much a small room has at most: rows, free blocks, tops, and pages of 512 words.
+/// For how many blocks, live ones and those that left their words, a small room has memory at most.
 const SMALL_ROWS: usize = 128;
+
+/// For how many free blocks that come.
 const SMALL_BLOCKS: usize = 256;
+
+/// For how many chunks.
 const SMALL_TOPS: usize = 64;
+
+/// For how many pages of 512 words.
 const SMALL_PAGES: usize = 4;
 
 /// The memory of an arena that was taken apart. This project's choice; HotSpot's arenas are memory
@@ -35,8 +41,8 @@ impl Model for ArenaRoom {
 }
 
 impl ArenaRoom {
-    /// Tells whether it is small: it has 34 KiB at most, where most arenas of a few blocks have less. A
-    /// hint to whoever keeps many, of which nothing is promised. Takes no memory.
+    /// Tells whether it is small: it has some 30 KiB then at most. A hint to whoever keeps many, of which
+    /// nothing is promised. Takes no memory.
     pub fn is_small(&self) -> bool {
         let (rows, pages) = self.live.sizes();
         rows <= SMALL_ROWS
