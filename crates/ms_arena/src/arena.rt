@@ -29,6 +29,7 @@ ghost use Rattle.ms_arena.specs.ArenaSums.{AreSums};
 ghost use Rattle.ms_arena.specs.Books.{AsksFor, ForAllLive, HasLooked, MayLook, arena_over};
 
 use crate::books::Books;
+use crate::room::ArenaRoom;
 use crate::rows::Rows;
 use crate::totals::{ArenaTotals, sums_of};
 use ms_base::{Block, Chunk, Kind, ROOT_WORDS, Refusal, level_for};
@@ -71,6 +72,27 @@ impl Arena {
             kind,
             books: Books::new(alloc, account),
             live: Rows::new(alloc),
+        }
+    }
+
+    /// Makes an arena over an account that holds no chunk, in the memory that another arena had. Takes
+    /// none.
+    pub fn over(room: ArenaRoom, account: Account, kind: Kind) -> Arena
+        requires { account.chunks ≡ [] }
+        ensures { result ≡ new_arena account kind }
+    {
+        let ArenaRoom {
+            alloc,
+            tops,
+            came,
+            live: mut rows,
+        } = room;
+        rows.clear();
+        Arena {
+            alloc,
+            kind,
+            books: Books::over(alloc, tops, came, account),
+            live: rows,
         }
     }
 
@@ -150,6 +172,21 @@ impl Arena {
         self.live.remove(block)?;
         self.books.keep(block);
         Ok(())
+    }
+
+    /// Takes the arena apart: gives the account back, and the memory that the arena had, which a new one
+    /// may have. Takes none.
+    pub fn into_parts(self) -> (Account, ArenaRoom)
+        ensures { result.0 ≡ account_of self }
+    {
+        let (account, tops, came) = self.books.into_parts();
+        let room = ArenaRoom {
+            alloc: self.alloc,
+            tops,
+            came,
+            live: self.live,
+        };
+        (account, room)
     }
 
     /// Gives the account back, and drops all else. Takes no memory.

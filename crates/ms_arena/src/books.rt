@@ -81,6 +81,33 @@ impl Books {
         }
     }
 
+    /// Makes the books of an account that holds no chunk, over the memory that other books had. Takes
+    /// none.
+    pub fn over(alloc: Global, mut tops: Vec<u64>, came: Vec<Block>, account: Account) -> Books
+        requires { account.chunks ≡ [] }
+        ensures owner { result.owner ≡ account.owner }
+        ensures space { result.space ≡ account.space }
+        ensures state { result.state ≡ empty_arena }
+        ensures chunks { AreChunks result.space result.state.chunks }
+    {
+        // What holds of the chunks of every account is learnt here.
+        let _ = account.held();
+        tops.clear();
+        Books {
+            account,
+            tops,
+            used: 0,
+            kept: Kept::over(alloc, came),
+        }
+    }
+
+    /// Gives the account back, and the memory for tops and for blocks that come.
+    pub fn into_parts(self) -> (Account, Vec<u64>, Vec<Block>)
+        ensures { result.0 ≡ account_in self }
+    {
+        (self.account, self.tops, self.kept.into_came())
+    }
+
     /// Gives the account back, and drops all else.
     pub fn into_account(self) -> Account
         ensures { result ≡ account_in self }

@@ -61,6 +61,23 @@ impl Kept {
         }
     }
 
+    /// Makes a collection of no block over the memory that another one had for blocks that come. Takes none.
+    pub fn over(alloc: Global, mut came: Vec<Block>) -> Kept
+        ensures { result.kept ≡ [] }
+    {
+        came.clear();
+        Kept {
+            ordered: FreeBlocks::new(alloc),
+            came,
+            words: 0,
+        }
+    }
+
+    /// Gives up the memory for blocks that come, and drops all else.
+    pub fn into_came(self) -> Vec<Block> {
+        self.came
+    }
+
     /// Puts all blocks in order, and makes room for so many more; the blocks stay.
     pub fn make_room(&mut self, blocks: usize) -> Result<(), Refusal>
         ensures room { OnOk result (blocks ≤ self.new.room) }

@@ -10,8 +10,10 @@ mod arena;
 mod books;
 mod kept;
 mod pages;
+mod room;
 mod rows;
 mod totals;
 
 pub use arena::Arena;
+pub use room::ArenaRoom;
 pub use totals::ArenaTotals;

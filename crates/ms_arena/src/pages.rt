@@ -99,6 +99,13 @@ impl Pages {
         Ok(())
     }
 
+    /// Tells for how many pages there is room.
+    pub fn room(&self) -> usize
+        ensures { result ≡ self.now.room }
+    {
+        self.room
+    }
+
     /// Reads a word.
     pub fn read(&self, at: usize) -> u64
         ensures { result ≡ word_at self.now at }

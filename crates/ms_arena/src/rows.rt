@@ -82,6 +82,23 @@ impl Rows {
         }
     }
 
+    /// Takes all blocks out, and keeps the memory that they had. What the words held stays there, and is
+    /// cleared where it is handed out again.
+    pub fn clear(&mut self)
+        ensures { self.new ≡ record { blocks = []; room = 0 } }
+    {
+        self.rows.clear();
+        self.top = 0;
+        self.room = 0;
+        self.count = 0;
+        self.total = 0;
+    }
+
+    /// Tells for how many rows there is memory, and for how many pages of words.
+    pub fn sizes(&self) -> (usize, usize) {
+        (self.rows.capacity(), self.words.room())
+    }
+
     /// Tells how many blocks are live.
     pub fn len(&self) -> usize
         ensures count { result ≡ length self.now.blocks }

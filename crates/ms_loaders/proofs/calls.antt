@@ -5,5 +5,6 @@ pub mod LoaderChangeLemmas
 pub mod LoaderSpaceLemmas
 pub mod MatchLemmas
 pub mod MadeLemmas
+pub mod EmptyLemmas
 pub mod FindingLemmas
 pub mod ViewLemmas

@@ -21,6 +21,7 @@ mod loaders;
 mod naming;
 mod peaks;
 mod replies;
+mod room;
 mod serving;
 mod system;
 mod totals;

@@ -20,6 +20,7 @@ ghost use Rattle.ms_loaders.specs.Sums.{AreSumsIn};
 mod finding;
 
 use crate::naming::{Names, allocate_in};
+use crate::room::LoaderRoom;
 use ms_arena::{Arena, ArenaTotals};
 use ms_base::{Block, Kind, NODE_WORDS, Refusal, SLOTS, Space};
 use ms_pool::{Account, ChunkSource};
@@ -72,6 +73,33 @@ impl Loader {
             arena: Arena::new(alloc, account, kind),
             class_arena: Arena::new(alloc, class_account, kind),
             names: Names::new(alloc),
+        }
+    }
+
+    /// Makes a loader as `new` does, in the memory that another loader had. Takes none.
+    pub(crate) fn over(
+        room: LoaderRoom,
+        account: Account,
+        class_account: Account,
+        kind: Kind,
+    ) -> Loader
+        requires empty { account.chunks ≡ [] }
+        requires class_empty { class_account.chunks ≡ [] }
+        requires space { account.space ≡ NonClass }
+        requires class_space { class_account.space ≡ Class }
+        ensures made { result ≡ new_loader account class_account kind }
+        ensures sound { IsSoundView result }
+    {
+        let LoaderRoom {
+            arena,
+            class_arena,
+            mut names,
+        } = room;
+        names.clear();
+        Loader {
+            arena: Arena::over(arena, account, kind),
+            class_arena: Arena::over(class_arena, class_account, kind),
+            names,
         }
     }
 
@@ -199,6 +227,22 @@ impl Loader {
             let _ = self.arena.account();
             answer
         }
+    }
+
+    /// Takes the loader apart: gives the accounts back, the class space's last, and the memory that the
+    /// loader had, which a new one may have. Takes none.
+    pub(crate) fn into_parts(self) -> (Account, Account, LoaderRoom)
+        ensures account { result.0 ≡ account_in NonClass self }
+        ensures class_account { result.1 ≡ account_in Class self }
+    {
+        let (account, arena) = self.arena.into_parts();
+        let (class_account, class_arena) = self.class_arena.into_parts();
+        let room = LoaderRoom {
+            arena,
+            class_arena,
+            names: self.names,
+        };
+        (account, class_account, room)
     }
 
     /// Gives the accounts back, the class space's last, and drops all else. Takes no memory.

@@ -5,15 +5,17 @@
 //!
 //! So names need no search, and a walk over the places gives them in order. Kept true: each loader
 //! stands at its name, none below `first`, and there are `count`. Beside them a map guesses a loader's
-//! name from an owner number (`owners`), of which nothing is kept true. Apart from the system so that
-//! loaders can be handed to workers and gathered again. Only `insert` takes memory.
+//! name from an owner number (`owners`), of which nothing is kept true, and the rooms of loaders that were
+//! taken apart wait for new ones (`spares`). Apart from the system so that loaders can be handed to workers
+//! and gathered again. Only `insert` takes memory.
 ghost use Rattle.std.specs.Prelude.{◌≡◌, ◌<◌, ◌^◌, ◌∷◌, None, IfSome, OnOk, IfErr, OnErr, [], length};
 ghost use Rattle.std.specs.Option.{option_copied, option_copied_mut, is_some};
 ghost use Rattle.std.specs.List.{All};
 ghost use Rattle.std.specs.Map.{values_of};
 ghost use Rattle.std.specs.Borrow.{sem};
 ghost use Rattle.ms_base.specs.Names.{AreNamed, named, with_new, without};
-ghost use Rattle.ms_loaders.specs.Loader.{IsSoundView};
+ghost use Rattle.ms_base.specs.declared.kind.Space.TheVariants.{NonClass, Class};
+ghost use Rattle.ms_loaders.specs.Loader.{IsSoundView, account_in, new_loader};
 ghost use Rattle.ms_loaders.specs.Loaders.{LendsLoader, InsertRefused};
 ghost use Rattle.ms_loaders.specs.Used.{used_at};
 
@@ -21,13 +23,16 @@ mod boxed;
 mod owners;
 mod page;
 mod places;
+mod spares;
 mod walks;
 
 use crate::loader::Loader;
 use boxed::Boxed;
-use ms_base::Refusal;
+use ms_base::{Kind, Refusal};
+use ms_pool::Account;
 use owners::Owners;
 use places::Places;
+use spares::Spares;
 use std::alloc::Global;
 use std::marker::Model;
 pub use walks::{Iter, Values};
@@ -45,6 +50,8 @@ pub struct Loaders {
     count: usize,
     // The name of each by the first of its owner numbers, as it was noted when it came.
     owners: Owners,
+    // The rooms of loaders that were taken apart, for new ones.
+    spares: Spares,
 }
 
 impl Model for Loaders {
@@ -70,7 +77,43 @@ impl Loaders {
             first: usize::MAX,
             count: 0,
             owners: Owners::new(alloc),
+            spares: Spares::new(alloc),
         }
+    }
+
+    /// Makes a loader over two accounts, as `Loader::new` does, which is not among these yet: in a spare
+    /// room where there is one. Takes no memory.
+    pub(crate) fn make(
+        &mut self,
+        alloc: Global,
+        account: Account,
+        class_account: Account,
+        kind: Kind,
+    ) -> Loader
+        requires empty { account.chunks ≡ [] }
+        requires class_empty { class_account.chunks ≡ [] }
+        requires space { account.space ≡ NonClass }
+        requires class_space { class_account.space ≡ Class }
+        ensures made { result ≡ new_loader account class_account kind }
+        ensures sound { IsSoundView result }
+        ensures stays { self.new ≡ self.old }
+    {
+        match self.spares.take() {
+            Some(room) => Loader::over(room, account, class_account, kind),
+            None => Loader::new(alloc, account, class_account, kind),
+        }
+    }
+
+    /// Takes a loader apart that is not among these, and gives its accounts back, the class space's last.
+    /// Its room is kept for a new loader where it is small and there is place. Takes no memory.
+    pub(crate) fn take_apart(&mut self, loader: Loader) -> (Account, Account)
+        ensures account { result.0 ≡ account_in NonClass loader }
+        ensures class_account { result.1 ≡ account_in Class loader }
+        ensures stays { self.new ≡ self.old }
+    {
+        let (account, class_account, room) = loader.into_parts();
+        self.spares.keep(room);
+        (account, class_account)
     }
 
     /// Adds a loader under a new name. Refused with `LoaderExists` where the name is used, and with
@@ -87,6 +130,9 @@ impl Loaders {
         }
         let owner = first_owner(&loader);
         if self.owners.reserve().is_err() {
+            return Err((Refusal::OutOfMemory, loader));
+        }
+        if self.spares.reserve(self.count + 1).is_err() {
             return Err((Refusal::OutOfMemory, loader));
         }
         let boxed = match Boxed::new(self.alloc, name, loader) {

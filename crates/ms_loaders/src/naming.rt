@@ -55,6 +55,18 @@ impl Names {
         }
     }
 
+    /// Takes all names out, and keeps the memory that they had.
+    pub fn clear(&mut self)
+        ensures empty { self.new.entries ≡ [] }
+    {
+        self.blocks.clear();
+    }
+
+    /// Tells for how many names there is memory.
+    pub fn capacity(&self) -> usize {
+        self.blocks.capacity()
+    }
+
     /// Tells which block has a name, if one has. Takes no memory.
     pub fn get(&self, name: u32) -> Option<Block>
         ensures block { result ≡ named self.now.entries name }

@@ -110,7 +110,7 @@ fn new_loader<S: AccountSource>(
         Ok(accounts) => accounts,
         Err(refusal) => return Err(refusal),
     };
-    let loader = Loader::new(alloc, account, class_account, kind);
+    let loader = loaders.make(alloc, account, class_account, kind);
     match loaders.insert(name, loader) {
         Ok(()) => Ok(()),
         Err((refusal, loader)) => {
@@ -209,7 +209,7 @@ fn unload<S: AccountSource>(source: &mut S, loaders: &mut Loaders, name: u16) ->
 {
     match loaders.remove(name) {
         Some(loader) => {
-            let (account, class_account) = loader.into_accounts();
+            let (account, class_account) = loaders.take_apart(loader);
             source.close_both(account, class_account);
             Ok(())
         }

@@ -7,8 +7,8 @@ use Rattle.ms_loaders.proofs.serving.unload.Goals as goal
 pub close_both-requires : goal.close_both-requires
 close_both-requires g c =
     let found = sym c.remove.ensures.found ∙ c.in-Some.is in record {
-      both = both_back _ _ c.in-Some.loader c.into_accounts-account.result c.into_accounts-account.ensures.account
-          c.into_accounts-account.ensures.class_account (record {
+      both = both_back _ _ c.in-Some.loader c.take_apart-account.result c.take_apart-account.ensures.account
+          c.take_apart-account.ensures.class_account (record {
             served = c.requires.served c.args.name c.in-Some.loader found NonClass;
             class_served = c.requires.served c.args.name c.in-Some.loader found Class;
             space = refl;
@@ -29,10 +29,10 @@ returns-in-Some-clause-served g c =
         class_space = refl;
       };
       closed = closed_back g.S.AccountSource.closed_both c.args.source.now c.close_both.new.self c.in-Some.loader
-          c.into_accounts-account.result
-          c.into_accounts-account.ensures.account c.into_accounts-account.ensures.class_account
+          c.take_apart-account.result
+          c.take_apart-account.ensures.account c.take_apart-account.ensures.class_account
           c.close_both.ensures.closed;
-      gone = c.remove.ensures.rest;
+      gone = c.take_apart-account.ensures.stays ∙ c.remove.ensures.rest;
     }
 
 pub returns-in-None-clause-refused : goal.returns-in-None-clause-refused
