@@ -7,12 +7,13 @@
 //! Only `options_of` takes memory.
 ghost use Rattle.std.specs.Prelude.{◌≡◌, ◌≢◌, ◌≤◌, ◌<◌, ◌^◌, ℕ, IfOk, IfErr, IsOkAnd, None, Some, codes, decimal};
 ghost use Rattle.std.specs.Prelude.{length, map, false};
-ghost use Rattle.clap.specs.Words.{app_of, found_of, kind_of, one_of, rows_of, rule_of};
+ghost use Rattle.clap.specs.Words.{app_of, found_of, kind_of, new_rule, one_of, rows_of, rule_of, with_rule};
 ghost use Rattle.metarun.specs.Asked.{IsAllowed, IsDefault, IsTold, AreRead, AreAsked};
 ghost use Rattle.metarun.specs.Asked.{ReadsDetail, ReadsFlag, ReadsNumber, ReadsPolicy};
 ghost use Rattle.metarun.specs.CommandLine.{IsCommandLine, IsShown, AskToBeTold, IsPolicyRule, IsReportRule};
-ghost use Rattle.metarun.specs.CommandLine.{number_rule, addresses_rule};
+ghost use Rattle.metarun.specs.CommandLine.{number_rule, addresses_rule, named};
 
+use clap::builder::ValueParser;
 use clap::error::ErrorKind;
 use clap::{Arg, ArgAction, ArgMatches, Command, value_parser};
 use ms_base::{Policy, Settings};
@@ -220,18 +221,48 @@ Example:
 fn command<'a>(alloc: Global) -> Result<Command<'a>, AllocError>
     ensures { IfOk result (λ command. IsCommandLine (app_of command)) }
 {
-    Command::new(alloc, "metarun")
-        .bin_name("metarun")?
-        .version(VERSION)
-        .about(ABOUT)
-        .after_help(AFTER)
-        .arg(workers(alloc))?
-        .arg(granules(alloc))?
-        .arg(nodes(alloc))?
+    with_sizes(alloc, described(alloc)?)?
         .arg(addresses(alloc))?
         .arg(policy(alloc))?
         .arg(class_nodes(alloc))?
         .arg(report(alloc))
+}
+
+/// Describes the program.
+fn described<'a>(alloc: Global) -> Result<Command<'a>, AllocError>
+    ensures { IfOk result (λ command. app_of command ≡ named (codes "metarun")) }
+{
+    let command = Command::new(alloc, "metarun").bin_name("metarun")?;
+    Ok(command.version(VERSION).about(ABOUT).after_help(AFTER))
+}
+
+/// Adds how many workers, granules and nodes there may be.
+fn with_sizes<'a>(alloc: Global, command: Command<'a>) -> Result<Command<'a>, AllocError>
+    ensures { IfOk result (λ sized. app_of sized ≡ with_rule (with_rule (with_rule (app_of command.entry)
+        (number_rule (codes "workers") 1 8))
+        (number_rule (codes "max-granules") 1 40960))
+        (number_rule (codes "nodes") 1 64)) }
+{
+    command
+        .arg(workers(alloc))?
+        .arg(granules(alloc))?
+        .arg(nodes(alloc))
+}
+
+/// Describes an option with a number, of so many.
+fn numbered<'a>(alloc: Global, name: &'a str, numbers: ValueParser<'a>, help: &'a str) -> Arg<'a>
+    ensures rule { rule_of result ≡ record (new_rule name.entry.now) {
+      long = Some name.entry.now;
+      value_names = 1;
+      parser = Some numbers.entry;
+    } }
+    ensures own { result.global ≡ false }
+{
+    Arg::new(alloc, name)
+        .long(name)
+        .value_name("N")
+        .value_parser(numbers)
+        .help(help)
 }
 
 /// Describes `--workers`.
@@ -239,11 +270,12 @@ fn workers<'a>(alloc: Global) -> Arg<'a>
     ensures rule { rule_of result ≡ number_rule (codes "workers") 1 8 }
     ensures own { result.global ≡ false }
 {
-    Arg::new(alloc, "workers")
-        .long("workers")
-        .value_name("N")
-        .value_parser(value_parser!(u64).range(1..=8))
-        .help("Replay loaders on N threads: 1 to 8 [default: 1]")
+    numbered(
+        alloc,
+        "workers",
+        value_parser!(u64).range(1..=8),
+        "Replay loaders on N threads: 1 to 8 [default: 1]",
+    )
 }
 
 /// Describes `--max-granules`.
@@ -251,13 +283,12 @@ fn granules<'a>(alloc: Global) -> Arg<'a>
     ensures rule { rule_of result ≡ number_rule (codes "max-granules") 1 40960 }
     ensures own { result.global ≡ false }
 {
-    Arg::new(alloc, "max-granules")
-        .long("max-granules")
-        .value_name("N")
-        .value_parser(value_parser!(u64).range(1..=40960))
-        .help(
-            "Commit at most N granules of 8192 words, 2048 if aggressive: 1 to 40960 [default: 8192]",
-        )
+    numbered(
+        alloc,
+        "max-granules",
+        value_parser!(u64).range(1..=40960),
+        "Commit at most N granules of 8192 words, 2048 if aggressive: 1 to 40960 [default: 8192]",
+    )
 }
 
 /// Describes `--nodes`.
@@ -265,11 +296,12 @@ fn nodes<'a>(alloc: Global) -> Arg<'a>
     ensures rule { rule_of result ≡ number_rule (codes "nodes") 1 64 }
     ensures own { result.global ≡ false }
 {
-    Arg::new(alloc, "nodes")
-        .long("nodes")
-        .value_name("N")
-        .value_parser(value_parser!(u64).range(1..=64))
-        .help("Reserve at most N nodes of 1048576 words: 1 to 64 [default: 64]")
+    numbered(
+        alloc,
+        "nodes",
+        value_parser!(u64).range(1..=64),
+        "Reserve at most N nodes of 1048576 words: 1 to 64 [default: 64]",
+    )
 }
 
 /// Describes `--addresses`.
@@ -301,11 +333,12 @@ fn class_nodes<'a>(alloc: Global) -> Arg<'a>
     ensures rule { rule_of result ≡ number_rule (codes "class-nodes") 0 16 }
     ensures own { result.global ≡ false }
 {
-    Arg::new(alloc, "class-nodes")
-        .long("class-nodes")
-        .value_name("N")
-        .value_parser(value_parser!(u64).range(0..=16))
-        .help("Give the class space N nodes of 1048576 words: 0 to 16 [default: 0]")
+    numbered(
+        alloc,
+        "class-nodes",
+        value_parser!(u64).range(0..=16),
+        "Give the class space N nodes of 1048576 words: 0 to 16 [default: 0]",
+    )
 }
 
 /// Describes `--report`.

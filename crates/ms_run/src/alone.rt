@@ -5,11 +5,13 @@
 //! follow, and so do the peaks, for full reports. A line costs the same however many loaders stand by.
 //! Takes memory; nothing waits.
 ghost use Rattle.std.specs.Prelude.{◌≡◌, IfOk, OnOk, [], ◌∷◌, IsTrue};
+ghost use Rattle.ms_base.specs.Good.{IsGood};
 ghost use Rattle.ms_base.specs.State.{empty_machine, limits_of};
 ghost use Rattle.std.specs.List.{All};
 ghost use Rattle.ms_run.specs.Course.{Course, begun};
-ghost use Rattle.ms_run.specs.Replay.{Answers, IsDetailed};
-ghost use Rattle.ms_run.specs.Counting.{HasAnswered, IsCounted, used_around};
+ghost use Rattle.ms_run.specs.Replay.{Answers, AreKept, IsDetailed};
+ghost use Rattle.ms_run.specs.Metering.{used_words_of};
+ghost use Rattle.ms_run.specs.Counting.{HasAnswered, HasTaken, IsCounted, used_around};
 
 use crate::between::answer_between;
 use crate::gate::Gate;
@@ -42,18 +44,49 @@ pub fn answer_all<G: Gate>(
         (begun (empty_machine (limits_of settings))) lines.now replies.answers.items last) }
     ensures detailed { IfOk result (λ replies. All (IsDetailed detail) replies.answers.items) }
 {
+    // Room for all answers, so that no push takes memory once a step is done.
+    let mut answers = Vec::with_capacity(alloc, lines.len())?;
+    answer_alone(alloc, gate, settings, detail, lines, &mut answers)?;
+    Ok(Replies { answers })
+}
+
+/// Answers the lines in their order, from a system without loaders on, that goes with them.
+fn answer_alone<G: Gate>(
+    alloc: Global,
+    gate: &G,
+    settings: Settings,
+    detail: Detail,
+    lines: &[Line],
+    answers: &mut Vec<Answer>,
+) -> Result<(), AllocError>
+    requires { answers.old.items ≡ [] }
+    ensures run { OnOk result ((last : Course) × Answers
+        (begun (empty_machine (limits_of settings))) lines.now answers.new.items last) }
+    ensures detailed { OnOk result (All (IsDetailed detail) answers.new.items) }
+{
+    let mut run = begin_run(alloc, settings, detail)?;
+    let counts = gate.looks() | run.peaks.is_some();
+    answer_lines(gate, 0, counts, detail, lines, &mut run, answers)
+}
+
+/// Begins a run: a system without loaders, and peaks where reports shall be full.
+pub fn begin_run(
+    alloc: Global,
+    settings: Settings,
+    detail: Detail,
+) -> Result<Metered, AllocError>
+    ensures taken { IfOk result (HasTaken (begun (empty_machine (limits_of settings)))) }
+    ensures good { IfOk result (λ run. IsGood run.system) }
+    ensures used { IfOk result (λ run. run.used ≡ used_words_of run.system) }
+    ensures kept { IfOk result (λ run. AreKept detail run.peaks) }
+{
     let system = System::new(alloc, settings)?;
     let peaks = begin(&system, detail);
-    let counts = gate.looks() | peaks.is_some();
-    let mut run = Metered {
+    Ok(Metered {
         system,
         used: 0,
         peaks,
-    };
-    // Room for all answers, so that no push takes memory once a step is done.
-    let mut answers = Vec::with_capacity(alloc, lines.len())?;
-    answer_lines(gate, 0, counts, detail, lines, &mut run, &mut answers)?;
-    Ok(Replies { answers })
+    })
 }
 
 /// Answers the lines in their order, by the worker of a number. The words in use are counted on where

@@ -10,20 +10,24 @@
 //! for seats, lists of tasks and of replies, and places of loaders; nothing waits.
 ghost use Rattle.std.specs.Prelude.{◌≡◌, ◌+◌, ◌++◌, ◌∷◌, [], ◌≤◌, map, IfOk, IfErr, OnOk, vec_len, vec_capacity, ◌<◌};
 ghost use Rattle.std.specs.Prelude.{◌≢◌, ℕ, Some, slice_get};
+ghost use Rattle.ms_base.specs.declared.kind.Space.TheVariants.{NonClass, Class};
 ghost use Rattle.ms_base.specs.Names.{AreNamed};
 ghost use Rattle.ms_base.specs.Request.{loader_of};
 ghost use Rattle.ms_run.specs.Turn.{shares_in, place_in};
+ghost use Rattle.ms_loaders.specs.Loader.{account_in};
 ghost use Rattle.ms_loaders.specs.Used.{used_in};
+ghost use Rattle.ms_shared.specs.SeatView.{ServesBy, new_seats, opened_by, with_account, without_account};
 ghost use Rattle.ms_run.specs.Metering.{used_over, meter_of};
 ghost use Rattle.ms_run.specs.Shares.{AreDealt, AreSteps, tasks_of, names_in, name_with, place_for};
 ghost use Rattle.ms_run.specs.Dealing.{AreCrews, AreListed, AreEmpty, AreAdded, IsHanded, AreHanded, AreSeats};
 ghost use Rattle.ms_run.specs.Dealing.{AreDealtTo, HaveMeters, MayBeDealt, IsSameSeat};
 
 use crate::fault::RunFault;
+use crate::gathering::put_loader;
 use crate::share::{Share, Task};
 use crate::turn::{Turn, loader_named};
 use ms_base::Step;
-use ms_loaders::Loaders;
+use ms_loaders::{Loader, Loaders};
 use ms_pool::Pool;
 use ms_shared::{MeterSeat, PoolSeat, SharedPool, UsedMeter};
 use ms_trace::{Command, Line};
@@ -57,14 +61,27 @@ pub fn deal(
     ensures wanting { IfErr result (λ fault. fault ≡ RunFault.OutOfMemory) }
 {
     let count = turn.shares();
-    let Ok((shared, seats)) = SharedPool::new(alloc, pool, count) else {
-        return Err(RunFault::OutOfMemory);
-    };
+    let (shared, seats) = lock(alloc, pool, count)?;
     let (meter, meters) = UsedMeter::new(alloc, count)?;
     let shares = deal_to(alloc, turn, lines, &shared, seats, meters, loaders)?;
     // That each place is within the shares is learnt here.
     let _ = turn.place(None);
     Ok((shared, shares, meter))
+}
+
+/// Puts the pool behind a lock with so many seats.
+fn lock(alloc: Global, pool: Pool, count: usize) -> Result<(SharedPool, Vec<PoolSeat>), RunFault>
+    requires some { 1 ≤ count }
+    requires few { count ≤ 8 }
+    ensures lock { IfOk result (λ made. made.0.seats ≡ count) }
+    ensures first { IfOk result (λ made. made.0.first ≡ pool) }
+    ensures seats { IfOk result (λ made. made.1.items ≡ new_seats made.0.id count pool) }
+    ensures wanting { IfErr result (λ fault. fault ≡ RunFault.OutOfMemory) }
+{
+    match SharedPool::new(alloc, pool, count) {
+        Ok(made) => Ok(made),
+        Err(_) => Err(RunFault::OutOfMemory),
+    }
 }
 
 /// Deals lines and loaders to a share for each seat, of which the first serves all loaders, and gives
@@ -96,20 +113,58 @@ fn deal_to(
     let mut first = Crew { seat, loaders };
     for seat in seats {
         let at = shares.len() + 1;
-        let loaders = Loaders::new(alloc);
-        let mut crew = Crew { seat, loaders };
         let tasks = take_list(alloc, &mut lists, at);
-        hand_all(alloc, shared, tasks.as_slice(), &mut first, &mut crew)?;
         let meter = meters.remove(0);
-        let share = make_share(alloc, turn, at, tasks, crew, meter)?;
+        let share = share_beside(alloc, turn, shared, at, &mut first, seat, tasks, meter)?;
         shares.push_reserved(share);
     }
     let tasks = take_list(alloc, &mut lists, 0);
     let share = make_share(alloc, turn, 0, tasks, first, first_meter)?;
+    put_first(shares, share)
+}
+
+/// Puts a share before the others.
+fn put_first(mut shares: Vec<Share>, share: Share) -> Result<Vec<Share>, RunFault>
+    ensures items { IfOk result (λ all. all.items ≡ share ∷ shares.items) }
+    ensures wanting { IfErr result (λ fault. fault ≡ RunFault.OutOfMemory) }
+{
     match shares.insert(0, share) {
         Ok(()) => Ok(shares),
         Err(_) => Err(RunFault::OutOfMemory),
     }
+}
+
+/// Makes the share of a seat that serves nothing: the first crew hands on all loaders that the tasks
+/// name.
+fn share_beside(
+    alloc: Global,
+    turn: &Turn,
+    shared: &SharedPool,
+    at: usize,
+    first: &mut Crew,
+    seat: PoolSeat,
+    tasks: Vec<Task>,
+    meter: MeterSeat,
+) -> Result<Share, RunFault>
+    requires { AreCrews shared.now first.old.seat first.old.loaders seat [] }
+    ensures crews { IfOk result (λ share.
+        AreCrews shared.now first.new.seat first.new.loaders share.seat share.loaders) }
+    ensures handed { IfOk result (λ share.
+        AreHanded (names_in tasks.items) first.old.loaders first.new.loaders share.loaders) }
+    ensures first { IfOk result (λ share. IsSameSeat first.old.seat first.new.seat) }
+    ensures seat { IfOk result (λ share. IsSameSeat seat share.seat) }
+    ensures used { IfOk result (λ share.
+        used_in first.new.loaders + used_in share.loaders ≡ used_in first.old.loaders) }
+    ensures meter { IfOk result (λ share. share.meter ≡ meter) }
+    ensures tasks { IfOk result (λ share. share.tasks.items ≡ tasks.items) }
+    ensures room { IfOk result (λ share. vec_len share.tasks ≤ vec_capacity share.replies) }
+    ensures none { IfOk result (λ share. share.replies.items ≡ []) }
+    ensures wanting { IfErr result (λ fault. fault ≡ RunFault.OutOfMemory) }
+{
+    let loaders = Loaders::new(alloc);
+    let mut crew = Crew { seat, loaders };
+    hand_all(alloc, shared, tasks.as_slice(), first, &mut crew)?;
+    make_share(alloc, turn, at, tasks, crew, meter)
 }
 
 /// Makes the share of a place, with room for its replies.
@@ -268,11 +323,34 @@ fn hand_on(shared: &SharedPool, name: u16, from: &mut Crew, to: &mut Crew) -> Re
     let Some(loader) = from.loaders.remove(name) else {
         return Ok(());
     };
-    let (account, class_account) = loader.accounts();
-    shared.hand(&mut from.seat, &mut to.seat, account);
-    shared.hand(&mut from.seat, &mut to.seat, class_account);
-    let Ok(()) = to.loaders.insert(name, loader) else {
+    hand_accounts(shared, &loader, &mut from.seat, &mut to.seat);
+    let Ok(()) = put_loader(name, loader, &mut to.loaders) else {
         return Err(RunFault::OutOfMemory);
     };
     Ok(())
+}
+
+/// Hands both accounts of a loader on.
+fn hand_accounts(shared: &SharedPool, loader: &Loader, from: &mut PoolSeat, to: &mut PoolSeat)
+    requires own { from.old.id ≡ shared.now.id }
+    requires to_own { to.old.id ≡ shared.now.id }
+    requires served { ServesBy from.old.knows (account_in NonClass loader.now) }
+    requires counted { 0 < opened_by from.old.knows NonClass }
+    requires class_served { ServesBy (without_account loader.now.owner NonClass from.old.knows)
+        (account_in Class loader.now) }
+    requires class_counted { 0 < opened_by
+        (without_account loader.now.owner NonClass from.old.knows) Class }
+    ensures from { from.new ≡ record from.old {
+      knows = without_account loader.now.class_owner Class
+          (without_account loader.now.owner NonClass from.old.knows);
+    } }
+    ensures to { to.new ≡ record to.old {
+      knows = with_account loader.now.class_owner Class
+          (without_account loader.now.owner NonClass from.old.knows)
+          (with_account loader.now.owner NonClass from.old.knows to.old.knows);
+    } }
+{
+    let (account, class_account) = loader.accounts();
+    shared.hand(from, to, account);
+    shared.hand(from, to, class_account);
 }

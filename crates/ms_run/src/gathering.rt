@@ -4,10 +4,12 @@
 //! Kept true: each seat counts just the accounts of its share's loaders, so settling is never
 //! refused, and no name is in two shares. The seats of the meter come out as they are. Takes memory
 //! for seats and for places of loaders; nothing waits.
-ghost use Rattle.std.specs.Prelude.{◌≡◌, ◌≤◌, [], IsOk, IfOk, IfErr, map, vec_len};
+ghost use Rattle.std.specs.Prelude.{◌≡◌, ◌≤◌, [], IsOk, IfOk, IfErr, OnOk, None, map, vec_len};
 ghost use Rattle.std.specs.List.{All};
 ghost use Rattle.ms_base.specs.declared.refusal.Refusal.TheVariants as Refusal;
 ghost use Rattle.ms_base.specs.Good.{IsGood};
+ghost use Rattle.ms_base.specs.Names.{named, with_new};
+ghost use Rattle.ms_loaders.specs.Loaders.{InsertRefused};
 ghost use Rattle.ms_loaders.specs.Settles.{MaySettle, open_accounts, accounts_in};
 ghost use Rattle.ms_loaders.specs.System.{machine_of};
 ghost use Rattle.ms_shared.specs.SeatView.{SeatState, Gathers, IsHistory};
@@ -19,7 +21,7 @@ ghost use Rattle.ms_run.specs.Shares.{Place, AreApart, IsGathered, StandOver};
 use crate::fault::RunFault;
 use crate::share::Share;
 use ms_base::Refusal;
-use ms_loaders::{Loaders, System};
+use ms_loaders::{Loader, Loaders, System};
 use ms_pool::Pool;
 use ms_shared::{MeterSeat, PoolSeat, SharedPool};
 use std::alloc::Global;
@@ -122,11 +124,31 @@ fn insert_all(mut whole: Loaders, mut part: Loaders) -> Result<Loaders, RunFault
     // That names rise is learnt here.
     let _ = part.len();
     while let Some((name, loader)) = part.pop_first() {
-        if let Err((refusal, _loader)) = whole.insert(name, loader) {
+        if let Err(refusal) = put_loader(name, loader, &mut whole) {
             return Err(fault_of(refusal));
         }
     }
     Ok(whole)
+}
+
+/// Puts a loader to others; one that is refused is dropped.
+pub fn put_loader(name: u16, loader: Loader, others: &mut Loaders) -> Result<(), Refusal>
+    ensures fresh { OnOk result (named others.old name ≡ None) }
+    ensures inserted { OnOk result (others.new ≡ with_new others.old name loader) }
+    ensures refused { IfErr result (InsertRefused others.old name) }
+{
+    match others.insert(name, loader) {
+        Ok(()) => Ok(()),
+        Err(back) => Err(refusal_of(back)),
+    }
+}
+
+/// Tells why a loader was refused, and drops it.
+fn refusal_of(back: (Refusal, Loader)) -> Refusal
+    ensures { result ≡ back.0 }
+{
+    let (refusal, _loader) = back;
+    refusal
 }
 
 /// Tells the fault that a refusal at the end of a phase is.

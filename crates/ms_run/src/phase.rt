@@ -18,7 +18,7 @@ ghost use Rattle.ms_run.specs.Replay.{AreKept, GoesOn, IsDetailed, IsWanting};
 ghost use Rattle.ms_shared.specs.MeterRule.{MeterSeatState};
 ghost use Rattle.ms_run.specs.Shares.{AreSteps};
 ghost use Rattle.ms_run.specs.Metering.{used_words_of, amount_of};
-ghost use Rattle.ms_run.specs.Turn.{worker_in, IsSameTurn};
+ghost use Rattle.ms_run.specs.Turn.{worker_in, IsSameTurn, TurnState};
 
 use crate::alone::{Metered, answer_lines};
 use crate::dealing::deal;
@@ -68,6 +68,35 @@ pub fn run_phase<R: Threads + Wait + Sync, G: Gate + Sync>(
         answer_lines(gate, turn.worker(0), true, detail, lines, &mut run, answers)?;
         return Ok(run);
     }
+    run_shares(rt, alloc, gate, turn, detail, lines, run, answers)
+}
+
+/// Runs a phase of several workers with lines, each with its share.
+fn run_shares<R: Threads + Wait + Sync, G: Gate + Sync>(
+    rt: &R,
+    alloc: Global,
+    gate: &G,
+    turn: &Turn,
+    detail: Detail,
+    lines: &[Line],
+    run: Metered,
+    answers: &mut Vec<Answer>,
+) -> Result<Metered, RunFault>
+    requires good { IsGood run.system }
+    requires used { run.used ≡ used_words_of run.system }
+    requires steps { AreSteps lines.now }
+    requires kept { AreKept detail run.peaks }
+    ensures phase { (before : TurnState) → IsSameTurn before turn.now
+        → IfOk result (λ after. (course : Course) → HasTaken course run
+        → (added : List AnswerOf) × (later : Course)
+        × (answers.new.items ≡ answers.old.items ++ added)
+        × GoesOn (worker_in before) course lines.now added later × HasTaken later after) }
+    ensures used { IfOk result (λ after. after.used ≡ used_words_of after.system) }
+    ensures kept { IfOk result (λ after. AreKept detail after.peaks) }
+    ensures wanting { IfErr result IsWanting }
+    ensures detailed { IfOk result (λ after. All (IsDetailed detail) answers.old.items
+        → All (IsDetailed detail) answers.new.items) }
+{
     let Metered {
         system,
         used,

@@ -5,7 +5,7 @@
 //!
 //! Kept true: between two phases all is one good system, and each line so far has its answer. Takes
 //! memory; waits as its phases do.
-ghost use Rattle.std.specs.Prelude.{◌≡◌, ◌≤◌, ℕ, IfOk, IfErr, Some, None, length, take, slice_get};
+ghost use Rattle.std.specs.Prelude.{◌≡◌, ◌≤◌, ℕ, IfOk, IfErr, OnOk, Some, None, [], length, take, slice_get};
 ghost use Rattle.ms_base.specs.State.{empty_machine, limits_of};
 ghost use Rattle.ms_trace.specs.declared.trace.Line.{Line as LineOf};
 ghost use Rattle.ms_trace.specs.Steps.{step_of};
@@ -14,15 +14,14 @@ ghost use Rattle.ms_run.specs.Course.{Course, begun};
 ghost use Rattle.ms_run.specs.Replay.{IsReplay, Answers, IsDetailed, IsWanting};
 ghost use Rattle.ms_run.specs.Shares.{AreSteps};
 
-use crate::alone::{Metered, answer_all};
+use crate::alone::{answer_all, begin_run};
 use crate::between::answer_between;
 use crate::fault::RunFault;
 use crate::gate::Gate;
-use crate::peaks::begin;
 use crate::phase::run_phase;
 use crate::turn::Turn;
 use ms_base::Settings;
-use ms_loaders::{Detail, Replies, System};
+use ms_loaders::{Answer, Detail, Replies};
 use ms_trace::{Command, Line, Trace};
 use std::alloc::Global;
 use std::sync::Wait;
@@ -63,7 +62,7 @@ pub fn replay<R: Threads + Wait + Sync, G: Gate + Sync>(
     Ok(replies)
 }
 
-/// Runs the lines phase by phase, from a system without loaders on.
+/// Runs the lines phase by phase, with room for all answers.
 fn run_phases<R: Threads + Wait + Sync, G: Gate + Sync>(
     rt: &R,
     alloc: Global,
@@ -77,28 +76,42 @@ fn run_phases<R: Threads + Wait + Sync, G: Gate + Sync>(
     ensures detailed { IfOk result (λ replies. All (IsDetailed detail) replies.answers.items) }
     ensures wanting { IfErr result IsWanting }
 {
-    let mut turn = Turn::new(alloc, settings, lines)?;
-    let system = System::new(alloc, settings)?;
-    let peaks = begin(&system, detail);
-    let mut run = Metered {
-        system,
-        used: 0,
-        peaks,
-    };
     let mut answers = Vec::with_capacity(alloc, lines.len())?;
+    answer_phases(rt, alloc, gate, settings, detail, lines, &mut answers)?;
+    Ok(Replies { answers })
+}
+
+/// Answers the lines phase by phase, from a system without loaders on.
+fn answer_phases<R: Threads + Wait + Sync, G: Gate + Sync>(
+    rt: &R,
+    alloc: Global,
+    gate: &G,
+    settings: Settings,
+    detail: Detail,
+    lines: &[Line],
+    answers: &mut Vec<Answer>,
+) -> Result<(), RunFault>
+    requires { answers.old.items ≡ [] }
+    ensures own { OnOk result (IsReplay (limits_of settings) settings.workers
+        lines.now answers.new.items) }
+    ensures detailed { OnOk result (All (IsDetailed detail) answers.new.items) }
+    ensures wanting { IfErr result IsWanting }
+{
+    let mut turn = Turn::new(alloc, settings, lines)?;
+    let mut run = begin_run(alloc, settings, detail)?;
     let mut at = 0;
     while at < lines.len() {
         let count = steps_first(&lines[at..]);
         let steps = &lines[at..at + count];
-        run = run_phase(rt, alloc, gate, &mut turn, detail, steps, run, &mut answers)?;
+        run = run_phase(rt, alloc, gate, &mut turn, detail, steps, run, answers)?;
         at += count;
         if at < lines.len() {
-            answer_between(&run, Some(run.used), detail, &lines[at], &mut answers)?;
+            answer_between(&run, Some(run.used), detail, &lines[at], answers)?;
             at += 1;
             turn.go_on();
         }
     }
-    Ok(Replies { answers })
+    Ok(())
 }
 
 /// Tells how many of the first lines ask steps, up to one that asks none.

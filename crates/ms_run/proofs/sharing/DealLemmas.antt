@@ -321,14 +321,14 @@ seats_are shared count seats pool loaders are may all = record {
 }
 
 -- Beside a seat that serves nothing.
-pub beside_none : (from to : SeatView) (loaders others : Loaded) → others ≡ [] → IsManned from loaders
-    → AreNamed loaders → IsManned to [] → AreBeside from loaders to others
-beside_none from to loaders others nothing manned names to_manned = rw nothing (record {
+pub beside_none : (from to : SeatView) (loaders : Loaded) → IsManned from loaders
+    → AreNamed loaders → IsManned to [] → AreBeside from loaders to []
+beside_none from to loaders manned names to_manned = record {
   manned = manned;
   to_manned = to_manned;
   names = names;
   apart = λ number. omega (arith, manned.distinct number);
-})
+}
 
 -- Shares are made of the places from 1 on, while the first seat has the loaders of place 0 and of all
 -- that are to come.

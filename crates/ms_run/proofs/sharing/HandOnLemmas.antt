@@ -175,6 +175,9 @@ module _ (name : ℕ) (v : LoaderView) (loaders others : Loaded) (from to : Seat
   pub serves_second : ServesBy (without_account v.owner NonClass from) (account_in Class v)
   serves_second = left_serves from v.owner NonClass (account_in Class v) own_differ parts.2
 
+  pub counts_first : 0 < opened_by from NonClass
+  counts_first = omega (arith, its.manned.opened NonClass, long)
+
   pub counts_second : 0 < opened_by (without_account v.owner NonClass from) Class
   counts_second = omega (arith, its.manned.opened Class, long)
 
@@ -334,78 +337,21 @@ module _ (name : ℕ) (v : LoaderView) (loaders others : Loaded) (from to : Seat
     }
 
 -- The same, by what the calls say.
-abbrev handed_from : AccountState → SeatState → SeatState
-handed_from account from = record from { knows = without_account account.owner account.space from.knows }
-
-abbrev handed_to : AccountState → SeatState → SeatState → SeatState
-handed_to account from to = record to { knows = with_account account.owner account.space from.knows to.knows }
-
 pub beside_after : (name : ℕ) (v : LoaderView) (loaders others after others_after : Loaded)
-    (from to from_mid to_mid from_end to_end : SeatState) (account class_account : AccountState)
+    (from to from_end to_end : SeatState)
     → named loaders name ≡ Some v → named others name ≡ None → AreBeside from.knows loaders to.knows others
-    → account ≡ account_in NonClass v → class_account ≡ account_in Class v
-    → from_mid ≡ handed_from account from → to_mid ≡ handed_to account from to
-    → from_end ≡ handed_from class_account from_mid → to_end ≡ handed_to class_account from_mid to_mid
+    → from_end ≡ record from {
+        knows = without_account v.class_owner Class (without_account v.owner NonClass from.knows);
+      }
+    → to_end ≡ record to {
+        knows = with_account v.class_owner Class (without_account v.owner NonClass from.knows)
+            (with_account v.owner NonClass from.knows to.knows);
+      }
     → after ≡ without loaders name → others_after ≡ with_new others name v
     → AreBeside from_end.knows after to_end.knows others_after
-beside_after name v loaders others after others_after from to from_mid to_mid from_end to_end account class_account
-    found none its a_is c_is from_1 to_1 from_2 to_2 left made =
-    rw (from_is, to_is, left, made) (handed name v loaders others from.knows to.knows found its none)
-  where
-    mid_is : from_mid.knows ≡ without_account v.owner NonClass from.knows
-    mid_is = ap (λ (s : SeatState). s.knows) from_1
-        ∙ ap (λ (a : AccountState). without_account a.owner a.space from.knows) a_is
-
-    to_mid_is : to_mid.knows ≡ with_account v.owner NonClass from.knows to.knows
-    to_mid_is =
-        ap (λ (s : SeatState). s.knows) to_1
-        ∙ ap (λ (a : AccountState). with_account a.owner a.space from.knows to.knows) a_is
-
-    from_is : from_end.knows ≡ without_account v.class_owner Class (without_account v.owner NonClass from.knows)
-    from_is =
-        ap (λ (s : SeatState). s.knows) from_2
-        ∙ ap (λ (a : AccountState). without_account a.owner a.space from_mid.knows) c_is
-        ∙ ap (λ (s : SeatView). without_account v.class_owner Class s) mid_is
-
-    to_is : to_end.knows ≡ with_account v.class_owner Class (without_account v.owner NonClass from.knows)
-        (with_account v.owner NonClass from.knows to.knows)
-    to_is = ap (λ (s : SeatState). s.knows) to_2
-        ∙ ap (λ (a : AccountState). with_account a.owner a.space from_mid.knows to_mid.knows) c_is
-        ∙ ap (λ (s : SeatView). with_account v.class_owner Class s to_mid.knows) mid_is
-        ∙ ap (λ (s : SeatView). with_account v.class_owner Class (without_account v.owner NonClass from.knows) s)
-        to_mid_is
-
-pub first_served : (name : ℕ) (v : LoaderView) (loaders others : Loaded) (from to : SeatState) (account : AccountState)
-    → named loaders name ≡ Some v → AreBeside from.knows loaders to.knows others → account ≡ account_in NonClass v
-    → ServesBy from.knows account
-first_served name v loaders others from to account found its is =
-    subst (ServesBy from.knows) (sym is) (serves_first name v loaders others from.knows to.knows found its)
-
-pub second_served : (name : ℕ) (v : LoaderView) (loaders others : Loaded) (from to from_mid : SeatState)
-    (account class_account : AccountState)
-    → named loaders name ≡ Some v → AreBeside from.knows loaders to.knows others → account ≡ account_in NonClass v
-    → class_account ≡ account_in Class v
-    → from_mid ≡ handed_from account from → ServesBy from_mid.knows class_account
-second_served name v loaders others from to from_mid account class_account found its a_is c_is from_1 =
-    rw (
-      ap (λ (s : SeatState). s.knows) from_1
-          ∙ ap (λ (a : AccountState). without_account a.owner a.space from.knows) a_is,
-      c_is,
-    )
-    (serves_second name v loaders others from.knows to.knows found its)
-
-pub second_counted : (name : ℕ) (v : LoaderView) (loaders others : Loaded) (from to from_mid : SeatState)
-    (account class_account : AccountState)
-    → named loaders name ≡ Some v → AreBeside from.knows loaders to.knows others → account ≡ account_in NonClass v
-    → class_account ≡ account_in Class v
-    → from_mid ≡ handed_from account from → 0 < opened_by from_mid.knows class_account.space
-second_counted name v loaders others from to from_mid account class_account found its a_is c_is from_1 =
-    rw (
-      ap (λ (s : SeatState). s.knows) from_1
-          ∙ ap (λ (a : AccountState). without_account a.owner a.space from.knows) a_is,
-      c_is,
-    )
-    (counts_second name v loaders others from.knows to.knows found its)
+beside_after name v loaders others after others_after from to from_end to_end found none its from_is to_is left made =
+    rw (ap (λ (s : SeatState). s.knows) from_is, ap (λ (s : SeatState). s.knows) to_is, left, made)
+    (handed name v loaders others from.knows to.knows found its none)
 
 -- What has a name then.
 none_above : {X : Type 0} (low : ℕ) (es : List (ℕ × X)) → AllByRecursion (λ k. nat_cmp low k ≡ Less) (keys_of es)

@@ -1,4 +1,4 @@
-use Rattle.std.proofs.Common.{◌≡◌, ◌≤◌, ◌∙◌, sym, ap, subst, vec_len, ℕ, List, length}
+use Rattle.std.proofs.Common.{◌≡◌, ◌≤◌, ◌∙◌, sym, ap, subst, vec_len, ℕ, List, length, replicate}
 use Rattle.std.proofs.lemmas.List.{length-replicate}
 use Rattle.ms_shared.specs.MeterRule.{MeterSeatState}
 use Rattle.ms_run.specs.Metering.{unmoved}
@@ -10,47 +10,67 @@ use Rattle.ms_run.proofs.dealing.deal.Goals as goal
 
 pub deal_to-requires-clause-seats : goal.deal_to-requires-clause-seats
 deal_to-requires-clause-seats c =
-    seats_are c.in-Ok.shared c.shares-count.result c.in-Ok.seats.items c.args.pool c.args.loaders c.in-Ok.ensures.seats
+    seats_are c.in_ok-shared.shared c.shares-count.result c.in_ok-shared.seats.items c.args.pool c.args.loaders c.in_ok-shared.ensures.seats
     c.requires.may.fits c.requires.may.all
 
 pub returns-clause-dealt : goal.returns-clause-dealt
 returns-clause-dealt c =
     let few : 1 ≤ c.shares-count.result =
     subst (λ (n : ℕ). 1 ≤ n) (sym c.shares-count.ensures.count) c.shares-count.ensures.turn.some in
-    let counted : vec_len c.in-Ok.seats ≡ c.shares-count.result =
-    c.in-Ok.seats.ok.0
-    ∙ seats_count c.in-Ok.shared c.shares-count.result c.in-Ok.seats.items c.args.pool few c.in-Ok.ensures.seats in
-    are_dealt (place_for (place_in c.args.turn.now) c.args.lines.now) c.in-Ok.shared
-    (vec_len c.in-Ok.seats) c.args.lines.now c.args.loaders
+    let counted : vec_len c.in_ok-shared.seats ≡ c.shares-count.result =
+    c.in_ok-shared.seats.ok.0
+    ∙ seats_count c.in_ok-shared.shared c.shares-count.result c.in_ok-shared.seats.items c.args.pool few c.in_ok-shared.ensures.seats in
+    are_dealt (place_for (place_in c.args.turn.now) c.args.lines.now) c.in_ok-shared.shared
+    (vec_len c.in_ok-shared.seats) c.args.lines.now c.args.loaders
     c.in_ok-shares.shares.items c.in_ok-shares.ensures.dealt
     (subst (AreWithin (place_for (place_in c.args.turn.now) c.args.lines.now))
     (sym (counted ∙ c.shares-count.ensures.count))
     (within_still (place_in c.args.turn.now) c.args.lines.now _ c.shares-count.ensures.turn.some
     c.place.ensures.all_within))
-    (c.in-Ok.ensures.lock ∙ sym counted)
+    (c.in_ok-shared.ensures.lock ∙ sym counted)
 
 pub returns-clause-count : goal.returns-clause-count
 returns-clause-count c =
     let few : 1 ≤ c.shares-count.result =
     subst (λ (n : ℕ). 1 ≤ n) (sym c.shares-count.ensures.count) c.shares-count.ensures.turn.some in
-    c.in_ok-shares.shares.ok.0 ∙ c.in_ok-shares.ensures.dealt.count_is ∙ c.in-Ok.seats.ok.0
-    ∙ seats_count c.in-Ok.shared c.shares-count.result c.in-Ok.seats.items c.args.pool few c.in-Ok.ensures.seats
+    c.in_ok-shares.shares.ok.0 ∙ c.in_ok-shares.ensures.dealt.count_is ∙ c.in_ok-shared.seats.ok.0
+    ∙ seats_count c.in_ok-shared.shared c.shares-count.result c.in_ok-shared.seats.items c.args.pool few c.in_ok-shared.ensures.seats
     ∙ c.shares-count.ensures.count
 
 pub deal_to-requires-clause-count : goal.deal_to-requires-clause-count
 deal_to-requires-clause-count c =
     let few : 1 ≤ c.shares-count.result =
     subst (λ (n : ℕ). 1 ≤ n) (sym c.shares-count.ensures.count) c.shares-count.ensures.turn.some in
-    c.in-Ok.seats.ok.0
-    ∙ seats_count c.in-Ok.shared c.shares-count.result c.in-Ok.seats.items c.args.pool few c.in-Ok.ensures.seats
+    c.in_ok-shared.seats.ok.0
+    ∙ seats_count c.in_ok-shared.shared c.shares-count.result c.in_ok-shared.seats.items c.args.pool few c.in_ok-shared.ensures.seats
     ∙ c.shares-count.ensures.count
 
 pub deal_to-requires-clause-meters : goal.deal_to-requires-clause-meters
 deal_to-requires-clause-meters c =
     let few : 1 ≤ c.shares-count.result =
     subst (λ (n : ℕ). 1 ≤ n) (sym c.shares-count.ensures.count) c.shares-count.ensures.turn.some in
-    let counted : vec_len c.in-Ok.seats ≡ c.shares-count.result =
-    c.in-Ok.seats.ok.0
-    ∙ seats_count c.in-Ok.shared c.shares-count.result c.in-Ok.seats.items c.args.pool few c.in-Ok.ensures.seats in
+    let counted : vec_len c.in_ok-shared.seats ≡ c.shares-count.result =
+    c.in_ok-shared.seats.ok.0
+    ∙ seats_count c.in_ok-shared.shared c.shares-count.result c.in_ok-shared.seats.items c.args.pool few c.in_ok-shared.ensures.seats in
     c.in_ok-meter.meters.ok.0 ∙ ap (λ (l : List MeterSeatState). length l) c.in_ok-meter.ensures.seats
     ∙ length-replicate c.shares-count.result (unmoved c.in_ok-meter.meter) ∙ sym counted
+
+pub returns-clause-meters : goal.returns-clause-meters
+returns-clause-meters c =
+    let few : 1 ≤ c.shares-count.result =
+    subst (λ (n : ℕ). 1 ≤ n) (sym c.shares-count.ensures.count) c.shares-count.ensures.turn.some in
+    let counted : vec_len c.in_ok-shares.shares ≡ c.shares-count.result =
+    c.in_ok-shares.shares.ok.0 ∙ c.in_ok-shares.ensures.dealt.count_is ∙ c.in_ok-shared.seats.ok.0
+    ∙ seats_count c.in_ok-shared.shared c.shares-count.result c.in_ok-shared.seats.items c.args.pool few
+    c.in_ok-shared.ensures.seats in
+    record {
+      seats = c.in_ok-meter.ensures.meter ∙ sym counted;
+      unmoved_all = c.in_ok-shares.ensures.meters ∙ c.in_ok-meter.ensures.seats
+          ∙ ap (λ (n : ℕ). replicate n (unmoved c.in_ok-meter.meter)) (sym counted);
+    }
+
+pub returns-clause-first : goal.returns-clause-first
+returns-clause-first c = c.in_ok-shared.ensures.first
+
+pub returns-clause-used : goal.returns-clause-used
+returns-clause-used c = c.in_ok-shares.ensures.used

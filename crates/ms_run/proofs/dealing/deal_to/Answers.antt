@@ -1,10 +1,10 @@
 use Rattle.std.proofs.Common.{◌+◌, ◌∙◌, sym, ap, arith, vec_len, length, List, inl, inr, refl}
+use Rattle.std.proofs.lemmas.Result.{IfOk-weaker}
 use Rattle.ms_shared.specs.SeatView.{SeatState}
 use Rattle.ms_loaders.specs.Used.{used_in}
 use Rattle.ms_run.specs.Turn.{place_in}
 use Rattle.ms_run.specs.Shares.{place_for}
 use Rattle.ms_run.proofs.sharing.StandByLemmas.{handed_at, same_tasks}
-use Rattle.ms_run.specs.Dealing.{Loaded}
 use Rattle.ms_run.proofs.sharing.DealLemmas.{dealing_starts, dealing_on, dealing_ends, next_free, beside_none, none_left}
 use Rattle.ms_run.proofs.sharing.DealLemmas.{left_starts, left_more}
 use Rattle.ms_run.proofs.metered.DealtUseLemmas.{shared_starts, shared_on, used_ends, meters_end}
@@ -33,14 +33,13 @@ loop-seat-init c = (
       )),
 )
 
-pub hand_all-requires-clause-crews : goal.hand_all-requires-clause-crews
-hand_all-requires-clause-crews c =
+pub share_beside-requires : goal.share_beside-requires
+share_beside-requires c =
     let free = next_free _ _ _ _ _ _ _ _ _ _ _ c.in-Some.ensures.steps.0 c.loop-seat.invariant.0 in
     record {
       own = c.loop-seat.invariant.0.own;
       to_own = free.0;
-      beside = beside_none _ _ _ _ c.new-loaders.ensures c.loop-seat.invariant.0.manned c.loop-seat.invariant.0.names
-          free.1;
+      beside = beside_none _ _ _ c.loop-seat.invariant.0.manned c.loop-seat.invariant.0.names free.1;
     }
 
 pub push_reserved-requires : goal.push_reserved-requires
@@ -57,20 +56,21 @@ pub loop-seat-preserved : goal.loop-seat-preserved
 loop-seat-preserved c = (
   dealing_on (place_for (place_in c.args.turn.now) c.args.lines.now) c.args.shared.now
       (vec_len c.args.seats) c.args.lines.now c.args.loaders
-      c.loop-seat.first.seat c.hand_all.new.from.seat
-      c.loop-seat.first.loaders c.hand_all.new.from.loaders c.hand_all.new.to.seat c.hand_all.new.to.loaders
+      c.loop-seat.first.seat c.share_beside.new.first.seat
+      c.loop-seat.first.loaders c.share_beside.new.first.loaders c.in_ok-share.share.seat
+      c.in_ok-share.share.loaders
       c.in-Some.seat _ c.loop-seat.shares.items _ c.in_ok-share.share (c.len-at.result + 1)
       (rw c.in-Some.ensures.steps.0 at c.loop-seat.invariant.0)
       (omega (arith, c.len-at.ensures, c.loop-seat.shares.ok.0))
-      c.in_ok-hand_all.ensures.crews c.in_ok-hand_all.ensures.from c.in_ok-hand_all.ensures.to
+      c.in_ok-share.ensures.crews c.in_ok-share.ensures.first c.in_ok-share.ensures.seat
       (handed_at (place_in c.args.turn.now) c.args.lines.now (c.len-at.result + 1) c.take_list-tasks.result.items
-      c.loop-seat.first.loaders c.hand_all.new.from.loaders c.hand_all.new.to.loaders (omega arith)
+      c.loop-seat.first.loaders c.share_beside.new.first.loaders c.in_ok-share.share.loaders (omega arith)
       (c.loop-seat.invariant.2 (c.len-at.result + 1) c.take_list-tasks.result
       (inr (omega (arith, c.len-at.ensures))) c.take_list-tasks.ensures.taken)
-      (rw c.as_slice.ensures.value at c.in_ok-hand_all.ensures.handed))
+      c.in_ok-share.ensures.handed)
       (record {
-        seat_is = c.in_ok-share.ensures.seat;
-        loaders_are = c.in_ok-share.ensures.loaders;
+        seat_is = refl;
+        loaders_are = refl;
         tasks = c.in_ok-share.ensures.tasks
             ∙ c.loop-seat.invariant.2 (c.len-at.result + 1) c.take_list-tasks.result
             (inr (omega (arith, c.len-at.ensures))) c.take_list-tasks.ensures.taken
@@ -83,16 +83,17 @@ loop-seat-preserved c = (
       (c.len-at.result + 1) c.loop-seat.lists.items c.take_list-tasks.new.lists.items c.loop-seat.invariant.2
       c.push_reserved.ensures.len (omega (arith, c.len-at.ensures)) c.take_list-tasks.ensures.others,
   c.take_list-tasks.ensures.count ∙ c.loop-seat.invariant.3,
-  shared_on c.args.loaders c.loop-seat.first.loaders c.hand_all.new.from.loaders c.hand_all.new.to.loaders _
+  shared_on c.args.loaders c.loop-seat.first.loaders c.share_beside.new.first.loaders
+      c.in_ok-share.share.loaders _
       c.loop-seat.meters.items _ c.remove-meter.result c.in-Some.seat _
       c.loop-seat.shares.items _ c.in_ok-share.share (rw c.in-Some.ensures.steps.0 at c.loop-seat.invariant.4)
-      (omega (arith, c.in_ok-hand_all.ensures.used, ap (λ (l : Loaded). used_in l) c.new-loaders.ensures))
-      c.remove-meter.ensures.value c.remove-meter.ensures.items c.in_ok-share.ensures.loaders
+      c.in_ok-share.ensures.used
+      c.remove-meter.ensures.value c.remove-meter.ensures.items refl
       c.in_ok-share.ensures.meter c.push_reserved.ensures.items,
 )
 
-pub returns-in-Ok-clause-dealt : goal.returns-in-Ok-clause-dealt
-returns-in-Ok-clause-dealt c =
+pub returns-clause-dealt : goal.returns-clause-dealt
+returns-clause-dealt c = IfOk-weaker c.put_first.result _ _ (λ all is.
     dealing_ends (place_for (place_in c.args.turn.now) c.args.lines.now) c.args.shared.now
     (vec_len c.args.seats) c.args.lines.now c.args.loaders
     c.loop-seat.first.seat c.loop-seat.first.loaders
@@ -108,7 +109,8 @@ returns-in-Ok-clause-dealt c =
           ∙ sym (same_tasks (place_in c.args.turn.now) c.args.lines.now 0);
       room = c.in_ok-share-2.ensures.room;
       none = c.in_ok-share-2.ensures.none;
-    }) c.in-Ok.ensures.items
+    }) is)
+    c.put_first.ensures.items
 
 pub take_list-tasks-requires : goal.take_list-tasks-requires
 take_list-tasks-requires c = record {
@@ -135,8 +137,8 @@ remove-meter-requires c =
       ap (λ (l : List SeatState). length l) c.in-Some.ensures.steps.0,
     )
 
-pub returns-in-Ok-clause-meters : goal.returns-in-Ok-clause-meters
-returns-in-Ok-clause-meters c =
+pub returns-clause-meters : goal.returns-clause-meters
+returns-clause-meters c = IfOk-weaker c.put_first.result _ _ (λ all is.
     meters_end c.args.loaders c.loop-seat.first.loaders c.args.meters.items _ c.remove-first_meter.result
     c.loop-seat.seat-iterator.rest.items c.loop-seat.shares.items _ c.in_ok-share-2.share
     c.loop-seat.invariant.4
@@ -149,10 +151,12 @@ returns-in-Ok-clause-meters c =
       c.args.seats.ok.0,
       ap (λ (l : List SeatState). length l) c.requires.seats.are,
     ))
-    c.remove-first_meter.ensures.value c.in_ok-share-2.ensures.meter c.in-Ok.ensures.items
+    c.remove-first_meter.ensures.value c.in_ok-share-2.ensures.meter is)
+    c.put_first.ensures.items
 
-pub returns-in-Ok-clause-used : goal.returns-in-Ok-clause-used
-returns-in-Ok-clause-used c =
+pub returns-clause-used : goal.returns-clause-used
+returns-clause-used c = IfOk-weaker c.put_first.result _ _ (λ all is.
     used_ends c.args.loaders c.loop-seat.first.loaders _ _ c.loop-seat.seat-iterator.rest.items c.loop-seat.shares.items
     _ c.in_ok-share-2.share
-    c.loop-seat.invariant.4 c.in_ok-share-2.ensures.loaders c.in-Ok.ensures.items
+    c.loop-seat.invariant.4 c.in_ok-share-2.ensures.loaders is)
+    c.put_first.ensures.items

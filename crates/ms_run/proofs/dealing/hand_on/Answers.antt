@@ -1,6 +1,6 @@
 use Rattle.std.proofs.Common.{◌∙◌, sym, ap}
 use Rattle.ms_shared.specs.SeatView.{SeatState}
-use Rattle.ms_run.proofs.sharing.HandOnLemmas.{beside_after, first_served, second_served, second_counted}
+use Rattle.ms_run.proofs.sharing.HandOnLemmas.{beside_after, serves_first, serves_second, counts_first, counts_second}
 use Rattle.ms_run.proofs.sharing.HandOnLemmas.{beside_still, handed_names, none_handed}
 use Rattle.ms_run.proofs.metered.DealtUseLemmas.{used_handed, used_still}
 use Rattle.ms_run.proofs.dealing.hand_on.Goals as goal
@@ -17,33 +17,31 @@ pub returns-in_default-clause-handed : goal.returns-in_default-clause-handed
 returns-in_default-clause-handed c =
     none_handed _ _ _ _ (sym c.remove.ensures.found ∙ c.in_default.is) c.remove.ensures.rest
 
-pub hand-requires-clause-served : goal.hand-requires-clause-served
-hand-requires-clause-served c =
-    first_served c.args.name c.in-Some.loader _ _ c.args.from.now.seat c.args.to.now.seat _
-    (sym c.remove.ensures.found ∙ c.in-Some.is) c.requires.crews.beside c.accounts.ensures.account
+pub hand_accounts-requires-clause-served : goal.hand_accounts-requires-clause-served
+hand_accounts-requires-clause-served c =
+    serves_first c.args.name c.in-Some.loader _ c.args.to.now.loaders _ c.args.to.now.seat.knows (sym c.remove.ensures.found ∙ c.in-Some.is) c.requires.crews.beside
 
-pub hand-requires-2-clause-served : goal.hand-requires-2-clause-served
-hand-requires-2-clause-served c =
-    second_served c.args.name c.in-Some.loader _ _ c.args.from.now.seat c.args.to.now.seat _ _ _
-    (sym c.remove.ensures.found ∙ c.in-Some.is) c.requires.crews.beside
-    c.accounts.ensures.account c.accounts.ensures.class_account c.hand.ensures.from
+pub hand_accounts-requires-clause-counted : goal.hand_accounts-requires-clause-counted
+hand_accounts-requires-clause-counted c =
+    counts_first c.args.name c.in-Some.loader _ c.args.to.now.loaders _ c.args.to.now.seat.knows (sym c.remove.ensures.found ∙ c.in-Some.is) c.requires.crews.beside
 
-pub hand-requires-2-clause-counted : goal.hand-requires-2-clause-counted
-hand-requires-2-clause-counted c =
-    second_counted c.args.name c.in-Some.loader _ _ c.args.from.now.seat c.args.to.now.seat _ _ _
-    (sym c.remove.ensures.found ∙ c.in-Some.is) c.requires.crews.beside
-    c.accounts.ensures.account c.accounts.ensures.class_account c.hand.ensures.from
+pub hand_accounts-requires-clause-class_served : goal.hand_accounts-requires-clause-class_served
+hand_accounts-requires-clause-class_served c =
+    serves_second c.args.name c.in-Some.loader _ c.args.to.now.loaders _ c.args.to.now.seat.knows (sym c.remove.ensures.found ∙ c.in-Some.is)
+    c.requires.crews.beside
+
+pub hand_accounts-requires-clause-class_counted : goal.hand_accounts-requires-clause-class_counted
+hand_accounts-requires-clause-class_counted c =
+    counts_second c.args.name c.in-Some.loader _ c.args.to.now.loaders _ c.args.to.now.seat.knows (sym c.remove.ensures.found ∙ c.in-Some.is)
+    c.requires.crews.beside
 
 pub returns-clause-crews : goal.returns-clause-crews
 returns-clause-crews c = record {
-  own = ap (λ (seat : SeatState). seat.id) c.hand-2.ensures.from
-      ∙ ap (λ (seat : SeatState). seat.id) c.hand.ensures.from ∙ c.requires.crews.own;
-  to_own = ap (λ (seat : SeatState). seat.id) c.hand-2.ensures.to ∙ ap (λ (seat : SeatState). seat.id) c.hand.ensures.to
-      ∙ c.requires.crews.to_own;
-  beside = beside_after c.args.name c.in-Some.loader _ _ _ _ c.args.from.now.seat c.args.to.now.seat _ _ _ _ _ _
+  own = ap (λ (seat : SeatState). seat.id) c.hand_accounts.ensures.from ∙ c.requires.crews.own;
+  to_own = ap (λ (seat : SeatState). seat.id) c.hand_accounts.ensures.to ∙ c.requires.crews.to_own;
+  beside = beside_after c.args.name c.in-Some.loader _ _ _ _ c.args.from.now.seat c.args.to.now.seat _ _
       (sym c.remove.ensures.found ∙ c.in-Some.is) c.in-Ok.ensures.fresh c.requires.crews.beside
-      c.accounts.ensures.account c.accounts.ensures.class_account c.hand.ensures.from c.hand.ensures.to
-      c.hand-2.ensures.from c.hand-2.ensures.to c.remove.ensures.rest c.in-Ok.ensures.inserted;
+      c.hand_accounts.ensures.from c.hand_accounts.ensures.to c.remove.ensures.rest c.in-Ok.ensures.inserted;
 }
 
 pub returns-clause-handed : goal.returns-clause-handed
@@ -63,16 +61,12 @@ returns-clause-used c =
 
 pub returns-clause-from : goal.returns-clause-from
 returns-clause-from c = record {
-  number = ap (λ (seat : SeatState). seat.number) c.hand-2.ensures.from
-      ∙ ap (λ (seat : SeatState). seat.number) c.hand.ensures.from;
-  events = ap (λ (seat : SeatState). seat.events) c.hand-2.ensures.from
-      ∙ ap (λ (seat : SeatState). seat.events) c.hand.ensures.from;
+  number = ap (λ (seat : SeatState). seat.number) c.hand_accounts.ensures.from;
+  events = ap (λ (seat : SeatState). seat.events) c.hand_accounts.ensures.from;
 }
 
 pub returns-clause-to : goal.returns-clause-to
 returns-clause-to c = record {
-  number = ap (λ (seat : SeatState). seat.number) c.hand-2.ensures.to
-      ∙ ap (λ (seat : SeatState). seat.number) c.hand.ensures.to;
-  events = ap (λ (seat : SeatState). seat.events) c.hand-2.ensures.to
-      ∙ ap (λ (seat : SeatState). seat.events) c.hand.ensures.to;
+  number = ap (λ (seat : SeatState). seat.number) c.hand_accounts.ensures.to;
+  events = ap (λ (seat : SeatState). seat.events) c.hand_accounts.ensures.to;
 }

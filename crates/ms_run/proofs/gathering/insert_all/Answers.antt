@@ -12,7 +12,7 @@ loop-name-smaller c = omega (arith, ap length c.in-Some.ensures.first)
 
 pub loop-name-preserved : goal.loop-name-preserved
 loop-name-preserved c =
-    let was = c.loop-name.invariant in let first = c.in-Some.ensures.first in let made = c.in_default-insert.ensures in (
+    let was = c.loop-name.invariant in let first = c.in-Some.ensures.first in let made = c.in_default-put_loader.ensures in (
       (λ new joined. was.0 new
           (joined_more c.loop-name.whole _ _ _ new c.in-Some.name c.in-Some.loader first was.1 made.fresh made.inserted
           joined)),

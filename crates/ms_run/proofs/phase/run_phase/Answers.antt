@@ -1,16 +1,5 @@
-use Rattle.std.proofs.Common.{sym, ap, subst, ◌∙◌, length}
-use Rattle.std.proofs.lemmas.List.{length-map}
-use Rattle.ms_base.specs.State.{Machine}
-use Rattle.ms_pool.specs.Ledger.{Ledger}
-use Rattle.ms_run.specs.Metering.{used_words_of, meter_of}
-use Rattle.ms_loaders.specs.System.{machine_of, AreTogether}
-use Rattle.ms_run.specs.Turn.{place_in, worker_in}
-use Rattle.ms_run.specs.Shares.{place_for}
-use Rattle.ms_run.proofs.sharing.StandByLemmas.{same_tasks}
-use Rattle.ms_run.proofs.PhaseLemmas.{own_seats, all_manned, same_count, all_answered, still_apart, ended}
-use Rattle.ms_run.proofs.PhaseLemmas.{ended_alone, phase_added}
-use Rattle.ms_run.proofs.DetailLemmas.{said_detailed}
-use Rattle.ms_run.proofs.metered.MeterSumLemmas.{ready_for, own_meters, used_machine, used_after}
+use Rattle.ms_run.specs.Turn.{worker_in}
+use Rattle.ms_run.proofs.PhaseLemmas.{ended_alone}
 use Rattle.ms_run.proofs.phase.run_phase.Goals as goal
 
 pub returns-then-shares-eq1-clause-phase : goal.returns-then-shares-eq1-clause-phase
@@ -18,96 +7,9 @@ returns-then-shares-eq1-clause-phase g c =
     ended_alone (worker_in c.args.turn.now) c.args.lines.now c.args.answers.now.items _ c.args.run _ c.requires.good
     c.in_ok-answer_lines.ensures.counted.good c.requires.steps c.in_ok-answer_lines.ensures.answers
 
-pub merge-requires-clause-count : goal.merge-requires-clause-count
-merge-requires-clause-count g c =
-    c.in_ok-shares.shares.ok.0 ∙ same_count _ _ c.in_ok-shares.ensures.worked ∙ sym c.in_ok-shared.shares.ok.0
-    ∙ c.in_ok-shared.ensures.count
-
-pub merge-requires-clause-answered : goal.merge-requires-clause-answered
-merge-requires-clause-answered g c =
-    all_answered (place_in c.activate.new.self) c.in_ok-shared.shares.items c.in_ok-shares.shares.items c.args.lines.now
-    (λ at share found. c.in_ok-shared.ensures.dealt.tasks at share found
-    ∙ same_tasks (place_in c.activate.new.self) c.args.lines.now at)
-    c.in_ok-shares.ensures.worked
-
-pub gather-requires-clause-stand : goal.gather-requires-clause-stand
-gather-requires-clause-stand g c = record {
-  own = own_seats c.in_ok-shared.shared c.in_ok-shared.shares.items c.in_ok-shares.shares.items
-      c.in_ok-shared.ensures.dealt.ready c.in_ok-shares.ensures.worked;
-  manned = all_manned c.in_ok-shared.shares.items c.in_ok-shares.shares.items c.in_ok-shares.ensures.worked;
-  all = c.in_ok-shared.ensures.dealt.count ∙ sym (same_count _ _ c.in_ok-shares.ensures.worked)
-      ∙ sym c.in_ok-shares.shares.ok.0;
-}
-
-pub gather-requires-clause-apart : goal.gather-requires-clause-apart
-gather-requires-clause-apart g c = (
-  place_for (place_in c.activate.new.self) c.args.lines.now,
-  still_apart (place_for (place_in c.activate.new.self) c.args.lines.now) c.in_ok-shared.shares.items
-      c.in_ok-shares.shares.items c.args.lines.now
-      c.in_ok-shared.ensures.dealt.apart c.in_ok-shared.ensures.dealt.tasks c.in_ok-shares.ensures.worked,
-)
-
-pub work_all-requires-after_bounds : goal.work_all-requires-after_bounds
-work_all-requires-after_bounds g c κs within =
-    ready_for c.in_ok-shared.shared c.in_ok-shared.meter _ c.in_ok-shared.shares.items
-    c.in_ok-shared.ensures.dealt.ready c.in_ok-shared.ensures.meters.unmoved_all
-
-pub close-requires-clause-own : goal.close-requires-clause-own
-close-requires-clause-own g c =
-    own_meters c.in_ok-shared.meter _ c.in_ok-shared.shares.items c.in_ok-shares.shares.items
-    c.in_ok-system.meters.items
-    c.in_ok-shared.ensures.meters.unmoved_all c.in_ok-shares.ensures.worked c.in_ok-system.ensures.meters
-
-pub close-requires-clause-count : goal.close-requires-clause-count
-close-requires-clause-count g c =
-    c.in_ok-shared.ensures.meters.seats ∙ c.in_ok-shared.shares.ok.0
-    ∙ sym (same_count _ _ c.in_ok-shares.ensures.worked)
-    ∙ sym (length-map c.in_ok-shares.shares.items meter_of) ∙ ap length (sym c.in_ok-system.ensures.meters)
-    ∙ sym c.in_ok-system.meters.ok.0
-
 pub returns-clause-phase : goal.returns-clause-phase
-returns-clause-phase g c = phase_added (worker_in c.args.turn.now) c.args.lines.now c.args.answers.now.items _
-    c.args.run _
-    (ended c.args.turn.now c.activate.new.self c.in_ok-shared.shared c.in_ok-shared.shares.items
-    c.in_ok-shares.shares.items c.args.lines.now
-    _ _ c.into_parts-pool.result.1 c.args.run.system _
-    (record {
-      first = c.activate.ensures.first;
-      phase = c.activate.ensures.phase;
-      workers = c.activate.ensures.workers;
-    })
-    (ap (λ (m : Machine). m.loaders) (sym c.into_parts-pool.ensures.machine))
-    c.in_ok-shared.ensures.dealt c.in_ok-shares.ensures.worked
-    c.in_ok-merge.ensures
-    c.in_ok-system.ensures.gathered c.in_ok-system.ensures.good
-    (sym c.into_parts-pool.ensures.machine
-    ∙ ap (λ (l : Ledger). machine_of l c.into_parts-pool.result.1) (sym c.in_ok-shared.ensures.first))
-    (subst (λ (l : Ledger). AreTogether l c.into_parts-pool.result.1) (sym c.in_ok-shared.ensures.first)
-    c.into_parts-pool.ensures.together)
-    c.in_ok-system.ensures.history c.in_ok-system.ensures.limits
-    (ap (λ (l : Ledger). l.limits) c.in_ok-shared.ensures.first
-    ∙ ap (λ (m : Machine). m.limits) c.into_parts-pool.ensures.machine))
-    c.raise-peaks.ensures.peaks
-
-pub raise-peaks-requires : goal.raise-peaks-requires
-raise-peaks-requires g c = λ kept.
-    used_after c.in_ok-shared.meter _ c.in_ok-shared.shares.items c.in_ok-shares.shares.items
-    c.in_ok-system.meters.items _ _ c.in_ok-system.system
-    c.in_ok-shared.ensures.meters.unmoved_all c.in_ok-shares.ensures.worked c.in_ok-system.ensures.meters
-    (c.requires.used ∙ ap used_words_of (sym c.into_parts-pool.ensures.machine)
-    ∙ used_machine c.into_parts-pool.result.0 c.into_parts-pool.result.1 ∙ sym c.in_ok-shared.ensures.used)
-    c.in_ok-amount.ensures.amount c.in_ok-system.ensures.used c.in_ok-system.ensures.good
-
-pub returns-clause-used : goal.returns-clause-used
-returns-clause-used g c =
-    used_after c.in_ok-shared.meter _ c.in_ok-shared.shares.items c.in_ok-shares.shares.items
-    c.in_ok-system.meters.items _ _ c.in_ok-system.system
-    c.in_ok-shared.ensures.meters.unmoved_all c.in_ok-shares.ensures.worked c.in_ok-system.ensures.meters
-    (c.requires.used ∙ ap used_words_of (sym c.into_parts-pool.ensures.machine)
-    ∙ used_machine c.into_parts-pool.result.0 c.into_parts-pool.result.1 ∙ sym c.in_ok-shared.ensures.used)
-    c.in_ok-amount.ensures.amount c.in_ok-system.ensures.used c.in_ok-system.ensures.good
-
-pub returns-clause-detailed : goal.returns-clause-detailed
-returns-clause-detailed g c =
-    let merged = c.in_ok-merge.ensures in
-    said_detailed c.args.detail c.args.lines.now c.args.answers.now.items merged.0 _ merged.1 merged.2 merged.3
+returns-clause-phase g c = c.run_shares.ensures.phase c.args.turn.now (record {
+  first = c.activate.ensures.first;
+  phase = c.activate.ensures.phase;
+  workers = c.activate.ensures.workers;
+})

@@ -1,25 +1,18 @@
 use Rattle.std.proofs.Common.{arith, subst, sym}
 use Rattle.ms_base.specs.Good.{IsGood}
-use Rattle.ms_base.specs.State.{empty_machine, limits_of}
-use Rattle.ms_run.proofs.AloneLemmas.{begins}
 use Rattle.ms_run.proofs.ReplayLemmas.{phases_start, steps_there, stops_next, phases_more, phases_next, phases_end}
-use Rattle.ms_run.proofs.ReplayLemmas.{used_none}
 use Rattle.ms_run.proofs.DetailLemmas.{none_detailed}
-use Rattle.ms_run.proofs.replaying.run_phases.Goals as goal
+use Rattle.ms_run.proofs.replaying.answer_phases.Goals as goal
 
 pub loop-at-init : goal.loop-at-init
 loop-at-init g c = record {
-  phases = phases_start c.args.settings c.args.lines.now c.in_ok-answers.answers.items _ c.in_ok-turn.turn
-      c.in_ok-answers.ensures.items
-      (begins _ (empty_machine (limits_of c.args.settings)) c.in_ok-system.ensures c.begin-peaks.ensures.peaks)
+  phases = phases_start c.args.settings c.args.lines.now c.args.answers.now.items _ c.in_ok-turn.turn
+      c.requires c.in_ok-run.ensures.taken
       c.in_ok-turn.ensures.first c.in_ok-turn.ensures.workers c.in_ok-turn.ensures.phase c.args.settings.workers_some;
-  kept = c.begin-peaks.ensures.kept;
-  used = used_none c.in_ok-system.system c.args.settings c.in_ok-system.ensures;
-  detailed = none_detailed c.args.detail c.in_ok-answers.answers.items c.in_ok-answers.ensures.items;
+  kept = c.in_ok-run.ensures.kept;
+  used = c.in_ok-run.ensures.used;
+  detailed = none_detailed c.args.detail c.args.answers.now.items c.requires;
 }
-
-pub begin-peaks-requires : goal.begin-peaks-requires
-begin-peaks-requires g c = sym (used_none c.in_ok-system.system c.args.settings c.in_ok-system.ensures)
 
 pub run_phase-requires-clause-good : goal.run_phase-requires-clause-good
 run_phase-requires-clause-good g c κs within =
@@ -38,7 +31,7 @@ pub loop-at-preserved-then-at-lines : goal.loop-at-preserved-then-at-lines
 loop-at-preserved-then-at-lines g c =
     let more =
     phases_more _ _ _ _ c.loop-at.turn _ c.args.lines.now c.loop-at.at c.steps_first-count.result _ _
-    c.loop-at.invariant.phases c.steps_first-count.ensures.within c.in_ok-run.ensures.phase c.in_ok-run.ensures.turn in
+    c.loop-at.invariant.phases c.steps_first-count.ensures.within c.in_ok-run-2.ensures.phase c.in_ok-run-2.ensures.turn in
     record {
       phases = phases_next _ _ _ _ _ c.args.lines.now _ _ _ _ more c.if-at-lines.true
           c.in_ok-answer_between.ensures.answered (record {
@@ -46,20 +39,20 @@ loop-at-preserved-then-at-lines g c =
             phase = c.go_on.ensures.phase;
             workers = c.go_on.ensures.workers;
           });
-      kept = c.in_ok-run.ensures.kept;
-      used = c.in_ok-run.ensures.used;
+      kept = c.in_ok-run-2.ensures.kept;
+      used = c.in_ok-run-2.ensures.used;
       detailed = c.in_ok-answer_between.ensures.detailed
-          (c.in_ok-run.ensures.detailed c.loop-at.invariant.detailed);
+          (c.in_ok-run-2.ensures.detailed c.loop-at.invariant.detailed);
     }
 
 pub loop-at-preserved : goal.loop-at-preserved
 loop-at-preserved g c = record {
   phases =
       phases_more _ _ _ _ c.loop-at.turn _ c.args.lines.now c.loop-at.at c.steps_first-count.result _ _
-      c.loop-at.invariant.phases c.steps_first-count.ensures.within c.in_ok-run.ensures.phase c.in_ok-run.ensures.turn;
-  kept = c.in_ok-run.ensures.kept;
-  used = c.in_ok-run.ensures.used;
-  detailed = c.in_ok-run.ensures.detailed c.loop-at.invariant.detailed;
+      c.loop-at.invariant.phases c.steps_first-count.ensures.within c.in_ok-run-2.ensures.phase c.in_ok-run-2.ensures.turn;
+  kept = c.in_ok-run-2.ensures.kept;
+  used = c.in_ok-run-2.ensures.used;
+  detailed = c.in_ok-run-2.ensures.detailed c.loop-at.invariant.detailed;
 }
 
 pub returns-clause-own : goal.returns-clause-own
