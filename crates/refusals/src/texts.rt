@@ -51,10 +51,11 @@ impl Row for Parsing {
 
 /// Tells the lines of a trace that was read.
 fn tell_trace(rt: &HostRuntime, trace: &Trace) -> Answer {
+    let answer = served(rt);
     for line in trace.lines.as_slice() {
         tell(rt, &(line.number, line.command));
     }
-    served(rt)
+    answer
 }
 
 /// A trace to be printed.
