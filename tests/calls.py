@@ -1,9 +1,8 @@
 """The library's own calls while growths are refused: rows of small programs, under the same allocator.
 
 A row of refusals makes its preparation, tells the state, makes a call, tells its answer and the state after it, and
-where the answer is a refusal makes the call once more. The row of refused_runs replays a trace, and once more where
-memory or a thread was wanted. A row of quiet, quiet_loaders or quiet_lock makes calls that take no memory after a mark,
-and tells what it finds.
+where the answer is a refusal makes the call once more. Its row of replays replays a trace, and once more where memory or
+a thread was wanted. A row of quiet makes calls that take no memory after a mark, and tells what it finds.
 """
 import os
 import re
@@ -16,18 +15,19 @@ from workbench import ROOT
 
 TAKING = ("carve", "reserve", "pool", "take", "place", "alloc", "insert", "new_loader", "run", "totals", "shared", "meter",
           "parse", "print", "text", "lines")
-QUIET = {"quiet": ("sizes", "nodes", "tree", "blocks", "accounts", "counter"),
-         "quiet_loaders": ("arena", "loaders", "system"), "quiet_lock": ("lock",)}
+QUIET = ("sizes", "nodes", "tree", "blocks", "accounts", "counter", "arena", "loaders", "system", "lock")
 # Lines that stand in a row, in this order among others, worked by hand.
 SAID = {
-    "arena": ("write 3999 Ok(())", "read 1 Ok(0)", "read 3999 Ok(7)", "read 4000 Err(OutOfRange { words: 4000 })",
-              "free Ok(())", "free Err(NotLive)", "account 2 Class"),
-    "loaders": ("1: true true 4512", "word 1 2 3999 Ok(()) Ok(7)", "word 2 2 0 Err(NoBlock) Err(NoBlock)",
-                "free Ok(()) Err(NoBlock)", "remove false", "first 1", "0 are there"),
-    "system": ("Read { loader: 2, block: 1, index: 19 } Value(5)", "free Ok(())", "free Err(NotLive)", "unload Ok(())",
-               "unload Err(NoLoader)", "purge 1", "without Boot 4 were opened and 2 gathered: 4 open, 30 in use"),
-    "lock": ("grow Some(Ok(Span { start: 0, level: Level { number: 11 } }))", "open Ok(2)", "open both Ok((3, 4))",
-             "purge 1", "2 were opened and 0 gathered"),
+    "arena": ("write (3999, Ok(()))", "read (1, Ok(0))", "read (3999, Ok(7))",
+              "read (4000, Err(OutOfRange { words: 4000 }))", "free Ok(())", "free Err(NotLive)", "account (2, Class)"),
+    "loaders": ("at (1, (true, true), 4512)", "word (1, 2, 3999, Ok(()), Ok(7))",
+                "word (2, 2, 0, Err(NoBlock), Err(NoBlock))", "free (Ok(()), Err(NoBlock))", "remove false", "first 1",
+                "count 0"),
+    "system": ("(Read { loader: 2, block: 1, index: 19 }, Value(5))", "free Ok(())", "free Err(NotLive)", "unload Ok(())",
+               "unload Err(NoLoader)", "purge 1", "without Boot",
+               "refused Unsettled { opened: 4, gathered: 2 }", "left (4, 30)"),
+    "lock": ("grow Ok(Span { start: 0, level: Level { number: 11 } })", "open 2", "open both (3, 4)",
+             "purge 1", "refused Unsettled { opened: 2, gathered: 0 }"),
 }
 REPLAYED = ("a fresh loader in each space", "two loaders work side by side in each space")
 OUTSIDE = b"refused outside a call\n"
@@ -37,8 +37,8 @@ NO_MEMORY, NO_THREAD = b"fault OutOfMemory", b"fault NoThread"
 class Calls:
     """Runs a row of a crate's program while growths are refused."""
 
-    def __init__(self, bench, crate, row, words=None):
-        self.bench, self.row, self.words = bench, row, words or [row]
+    def __init__(self, bench, crate, row, words=()):
+        self.bench, self.row, self.words = bench, row, [row, *words]
         self.program = Program(os.path.join(ROOT, "crates", crate, "out", crate))
         self.told = Told(bench.room)
 
@@ -95,7 +95,7 @@ class Replays:
     """Runs a trace by so many workers, and once more where memory or a thread was wanted."""
 
     def __init__(self, bench, text, workers):
-        self.calls, self.text, self.workers = Calls(bench, "refused_runs", "replay", [str(workers)]), text, workers
+        self.calls, self.text, self.workers = Calls(bench, "refusals", "replay", [str(workers)]), text, workers
         self.calm = {}
 
     def answers(self, output):
@@ -171,9 +171,9 @@ def calm_as_said(calls):
     return output
 
 
-def takes_nothing(bench, crate, row):
+def takes_nothing(bench, row):
     """From the mark on the calls take no memory, and all memory refused changes no answer."""
-    calls = Calls(bench, crate, row)
+    calls = Calls(bench, "quiet", row)
     output = calm_as_said(calls)
     ended, counts = calls.run(REFUSE_AFTER=f"{row} marked\n")
     expect_ended(ended, 0, b"", output)
@@ -196,6 +196,5 @@ def tests():
         for workers in (1, 2, 4):
             arguments = (text_of(TRACES[name][1]), workers)
             yield Test(f"a replay refuses each growth where {name}, {workers} at work", replays_again, arguments)
-    for crate, rows in QUIET.items():
-        for row in rows:
-            yield Test(f"calls take no memory: {row}", takes_nothing, (crate, row))
+    for row in QUIET:
+        yield Test(f"calls take no memory: {row}", takes_nothing, (row,))

@@ -3,40 +3,35 @@ ghost use Rattle.std.specs.Prelude.{◌≡◌, ◌<◌, IfOk, IfSome, IsTrue};
 ghost use Rattle.ms_pool.specs.Account.{has_chunk_at};
 ghost use Rattle.ms_pool.specs.Ledger.{Serves};
 
-use crate::row::{SETTINGS, mark, unprepared};
+use crate::row::{SETTINGS, mark, tell, tell_account, unprepared};
 use ms_base::{Chunk, Level, Refusal, Space, Span};
 use ms_pool::{Account, ChunkSource, Pool};
 use std::alloc::Global;
 use std::io;
 
 /// Tells the row.
-pub fn tell(rt: &HostRuntime) -> io::Result<()> {
+pub fn tell_all(rt: &HostRuntime) -> io::Result<()> {
     let (mut pool, account) = lent(rt.alloc())?;
-    mark(rt, "accounts")?;
-    tell_held(rt, &mut pool, account)?;
-    tell_calls(rt, &mut pool)
-}
-
-/// Has an account grow, and closes it.
-fn tell_held(rt: &HostRuntime, pool: &mut Pool, account: Account) -> io::Result<()>
-    requires { Serves pool.old account }
-{
-    let mut account = account;
-    tell_pool(rt, pool)?;
-    println!(rt; "accounts grow {:?}", grow(pool, &mut account))?;
-    tell_account(rt, &account)?;
-    println!(rt; "accounts totals {:?}", pool.totals(&account))?;
-    close(pool, account);
+    mark(rt, "accounts");
+    tell_pool(rt, &pool);
+    tell_held(rt, &mut pool, account);
+    tell_pool(rt, &pool);
+    tell_opened(rt, &mut pool);
+    tell_both(rt, &mut pool);
+    tell(rt, "accounts purge", &pool.purge());
+    tell_pool(rt, &pool);
     Ok(())
 }
 
-/// Opens and closes accounts, and purges.
-fn tell_calls(rt: &HostRuntime, pool: &mut Pool) -> io::Result<()> {
-    tell_pool(rt, pool)?;
-    tell_opened(rt, pool)?;
-    tell_both(rt, pool)?;
-    println!(rt; "accounts purge {}", pool.purge())?;
-    tell_pool(rt, pool)
+/// Has an account grow, and closes it.
+fn tell_held(rt: &HostRuntime, pool: &mut Pool, account: Account)
+    requires { Serves pool.old account }
+{
+    let mut account = account;
+    tell(rt, "accounts grow", &grow(pool, &mut account));
+    tell_account(rt, "accounts account", &account);
+    tell(rt, "accounts totals", &pool.totals(&account));
+    close(pool, account);
 }
 
 /// Makes a pool and an account of it that holds a chunk.
@@ -85,27 +80,25 @@ pub fn first_chunk(account: &Account) -> Option<Chunk>
 }
 
 /// Opens an account of classes, and closes it.
-fn tell_opened(rt: &HostRuntime, pool: &mut Pool) -> io::Result<()> {
+fn tell_opened(rt: &HostRuntime, pool: &mut Pool) {
     match pool.open(Space::Class) {
         Ok(account) => {
-            tell_account(rt, &account)?;
+            tell_account(rt, "accounts account", &account);
             close(pool, account);
-            Ok(())
         }
-        Err(refusal) => println!(rt; "accounts {refusal}"),
+        Err(refusal) => tell(rt, "accounts refused", &refusal),
     }
 }
 
 /// Opens both accounts of a loader, and closes them.
-fn tell_both(rt: &HostRuntime, pool: &mut Pool) -> io::Result<()> {
+fn tell_both(rt: &HostRuntime, pool: &mut Pool) {
     match pool.open_both() {
         Ok((account, class_account)) => {
-            tell_account(rt, &account)?;
-            tell_account(rt, &class_account)?;
+            tell_account(rt, "accounts account", &account);
+            tell_account(rt, "accounts account", &class_account);
             close_both(pool, account, class_account);
-            Ok(())
         }
-        Err(refusal) => println!(rt; "accounts {refusal}"),
+        Err(refusal) => tell(rt, "accounts refused", &refusal),
     }
 }
 
@@ -134,32 +127,21 @@ fn close_both(pool: &mut Pool, account: Account, class_account: Account)
     pool.close_both(account, class_account);
 }
 
-/// Tells an account: its owner's number, its space, and its chunks in the order taken.
-pub fn tell_account(rt: &HostRuntime, account: &Account) -> io::Result<()> {
-    print!(rt; "account {} {:?}", account.owner(), account.space())?;
-    for place in 0..account.held() {
-        print!(rt; " {:?}", account.chunk(place))?;
-    }
-    println!(rt; "")
-}
-
 /// Tells a pool: its sums, what counts beside the limits, and who holds some words.
-fn tell_pool(rt: &HostRuntime, pool: &Pool) -> io::Result<()> {
-    for space in [Space::NonClass, Space::Class] {
-        println!(rt; "accounts {space:?} {:?}", pool.all_totals(space))?;
-    }
-    println!(rt; "accounts counts {:?} {:?}", pool.counts(), pool.policy())?;
-    print!(rt;
-        "accounts {} open, {} granules",
-        pool.accounts(),
-        pool.committed()
-    )?;
+fn tell_pool(rt: &HostRuntime, pool: &Pool) {
+    tell(rt, "accounts sums", &pool.all_totals(Space::NonClass));
+    tell(
+        rt,
+        "accounts sums of classes",
+        &pool.all_totals(Space::Class),
+    );
+    tell(rt, "accounts counts", &(pool.counts(), pool.policy()));
+    tell(rt, "accounts open", &(pool.accounts(), pool.committed()));
     for word in [0, 128, 67108864] {
-        print!(rt;
-            " {:?} {}",
-            pool.owner_of(word),
-            pool.is_committed(word / 8192)
-        )?;
+        tell(
+            rt,
+            "accounts owner",
+            &(pool.owner_of(word), pool.is_committed(word / 8192)),
+        );
     }
-    println!(rt; "")
 }

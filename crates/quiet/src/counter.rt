@@ -1,42 +1,60 @@
 //! The row of a meter: its seats add words and take words off, and it is closed.
-ghost use Rattle.std.specs.Prelude.{◌≡◌};
+ghost use Rattle.std.specs.Prelude.{◌≡◌, IfSome};
 ghost use Rattle.std.specs.List.{All};
 
-use crate::row::{mark, unprepared};
+use crate::row::{mark, tell, unprepared};
+use ms_base::Refusal;
 use ms_shared::{MeterSeat, UsedMeter};
 use std::io;
 
 /// Tells the row.
-pub fn tell(rt: &HostRuntime) -> io::Result<()> {
+pub fn tell_all(rt: &HostRuntime) -> io::Result<()> {
+    let mut both = Vec::with_capacity(rt.alloc(), 2)?;
     let (meter, mut seats) = UsedMeter::new(rt.alloc(), 2)?;
-    let (Some(mut one), Some(mut other)) = (seats.pop(), seats.pop()) else {
+    let Some(mut other) = seats.pop() else {
         return Err(unprepared());
     };
-    let mut both = Vec::with_capacity(rt.alloc(), 2)?;
-    mark(rt, "counter")?;
+    let Some(mut one) = seats.pop() else {
+        return Err(unprepared());
+    };
+    mark(rt, "counter");
     meter.add(&mut one, 5);
     meter.add(&mut other, 7);
     meter.sub(&mut other, 10);
-    println!(rt;
-        "counter now {} {}",
-        meter.now(&mut one),
-        meter.now(&mut other)
-    )?;
-    let Err((refusal, meter, _none)) = meter.close(seats) else {
-        return println!(rt; "counter closed without its seats");
-    };
-    println!(rt; "counter {refusal}")?;
-    both.push_reserved(one);
-    both.push_reserved(other);
-    tell_closed(rt, meter, both)
+    tell(
+        rt,
+        "counter now",
+        &(meter.now(&mut one), meter.now(&mut other)),
+    );
+    match tell_refused(rt, meter, seats) {
+        Some(meter) => {
+            both.push_reserved(one);
+            both.push_reserved(other);
+            tell_closed(rt, &meter.close(both));
+        }
+        None => tell(rt, "counter closed", &"without its seats"),
+    }
+    Ok(())
 }
 
-/// Closes the meter, and tells its sum.
-fn tell_closed(rt: &HostRuntime, meter: UsedMeter, seats: Vec<MeterSeat>) -> io::Result<()>
-    requires { All (λ seat. seat.id ≡ meter.id) seats.items }
+/// Closes the meter without its seats: it comes back.
+fn tell_refused(rt: &HostRuntime, meter: UsedMeter, none: Vec<MeterSeat>) -> Option<UsedMeter>
+    requires { All (λ seat. seat.id ≡ meter.id) none.items }
+    ensures { IfSome result (λ back. back.id ≡ meter.id) }
 {
-    match meter.close(seats) {
-        Ok(words) => println!(rt; "counter sum {words}"),
-        Err((refusal, _meter, _seats)) => println!(rt; "counter {refusal}"),
+    match meter.close(none) {
+        Ok(_) => None,
+        Err((refusal, meter, _none)) => {
+            tell(rt, "counter refused", &refusal);
+            Some(meter)
+        }
+    }
+}
+
+/// Tells the sum of a meter that is closed.
+fn tell_closed(rt: &HostRuntime, closed: &Result<u64, (Refusal, UsedMeter, Vec<MeterSeat>)>) {
+    match closed {
+        Ok(words) => tell(rt, "counter sum", words),
+        Err((refusal, _, _)) => tell(rt, "counter refused", refusal),
     }
 }

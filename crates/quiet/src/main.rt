@@ -1,28 +1,34 @@
 //! `quiet` makes the calls that take no memory, a row at a time, and tells what it finds. The word
-//! on the command line is the row's name.
+//! on the command line is the row's name; without one all rows are told.
 //!
 //!     tree marked                   all is prepared: from here on no memory is asked for
 //!     tree enlarge Some(Ok(..))     a call, and its answer
-//!     tree Lent { .. } .. free ..   a state
+//!     tree leaf (Span { .. }, ..)   a part of a state
 //!
 //! Where a growth is refused before the mark the status is 3. It promises nothing: the system tests
 //! refuse all growths after the mark, and compare what it tells with a run in which none was.
 #![tactic(auto)]
 
 mod accounts;
+mod arenas;
 mod blocks;
 mod counter;
+mod held;
+mod loaders;
 mod nodes;
 mod row;
+mod seats;
 mod sizes;
+mod systems;
 mod tree;
 
 use std::env;
 use std::io::{self, ErrorKind};
 use std::process::ExitCode;
+use std::sync::Wait;
 
 fn main(rt: HostRuntime) -> ExitCode {
-    match tell_row(&rt) {
+    match tell_row(&rt, &rt) {
         Ok(()) => ExitCode::from(0),
         Err(error) if error.kind() == ErrorKind::OutOfMemory => {
             let _ = eprintln!(rt; "refused outside a call");
@@ -35,18 +41,41 @@ fn main(rt: HostRuntime) -> ExitCode {
     }
 }
 
-/// Tells the row that the command line names.
-fn tell_row(rt: &HostRuntime) -> io::Result<()> {
-    let Some(name) = env::args(rt)?.nth(1) else {
-        return Err(ErrorKind::InvalidInput.into());
-    };
-    match name.as_str() {
-        "sizes" => sizes::tell(rt),
-        "nodes" => nodes::tell(rt),
-        "tree" => tree::tell(rt),
-        "blocks" => blocks::tell(rt),
-        "accounts" => accounts::tell(rt),
-        "counter" => counter::tell(rt),
+/// Tells the row that the command line names, or all rows where it names none.
+fn tell_row<R: Wait>(rt: &HostRuntime, waits: &R) -> io::Result<()> {
+    match env::args(rt)?.nth(1) {
+        Some(name) => tell_named(rt, waits, name.as_str()),
+        None => tell_each(rt, waits),
+    }
+}
+
+/// Tells all rows.
+fn tell_each<R: Wait>(rt: &HostRuntime, waits: &R) -> io::Result<()> {
+    sizes::tell_all(rt)?;
+    nodes::tell_all(rt)?;
+    tree::tell_all(rt)?;
+    blocks::tell_all(rt)?;
+    accounts::tell_all(rt)?;
+    counter::tell_all(rt)?;
+    arenas::tell_all(rt)?;
+    loaders::tell_all(rt)?;
+    systems::tell_all(rt)?;
+    seats::tell_all(rt, waits)
+}
+
+/// Tells the row of that name.
+fn tell_named<R: Wait>(rt: &HostRuntime, waits: &R, name: &str) -> io::Result<()> {
+    match name {
+        "sizes" => sizes::tell_all(rt),
+        "nodes" => nodes::tell_all(rt),
+        "tree" => tree::tell_all(rt),
+        "blocks" => blocks::tell_all(rt),
+        "accounts" => accounts::tell_all(rt),
+        "counter" => counter::tell_all(rt),
+        "arena" => arenas::tell_all(rt),
+        "loaders" => loaders::tell_all(rt),
+        "system" => systems::tell_all(rt),
+        "lock" => seats::tell_all(rt, waits),
         _ => Err(ErrorKind::InvalidInput.into()),
     }
 }

@@ -2,40 +2,42 @@
 ghost use Rattle.std.specs.Prelude.{IsTrue};
 ghost use Rattle.ms_commit.specs.Nodes.{AreInReserved};
 
-use crate::row::mark;
+use crate::row::{mark, tell};
 use ms_base::Refusal;
 use ms_commit::Nodes;
 use std::io;
 
 /// Tells the row.
-pub fn tell(rt: &HostRuntime) -> io::Result<()> {
-    mark(rt, "nodes")?;
+pub fn tell_all(rt: &HostRuntime) -> io::Result<()> {
+    mark(rt, "nodes");
     let mut nodes = Nodes::new(1, 3, 8192, 1);
-    println!(rt; "nodes reserve {:?} {:?}", nodes.reserve(), nodes.reserve())?;
-    tell_commits(rt, &mut nodes)?;
-    tell_nodes(rt, &nodes)?;
+    tell(rt, "nodes reserve", &(nodes.reserve(), nodes.reserve()));
+    tell_commits(rt, &mut nodes);
+    tell_nodes(rt, &nodes);
     if let Some(slot) = nodes.next_reserved(0) {
         nodes.unreserve(slot);
-        println!(rt; "nodes unreserved {slot}")?;
+        tell(rt, "nodes unreserved", &slot);
     }
-    tell_nodes(rt, &nodes)
+    tell_nodes(rt, &nodes);
+    Ok(())
 }
 
 /// Commits granules of a node and of the class space, and uncommits some.
-fn tell_commits(rt: &HostRuntime, nodes: &mut Nodes) -> io::Result<()> {
+fn tell_commits(rt: &HostRuntime, nodes: &mut Nodes) {
     for (first, count) in [(0, 2), (8192, 1), (127, 1), (300, 1)] {
-        println!(rt;
-            "nodes commit {first} {count} {:?}",
-            commit(nodes, first, count)
-        )?;
+        tell(
+            rt,
+            "nodes commit",
+            &(first, count, commit(nodes, first, count)),
+        );
     }
-    tell_nodes(rt, nodes)?;
-    println!(rt;
-        "nodes uncommit {} {}",
-        uncommit(nodes, 1, 1),
-        uncommit(nodes, 0, 0)
-    )?;
-    println!(rt; "nodes missing {}", nodes.missing(0, 4))
+    tell_nodes(rt, nodes);
+    tell(
+        rt,
+        "nodes uncommit",
+        &(uncommit(nodes, 1, 1), uncommit(nodes, 0, 0)),
+    );
+    tell(rt, "nodes missing", &nodes.missing(0, 4));
 }
 
 /// Commits a range that lies in reserved slots.
@@ -67,13 +69,20 @@ fn lies_in_reserved(nodes: &Nodes, first: u64, count: u64) -> bool
 }
 
 /// Tells what is reserved and committed, and the limits.
-fn tell_nodes(rt: &HostRuntime, nodes: &Nodes) -> io::Result<()> {
-    let (reserved, committed) = (nodes.reserved(), nodes.committed());
-    print!(rt; "nodes {reserved} of {} slots", nodes.node_limit())?;
-    print!(rt; ", {} of classes", nodes.class_slots())?;
-    print!(rt; ", {committed} of {} granules:", nodes.granule_limit())?;
+fn tell_nodes(rt: &HostRuntime, nodes: &Nodes) {
+    let slots = (nodes.reserved(), nodes.node_limit(), nodes.class_slots());
+    tell(rt, "nodes slots", &slots);
+    tell(
+        rt,
+        "nodes granules",
+        &(nodes.committed(), nodes.granule_limit()),
+    );
     for granule in [0, 1, 127, 300, 8192] {
-        print!(rt; " {}", nodes.is_committed(granule))?;
+        tell(rt, "nodes committed", &nodes.is_committed(granule));
     }
-    println!(rt; " {} {}", nodes.is_reserved(0), nodes.is_reserved(64))
+    tell(
+        rt,
+        "nodes slot",
+        &(nodes.is_reserved(0), nodes.is_reserved(64)),
+    );
 }

@@ -3,46 +3,42 @@ ghost use Rattle.std.specs.Prelude.{◌<◌, IfSome, IsTrue};
 ghost use Rattle.ms_base.specs.declared.sizes.TheConstants.{ROOT_WORDS};
 ghost use Rattle.ms_buddy.specs.Leaves.{is_lent};
 
-use crate::row::{mark, unprepared};
+use crate::row::{mark, tell, unprepared};
 use ms_base::{Level, Refusal, Span};
 use ms_buddy::{Leaf, SplitTree};
 use std::alloc::Global;
 use std::io;
 
 /// Tells the row.
-pub fn tell(rt: &HostRuntime) -> io::Result<()> {
+pub fn tell_all(rt: &HostRuntime) -> io::Result<()> {
     let Ok(mut tree) = lending(rt.alloc()) else {
         return Err(unprepared());
     };
-    mark(rt, "tree")?;
-    tell_changes(rt, &mut tree)
-}
-
-/// Changes leaves, and tells the tree after each change.
-fn tell_changes(rt: &HostRuntime, tree: &mut SplitTree<Global>) -> io::Result<()> {
-    tell_tree(rt, tree)?;
-    tell_larger(rt, tree, 0)?;
-    tell_larger(rt, tree, 512)?;
-    tell_released(rt, tree, 512)?;
-    tell_released(rt, tree, 0)?;
-    tell_released(rt, tree, 0)
+    mark(rt, "tree");
+    tell_tree(rt, &tree);
+    tell_larger(rt, &mut tree, 0);
+    tell_larger(rt, &mut tree, 512);
+    tell_released(rt, &mut tree, 512);
+    tell_released(rt, &mut tree, 0);
+    tell_released(rt, &mut tree, 0);
+    Ok(())
 }
 
 /// Makes the leaf there larger, with the front.
-fn tell_larger(rt: &HostRuntime, tree: &mut SplitTree<Global>, offset: u64) -> io::Result<()>
+fn tell_larger(rt: &HostRuntime, tree: &mut SplitTree<Global>, offset: u64)
     requires { offset < ROOT_WORDS }
 {
-    println!(rt; "tree front {:?}", set_front(tree, offset))?;
-    println!(rt; "tree enlarge {:?}", enlarge(tree, offset))?;
-    tell_tree(rt, tree)
+    tell(rt, "tree front", &set_front(tree, offset));
+    tell(rt, "tree enlarge", &enlarge(tree, offset));
+    tell_tree(rt, tree);
 }
 
 /// Takes the leaf there out.
-fn tell_released(rt: &HostRuntime, tree: &mut SplitTree<Global>, offset: u64) -> io::Result<()>
+fn tell_released(rt: &HostRuntime, tree: &mut SplitTree<Global>, offset: u64)
     requires { offset < ROOT_WORDS }
 {
-    println!(rt; "tree release {:?}", release(tree, offset))?;
-    tell_tree(rt, tree)
+    tell(rt, "tree release", &release(tree, offset));
+    tell_tree(rt, tree);
 }
 
 /// Makes a tree that has lent two parts, of which the lower has a free buddy.
@@ -92,20 +88,18 @@ fn release(tree: &mut SplitTree<Global>, offset: u64) -> Option<Span>
 }
 
 /// Tells the leaves and what the searches find.
-fn tell_tree(rt: &HostRuntime, tree: &SplitTree<Global>) -> io::Result<()> {
+fn tell_tree(rt: &HostRuntime, tree: &SplitTree<Global>) {
     for offset in [0, 128, 512] {
-        let (span, leaf) = tree.leaf_at(offset);
-        print!(rt; "tree {leaf:?} {span:?} ")?;
+        tell(rt, "tree leaf", &tree.leaf_at(offset));
     }
     let level = Level::new(10);
-    let (lowest, next) = (tree.lowest_free(level), tree.next_free(level, 512));
-    print!(rt;
-        "{} {} {lowest:?} {next:?} free",
-        tree.is_whole(),
-        tree.free_levels()
-    )?;
+    tell(rt, "tree is whole", &(tree.is_whole(), tree.free_levels()));
+    tell(
+        rt,
+        "tree found",
+        &(tree.lowest_free(level), tree.next_free(level, 512)),
+    );
     for span in tree.free_leaves() {
-        print!(rt; " {}@{}", span.level.number(), span.start)?;
+        tell(rt, "tree free", &span);
     }
-    println!(rt; "")
 }

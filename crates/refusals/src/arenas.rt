@@ -1,6 +1,6 @@
 //! The rows of an arena over a pool: it places a block, and allocates one.
 use crate::pools::{SETTINGS, tell_account, tell_pool};
-use crate::row::{Answer, Row, told, unprepared};
+use crate::row::{Answer, Row, tell, told, unprepared};
 use ms_arena::Arena;
 use ms_base::{Kind, Refusal, Space};
 use ms_pool::Pool;
@@ -9,10 +9,10 @@ use std::io;
 use std::marker::Model;
 
 /// Tells a pool and an arena over it: its sums and its chunks.
-fn tell_both(rt: &HostRuntime, pool: &Pool, arena: &Arena) -> io::Result<()> {
-    tell_pool(rt, pool)?;
-    print!(rt; " {:?} {:?}", arena.kind(), arena.totals())?;
-    tell_account(rt, arena.account())
+fn tell_both(rt: &HostRuntime, pool: &Pool, arena: &Arena) {
+    tell_pool(rt, pool);
+    tell(rt, &(arena.kind(), arena.totals()));
+    tell_account(rt, arena.account());
 }
 
 /// An arena over a pool, in which a block is to be allocated.
@@ -36,31 +36,40 @@ impl Model for Allocating {
 impl Allocating {
     /// Prepares an arena of two chunks, with a live block and two free ones.
     pub fn prepared(alloc: Global) -> io::Result<Allocating> {
-        let pool = Pool::new(alloc, SETTINGS)?;
-        match filled(alloc, pool) {
-            Ok(row) => Ok(row),
+        let mut row = Allocating::new(alloc)?;
+        match row.fill() {
+            Ok(()) => Ok(row),
             Err(_) => Err(unprepared()),
         }
     }
-}
 
-/// Fills an arena over a pool.
-fn filled(alloc: Global, pool: Pool) -> Result<Allocating, Refusal> {
-    let mut pool = pool;
-    let account = pool.open(Space::NonClass)?;
-    let mut arena = Arena::new(alloc, account, Kind::Reflection);
-    let first = arena.alloc(&mut pool, 2)?;
-    arena.alloc(&mut pool, 509)?;
-    arena.free(first)?;
-    Ok(Allocating { pool, arena })
+    /// Makes an arena with no chunk.
+    fn new(alloc: Global) -> io::Result<Allocating> {
+        let mut pool = Pool::new(alloc, SETTINGS)?;
+        match pool.open(Space::NonClass) {
+            Ok(account) => {
+                let arena = Arena::new(alloc, account, Kind::Reflection);
+                Ok(Allocating { pool, arena })
+            }
+            Err(_) => Err(unprepared()),
+        }
+    }
+
+    /// Allocates two blocks, of which the first is freed.
+    fn fill(&mut self) -> Result<(), Refusal> {
+        let first = self.arena.alloc(&mut self.pool, 2)?;
+        self.arena.alloc(&mut self.pool, 509)?;
+        self.arena.free(first)
+    }
 }
 
 impl Row for Allocating {
     fn tell_state(&self, rt: &HostRuntime) -> io::Result<()> {
-        tell_both(rt, &self.pool, &self.arena)
+        tell_both(rt, &self.pool, &self.arena);
+        Ok(())
     }
 
-    fn call(&mut self, rt: &HostRuntime) -> io::Result<Answer> {
+    fn call(&mut self, rt: &HostRuntime) -> Answer {
         told(rt, self.arena.alloc(&mut self.pool, 500))
     }
 }
@@ -82,10 +91,11 @@ impl Placing {
 
 impl Row for Placing {
     fn tell_state(&self, rt: &HostRuntime) -> io::Result<()> {
-        tell_both(rt, &self.pool, &self.arena)
+        tell_both(rt, &self.pool, &self.arena);
+        Ok(())
     }
 
-    fn call(&mut self, rt: &HostRuntime) -> io::Result<Answer> {
+    fn call(&mut self, rt: &HostRuntime) -> Answer {
         told(rt, self.arena.place(100))
     }
 }

@@ -1,5 +1,5 @@
 //! The row of free blocks.
-use crate::row::{Answer, Row, told, unprepared};
+use crate::row::{Answer, Row, tell, told, unprepared};
 use ms_base::Block;
 use ms_blocks::FreeBlocks;
 use std::alloc::Global;
@@ -30,14 +30,12 @@ impl Reserving {
 
 impl Row for Reserving {
     fn tell_state(&self, rt: &HostRuntime) -> io::Result<()> {
-        let (count, total) = (self.blocks.len(), self.blocks.total());
-        print!(rt;
-            "{count} blocks, {total} words, room {}",
-            self.blocks.room()
-        )
+        let kept = (self.blocks.len(), self.blocks.total(), self.blocks.room());
+        tell(rt, &kept);
+        Ok(())
     }
 
-    fn call(&mut self, rt: &HostRuntime) -> io::Result<Answer> {
+    fn call(&mut self, rt: &HostRuntime) -> Answer {
         told(rt, self.blocks.reserve(5))
     }
 }

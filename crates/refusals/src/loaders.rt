@@ -1,8 +1,7 @@
 //! The row of loaders by name: one is put among them.
 use crate::pools::tell_account;
-use crate::row::{Answer, Row};
+use crate::row::{Answer, Row, say, served, tell, told};
 use crate::systems::filled;
-use ms_base::Refusal;
 use ms_loaders::{Loader, Loaders};
 use std::alloc::Global;
 use std::io;
@@ -11,13 +10,12 @@ use std::io;
 const NAME: u16 = 7;
 
 /// Tells a loader: its kind, the sums over its arenas, and its accounts.
-fn tell_loader(rt: &HostRuntime, loader: &Loader) -> io::Result<()> {
-    let (sums, class_sums) = loader.totals();
-    print!(rt; "{:?} {sums:?} {class_sums:?}", loader.kind())?;
-    print!(rt; " {:?} {:?}", loader.read(1, 19), loader.read(2, 0))?;
+fn tell_loader(rt: &HostRuntime, loader: &Loader) {
+    tell(rt, &(loader.kind(), loader.totals()));
+    tell(rt, &(loader.read(1, 19), loader.read(2, 0)));
     let (account, class_account) = loader.accounts();
-    tell_account(rt, account)?;
-    tell_account(rt, class_account)
+    tell_account(rt, account);
+    tell_account(rt, class_account);
 }
 
 /// Loaders, and one that is to be put under its name.
@@ -37,37 +35,39 @@ impl Inserting {
     }
 }
 
-impl Row for Inserting {
-    fn tell_state(&self, rt: &HostRuntime) -> io::Result<()> {
-        print!(rt; "{} under names", self.loaders.len())?;
-        for (name, loader) in self.loaders.iter() {
-            print!(rt; " {name}: ")?;
-            tell_loader(rt, loader)?;
-        }
-        print!(rt; " to be put: ")?;
-        match &self.loader {
-            Some(loader) => tell_loader(rt, loader),
-            None => print!(rt; "none"),
-        }
-    }
-
-    fn call(&mut self, rt: &HostRuntime) -> io::Result<Answer> {
-        let Some(loader) = self.loader.take() else {
-            print!(rt; "no loader was handed back")?;
-            return Ok(Answer::Served);
-        };
+impl Inserting {
+    /// Puts the loader under its name, or has it back.
+    fn put(&mut self, rt: &HostRuntime, loader: Loader) -> Answer {
         match self.loaders.insert(NAME, loader) {
-            Ok(()) => {
-                print!(rt; "ok")?;
-                Ok(Answer::Served)
-            }
+            Ok(()) => served(rt),
             Err((refusal, loader)) => {
                 self.loader = Some(loader);
-                if refusal == Refusal::OutOfMemory {
-                    return Ok(Answer::Refused);
-                }
-                print!(rt; "{refusal}")?;
-                Ok(Answer::Served)
+                told::<()>(rt, Err(refusal))
+            }
+        }
+    }
+}
+
+impl Row for Inserting {
+    fn tell_state(&self, rt: &HostRuntime) -> io::Result<()> {
+        tell(rt, &self.loaders.len());
+        for (name, loader) in self.loaders.iter() {
+            tell(rt, &name);
+            tell_loader(rt, loader);
+        }
+        say(rt, "to be put:");
+        if let Some(loader) = &self.loader {
+            tell_loader(rt, loader);
+        }
+        Ok(())
+    }
+
+    fn call(&mut self, rt: &HostRuntime) -> Answer {
+        match self.loader.take() {
+            Some(loader) => self.put(rt, loader),
+            None => {
+                say(rt, "no loader was handed back");
+                Answer::Served
             }
         }
     }

@@ -1,11 +1,18 @@
 //! `refusals` makes the library's calls while an allocator refuses growths, a row at a time, and
 //! tells what it finds. The word on the command line is the row's name.
 //!
-//!     carve before free 0@8 ..       the state, once all is prepared
-//!     carve answer ok                what the call answers
-//!     carve after free 11@256 ..     the state after it
-//!     carve again ok                 where that was a refusal: the same call once more,
-//!     carve last free 11@256 ..      and the state after that
+//!     carve before .. free Span { .. }   the state, once all is prepared
+//!     carve answer ok ()                 what the call answers
+//!     carve after .. free Span { .. }    the state after it
+//!     carve again ok ()                  where that was a refusal: the same call once more,
+//!     carve last .. free Span { .. }     and the state after that
+//!
+//! The row `replay` replays the trace of standard input, by as many workers as the next word says,
+//! and tells what each line is answered, or why none is:
+//!
+//!     replay answer 1 Ok
+//!     replay answer fault NoThread
+//!     replay again 1 Ok              where memory or a thread was wanted: the call once more
 //!
 //! Where a growth is refused outside the row's call the status is 3. It promises nothing: the system
 //! tests compare what it tells with a run in which nothing was refused.
@@ -17,6 +24,7 @@ mod loaders;
 mod pools;
 mod reports;
 mod row;
+mod runs;
 mod shared;
 mod systems;
 mod texts;
@@ -27,17 +35,19 @@ use crate::blocks::Reserving;
 use crate::loaders::Inserting;
 use crate::pools::{Making, Taking};
 use crate::reports::{Replying, Reporting};
-use crate::row::tell;
+use crate::row::tell_row;
 use crate::shared::{Metering, Sharing};
-use crate::systems::{NewLoader, Running, Totalling};
+use crate::systems::Asking;
 use crate::texts::{Parsing, Printing};
 use crate::tree::Carving;
 use std::env;
 use std::io::{self, ErrorKind};
 use std::process::ExitCode;
+use std::sync::Wait;
+use std::thread::Threads;
 
 fn main(rt: HostRuntime) -> ExitCode {
-    match tell_row(&rt) {
+    match tell_asked(&rt, &rt) {
         Ok(()) => ExitCode::from(0),
         Err(error) if error.kind() == ErrorKind::OutOfMemory => {
             let _ = eprintln!(rt; "refused outside a call");
@@ -51,27 +61,47 @@ fn main(rt: HostRuntime) -> ExitCode {
 }
 
 /// Tells the row that the command line names.
-fn tell_row(rt: &HostRuntime) -> io::Result<()> {
-    let Some(name) = env::args(rt)?.nth(1) else {
-        return Err(ErrorKind::InvalidInput.into());
-    };
-    match name.as_str() {
-        "carve" => tell(rt, "carve", &mut Carving::prepared(rt.alloc())?),
-        "reserve" => tell(rt, "reserve", &mut Reserving::prepared(rt.alloc())?),
-        "pool" => tell(rt, "pool", &mut Making::prepared(rt.alloc())),
-        "take" => tell(rt, "take", &mut Taking::prepared(rt.alloc())?),
-        "place" => tell(rt, "place", &mut Placing::prepared(rt.alloc())?),
-        "alloc" => tell(rt, "alloc", &mut Allocating::prepared(rt.alloc())?),
-        "insert" => tell(rt, "insert", &mut Inserting::prepared(rt.alloc())?),
-        "new_loader" => tell(rt, "new_loader", &mut NewLoader::prepared(rt.alloc())?),
-        "run" => tell(rt, "run", &mut Running::prepared(rt.alloc())?),
-        "totals" => tell(rt, "totals", &mut Totalling::prepared(rt.alloc())?),
-        "shared" => tell(rt, "shared", &mut Sharing::prepared(rt.alloc())?),
-        "meter" => tell(rt, "meter", &mut Metering::prepared(rt.alloc())),
-        "parse" => tell(rt, "parse", &mut Parsing::prepared(rt.alloc())),
-        "print" => tell(rt, "print", &mut Printing::prepared(rt.alloc())?),
-        "text" => tell(rt, "text", &mut Reporting::prepared(rt.alloc())?),
-        "lines" => tell(rt, "lines", &mut Replying::prepared(rt.alloc())?),
+fn tell_asked<R: Threads + Wait + Sync>(rt: &HostRuntime, waits: &R) -> io::Result<()> {
+    match env::args(rt)?.nth(1) {
+        Some(name) => tell_named(rt, waits, name.as_str()),
+        None => Err(ErrorKind::InvalidInput.into()),
+    }
+}
+
+/// Tells the row of that name.
+fn tell_named<R: Threads + Wait + Sync>(rt: &HostRuntime, waits: &R, name: &str) -> io::Result<()> {
+    match name {
+        "carve" => tell_row(rt, "carve", Carving::prepared(rt.alloc())),
+        "reserve" => tell_row(rt, "reserve", Reserving::prepared(rt.alloc())),
+        "pool" => tell_row(rt, "pool", Making::prepared(rt.alloc())),
+        "take" => tell_row(rt, "take", Taking::prepared(rt.alloc())),
+        "replay" => runs::tell_calls(rt, waits),
+        _ => tell_upper(rt, name),
+    }
+}
+
+/// Tells a row of arenas or systems.
+fn tell_upper(rt: &HostRuntime, name: &str) -> io::Result<()> {
+    match name {
+        "place" => tell_row(rt, "place", Placing::prepared(rt.alloc())),
+        "alloc" => tell_row(rt, "alloc", Allocating::prepared(rt.alloc())),
+        "insert" => tell_row(rt, "insert", Inserting::prepared(rt.alloc())),
+        "new_loader" => tell_row(rt, "new_loader", Asking::new_loader(rt.alloc())),
+        "run" => tell_row(rt, "run", Asking::run(rt.alloc())),
+        "totals" => tell_row(rt, "totals", Asking::totals(rt.alloc())),
+        _ => tell_other(rt, name),
+    }
+}
+
+/// Tells a row of what threads share, or of texts.
+fn tell_other(rt: &HostRuntime, name: &str) -> io::Result<()> {
+    match name {
+        "shared" => tell_row(rt, "shared", Sharing::prepared(rt.alloc())),
+        "meter" => tell_row(rt, "meter", Metering::prepared(rt.alloc())),
+        "parse" => tell_row(rt, "parse", Parsing::prepared(rt.alloc())),
+        "print" => tell_row(rt, "print", Printing::prepared(rt.alloc())),
+        "text" => tell_row(rt, "text", Reporting::prepared(rt.alloc())),
+        "lines" => tell_row(rt, "lines", Replying::prepared(rt.alloc())),
         _ => Err(ErrorKind::InvalidInput.into()),
     }
 }

@@ -1,5 +1,5 @@
 //! The rows of a pool: it is made, and lends a chunk.
-use crate::row::{Answer, Row, told, unprepared};
+use crate::row::{Answer, Row, say, served, tell, told, unprepared};
 use ms_base::{Level, Policy, Settings, Space};
 use ms_pool::{Account, ChunkSource, Pool};
 use std::alloc::Global;
@@ -20,25 +20,23 @@ pub const GRANULES: u64 = 10240;
 
 /// Tells a pool: the sums over each space, what counts beside the limits, and which granules are
 /// committed.
-pub fn tell_pool(rt: &HostRuntime, pool: &Pool) -> io::Result<()> {
-    let sums = pool.all_totals(Space::NonClass);
-    let class_sums = pool.all_totals(Space::Class);
-    print!(rt; "{sums:?} {class_sums:?} {:?} granules", pool.counts())?;
+pub fn tell_pool(rt: &HostRuntime, pool: &Pool) {
+    tell(rt, &pool.all_totals(Space::NonClass));
+    tell(rt, &pool.all_totals(Space::Class));
+    tell(rt, &pool.counts());
     for granule in 0..GRANULES {
         if pool.is_committed(granule) {
-            print!(rt; " {granule}")?;
+            tell(rt, &granule);
         }
     }
-    Ok(())
 }
 
 /// Tells an account: its space, and its chunks in the order taken.
-pub fn tell_account(rt: &HostRuntime, account: &Account) -> io::Result<()> {
-    print!(rt; " account {:?}", account.space())?;
+pub fn tell_account(rt: &HostRuntime, account: &Account) {
+    tell(rt, &account.space());
     for place in 0..account.held() {
-        print!(rt; " {:?}", account.chunk(place))?;
+        tell(rt, &account.chunk(place));
     }
-    Ok(())
 }
 
 /// A pool that is to be made.
@@ -50,8 +48,8 @@ pub struct Making {
 
 impl Making {
     /// Prepares nothing.
-    pub fn prepared(alloc: Global) -> Making {
-        Making { alloc, pool: None }
+    pub fn prepared(alloc: Global) -> io::Result<Making> {
+        Ok(Making { alloc, pool: None })
     }
 }
 
@@ -59,18 +57,18 @@ impl Row for Making {
     fn tell_state(&self, rt: &HostRuntime) -> io::Result<()> {
         match &self.pool {
             Some(pool) => tell_pool(rt, pool),
-            None => print!(rt; "no pool"),
+            None => say(rt, "no pool"),
         }
+        Ok(())
     }
 
-    fn call(&mut self, rt: &HostRuntime) -> io::Result<Answer> {
+    fn call(&mut self, rt: &HostRuntime) -> Answer {
         match Pool::new(self.alloc, SETTINGS) {
             Ok(pool) => {
                 self.pool = Some(pool);
-                print!(rt; "ok")?;
-                Ok(Answer::Served)
+                served(rt)
             }
-            Err(_) => Ok(Answer::Refused),
+            Err(_) => Answer::Refused,
         }
     }
 }
@@ -106,11 +104,12 @@ impl Taking {
 
 impl Row for Taking {
     fn tell_state(&self, rt: &HostRuntime) -> io::Result<()> {
-        tell_pool(rt, &self.pool)?;
-        tell_account(rt, &self.account)
+        tell_pool(rt, &self.pool);
+        tell_account(rt, &self.account);
+        Ok(())
     }
 
-    fn call(&mut self, rt: &HostRuntime) -> io::Result<Answer> {
+    fn call(&mut self, rt: &HostRuntime) -> Answer {
         let level = Level::new(12);
         told(
             rt,

@@ -1,6 +1,6 @@
 //! The rows of reports: the sums of a system are written as a text, and so are replies.
-use crate::row::{Answer, Row};
-use crate::systems::{filled, tell_totals};
+use crate::row::{Answer, Row, gave, tell};
+use crate::systems::{filled_totals, tell_totals};
 use ms_base::{Refusal, Reply, Settings};
 use ms_loaders::{Answer as Answered, Replies, Totals};
 use ms_report::{Detail, lines, text};
@@ -17,28 +17,28 @@ pub struct Reporting {
 impl Reporting {
     /// Prepares the sums of a system with loaders and blocks.
     pub fn prepared(alloc: Global) -> io::Result<Reporting> {
-        let totals = filled(alloc)?.totals()?;
+        let totals = filled_totals(alloc)?;
         Ok(Reporting { alloc, totals })
     }
 }
 
 impl Row for Reporting {
     fn tell_state(&self, rt: &HostRuntime) -> io::Result<()> {
-        tell_totals(rt, &self.totals)
+        tell_totals(rt, &self.totals);
+        Ok(())
     }
 
-    fn call(&mut self, rt: &HostRuntime) -> io::Result<Answer> {
+    fn call(&mut self, rt: &HostRuntime) -> Answer {
         tell_text(rt, text(self.alloc, &self.totals))
     }
 }
 
 /// Tells a text that was to be made.
-fn tell_text(rt: &HostRuntime, made: Result<String, AllocError>) -> io::Result<Answer> {
-    let Ok(text) = made else {
-        return Ok(Answer::Refused);
-    };
-    print!(rt; "ok {:?}", text.as_str())?;
-    Ok(Answer::Served)
+fn tell_text(rt: &HostRuntime, made: Result<String, AllocError>) -> Answer {
+    match made {
+        Ok(text) => gave(rt, &text),
+        Err(_) => Answer::Refused,
+    }
 }
 
 /// Replies that are to be written.
@@ -51,30 +51,16 @@ pub struct Replying {
 impl Replying {
     /// Prepares a reply of each sort, the last with the sums of a system.
     pub fn prepared(alloc: Global) -> io::Result<Replying> {
-        let totals = filled(alloc)?.totals()?;
-        let answers = answers_with(alloc, totals)?;
+        let report = Box::new(alloc, filled_totals(alloc)?)?;
+        let answers = answers_with(alloc, report)?;
         let replies = Replies { answers };
         Ok(Replying { alloc, replies })
     }
 }
 
 /// Lists a reply of each sort, the last with sums.
-fn answers_with(alloc: Global, totals: Totals) -> Result<Vec<Answered>, AllocError> {
-    let mut answers = Vec::with_capacity(alloc, 5)?;
-    let report = Box::new(alloc, totals)?;
-    let replies = [
-        Reply::Ok,
-        Reply::At(4096),
-        Reply::Value(7),
-        Reply::Refused(Refusal::NoBlock),
-    ];
-    for (place, reply) in (1..).zip(replies) {
-        answers.push(Answered {
-            line: place,
-            reply,
-            report: None,
-        })?;
-    }
+fn answers_with(alloc: Global, report: Box<Totals>) -> Result<Vec<Answered>, AllocError> {
+    let mut answers = plain_answers(alloc)?;
     answers.push(Answered {
         line: 6,
         reply: Reply::Ok,
@@ -83,18 +69,37 @@ fn answers_with(alloc: Global, totals: Totals) -> Result<Vec<Answered>, AllocErr
     Ok(answers)
 }
 
+/// Lists a reply of each sort without sums.
+fn plain_answers(alloc: Global) -> Result<Vec<Answered>, AllocError> {
+    let mut answers = Vec::with_capacity(alloc, 5)?;
+    let replies = [
+        (1, Reply::Ok),
+        (2, Reply::At(4096)),
+        (3, Reply::Value(7)),
+        (4, Reply::Refused(Refusal::NoBlock)),
+    ];
+    for (line, reply) in replies {
+        answers.push(Answered {
+            line,
+            reply,
+            report: None,
+        })?;
+    }
+    Ok(answers)
+}
+
 impl Row for Replying {
     fn tell_state(&self, rt: &HostRuntime) -> io::Result<()> {
         for answer in &self.replies.answers {
-            print!(rt; "{} {:?} ", answer.line, answer.reply)?;
+            tell(rt, &(answer.line, answer.reply));
             if let Some(totals) = &answer.report {
-                tell_totals(rt, totals)?;
+                tell_totals(rt, totals);
             }
         }
         Ok(())
     }
 
-    fn call(&mut self, rt: &HostRuntime) -> io::Result<Answer> {
+    fn call(&mut self, rt: &HostRuntime) -> Answer {
         tell_text(
             rt,
             lines(

@@ -4,7 +4,7 @@ use std::fmt::Debug;
 use std::io::{self, ErrorKind};
 
 /// How a call was answered.
-#[derive(Drop)]
+#[derive(Clone, Copy, PartialEq, Eq)]
 pub enum Answer {
     /// It was served.
     Served,
@@ -14,23 +14,33 @@ pub enum Answer {
 
 /// A state, and a call on it that takes memory.
 pub trait Row {
-    /// Tells the state: the rest of a line.
+    /// Tells the state: the rest of a line. It fails where it lacks memory of its own.
     fn tell_state(&self, rt: &HostRuntime) -> io::Result<()>;
 
     /// Makes the call, and tells its answer where it is served: the rest of a line.
-    fn call(&mut self, rt: &HostRuntime) -> io::Result<Answer>;
+    fn call(&mut self, rt: &HostRuntime) -> Answer;
 }
 
-/// Tells a row: the state, the call's answer and the state after it; where it is a refusal, the same
-/// for the call once more.
-pub fn tell<R: Row>(rt: &HostRuntime, name: &str, row: &mut R) -> io::Result<()> {
+/// Tells a row, once it is prepared.
+pub fn tell_row<R: Row + Drop>(
+    rt: &HostRuntime,
+    name: &str,
+    prepared: io::Result<R>,
+) -> io::Result<()> {
+    let mut row = prepared?;
+    tell_lines(rt, name, &mut row)
+}
+
+/// Tells the state, the call's answer and the state after it; where it is a refusal, the same for
+/// the call once more.
+fn tell_lines<R: Row>(rt: &HostRuntime, name: &str, row: &mut R) -> io::Result<()> {
     tell_state(rt, name, "before", row)?;
-    let answer = tell_call(rt, name, "answer", row)?;
+    let answer = tell_call(rt, name, "answer", row);
     tell_state(rt, name, "after", row)?;
     match answer {
         Answer::Served => Ok(()),
         Answer::Refused => {
-            let _ = tell_call(rt, name, "again", row)?;
+            let _ = tell_call(rt, name, "again", row);
             tell_state(rt, name, "last", row)
         }
     }
@@ -38,33 +48,59 @@ pub fn tell<R: Row>(rt: &HostRuntime, name: &str, row: &mut R) -> io::Result<()>
 
 /// Tells the state on a line of its own.
 fn tell_state<R: Row>(rt: &HostRuntime, name: &str, word: &str, row: &R) -> io::Result<()> {
-    print!(rt; "{name} {word} ")?;
+    let _ = print!(rt; "{name} {word}");
     row.tell_state(rt)?;
-    println!(rt; "")
+    let _ = println!(rt; "");
+    Ok(())
 }
 
 /// Makes the call, and tells its answer on a line of its own.
-fn tell_call<R: Row>(rt: &HostRuntime, name: &str, word: &str, row: &mut R) -> io::Result<Answer> {
-    print!(rt; "{name} {word} ")?;
-    let answer = row.call(rt)?;
-    match answer {
-        Answer::Served => println!(rt; "")?,
-        Answer::Refused => println!(rt; "refused")?,
+fn tell_call<R: Row>(rt: &HostRuntime, name: &str, word: &str, row: &mut R) -> Answer {
+    let _ = print!(rt; "{name} {word}");
+    let answer = row.call(rt);
+    if answer == Answer::Refused {
+        say(rt, "refused");
     }
-    Ok(answer)
+    let _ = println!(rt; "");
+    answer
+}
+
+/// Tells a fact on the line. The tests miss what can't be written, so that no row has to end there.
+pub fn tell<T: Debug>(rt: &HostRuntime, fact: &T) {
+    let _ = print!(rt; " {fact:?}");
+}
+
+/// Tells words on the line.
+pub fn say(rt: &HostRuntime, words: &str) {
+    let _ = print!(rt; " {words}");
+}
+
+/// Tells that a call was served.
+pub fn served(rt: &HostRuntime) -> Answer {
+    say(rt, "ok");
+    Answer::Served
+}
+
+/// Tells what a call gave.
+pub fn gave<T: Debug>(rt: &HostRuntime, fact: &T) -> Answer {
+    say(rt, "ok");
+    tell(rt, fact);
+    Answer::Served
+}
+
+/// Tells an answer where it is no want of memory.
+pub fn told<T: Debug + Drop>(rt: &HostRuntime, answer: Result<T, Refusal>) -> Answer {
+    match answer {
+        Ok(value) => gave(rt, &value),
+        Err(Refusal::OutOfMemory) => Answer::Refused,
+        Err(refusal) => {
+            tell(rt, &refusal);
+            Answer::Served
+        }
+    }
 }
 
 /// The error that says that the preparation of a row was refused a growth.
 pub fn unprepared() -> io::Error {
     ErrorKind::OutOfMemory.into()
-}
-
-/// Tells an answer where it is no want of memory.
-pub fn told<T: Debug + Drop>(rt: &HostRuntime, answer: Result<T, Refusal>) -> io::Result<Answer> {
-    match answer {
-        Ok(value) => print!(rt; "ok {value:?}")?,
-        Err(Refusal::OutOfMemory) => return Ok(Answer::Refused),
-        Err(refusal) => print!(rt; "{refusal}")?,
-    }
-    Ok(Answer::Served)
 }

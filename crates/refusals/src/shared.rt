@@ -1,6 +1,6 @@
 //! The rows of what threads share: a pool is put behind a lock, and a meter is made.
 use crate::pools::{SETTINGS, tell_pool};
-use crate::row::{Answer, Row};
+use crate::row::{Answer, Row, say, served, tell};
 use ms_pool::Pool;
 use ms_shared::{MeterSeat, PoolSeat, SharedPool, UsedMeter};
 use std::alloc::Global;
@@ -29,29 +29,29 @@ impl Sharing {
 impl Row for Sharing {
     fn tell_state(&self, rt: &HostRuntime) -> io::Result<()> {
         match &self.pool {
-            Some(pool) => tell_pool(rt, pool)?,
-            None => print!(rt; "no pool")?,
+            Some(pool) => tell_pool(rt, pool),
+            None => say(rt, "no pool"),
         }
         match &self.made {
-            Some((_, seats)) => print!(rt; " a lock of {} seats", seats.len()),
-            None => print!(rt; " no lock"),
+            Some((_, seats)) => tell(rt, &seats.len()),
+            None => say(rt, "no lock"),
         }
+        Ok(())
     }
 
-    fn call(&mut self, rt: &HostRuntime) -> io::Result<Answer> {
+    fn call(&mut self, rt: &HostRuntime) -> Answer {
         let Some(pool) = self.pool.take() else {
-            print!(rt; "no pool was handed back")?;
-            return Ok(Answer::Served);
+            say(rt, "no pool was handed back");
+            return Answer::Served;
         };
         match SharedPool::new(self.alloc, pool, SEATS) {
             Ok(made) => {
                 self.made = Some(made);
-                print!(rt; "ok")?;
-                Ok(Answer::Served)
+                served(rt)
             }
             Err((_, pool)) => {
                 self.pool = Some(pool);
-                Ok(Answer::Refused)
+                Answer::Refused
             }
         }
     }
@@ -66,27 +66,27 @@ pub struct Metering {
 
 impl Metering {
     /// Prepares nothing.
-    pub fn prepared(alloc: Global) -> Metering {
-        Metering { alloc, made: None }
+    pub fn prepared(alloc: Global) -> io::Result<Metering> {
+        Ok(Metering { alloc, made: None })
     }
 }
 
 impl Row for Metering {
     fn tell_state(&self, rt: &HostRuntime) -> io::Result<()> {
         match &self.made {
-            Some((_, seats)) => print!(rt; "a meter of {} seats", seats.len()),
-            None => print!(rt; "no meter"),
+            Some((_, seats)) => tell(rt, &seats.len()),
+            None => say(rt, "no meter"),
         }
+        Ok(())
     }
 
-    fn call(&mut self, rt: &HostRuntime) -> io::Result<Answer> {
+    fn call(&mut self, rt: &HostRuntime) -> Answer {
         match UsedMeter::new(self.alloc, SEATS) {
             Ok(made) => {
                 self.made = Some(made);
-                print!(rt; "ok")?;
-                Ok(Answer::Served)
+                served(rt)
             }
-            Err(_) => Ok(Answer::Refused),
+            Err(_) => Answer::Refused,
         }
     }
 }

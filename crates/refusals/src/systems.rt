@@ -1,9 +1,9 @@
 //! The rows of a system: a loader is made, steps are run, sums are told.
 use crate::pools::{GRANULES, SETTINGS};
-use crate::row::{Answer, Row, told, unprepared};
+use crate::row::{Answer, Row, gave, say, tell, told, unprepared};
 use ms_base::{Kind, Reply, Step};
 use ms_loaders::{System, Totals};
-use std::alloc::Global;
+use std::alloc::{AllocError, Global};
 use std::io;
 
 /// Steps of which one system is made: two loaders with blocks in both spaces, a free block and a
@@ -72,119 +72,114 @@ pub fn filled(alloc: Global) -> io::Result<System> {
     Ok(system)
 }
 
-/// Tells sums: those over each space, and the row of each loader.
-pub fn tell_totals(rt: &HostRuntime, totals: &Totals) -> io::Result<()> {
-    print!(rt;
-        "{} {:?} {:?}",
-        totals.loaders, totals.space, totals.class_space
-    )?;
-    for row in &totals.rows {
-        print!(rt; " {row:?}")?;
+/// Tells the sums of a system with loaders and blocks.
+pub fn filled_totals(alloc: Global) -> io::Result<Totals> {
+    let system = filled(alloc)?;
+    match system.totals() {
+        Ok(totals) => Ok(totals),
+        Err(_) => Err(unprepared()),
     }
-    Ok(())
 }
 
-/// Tells a system: its counts, its sums, those of each loader, and which granules are committed.
-/// Takes memory for the sums.
-pub fn tell_system(rt: &HostRuntime, system: &System) -> io::Result<()> {
-    let totals = system.totals()?;
-    print!(rt; "{:?} ", system.counts())?;
-    tell_totals(rt, &totals)?;
-    for name in 0..4 {
-        print!(rt; " {name}: {:?}", system.loader_totals(name))?;
+/// Tells sums: those over each space, and the row of each loader.
+pub fn tell_totals(rt: &HostRuntime, totals: &Totals) {
+    tell(rt, &totals.loaders);
+    tell(rt, &totals.space);
+    tell(rt, &totals.class_space);
+    for row in &totals.rows {
+        tell(rt, row);
     }
-    print!(rt; " granules")?;
+}
+
+/// What a system is asked.
+#[derive(Clone, Copy)]
+enum Asked {
+    /// A loader is to be made.
+    NewLoader,
+    /// Steps are to be run.
+    Run,
+    /// Sums are to be told.
+    Totals,
+}
+
+/// A system, and what it is asked.
+#[derive(Drop)]
+pub struct Asking {
+    system: System,
+    asked: Asked,
+}
+
+impl Asking {
+    /// Prepares a system with no loader, in which one is to be made.
+    pub fn new_loader(alloc: Global) -> io::Result<Asking> {
+        let system = System::new(alloc, SETTINGS)?;
+        let asked = Asked::NewLoader;
+        Ok(Asking { system, asked })
+    }
+
+    /// Prepares a system with loaders and blocks, which is to run steps.
+    pub fn run(alloc: Global) -> io::Result<Asking> {
+        let system = filled(alloc)?;
+        let asked = Asked::Run;
+        Ok(Asking { system, asked })
+    }
+
+    /// Prepares a system with loaders and blocks, whose sums are to be told.
+    pub fn totals(alloc: Global) -> io::Result<Asking> {
+        let system = filled(alloc)?;
+        let asked = Asked::Totals;
+        Ok(Asking { system, asked })
+    }
+}
+
+impl Row for Asking {
+    /// Tells the counts, the sums, those of each loader, and which granules are committed. Takes
+    /// memory for the sums.
+    fn tell_state(&self, rt: &HostRuntime) -> io::Result<()> {
+        let totals = self.system.totals()?;
+        tell_totals(rt, &totals);
+        tell_system(rt, &self.system);
+        Ok(())
+    }
+
+    fn call(&mut self, rt: &HostRuntime) -> Answer {
+        match self.asked {
+            Asked::NewLoader => told(rt, self.system.new_loader(3, Kind::Reflection)),
+            Asked::Run => run_told(rt, self.system.run(QUIET_STEPS.as_slice())),
+            Asked::Totals => totals_told(rt, self.system.totals()),
+        }
+    }
+}
+
+/// Tells a system: its counts, the sums of each loader, and which granules are committed.
+fn tell_system(rt: &HostRuntime, system: &System) {
+    tell(rt, &system.counts());
+    for name in 0..4 {
+        tell(rt, &system.loader_totals(name));
+    }
     for granule in 0..GRANULES {
         if system.is_committed(granule) {
-            print!(rt; " {granule}")?;
+            tell(rt, &granule);
         }
     }
-    Ok(())
 }
 
-/// A system in which a loader is to be made.
-#[derive(Drop)]
-pub struct NewLoader {
-    system: System,
-}
-
-impl NewLoader {
-    /// Prepares a system with no loader.
-    pub fn prepared(alloc: Global) -> io::Result<NewLoader> {
-        Ok(NewLoader {
-            system: System::new(alloc, SETTINGS)?,
-        })
+/// Tells the replies of a run.
+fn run_told(rt: &HostRuntime, answer: Result<Vec<Reply>, AllocError>) -> Answer {
+    match answer {
+        Ok(replies) => gave(rt, &replies),
+        Err(_) => Answer::Refused,
     }
 }
 
-impl Row for NewLoader {
-    fn tell_state(&self, rt: &HostRuntime) -> io::Result<()> {
-        tell_system(rt, &self.system)
-    }
-
-    fn call(&mut self, rt: &HostRuntime) -> io::Result<Answer> {
-        told(rt, self.system.new_loader(3, Kind::Reflection))
-    }
-}
-
-/// A system that is to run steps.
-#[derive(Drop)]
-pub struct Running {
-    system: System,
-}
-
-impl Running {
-    /// Prepares a system with loaders and blocks.
-    pub fn prepared(alloc: Global) -> io::Result<Running> {
-        Ok(Running {
-            system: filled(alloc)?,
-        })
-    }
-}
-
-impl Row for Running {
-    fn tell_state(&self, rt: &HostRuntime) -> io::Result<()> {
-        tell_system(rt, &self.system)
-    }
-
-    fn call(&mut self, rt: &HostRuntime) -> io::Result<Answer> {
-        let Ok(replies) = self.system.run(QUIET_STEPS.as_slice()) else {
-            return Ok(Answer::Refused);
-        };
-        print!(rt; "ok")?;
-        for reply in &replies {
-            print!(rt; " {reply:?}")?;
+/// Tells the sums that were to be told.
+fn totals_told(rt: &HostRuntime, answer: Result<Totals, AllocError>) -> Answer {
+    match answer {
+        Ok(totals) => {
+            say(rt, "ok");
+            tell_totals(rt, &totals);
+            Answer::Served
         }
-        Ok(Answer::Served)
-    }
-}
-
-/// A system whose sums are to be told.
-#[derive(Drop)]
-pub struct Totalling {
-    system: System,
-}
-
-impl Totalling {
-    /// Prepares a system with loaders and blocks.
-    pub fn prepared(alloc: Global) -> io::Result<Totalling> {
-        Ok(Totalling {
-            system: filled(alloc)?,
-        })
-    }
-}
-
-impl Row for Totalling {
-    fn tell_state(&self, rt: &HostRuntime) -> io::Result<()> {
-        tell_system(rt, &self.system)
-    }
-
-    fn call(&mut self, rt: &HostRuntime) -> io::Result<Answer> {
-        let Ok(totals) = self.system.totals() else {
-            return Ok(Answer::Refused);
-        };
-        print!(rt; "ok ")?;
-        tell_totals(rt, &totals)?;
-        Ok(Answer::Served)
+        Err(_) => Answer::Refused,
     }
 }

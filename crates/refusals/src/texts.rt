@@ -1,5 +1,5 @@
 //! The rows of traces: one is read, and one is printed.
-use crate::row::{Answer, Row, unprepared};
+use crate::row::{Answer, Row, gave, say, served, tell, unprepared};
 use ms_trace::{ParseFault, Trace, parse, print};
 use std::alloc::Global;
 use std::io;
@@ -26,32 +26,36 @@ pub struct Parsing {
 
 impl Parsing {
     /// Prepares a text.
-    pub fn prepared(alloc: Global) -> Parsing {
-        Parsing { alloc }
+    pub fn prepared(alloc: Global) -> io::Result<Parsing> {
+        Ok(Parsing { alloc })
     }
 }
 
 impl Row for Parsing {
     fn tell_state(&self, rt: &HostRuntime) -> io::Result<()> {
-        print!(rt; "{} bytes", TRACE.len())
+        tell(rt, &TRACE.len());
+        Ok(())
     }
 
-    fn call(&mut self, rt: &HostRuntime) -> io::Result<Answer> {
+    fn call(&mut self, rt: &HostRuntime) -> Answer {
         match parse(self.alloc, TRACE.as_bytes()) {
-            Ok(trace) => {
-                print!(rt; "ok")?;
-                for line in trace.lines.as_slice() {
-                    print!(rt; " {}: {:?}", line.number, line.command)?;
-                }
-                Ok(Answer::Served)
-            }
-            Err(ParseFault::OutOfMemory) => Ok(Answer::Refused),
+            Ok(trace) => tell_trace(rt, &trace),
+            Err(ParseFault::OutOfMemory) => Answer::Refused,
             Err(fault) => {
-                print!(rt; "{fault}")?;
-                Ok(Answer::Served)
+                tell(rt, &fault);
+                Answer::Served
             }
         }
     }
+}
+
+/// Tells the lines of a trace that was read.
+fn tell_trace(rt: &HostRuntime, trace: &Trace) -> Answer {
+    let answer = served(rt);
+    for line in trace.lines.as_slice() {
+        tell(rt, &(line.number, line.command));
+    }
+    answer
 }
 
 /// A trace to be printed.
@@ -73,20 +77,18 @@ impl Printing {
 
 impl Row for Printing {
     fn tell_state(&self, rt: &HostRuntime) -> io::Result<()> {
-        print!(rt; "{} lines", self.trace.lines.as_slice().len())
+        tell(rt, &self.trace.lines.as_slice().len());
+        Ok(())
     }
 
-    fn call(&mut self, rt: &HostRuntime) -> io::Result<Answer> {
+    fn call(&mut self, rt: &HostRuntime) -> Answer {
         if !self.trace.rises() {
-            print!(rt; "no rising lines")?;
-            return Ok(Answer::Served);
+            say(rt, "no rising lines");
+            return Answer::Served;
         }
         match print(self.alloc, &self.trace) {
-            Ok(text) => {
-                print!(rt; "ok {:?}", text.as_slice())?;
-                Ok(Answer::Served)
-            }
-            Err(_) => Ok(Answer::Refused),
+            Ok(text) => gave(rt, &text),
+            Err(_) => Answer::Refused,
         }
     }
 }

@@ -1,5 +1,5 @@
 //! The row of a split tree.
-use crate::row::{Answer, Row, told, unprepared};
+use crate::row::{Answer, Row, say, tell, told, unprepared};
 use ms_base::Level;
 use ms_buddy::SplitTree;
 use std::alloc::Global;
@@ -26,17 +26,16 @@ impl Carving {
 impl Row for Carving {
     fn tell_state(&self, rt: &HostRuntime) -> io::Result<()> {
         for offset in [0, 128, 512, 1024] {
-            let (span, leaf) = self.tree.leaf_at(offset);
-            print!(rt; "{leaf:?} {span:?} ")?;
+            tell(rt, &self.tree.leaf_at(offset));
         }
-        print!(rt; "free")?;
+        say(rt, "free");
         for span in self.tree.free_leaves() {
-            print!(rt; " {}@{}", span.level.number(), span.start)?;
+            tell(rt, &span);
         }
         Ok(())
     }
 
-    fn call(&mut self, rt: &HostRuntime) -> io::Result<Answer> {
+    fn call(&mut self, rt: &HostRuntime) -> Answer {
         told(rt, self.tree.carve(self.alloc, Level::new(12), 0, 2, 7))
     }
 }

@@ -1,10 +1,12 @@
-//! Calls over the lock, each with the seat that it is made from: the seat comes back.
+//! Calls over the lock, each with the seat that it is made from: the seat comes back, once the answer
+//! is told.
 ghost use Rattle.std.specs.Prelude.{◌≡◌, ◌<◌, IfSome, IsTrue};
 ghost use Rattle.ms_pool.specs.Account.{has_chunk_at};
 ghost use Rattle.ms_shared.specs.SeatView.{ServesBy, opened_by};
 
-use ms_base::{Chunk, Level, Refusal, Space, Span};
-use ms_pool::{Account, AccountSource, ChunkSource, PoolTotals};
+use crate::row::tell;
+use ms_base::{Chunk, Level, Space};
+use ms_pool::{Account, AccountSource, ChunkSource};
 use ms_shared::{PoolSeat, SharedPool};
 use std::sync::Wait;
 
@@ -47,11 +49,12 @@ fn with_chunk<R: Wait>(
 
 /// Has the first chunk of an account grow to its parent.
 pub fn grown<R: Wait>(
+    rt: &HostRuntime,
     waits: &R,
     lock: &SharedPool,
     seat: PoolSeat,
     account: Account,
-) -> (PoolSeat, Account, Option<Result<Span, Refusal>>)
+) -> (PoolSeat, Account)
     requires own { seat.id ≡ lock.now.id }
     requires served { ServesBy seat.knows account }
     requires counted { 0 < opened_by seat.knows account.space }
@@ -61,12 +64,13 @@ pub fn grown<R: Wait>(
 {
     let mut account = account;
     let Some(chunk) = first_chunk(&account) else {
-        return (seat, account, None);
+        return (seat, account);
     };
     let total = 2 * chunk.level.words();
     let mut pool = lock.at(waits, seat);
     let answer = pool.grow(&mut account, chunk.start, total, true);
-    (pool.into_seat(), account, Some(answer))
+    tell(rt, "lock grow", &answer);
+    (pool.into_seat(), account)
 }
 
 /// Tells the first chunk of an account.
@@ -82,68 +86,73 @@ fn first_chunk(account: &Account) -> Option<Chunk>
 
 /// Tells the sums over an account's space, and closes the account.
 pub fn closed<R: Wait>(
+    rt: &HostRuntime,
     waits: &R,
     lock: &SharedPool,
     seat: PoolSeat,
     account: Account,
-) -> (PoolSeat, PoolTotals)
+) -> PoolSeat
     requires own { seat.id ≡ lock.now.id }
     requires served { ServesBy seat.knows account }
     requires counted { 0 < opened_by seat.knows account.space }
-    ensures { result.0.id ≡ seat.id }
+    ensures { result.id ≡ seat.id }
 {
     let mut pool = lock.at(waits, seat);
-    let totals = pool.totals(&account);
+    tell(rt, "lock totals", &pool.totals(&account));
     pool.close(account);
-    (pool.into_seat(), totals)
+    pool.into_seat()
 }
 
 /// Opens an account of classes and closes it: tells its owner's number.
-pub fn opened<R: Wait>(
-    waits: &R,
-    lock: &SharedPool,
-    seat: PoolSeat,
-) -> (PoolSeat, Result<u32, Refusal>)
+pub fn opened<R: Wait>(rt: &HostRuntime, waits: &R, lock: &SharedPool, seat: PoolSeat) -> PoolSeat
     requires { seat.id ≡ lock.now.id }
-    ensures { result.0.id ≡ seat.id }
+    ensures { result.id ≡ seat.id }
 {
     let mut pool = lock.at(waits, seat);
     match pool.open(Space::Class) {
         Ok(account) => {
-            let owner = account.owner();
+            tell(rt, "lock open", &account.owner());
             pool.close(account);
-            (pool.into_seat(), Ok(owner))
+            pool.into_seat()
         }
-        Err(refusal) => (pool.into_seat(), Err(refusal)),
+        Err(refusal) => {
+            tell(rt, "lock refused", &refusal);
+            pool.into_seat()
+        }
     }
 }
 
 /// Opens both accounts of a loader and closes them: tells their owners' numbers.
 pub fn opened_both<R: Wait>(
+    rt: &HostRuntime,
     waits: &R,
     lock: &SharedPool,
     seat: PoolSeat,
-) -> (PoolSeat, Result<(u32, u32), Refusal>)
+) -> PoolSeat
     requires { seat.id ≡ lock.now.id }
-    ensures { result.0.id ≡ seat.id }
+    ensures { result.id ≡ seat.id }
 {
     let mut pool = lock.at(waits, seat);
     match pool.open_both() {
         Ok((account, class_account)) => {
             let owners = (account.owner(), class_account.owner());
+            tell(rt, "lock open both", &owners);
             pool.close_both(account, class_account);
-            (pool.into_seat(), Ok(owners))
+            pool.into_seat()
         }
-        Err(refusal) => (pool.into_seat(), Err(refusal)),
+        Err(refusal) => {
+            tell(rt, "lock refused", &refusal);
+            pool.into_seat()
+        }
     }
 }
 
 /// Drops the nodes that hold no chunk.
-pub fn purged<R: Wait>(waits: &R, lock: &SharedPool, seat: PoolSeat) -> (PoolSeat, u32)
+pub fn purged<R: Wait>(rt: &HostRuntime, waits: &R, lock: &SharedPool, seat: PoolSeat) -> PoolSeat
     requires { seat.id ≡ lock.now.id }
-    ensures { result.0.id ≡ seat.id }
+    ensures { result.id ≡ seat.id }
 {
     let mut pool = lock.at(waits, seat);
-    let gone = pool.purge();
-    (pool.into_seat(), gone)
+    tell(rt, "lock purge", &pool.purge());
+    pool.into_seat()
 }

@@ -1,6 +1,6 @@
 use Rattle.std.proofs.Common.{sym}
 use Rattle.ms_loaders.proofs.sums.SettleLemmas.{may_settle_without}
-use Rattle.quiet_loaders.proofs.systems.held_back.Goals as goal
+use Rattle.quiet.proofs.systems.tell_held_back.Goals as goal
 
 pub settle-requires : goal.settle-requires
 settle-requires c = rw c.remove.ensures.rest
