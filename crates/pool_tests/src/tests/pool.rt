@@ -2,7 +2,8 @@
 //! meant: which part each search finds, why a chunk can't grow, and the numbers of both limits, by
 //! tables of calls for one account. What several accounts share, close and leave is asked of the
 //! program, by worked rows.
-ghost use Rattle.std.specs.Prelude.{◌≤◌};
+ghost use Rattle.std.specs.Prelude.{◌<◌, ◌≤◌, IsTrue, length};
+ghost use Rattle.ms_pool.specs.Account.{has_chunk_at};
 ghost use Rattle.ms_pool.specs.Ledger.{Serves};
 
 use ms_base::{Level, Policy, Refusal, Settings, Space, Span};
@@ -94,9 +95,18 @@ fn grow(
     ensures { Serves pool.new account.new }
 {
     assert!(rt; place < account.held());
-    let start = account.chunk(place).start;
+    let start = start_at(account, place);
     let answer = ChunkSource::grow(pool, account, start, total, may_enlarge);
     told(rt, account, answer)
+}
+
+/// Tells where the chunk at a place of the account starts.
+fn start_at(account: &Account, place: u32) -> u64
+    requires { place < length account.now.chunks }
+    ensures { IsTrue (has_chunk_at account.now.chunks result) }
+{
+    let chunk = account.chunk(place);
+    chunk.start
 }
 
 /// Tells the account's own chunk of the span that was answered.
