@@ -143,13 +143,21 @@ fn times_lent(lent: &[[u64; 64]]) -> [u8; 512] {
     times
 }
 
+/// Has eight threads lend chunks of a new pool: where they start.
+fn lent_by_eight<R: Threads + Wait + Sync>(
+    rt: &R,
+    alloc: Global,
+) -> Result<Vec<[u64; 64]>, AllocError> {
+    let pool = Pool::new(alloc, settings(8192))?;
+    match SharedPool::new(alloc, pool, 8) {
+        Ok((lock, seats)) => in_threads(rt, &lock, seats),
+        Err(_) => Err(AllocError),
+    }
+}
+
 #[test]
 fn eight_threads_are_lent_each_part_once(rt: HostRuntime) -> Result<(), Fail> {
-    let Ok((lock, seats)) = SharedPool::new(rt.alloc(), Pool::new(rt.alloc(), settings(8192))?, 8)
-    else {
-        panic!(rt; "there is memory")
-    };
-    let lent = in_threads(&rt, &lock, seats)?;
+    let lent = lent_by_eight(&rt, rt.alloc())?;
     assert_eq!(rt; times_lent(lent.as_slice()), [1; 512]);
     Ok(())
 }
