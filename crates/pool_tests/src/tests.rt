@@ -1,4 +1,4 @@
-//! By subject, lowest first: sizes, words and refusals of the `base`, `nodes` and their granules, split
+//! By subject, lowest first: sizes and refusals of the `base`, `nodes` and their granules, split
 //! `trees`, `free_blocks`, the `pool` and `arenas` over it. Each says what no clause does.
 mod arenas;
 mod base;

@@ -1,104 +1,86 @@
-//! What no clause says: that memory which is there is given, that blocks lie where the searches and
-//! the growth tables put them, and that a step which is refused for want of memory is answered the
-//! second time as if it had not been asked: `rt try --test --fail-alloc N` refuses the Nth growth.
-//!
-//! `calls` has the system's own calls, `maps` its maps of roots, `loaders` those of a loader and of
-//! loaders, `settling` parts that become a system again. Each expected value was worked out apart from
-//! ms_loaders; traces that were worked by hand are rows of the system tests.
-ghost use Rattle.std.specs.Prelude.{◌≤◌};
+//! What no clause says: that memory which is there is given, to a loader over a pool and to a system
+//! that is run. Each expected value was worked out apart from ms_loaders; traces that were worked by
+//! hand are rows of the system tests, which ask it of the program and, growth by growth, of calls.
+use super::reports::ONE_BLOCK;
+use ms_base::{Block, Kind, Policy, Refusal, Reply, Settings, Space, Step};
+use ms_loaders::{Loader, System, Totals};
+use ms_pool::Pool;
+use ms_report::{text, totals};
+use std::alloc::{AllocError, Global};
+use std::test::Fail;
 
-mod by_name;
-mod calls;
-mod maps;
-mod settling;
-mod totals;
+/// Settings with a node of the class space.
+const SETTINGS: Settings = Settings {
+    workers: 1,
+    nodes: 64,
+    max_granules: 8192,
+    policy: Policy::Balanced,
+    class_nodes: 1,
+};
 
-use ms_base::{Kind, Policy, Refusal, Reply, Settings, Step};
-use ms_loaders::System;
-use std::process::Abort;
+/// Two blocks of a new loader, a word of the second that was written, and the words in use.
+type Blocks = ([Result<Block, Refusal>; 2], Result<u64, Refusal>, u64);
 
-/// Settings with 64 nodes, of which so many granules may be committed, and with so many nodes of the
-/// class space.
-pub fn settings_of(max_granules: u64, policy: Policy, class_nodes: u32) -> Settings
-    requires some { 1 ≤ max_granules }
-    requires few { max_granules ≤ 40960 }
-    requires class_few { class_nodes ≤ 16 }
-{
-    Settings {
-        workers: 1,
-        nodes: 64,
-        max_granules,
-        policy,
-        class_nodes,
-    }
-}
-
-/// Makes a system, again where a growth is refused.
-fn system_of(rt: &(impl Abort + AllocGlobal), settings: Settings) -> System {
-    match System::new(rt.alloc(), settings) {
-        Ok(system) => system,
-        Err(_) => System::new(rt.alloc(), settings).expect(rt, "memory is ample"),
-    }
-}
-
-/// Takes a step, again where a growth is refused, which leaves all as it was but owner numbers.
-fn answer_to(system: &mut System, step: Step) -> Reply {
-    match system.step(step) {
-        Reply::Refused(Refusal::OutOfMemory) => system.step(step),
-        reply => reply,
-    }
-}
-
-/// Takes the steps one by one and compares each reply.
-fn expect_replies(rt: &impl Abort, system: &mut System, rows: &[(Step, Reply)]) {
-    for (step, reply) in rows {
-        assert_eq!(rt; answer_to(system, *step), *reply, "of {step:?}");
-    }
-}
-
-fn made(loader: u16, kind: Kind) -> (Step, Reply) {
-    (Step::New { loader, kind }, Reply::Ok)
-}
-
-pub fn alloc(loader: u16, block: u32, words: u64) -> Step {
-    Step::Alloc {
-        loader,
-        block,
-        words,
-    }
-}
-
-fn calloc(loader: u16, block: u32, words: u64) -> Step {
-    Step::Calloc {
-        loader,
-        block,
-        words,
-    }
-}
-
-fn allocated(loader: u16, block: u32, words: u64, start: u64) -> (Step, Reply) {
-    (alloc(loader, block, words), Reply::At(start))
-}
-
-fn class_allocated(loader: u16, block: u32, words: u64, start: u64) -> (Step, Reply) {
-    (calloc(loader, block, words), Reply::At(start))
-}
-
-fn written(loader: u16, block: u32, index: u64, value: u64) -> (Step, Reply) {
-    let step = Step::Write {
-        loader,
-        block,
-        index,
-        value,
+/// Makes a loader over the next accounts of a pool, and blocks of it.
+fn blocks_of_one(alloc: Global, pool: &mut Pool) -> Option<Blocks> {
+    let Ok((account, class_account)) = pool.open_both() else {
+        return None;
     };
-    (step, Reply::Ok)
+    let mut loader = Loader::new(alloc, account, class_account, Kind::Standard);
+    let first = loader.alloc(pool, 1, 10);
+    let second = loader.allocate(pool, Space::NonClass, 2, 1);
+    let _ = loader.write(2, 1, 7);
+    Some(([first, second], loader.read(2, 1), loader.used()))
 }
 
-fn read(loader: u16, block: u32, index: u64, reply: Reply) -> (Step, Reply) {
-    let step = Step::Read {
-        loader,
-        block,
-        index,
+/// Makes a loader over the next accounts of a pool, and a class block of it.
+fn class_block_of_one(alloc: Global, pool: &mut Pool) -> Option<Result<Block, Refusal>> {
+    let Ok((account, class_account)) = pool.open_both() else {
+        return None;
     };
-    (step, reply)
+    let mut loader = Loader::new(alloc, account, class_account, Kind::Standard);
+    Some(loader.calloc(pool, 1, 10))
+}
+
+#[test]
+fn a_loader_has_blocks_in_both_spaces(rt: HostRuntime) -> Result<(), Fail> {
+    let mut pool = Pool::new(rt.alloc(), SETTINGS)?;
+    let blocks = blocks_of_one(rt.alloc(), &mut pool);
+    let class_block = class_block_of_one(rt.alloc(), &mut pool);
+    drop(pool);
+    let (start, words) = (0, 10);
+    let first = Block { start, words };
+    let (start, words) = (10, 2);
+    let second = Block { start, words };
+    assert_eq!(rt; blocks, Some(([Ok(first), Ok(second)], Ok(7), 12)));
+    let (start, words) = (67108864, 10);
+    assert_eq!(rt; class_block, Some(Ok(Block { start, words })));
+    Ok(())
+}
+
+/// Runs steps by a new system: the replies, and the totals after the last.
+fn ran(alloc: Global, steps: &[Step]) -> Result<(Vec<Reply>, Totals), AllocError> {
+    let mut system = System::new(alloc, Settings::DEFAULT)?;
+    let replies = system.run(steps)?;
+    Ok((replies, totals(&system)?))
+}
+
+#[test]
+fn a_run_answers_each_step_and_is_reported(rt: HostRuntime) -> Result<(), Fail> {
+    let kind = Kind::Standard;
+    let steps = [
+        Step::New { loader: 1, kind },
+        Step::Alloc {
+            loader: 1,
+            block: 1,
+            words: 10,
+        },
+    ];
+    let (replies, sums) = ran(rt.alloc(), &steps)?;
+    let report = text(rt.alloc(), &sums)?;
+    assert_eq!(rt;
+        (replies.as_slice(), report.as_str()),
+        ([Reply::Ok, Reply::At(0)].as_slice(), ONE_BLOCK)
+    );
+    Ok(())
 }

@@ -1,10 +1,324 @@
-//! What no clause says: that a report is written where memory is ample, worked reports byte for
-//! byte, and the largest that the limits allow.
-mod fixed;
-mod kinds;
-mod maps;
-mod refused;
-mod replies;
-mod samples;
-mod setups;
-mod usages;
+//! What no clause says, and no trace of the program shows: the largest reports that the limits allow,
+//! the names of all refusals, and a map of given roots, byte for byte. Other reports, and each part of
+//! a full one, the system tests compare.
+ghost use Rattle.std.specs.Prelude.{◌≡◌, ◌+◌};
+
+use ms_base::{Kind, Policy, Refusal, Reply, Settings};
+use ms_loaders::{
+    Answer, ArenaTotals, Details, LoaderDetails, LoaderRow, Replies, SpaceTotals, Totals,
+};
+use ms_pool::{Place, RootMap};
+use ms_report::{Detail, full_text, lines, map_text, tally};
+use std::alloc::{AllocError, Global};
+use std::test::Fail;
+
+/// The report of `new 1 standard`, `alloc 1 1 10`.
+pub(super) const ONE_BLOCK: &str = "Metaspace
+  loaders                1
+  nodes                  1
+  reserved         1048576
+  granules               1
+  committed           8192
+  chunks                 1
+  capacity             512
+  fronts               512
+  used                  10
+  live                  10
+  free blocks            0
+  waste                  0
+Chunks by level
+  level   words    held    free
+      0  524288       0       1
+      1  262144       0       1
+      2  131072       0       1
+      3   65536       0       1
+      4   32768       0       1
+      5   16384       0       1
+      6    8192       0       1
+      7    4096       0       1
+      8    2048       0       1
+      9    1024       0       1
+     10     512       1       1
+     11     256       0       0
+     12     128       0       0
+Loaders
+   name        kind  chunks  capacity      used      live
+      1    standard       1       512        10        10
+";
+
+/// More than any space has: each number as large as a limit lets one of the two be.
+fn largest_space() -> SpaceTotals {
+    SpaceTotals {
+        nodes: 64,
+        reserved: 83_886_080,
+        granules: 40_960,
+        committed: 83_886_080,
+        chunks: 655_360,
+        capacity: 83_886_080,
+        fronts: 83_886_080,
+        used: 83_886_080,
+        live: 83_886_080,
+        free_blocks: 0,
+        waste: 0,
+        held: [655_360; 13],
+        free: [655_360; 13],
+    }
+}
+
+/// More than any arena has: each number as large as a limit lets one of the two be.
+fn largest_arena() -> ArenaTotals {
+    ArenaTotals {
+        chunks: 655_360,
+        capacity: 83_886_080,
+        fronts: 83_886_080,
+        used: 83_886_080,
+        live: 0,
+        free_blocks: 83_886_080,
+        waste: 0,
+    }
+}
+
+/// The totals of one loader that holds as much in each space.
+fn largest(alloc: Global) -> Result<Totals, AllocError> {
+    let loader = LoaderDetails {
+        name: 65_535,
+        kind: Kind::Reflection,
+        space: largest_arena(),
+        class_space: largest_arena(),
+    };
+    let row = LoaderRow {
+        name: 65_535,
+        kind: Kind::Reflection,
+        chunks: 655_360,
+        capacity: 83_886_080,
+        used: 83_886_080,
+        live: 83_886_080,
+    };
+    let rows = vec![in alloc; row]?;
+    let details = Details {
+        loaders: vec![in alloc; loader]?,
+        roots: Vec::new(alloc),
+    };
+    Ok(Totals {
+        loaders: 65_536,
+        space: largest_space(),
+        class_space: largest_space(),
+        rows,
+        details: Some(details),
+        peaks: None,
+    })
+}
+
+/// A report in which each number is as large as the limits let it be.
+const LARGEST: &str = "Metaspace
+  loaders            65536
+  nodes                 64
+  reserved        83886080
+  granules           40960
+  committed       83886080
+  chunks            655360
+  capacity        83886080
+  fronts          83886080
+  used            83886080
+  live            83886080
+  free blocks            0
+  waste                  0
+Chunks by level
+  level   words    held    free
+      0  524288  655360  655360
+      1  262144  655360  655360
+      2  131072  655360  655360
+      3   65536  655360  655360
+      4   32768  655360  655360
+      5   16384  655360  655360
+      6    8192  655360  655360
+      7    4096  655360  655360
+      8    2048  655360  655360
+      9    1024  655360  655360
+     10     512  655360  655360
+     11     256  655360  655360
+     12     128  655360  655360
+Class space
+  nodes                 64
+  reserved        83886080
+  granules           40960
+  committed       83886080
+  chunks            655360
+  capacity        83886080
+  fronts          83886080
+  used            83886080
+  live            83886080
+  free blocks            0
+  waste                  0
+Class chunks by level
+  level   words    held    free
+      0  524288  655360  655360
+      1  262144  655360  655360
+      2  131072  655360  655360
+      3   65536  655360  655360
+      4   32768  655360  655360
+      5   16384  655360  655360
+      6    8192  655360  655360
+      7    4096  655360  655360
+      8    2048  655360  655360
+      9    1024  655360  655360
+     10     512  655360  655360
+     11     256  655360  655360
+     12     128  655360  655360
+Loaders
+   name        kind  chunks  capacity      used      live
+  65535  reflection  655360  83886080  83886080  83886080
+";
+
+/// The usage of both spaces with each number as large as the limits let it be: 83886080 words are
+/// 640 MB, of 335544320 that may be committed a quarter.
+const LARGEST_USAGE: &str = "Usage
+                     words        size  per cent
+  reserved        83886080    640.0 MB         -
+  committed       83886080    640.0 MB      25.0
+  used            83886080    640.0 MB     100.0
+  live            83886080    640.0 MB     100.0
+  free blocks            0      0.0 KB       0.0
+  waste                  0      0.0 KB       0.0
+Class usage
+                     words        size  per cent
+  reserved        83886080    640.0 MB         -
+  committed       83886080    640.0 MB      25.0
+  used            83886080    640.0 MB     100.0
+  live            83886080    640.0 MB     100.0
+  free blocks            0      0.0 KB       0.0
+  waste                  0      0.0 KB       0.0
+Usage of both
+                     words        size  per cent
+  reserved       167772160   1280.0 MB         -
+  committed      167772160   1280.0 MB      50.0
+  used           167772160   1280.0 MB     100.0
+  live           167772160   1280.0 MB     100.0
+  free blocks            0      0.0 KB       0.0
+  waste                  0      0.0 KB       0.0
+";
+
+/// Its sums of kinds, and what the loader holds.
+const LARGEST_KINDS: &str = "Kinds
+          kind  loaders  chunks  capacity    fronts      used      live  free blocks     waste
+          boot        0       0         0         0         0         0            0         0
+      standard        0       0         0         0         0         0            0         0
+        hidden        0       0         0         0         0         0            0         0
+    reflection        1 1310720 167772160 167772160 167772160         0    167772160         0
+Loaders by space
+   name        kind      space  chunks  capacity    fronts      used      live  free blocks     waste
+  65535  reflection  non-class  655360  83886080  83886080  83886080         0     83886080         0
+  65535  reflection      class  655360  83886080  83886080  83886080         0     83886080         0
+";
+
+#[test]
+fn the_largest_numbers_fit_their_columns(rt: HostRuntime) -> Result<(), Fail> {
+    let totals = largest(rt.alloc())?;
+    let settings = Settings {
+        workers: 1,
+        nodes: 64,
+        max_granules: 40_960,
+        policy: Policy::None,
+        class_nodes: 16,
+    };
+    let report = full_text(rt.alloc(), &totals, &settings, &tally(&[]))?;
+    let text = report.as_str();
+    let is_fixed = text.starts_with(LARGEST);
+    let found = (text.contains(LARGEST_USAGE), text.contains(LARGEST_KINDS));
+    assert_eq!(rt; (is_fixed, found), (true, (true, true)), "{text}");
+    Ok(())
+}
+
+/// A reply of each sort, the last line of a trace.
+fn of_each_sort(alloc: Global) -> Result<Replies, AllocError> {
+    let replies = [
+        Reply::Ok,
+        Reply::At(67_108_864),
+        Reply::Value(18_446_744_073_709_551_615),
+        Reply::Refused(Refusal::ZeroWords),
+        Reply::Refused(Refusal::TooLarge),
+        Reply::Refused(Refusal::CommitLimit {
+            committed: 1,
+            limit: 1,
+            need: 1,
+        }),
+        Reply::Refused(Refusal::ReserveLimit { nodes: 1, limit: 1 }),
+        Reply::Refused(Refusal::NotLive),
+        Reply::Refused(Refusal::OutOfRange { words: 4 }),
+        Reply::Refused(Refusal::OutOfMemory),
+        Reply::Refused(Refusal::NoLoader),
+        Reply::Refused(Refusal::LoaderExists),
+        Reply::Refused(Refusal::NoBlock),
+        Reply::Refused(Refusal::BlockExists),
+        Reply::Refused(Refusal::IdsUsedUp),
+    ];
+    let mut answers = Vec::with_capacity(alloc, replies.len())?;
+    for reply in replies {
+        answers.push(Answer {
+            line: 100_000,
+            reply,
+            report: None,
+        })?;
+    }
+    Ok(Replies { answers })
+}
+
+/// Their lines behind the second, which alone has an address.
+const LINES: &str = "100000 value 18446744073709551615
+100000 refused ZeroWords
+100000 refused TooLarge
+100000 refused CommitLimit
+100000 refused ReserveLimit
+100000 refused NotLive
+100000 refused OutOfRange
+100000 refused OutOfMemory
+100000 refused NoLoader
+100000 refused LoaderExists
+100000 refused NoBlock
+100000 refused BlockExists
+100000 refused IdsUsedUp
+";
+
+#[test]
+fn replies_are_told_by_their_words(rt: HostRuntime) -> Result<(), Fail> {
+    let replies = of_each_sort(rt.alloc())?;
+    for (has_addresses, begins) in [
+        (true, "100000 ok\n100000 at 67108864\n"),
+        (false, "100000 ok\n100000 ok\n"),
+    ] {
+        let told = lines(
+            rt.alloc(),
+            &replies,
+            has_addresses,
+            Detail::Basic,
+            &Settings::DEFAULT,
+        )?;
+        let rest = told.as_str().strip_prefix(begins);
+        assert_eq!(rt; rest, Some(LINES));
+    }
+    Ok(())
+}
+
+/// The map of root 129, the upper one of slot 64, which is the first of the class space.
+const MAP: &str = "Map
+   slot  root  places of 8192 words
+     64   129  Oou------------------------------------------------------------.
+  - free, not committed
+  . free, committed
+  u lent, not committed
+  o lent in part, committed
+  O lent as a whole, committed
+";
+
+#[test]
+fn each_place_has_its_letter(rt: HostRuntime) -> Result<(), Fail> {
+    let mut places = [Place::Free; 64];
+    places[0] = Place::LentWholly;
+    places[1] = Place::LentPartly;
+    places[2] = Place::LentUncommitted;
+    places[63] = Place::FreeCommitted;
+    let maps = [RootMap { root: 129, places }];
+    let told = map_text(rt.alloc(), &maps)?;
+    assert_eq!(rt; told.as_str(), MAP);
+    Ok(())
+}

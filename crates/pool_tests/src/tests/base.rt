@@ -1,115 +1,100 @@
-//! What no clause of ms_base says: the texts of refusals, the default settings, and that what
-//! takes memory answers where there is enough. The rows of sizes, levels and growth show that the
+//! What no clause of ms_base says: the texts of refusals. The rows of levels and growth show that the
 //! definitions which the contracts cite are the ones that were meant.
-use ms_base::{
-    Kind, Level, LiveBlock, Policy, Refusal, Settings, Space, Words, granule, growth, level_for,
-};
+use ms_base::{Kind, Level, Refusal, Space, growth, level_for};
+use std::alloc::AllocError;
+use std::process::Abort;
 use std::test::Fail;
+
+/// The words of each level.
+fn words_by_level() -> [u64; 13] {
+    let mut words = [0; 13];
+    for number in 0..13 {
+        words[number] = Level::new(number as u8).words();
+    }
+    words
+}
 
 #[test]
 fn each_level_has_half_the_words_of_the_one_before(rt: HostRuntime) {
-    let rows = [
-        (0, 524288),
-        (1, 262144),
-        (2, 131072),
-        (3, 65536),
-        (4, 32768),
-        (5, 16384),
-        (6, 8192),
-        (7, 4096),
-        (8, 2048),
-        (9, 1024),
-        (10, 512),
-        (11, 256),
-        (12, 128),
+    let wanted = [
+        524288, 262144, 131072, 65536, 32768, 16384, 8192, 4096, 2048, 1024, 512, 256, 128,
     ];
-    for (number, words) in rows {
-        assert!(rt; number <= 12);
-        let level = Level::new(number);
-        assert_eq!(rt; level.number(), number);
-        assert_eq!(rt; level.words(), words, "level {number}");
-    }
+    assert_eq!(rt; words_by_level(), wanted);
+}
+
+/// The number of the level of so many words.
+fn number_for(words: u64) -> Option<u8> {
+    level_for(words).map(|level| level.number())
 }
 
 #[test]
 fn a_request_takes_the_smallest_chunk_that_holds_it(rt: HostRuntime) {
     let rows = [
-        (1, 12),
-        (128, 12),
-        (129, 11),
-        (256, 11),
-        (257, 10),
-        (513, 9),
-        (2048, 8),
-        (2049, 7),
-        (4097, 6),
-        (16384, 5),
-        (16385, 4),
-        (65536, 3),
-        (131072, 2),
-        (262144, 1),
-        (262145, 0),
-        (524288, 0),
+        (1, Some(12)),
+        (128, Some(12)),
+        (129, Some(11)),
+        (256, Some(11)),
+        (257, Some(10)),
+        (513, Some(9)),
+        (2048, Some(8)),
+        (2049, Some(7)),
+        (4097, Some(6)),
+        (16384, Some(5)),
+        (16385, Some(4)),
+        (65536, Some(3)),
+        (131072, Some(2)),
+        (262144, Some(1)),
+        (262145, Some(0)),
+        (524288, Some(0)),
+        (524289, None),
     ];
-    for (words, number) in rows {
-        let level = level_for(words);
-        assert_eq!(rt;
-            level.map(|level| level.number()),
-            Some(number),
-            "{words} words"
-        );
+    for (words, number) in &rows {
+        assert_eq!(rt; number_for(*words), *number, "{words} words");
     }
-    assert_eq!(rt; level_for(524289), None);
+}
+
+/// The levels of the next chunk after none to six, and after as many as can be.
+fn levels(kind: Kind, space: Space) -> [u8; 8] {
+    let mut numbers = [growth(kind, space, u32::MAX).number(); 8];
+    for chunks in 0..7 {
+        numbers[chunks] = growth(kind, space, chunks as u32).number();
+    }
+    numbers
 }
 
 #[test]
 fn the_last_entry_of_a_growth_table_repeats(rt: HostRuntime) {
-    let rows = [
-        (Kind::Standard, Space::NonClass, [10, 10, 10, 9, 8, 8, 8]),
-        (Kind::Boot, Space::NonClass, [0, 2, 2, 2, 2, 2, 2]),
-        (
-            Kind::Reflection,
-            Space::NonClass,
-            [11, 12, 12, 12, 12, 12, 12],
-        ),
-        (Kind::Hidden, Space::NonClass, [12, 12, 12, 12, 12, 12, 12]),
-        (Kind::Standard, Space::Class, [11, 11, 10, 9, 8, 8, 8]),
-        (Kind::Boot, Space::Class, [2, 4, 4, 4, 4, 4, 4]),
-        (Kind::Reflection, Space::Class, [12, 12, 12, 12, 12, 12, 12]),
-        (Kind::Hidden, Space::Class, [12, 12, 12, 12, 12, 12, 12]),
+    let told = [
+        levels(Kind::Standard, Space::NonClass),
+        levels(Kind::Boot, Space::NonClass),
+        levels(Kind::Reflection, Space::NonClass),
+        levels(Kind::Hidden, Space::NonClass),
+        levels(Kind::Standard, Space::Class),
+        levels(Kind::Boot, Space::Class),
+        levels(Kind::Reflection, Space::Class),
+        levels(Kind::Hidden, Space::Class),
     ];
-    for (kind, space, numbers) in rows {
-        for (chunks, number) in (0..7).zip(numbers) {
-            assert_eq!(rt;
-                growth(kind, space, chunks).number(),
-                number,
-                "{chunks} chunks"
-            );
-        }
-        assert_eq!(rt; growth(kind, space, u32::MAX).number(), numbers[6]);
-    }
+    let wanted = [
+        [10, 10, 10, 9, 8, 8, 8, 8],
+        [0, 2, 2, 2, 2, 2, 2, 2],
+        [11, 12, 12, 12, 12, 12, 12, 12],
+        [12, 12, 12, 12, 12, 12, 12, 12],
+        [11, 11, 10, 9, 8, 8, 8, 8],
+        [2, 4, 4, 4, 4, 4, 4, 4],
+        [12, 12, 12, 12, 12, 12, 12, 12],
+        [12, 12, 12, 12, 12, 12, 12, 12],
+    ];
+    assert_eq!(rt; told, wanted);
 }
 
-#[test]
-fn an_aggressive_granule_is_a_quarter(rt: HostRuntime) {
-    let rows = [
-        (Policy::Balanced, 8192),
-        (Policy::Aggressive, 2048),
-        (Policy::None, 8192),
-    ];
-    for (policy, words) in rows {
-        assert_eq!(rt; granule(policy), words);
-    }
-}
-
-#[test]
-fn a_block_has_the_words_of_its_vector(rt: HostRuntime) -> Result<(), Fail> {
-    let items = Vec::from_slice(rt.alloc(), [0, 7, 0].as_slice())?;
-    let block = LiveBlock {
-        start: 512,
-        contents: Words::from_vec(items),
-    };
-    assert_eq!(rt; block.contents.into_vec().as_slice(), [0, 7, 0].as_slice());
+/// Compares what a refusal says.
+fn expect_said(
+    rt: &(impl Abort + AllocGlobal),
+    refusal: &Refusal,
+    text: &str,
+) -> Result<(), AllocError> {
+    let said = format!(in rt.alloc(); "{refusal}")?;
+    assert_eq!(rt; said.as_str(), text);
     Ok(())
 }
 
@@ -158,23 +143,8 @@ fn a_refusal_says_why_with_its_numbers(rt: HostRuntime) -> Result<(), Fail> {
             "no room at level 7",
         ),
     ];
-    for (refusal, text) in rows {
-        let said = format!(in rt.alloc(); "{refusal}")?;
-        assert_eq!(rt; said.as_str(), text);
+    for (refusal, text) in &rows {
+        expect_said(&rt, refusal, text)?;
     }
     Ok(())
-}
-
-#[test]
-fn one_worker_runs_with_64_nodes_and_8192_granules(rt: HostRuntime) {
-    let Settings {
-        workers,
-        nodes,
-        max_granules,
-        policy,
-        class_nodes,
-        ..
-    } = Settings::DEFAULT;
-    assert_eq!(rt; (workers, nodes, max_granules), (1, 64, 8192));
-    assert_eq!(rt; (policy, class_nodes), (Policy::Balanced, 0));
 }

@@ -1,13 +1,242 @@
 //! What no clause says: that memory which is there is given, and that the definitions are the ones
-//! meant, on chunks, limits and sums worked out by hand. Each test is a table of calls on one pool
-//! and of what they are answered; the calls are those that arenas make. The desk asks again where a
-//! growth is refused, so the tests hold whichever growth is.
-mod accounts;
-mod answers;
-mod class_space;
-mod closing;
-mod desk;
-mod growing;
-mod limits;
-mod policies;
-mod searching;
+//! meant: which part each search finds, why a chunk can't grow, and the numbers of both limits, by
+//! tables of calls for one account. What several accounts share, close and leave is asked of the
+//! program, by worked rows.
+ghost use Rattle.std.specs.Prelude.{◌<◌, ◌≤◌, IsTrue, length};
+ghost use Rattle.ms_pool.specs.Account.{has_chunk_at};
+ghost use Rattle.ms_pool.specs.Ledger.{Serves};
+
+use ms_base::{Level, Policy, Refusal, Settings, Space, Span};
+use ms_pool::{Account, ChunkSource, Pool};
+use std::process::Abort;
+
+/// What a row of the table asks for the account.
+#[derive(Clone, Copy, Debug)]
+enum Call {
+    /// Wanted level, most that serves, words.
+    Take(u8, u8, u64),
+    /// The place of a chunk in the account, words in all, whether it may be enlarged.
+    Grow(u32, u64, bool),
+}
+
+/// What it is answered: start, level and front of the chunk, as the account has it.
+type Answer = Result<(u64, u8, u64), Refusal>;
+
+/// The settings of a pool: its limits, its policy, and no node of the class space.
+fn settings(nodes: u32, max_granules: u64, policy: Policy) -> Settings
+    requires nodes_some { 1 ≤ nodes }
+    requires nodes_few { nodes ≤ 64 }
+    requires granules_some { 1 ≤ max_granules }
+    requires granules_few { max_granules ≤ 40960 }
+{
+    Settings {
+        workers: 1,
+        nodes,
+        max_granules,
+        policy,
+        class_nodes: 0,
+    }
+}
+
+/// Makes a pool, and asks the rows for its first account.
+fn ask_all(
+    rt: &(impl Abort + AllocGlobal),
+    settings: Settings,
+    space: Space,
+    rows: &[(Call, Answer)],
+) {
+    let mut pool = Pool::new(rt.alloc(), settings).expect(rt, "memory is ample");
+    let mut account = pool.open(space).expect(rt, "numbers are left");
+    'rows: for (call, want) in rows {
+        let answer = ask(rt, &mut pool, &mut account, *call);
+        assert_eq!(rt; answer, *want, "at {call:?}");
+    }
+}
+
+fn ask(rt: &impl Abort, pool: &mut Pool, account: &mut Account, call: Call) -> Answer
+    requires { Serves pool.old account.old }
+    ensures { Serves pool.new account.new }
+{
+    match call {
+        Call::Take(wanted, most, words) => take(rt, pool, account, wanted, most, words),
+        Call::Grow(place, total, may_enlarge) => {
+            grow(rt, pool, account, place, total, may_enlarge)
+        }
+    }
+}
+
+fn take(
+    rt: &impl Abort,
+    pool: &mut Pool,
+    account: &mut Account,
+    wanted: u8,
+    most: u8,
+    words: u64,
+) -> Answer
+    requires { Serves pool.old account.old }
+    ensures { Serves pool.new account.new }
+{
+    assert!(rt; wanted <= most && most <= 12);
+    let (wanted, most) = (Level::new(wanted), Level::new(most));
+    assert!(rt; 1 <= words && words <= most.words());
+    let answer = ChunkSource::take(pool, account, wanted, most, words);
+    told(rt, account, answer)
+}
+
+fn grow(
+    rt: &impl Abort,
+    pool: &mut Pool,
+    account: &mut Account,
+    place: u32,
+    total: u64,
+    may_enlarge: bool,
+) -> Answer
+    requires { Serves pool.old account.old }
+    ensures { Serves pool.new account.new }
+{
+    assert!(rt; place < account.held());
+    let start = start_at(account, place);
+    let answer = ChunkSource::grow(pool, account, start, total, may_enlarge);
+    told(rt, account, answer)
+}
+
+/// Tells where the chunk at a place of the account starts.
+fn start_at(account: &Account, place: u32) -> u64
+    requires { place < length account.now.chunks }
+    ensures { IsTrue (has_chunk_at account.now.chunks result) }
+{
+    let chunk = account.chunk(place);
+    chunk.start
+}
+
+/// Tells the account's own chunk of the span that was answered.
+fn told(rt: &impl Abort, account: &Account, answer: Result<Span, Refusal>) -> Answer {
+    let span = answer?;
+    for place in 0..account.held() {
+        let chunk = account.chunk(place);
+        if chunk.start == span.start && chunk.level == span.level {
+            return Ok((chunk.start, chunk.level.number(), chunk.front));
+        }
+    }
+    panic!(rt; "the account has no such chunk")
+}
+
+/// Refused: so many granules are committed, of so many that may be, and so many more are needed.
+fn over_limit(committed: u64, limit: u64, need: u64) -> Answer {
+    Err(Refusal::CommitLimit {
+        committed,
+        limit,
+        need,
+    })
+}
+
+/// Refused: the chunk can't grow where it lies.
+fn no_room(level: u8) -> Answer
+    requires { level ≤ 12 }
+{
+    Err(Refusal::NoRoom {
+        level: Level::new(level),
+    })
+}
+
+/// The first chunk commits the granule that all others lie in.
+#[test]
+fn committed_parts_come_before_others(rt: HostRuntime) {
+    let rows = [
+        (Call::Take(12, 12, 10), Ok((0, 12, 128))),
+        // Near the wanted level: a smaller committed part, not a larger one that would be split.
+        (Call::Take(6, 12, 2), Ok((4096, 7, 4096))),
+        (Call::Take(9, 12, 2), Ok((1024, 9, 1024))),
+        (Call::Take(9, 12, 2), Ok((512, 10, 512))),
+        (Call::Take(10, 12, 2), Ok((256, 11, 256))),
+        // None near: a larger committed one is split, and its lowest part taken.
+        (Call::Take(10, 10, 2), Ok((2048, 10, 512))),
+        (Call::Take(12, 12, 2), Ok((128, 12, 128))),
+        // None near or larger: the largest committed part that is left.
+        (Call::Take(4, 12, 2), Ok((3072, 9, 1024))),
+        (Call::Take(0, 12, 2), Ok((2560, 10, 512))),
+    ];
+    ask_all(&rt, Settings::DEFAULT, Space::NonClass, &rows);
+}
+
+#[test]
+fn a_smaller_part_comes_before_a_larger_one_that_is_split(rt: HostRuntime) {
+    let rows = [
+        (Call::Take(6, 6, 8192), Ok((0, 6, 8192))),
+        (Call::Take(5, 5, 1), Ok((16384, 5, 8192))),
+        // Free and not committed are 8192 of level 6 and 32768 of level 4.
+        (Call::Take(5, 6, 1), Ok((8192, 6, 8192))),
+        (Call::Take(5, 6, 8192), Ok((32768, 5, 8192))),
+        (Call::Take(5, 6, 8192), Ok((49152, 5, 8192))),
+    ];
+    ask_all(&rt, Settings::DEFAULT, Space::NonClass, &rows);
+}
+
+#[test]
+fn a_front_rises_by_granules_and_a_leader_becomes_its_parent(rt: HostRuntime) {
+    let rising = [
+        (Call::Take(0, 12, 100), Ok((0, 0, 8192))),
+        (Call::Grow(0, 8192, false), Ok((0, 0, 8192))),
+        (Call::Grow(0, 8200, false), Ok((0, 0, 16384))),
+        (Call::Grow(0, 524289, true), no_room(0)),
+    ];
+    ask_all(&rt, Settings::DEFAULT, Space::NonClass, &rising);
+    let enlarged = [
+        (Call::Take(10, 12, 10), Ok((0, 10, 512))),
+        (Call::Grow(0, 512, true), Ok((0, 10, 512))),
+        (Call::Grow(0, 520, false), no_room(10)),
+        (Call::Grow(0, 1025, true), no_room(10)),
+        (Call::Grow(0, 520, true), Ok((0, 9, 1024))),
+        (Call::Take(9, 9, 1024), Ok((1024, 9, 1024))),
+        // The buddy is lent; a follower has none to take.
+        (Call::Grow(0, 1025, true), no_room(9)),
+        (Call::Grow(1, 1025, true), no_room(9)),
+        // The third chunk's buddy is split, until the fourth takes its own buddy in.
+        (Call::Take(10, 10, 512), Ok((2048, 10, 512))),
+        (Call::Take(11, 11, 10), Ok((2560, 11, 256))),
+        (Call::Grow(2, 513, true), no_room(10)),
+        (Call::Grow(3, 512, true), Ok((2560, 10, 512))),
+        (Call::Grow(2, 513, true), no_room(10)),
+    ];
+    ask_all(&rt, Settings::DEFAULT, Space::NonClass, &enlarged);
+}
+
+#[test]
+fn the_limit_of_granules_is_told_with_its_numbers(rt: HostRuntime) {
+    let of_one = [
+        (Call::Take(6, 6, 8192), Ok((0, 6, 8192))),
+        (Call::Grow(0, 8193, true), over_limit(1, 1, 1)),
+        (Call::Take(10, 12, 2), over_limit(1, 1, 1)),
+    ];
+    let pool = settings(64, 1, Policy::Balanced);
+    ask_all(&rt, pool, Space::NonClass, &of_one);
+    let all_but_one = [
+        (Call::Take(0, 0, 524288), over_limit(0, 63, 64)),
+        (Call::Take(0, 0, 516096), Ok((0, 0, 516096))),
+    ];
+    let pool = settings(64, 63, Policy::Balanced);
+    ask_all(&rt, pool, Space::NonClass, &all_but_one);
+    // Without reclaiming, a chunk is committed whole.
+    let whole = [
+        (Call::Take(0, 12, 2), Ok((0, 0, 524288))),
+        (Call::Take(0, 0, 8193), over_limit(64, 64, 64)),
+    ];
+    let pool = settings(64, 64, Policy::None);
+    ask_all(&rt, pool, Space::NonClass, &whole);
+}
+
+/// Where both limits are met, the nodes are told first.
+#[test]
+fn the_limit_of_nodes_is_told_with_its_numbers(rt: HostRuntime) {
+    let limit = Err(Refusal::ReserveLimit { nodes: 1, limit: 1 });
+    let two_roots = [
+        (Call::Take(0, 12, 2), Ok((0, 0, 8192))),
+        (Call::Take(0, 12, 2), Ok((524288, 0, 8192))),
+        (Call::Take(0, 12, 2), limit),
+    ];
+    let pool = settings(1, 2, Policy::Balanced);
+    ask_all(&rt, pool, Space::NonClass, &two_roots);
+    let none = Err(Refusal::ReserveLimit { nodes: 0, limit: 0 });
+    let of_classes = [(Call::Take(11, 12, 10), none)];
+    ask_all(&rt, Settings::DEFAULT, Space::Class, &of_classes);
+}

@@ -1,5 +1,5 @@
-//! What no clause says: that a call succeeds where memory is ample, that it gives back what it took
-//! where it is refused, and rows worked by hand.
+//! What no clause says: that a carve succeeds where memory is ample, what a tree keeps of its memory
+//! and gives back, and leaves worked by hand.
 ghost use Rattle.std.specs.Prelude.{◌<◌, ◌≤◌};
 ghost use Rattle.ms_base.specs.declared.sizes.TheConstants.{ROOT_WORDS};
 
@@ -7,7 +7,6 @@ use linked_list_allocator::LocalHeap;
 use ms_base::{Level, Refusal, Span};
 use ms_buddy::{Leaf, SplitTree};
 use std::alloc::Allocator;
-use std::process::Abort;
 use std::test::Fail;
 
 /// Releases the leaf that covers the offset, where it is lent.
@@ -48,150 +47,126 @@ fn span(start: u64, level: u8) -> Span
     }
 }
 
-fn lends_and_merges<A: Allocator + Clone>(rt: &impl Abort, alloc: A) -> Result<(), Fail> {
-    let mut tree = SplitTree::new();
-    assert!(rt;
-        tree.carve(alloc.clone()?, Level::new(10), 0, 1, 512)
-            .is_ok()
-    );
-    assert!(rt;
-        tree.carve(alloc.clone()?, Level::new(11), 768, 2, 256)
-            .is_ok()
-    );
-    let wanted = [
-        span(512, 11),
-        span(1024, 9),
-        span(2048, 8),
-        span(4096, 7),
-        span(8192, 6),
-        span(16384, 5),
-        span(32768, 4),
-        span(65536, 3),
-        span(131072, 2),
-        span(262144, 1),
-    ];
+/// The free leaves of a tree, the first ten and whether there is another.
+fn free_leaves<A: Allocator>(tree: &SplitTree<A>) -> ([Option<Span>; 10], bool) {
     let mut leaves = tree.free_leaves();
-    for part in wanted {
-        assert_eq!(rt; leaves.next(), Some(part));
+    let mut free = [None; 10];
+    for place in 0..10 {
+        free[place] = leaves.next();
     }
-    assert_eq!(rt; leaves.next(), None);
-    let refused = tree.carve(alloc, Level::new(9), 0, 3, 1024);
-    assert_eq!(rt;
-        refused,
-        Err(Refusal::NoRoom {
-            level: Level::new(9)
-        })
-    );
-    let refused = enlarge_at(&mut tree, 0, 600);
-    assert_eq!(rt;
-        refused,
-        Some(Err(Refusal::NoRoom {
-            level: Level::new(10)
-        }))
-    );
-    assert_eq!(rt; release_at(&mut tree, 0), Some(span(0, 10)));
-    assert_eq!(rt; release_at(&mut tree, 768), Some(span(0, 0)));
-    assert!(rt; tree.is_whole());
-    Ok(())
+    (free, leaves.next().is_some())
+}
+
+/// What the carves of a tree are answered, its free leaves after two of them, what two chunks are
+/// answered that are enlarged, and those that are released.
+type Answers = (
+    [Result<(), Refusal>; 3],
+    ([Option<Span>; 10], bool),
+    [Option<Result<Span, Refusal>>; 2],
+    [Option<Span>; 2],
+);
+
+/// Calls a new tree on the heap.
+fn called(heap: &LocalHeap) -> Answers {
+    let mut tree = SplitTree::new();
+    let first = tree.carve(heap, Level::new(10), 0, 1, 512);
+    let second = tree.carve(heap, Level::new(11), 768, 2, 256);
+    let free = free_leaves(&tree);
+    let third = tree.carve(heap, Level::new(9), 0, 3, 1024);
+    let split = enlarge_at(&mut tree, 0, 600);
+    let follower = enlarge_at(&mut tree, 768, 512);
+    let released = [release_at(&mut tree, 0), release_at(&mut tree, 768)];
+    ([first, second, third], free, [split, follower], released)
+}
+
+fn no_room(level: u8) -> Refusal
+    requires { level ≤ 12 }
+{
+    Refusal::NoRoom {
+        level: Level::new(level),
+    }
 }
 
 #[test]
-fn lends_and_merges_on_the_heap(rt: HostRuntime) -> Result<(), Fail> {
-    lends_and_merges(&rt, rt.alloc())
-}
-
-#[test]
-fn lends_and_merges_on_a_heap_of_its_own(rt: HostRuntime) -> Result<(), Fail> {
+fn a_tree_lends_and_merges_and_gives_its_memory_back(rt: HostRuntime) -> Result<(), Fail> {
     let heap = LocalHeap::new(rt.alloc(), 65536)?;
-    lends_and_merges(&rt, &heap)?;
+    let free = [
+        Some(span(512, 11)),
+        Some(span(1024, 9)),
+        Some(span(2048, 8)),
+        Some(span(4096, 7)),
+        Some(span(8192, 6)),
+        Some(span(16384, 5)),
+        Some(span(32768, 4)),
+        Some(span(65536, 3)),
+        Some(span(131072, 2)),
+        Some(span(262144, 1)),
+    ];
+    let wanted = (
+        [Ok(()), Ok(()), Err(no_room(9))],
+        (free, false),
+        [Some(Err(no_room(10))), Some(Err(no_room(11)))],
+        [Some(span(0, 10)), Some(span(0, 0))],
+    );
+    assert_eq!(rt; called(&heap), wanted);
     assert_eq!(rt; heap.used(), 0);
     Ok(())
 }
 
+/// Has a new tree lend a part on a heap that is too small: what it is answered, whether the tree is
+/// whole, and what it keeps of the heap.
+fn called_without_room(heap: &LocalHeap) -> (Result<(), Refusal>, bool, usize) {
+    let mut tree = SplitTree::new();
+    let refused = tree.carve(heap, Level::new(12), 0, 1, 128);
+    (refused, tree.is_whole(), heap.used())
+}
+
 #[test]
-fn a_small_heap_refuses_and_the_tree_stays(rt: HostRuntime) -> Result<(), Fail> {
+fn a_carve_that_is_refused_gives_back_what_it_took(rt: HostRuntime) -> Result<(), Fail> {
     let heap = LocalHeap::new(rt.alloc(), 128)?;
-    let mut tree = SplitTree::new();
-    let refused = tree.carve(&heap, Level::new(12), 0, 1, 128);
-    assert_eq!(rt; refused, Err(Refusal::OutOfMemory));
-    assert!(rt; tree.is_whole());
+    let wanted = (Err(Refusal::OutOfMemory), true, 0);
+    assert_eq!(rt; called_without_room(&heap), wanted);
     Ok(())
 }
 
-#[test]
-fn each_box_may_be_refused(rt: HostRuntime) -> Result<(), Fail> {
-    let mut refusals: u32 = 0;
-    for unit in 0..80 {
-        let heap = LocalHeap::new(rt.alloc(), 65536)?;
-        // A vector takes all but so many units of 16 bytes, until the carve has been refused.
-        let taken: Vec<u8, &LocalHeap> = Vec::with_capacity(&heap, 65536 - 16 * unit)?;
-        let before = heap.used();
-        let mut tree = SplitTree::new();
-        if tree.carve(&heap, Level::new(12), 0, 1, 128).is_err() {
-            refusals = refusals.saturating_add(1);
-            assert!(rt; tree.is_whole());
-            assert_eq!(rt; heap.used(), before);
-            drop(taken);
-            assert!(rt; tree.carve(&heap, Level::new(12), 0, 1, 128).is_ok());
-        }
-        assert_eq!(rt; release_at(&mut tree, 0), Some(span(0, 0)));
-        assert!(rt; tree.is_whole());
-    }
-    // 12 levels of two boxes, and a box takes three units.
-    assert_eq!(rt; refusals, 72);
-    Ok(())
-}
-
-#[test]
-fn merges_late(rt: HostRuntime) -> Result<(), Fail> {
-    let heap = LocalHeap::new(rt.alloc(), 1048576)?;
-    let mut tree = SplitTree::new();
+/// Lends all parts of the smallest level, and counts them.
+fn carve_all<'a>(tree: &mut SplitTree<&'a LocalHeap>, heap: &'a LocalHeap) -> u32 {
+    let mut lent: u32 = 0;
     for part in 0..4096 {
-        assert!(rt;
-            tree.carve(&heap, Level::new(12), 128 * part, 1, 128)
-                .is_ok()
-        );
+        if tree.carve(heap, Level::new(12), 128 * part, 1, 128).is_ok() {
+            lent = lent.saturating_add(1);
+        }
     }
-    assert_eq!(rt; tree.free_leaves().next(), None);
-    for leader in 0..2048 {
-        assert_eq!(rt;
-            release_at(&mut tree, 256 * leader),
-            Some(span(256 * leader, 12))
-        );
-    }
-    for follower in 0..2047 {
-        let released = release_at(&mut tree, 256 * follower + 128);
-        assert!(rt; released.is_some());
-        assert!(rt; !tree.is_whole());
-    }
-    assert_eq!(rt; release_at(&mut tree, 524160), Some(span(0, 0)));
-    assert!(rt; tree.is_whole());
-    // The boxes of 12 splits stay for the next carve, and each takes 48 bytes.
-    assert_eq!(rt; heap.used(), 1152);
-    drop(tree);
-    assert_eq!(rt; heap.used(), 0);
-    Ok(())
+    lent
 }
 
+/// Releases them, and counts them.
+fn release_all<A: Allocator>(tree: &mut SplitTree<A>) -> u32 {
+    let mut released: u32 = 0;
+    for part in 0..4096 {
+        if release_at(tree, 128 * part).is_some() {
+            released = released.saturating_add(1);
+        }
+    }
+    released
+}
+
+/// Lends a part again after all were lent and released: the numbers of those, what the tree kept of
+/// the heap, what the part is answered, and what the tree keeps then.
+fn called_again(heap: &LocalHeap) -> ([u32; 2], usize, Result<(), Refusal>, usize) {
+    let mut tree = SplitTree::new();
+    let counts = [carve_all(&mut tree, heap), release_all(&mut tree)];
+    let kept = heap.used();
+    let again = tree.carve(heap, Level::new(12), 524160, 1, 128);
+    (counts, kept, again, heap.used())
+}
+
+/// The boxes of 12 splits stay for the next carve, and each takes 48 bytes.
 #[test]
 fn merged_halves_serve_the_next_carve(rt: HostRuntime) -> Result<(), Fail> {
-    let heap = LocalHeap::new(rt.alloc(), 65536)?;
-    let mut tree = SplitTree::new();
-    assert!(rt; tree.carve(&heap, Level::new(12), 0, 1, 128).is_ok());
-    assert_eq!(rt; release_at(&mut tree, 0), Some(span(0, 0)));
-    let before = heap.used();
-    assert!(rt; tree.carve(&heap, Level::new(12), 524160, 1, 128).is_ok());
-    assert_eq!(rt; heap.used(), before);
-    assert_eq!(rt;
-        enlarge_at(&mut tree, 524160, 256),
-        Some(Err(Refusal::NoRoom {
-            level: Level::new(12)
-        }))
-    );
-    assert_eq!(rt; release_at(&mut tree, 524160), Some(span(0, 0)));
-    assert!(rt; tree.carve(&heap, Level::new(12), 0, 1, 128).is_ok());
-    assert_eq!(rt; enlarge_at(&mut tree, 0, 256), Some(Ok(span(0, 11))));
-    assert!(rt; tree.carve(&heap, Level::new(12), 256, 1, 128).is_ok());
-    assert_eq!(rt; heap.used(), before);
+    let heap = LocalHeap::new(rt.alloc(), 1048576)?;
+    let wanted = ([4096, 4096], 1152, Ok(()), 1152);
+    assert_eq!(rt; called_again(&heap), wanted);
+    assert_eq!(rt; heap.used(), 0);
     Ok(())
 }

@@ -8,30 +8,51 @@ use ms_loaders::Detail;
 use ms_run::{Gate, replay};
 use ms_trace::parse;
 use std::alloc::{AllocError, Global};
-use std::process::Abort;
 use std::sync::Wait;
 use std::sync::atomic::{AtomicU64, Ordering};
 use std::test::Fail;
 use std::thread;
 use std::thread::Threads;
 
-/// The settings with so many workers, and the limits of nodes, granules and class nodes.
-fn settings(workers: u32, nodes: u32, max_granules: u64, class_nodes: u32) -> Settings
+/// The settings with so many workers, and one node of the class space.
+fn settings(workers: u32) -> Settings
     requires some { 1 ≤ workers }
     requires few { workers ≤ 8 }
-    requires nodes_some { 1 ≤ nodes }
-    requires nodes_few { nodes ≤ 64 }
-    requires granules_some { 1 ≤ max_granules }
-    requires granules_few { max_granules ≤ 40960 }
-    requires class_few { class_nodes ≤ 16 }
 {
     Settings {
         workers,
-        nodes,
-        max_granules,
+        nodes: 64,
+        max_granules: 8192,
         policy: Policy::Balanced,
-        class_nodes,
+        class_nodes: 1,
     }
+}
+
+/// Replays a text with a gate: what its lines are answered.
+fn replayed<G: Gate + Sync>(
+    rt: &(impl AllocGlobal + Threads + Wait + Sync),
+    workers: u32,
+    text: &str,
+    gate: &G,
+) -> Result<Vec<Reply>, Fail>
+    requires some { 1 ≤ workers }
+    requires few { workers ≤ 8 }
+{
+    let trace = parse(rt.alloc(), text.as_bytes()).ok().ok_or("no trace")?;
+    let replies = replay(
+        rt,
+        rt.alloc(),
+        &trace,
+        settings(workers),
+        Detail::Basic,
+        gate,
+    );
+    let replies = replies.ok().ok_or("no replies")?;
+    let mut told = Vec::with_capacity(rt.alloc(), replies.answers.len())?;
+    for answer in &replies.answers {
+        told.push(answer.reply)?;
+    }
+    Ok(told)
 }
 
 /// Holds each of two workers at its first line until the other has come to its own.
@@ -64,27 +85,15 @@ impl Gate for Meeting {
 
 #[test]
 fn gate_two_workers(rt: HostRuntime) -> Result<(), Fail> {
-    let text = "new 1 standard\nnew 2 standard\n";
-    let trace = parse(rt.alloc(), text.as_bytes()).ok().ok_or("no trace")?;
     let gate = Meeting {
         first: AtomicU64::new(0),
         second: AtomicU64::new(0),
         missed: AtomicU64::new(0),
     };
-    let replies = replay(
-        &rt,
-        rt.alloc(),
-        &trace,
-        settings(2, 64, 8192, 0),
-        Detail::Basic,
-        &gate,
-    );
-    let replies = replies.ok().ok_or("no replies")?;
-    assert_eq!(rt; gate.missed.load(Ordering::SeqCst), 0);
-    assert_eq!(rt; replies.answers.len(), 2);
-    for answer in &replies.answers {
-        assert_eq!(rt; answer.reply, Reply::Ok);
-    }
+    let replies = replayed(&rt, 2, "new 1 standard\nnew 2 standard\n", &gate)?;
+    let missed = gate.missed.load(Ordering::SeqCst);
+    let served = [Reply::Ok, Reply::Ok];
+    assert_eq!(rt; (missed, replies.as_slice()), (0, served.as_slice()));
     Ok(())
 }
 
@@ -106,17 +115,18 @@ impl Gate for Watching {
 
 /// Replays a text with a gate that watches the words in use: the last and the most that it was told.
 fn watched(
-    rt: &(impl Abort + AllocGlobal + Threads + Wait + Sync),
-    settings: Settings,
+    rt: &(impl AllocGlobal + Threads + Wait + Sync),
+    workers: u32,
     text: &str,
-) -> Result<(u64, u64), Fail> {
-    let trace = parse(rt.alloc(), text.as_bytes()).ok().ok_or("no trace")?;
+) -> Result<(u64, u64), Fail>
+    requires some { 1 ≤ workers }
+    requires few { workers ≤ 8 }
+{
     let gate = Watching {
         last: AtomicU64::new(0),
         most: AtomicU64::new(0),
     };
-    let replies = replay(rt, rt.alloc(), &trace, settings, Detail::Basic, &gate);
-    let _ = replies.ok().ok_or("no replies")?;
+    let _ = replayed(rt, workers, text, &gate)?;
     let last = gate.last.load(Ordering::SeqCst);
     Ok((last, gate.most.load(Ordering::SeqCst)))
 }
@@ -126,33 +136,28 @@ fn who_reads_last_reads_what_all_have_in_use(rt: HostRuntime) -> Result<(), Fail
     let text = "new 1 standard\nnew 2 standard\nalloc 1 1 5\nalloc 2 1 7\n";
     for workers in [1, 2, 4, 8] {
         for _ in 0..20 {
-            let (_, most) = watched(&rt, settings(workers, 64, 8192, 0), text)?;
+            let (_, most) = watched(&rt, workers, text)?;
             assert_eq!(rt; most, 12);
         }
     }
     Ok(())
 }
 
-#[test]
-fn words_in_use_are_counted_on_from_phase_to_phase(rt: HostRuntime) -> Result<(), Fail> {
-    let text = "new 1 standard\nnew 2 standard\nalloc 1 1 5\ncalloc 2 1 7\nsync
+/// In use are 12 words of two loaders, 7 once the first is gone, and 11 at last.
+const THREE_PHASES: &str = "new 1 standard\nnew 2 standard\nalloc 1 1 5\ncalloc 2 1 7\nsync
 unload 1\nsync\nalloc 2 2 4\nwrite 2 2 0 9\nfree 2 2\nread 2 1 0\n";
-    for workers in [1, 2, 4, 8] {
-        let (last, most) = watched(&rt, settings(workers, 64, 8192, 1), text)?;
-        assert_eq!(rt; last, 11);
-        assert_eq!(rt; most, 12);
-    }
-    Ok(())
-}
+
+/// The second phase's meter ends at 18446744073709551606, to which the running 10 comes.
+const ALL_GIVEN_BACK: &str = "new 1 standard\nalloc 1 1 10\nreport\nunload 1\n";
 
 #[test]
-fn what_a_phase_gives_back_goes_off_the_running_amount(rt: HostRuntime) -> Result<(), Fail> {
-    // The second phase's meter ends at 18446744073709551606, to which the running 10 comes.
-    let text = "new 1 standard\nalloc 1 1 10\nreport\nunload 1\n";
+fn words_in_use_are_counted_on_from_phase_to_phase(rt: HostRuntime) -> Result<(), Fail> {
     for workers in [1, 2, 4, 8] {
-        let (last, most) = watched(&rt, settings(workers, 64, 8192, 0), text)?;
-        assert_eq!(rt; last, 0);
-        assert_eq!(rt; most, 10);
+        let told = (
+            watched(&rt, workers, THREE_PHASES)?,
+            watched(&rt, workers, ALL_GIVEN_BACK)?,
+        );
+        assert_eq!(rt; told, ((11, 12), (0, 10)));
     }
     Ok(())
 }
@@ -191,20 +196,19 @@ fn sums(alloc: Global) -> Result<Vec<AtomicU64>, AllocError> {
     Ok(sums)
 }
 
-/// Expects that each line was heard of once, from its worker; 9 stands for a line that asks no step.
-fn expect_workers(rt: &impl Abort, heard: &[AtomicU64], wanted: [u64; 25]) {
-    for (line, worker) in wanted.into_iter().enumerate() {
+/// Who was heard of each line, where that was once: 9 stands for nobody.
+fn heard_of(heard: &[AtomicU64]) -> [u64; 25] {
+    let mut workers = [9; 25];
+    for (line, worker) in workers.iter_mut().enumerate() {
         let sum = match heard.get(line) {
             Some(sum) => sum.load(Ordering::SeqCst),
             None => 0,
         };
-        let want = if worker == 9 {
-            0
-        } else {
-            worker.wrapping_add(1)
-        };
-        assert_eq!(rt; sum, want, "line {line}");
+        if sum > 0 {
+            *worker = sum - 1;
+        }
     }
+    workers
 }
 
 /// Five phases: in the third only one loader has lines. By first appearance loader 3 is number 0, 5
@@ -235,58 +239,39 @@ unload 3
 unload 1
 ";
 
-/// Replays five phases, and expects that each line is worked by its worker.
+/// Replays five phases: who came before each line, and who after it.
 fn listen(
-    rt: &(impl Abort + AllocGlobal + Threads + Wait + Sync),
+    rt: &(impl AllocGlobal + Threads + Wait + Sync),
     workers: u32,
-    wanted: [u64; 25],
-) -> Result<(), Fail>
+) -> Result<[[u64; 25]; 2], Fail>
     requires some { 1 ≤ workers }
     requires few { workers ≤ 8 }
 {
-    let text = FIVE_PHASES.as_bytes();
-    let trace = parse(rt.alloc(), text).ok().ok_or("no trace")?;
     let gate = Listening {
         before: sums(rt.alloc())?,
         after: sums(rt.alloc())?,
     };
-    let replies = replay(
-        rt,
-        rt.alloc(),
-        &trace,
-        settings(workers, 64, 8192, 0),
-        Detail::Basic,
-        &gate,
-    );
-    let replies = replies.ok().ok_or("no replies")?;
-    assert_eq!(rt; replies.answers.len(), 24);
-    expect_workers(rt, gate.before.as_slice(), wanted);
-    expect_workers(rt, gate.after.as_slice(), wanted);
-    Ok(())
+    let _ = replayed(rt, workers, FIVE_PHASES, &gate)?;
+    Ok([
+        heard_of(gate.before.as_slice()),
+        heard_of(gate.after.as_slice()),
+    ])
 }
 
 // Loader number j has worker (j + k) mod W in phase k, and a purge has worker 0.
 #[test]
 fn each_line_is_worked_by_the_worker_whose_turn_it_is(rt: HostRuntime) -> Result<(), Fail> {
-    listen(
-        &rt,
-        2,
-        [
-            9, 0, 1, 0, 1, 0, 9, 1, 1, 0, 0, 9, 1, 1, 9, 0, 1, 0, 1, 9, 1, 0, 0, 0, 0,
-        ],
-    )?;
-    listen(
-        &rt,
-        3,
-        [
-            9, 0, 1, 2, 0, 1, 9, 0, 1, 0, 1, 9, 0, 0, 9, 1, 2, 0, 0, 9, 1, 0, 2, 1, 0,
-        ],
-    )?;
-    listen(
-        &rt,
-        8,
-        [
-            9, 0, 1, 2, 3, 4, 9, 3, 1, 0, 4, 9, 3, 3, 9, 4, 5, 0, 3, 9, 7, 0, 0, 4, 6,
-        ],
-    )
+    let of_two = [
+        9, 0, 1, 0, 1, 0, 9, 1, 1, 0, 0, 9, 1, 1, 9, 0, 1, 0, 1, 9, 1, 0, 0, 0, 0,
+    ];
+    let of_three = [
+        9, 0, 1, 2, 0, 1, 9, 0, 1, 0, 1, 9, 0, 0, 9, 1, 2, 0, 0, 9, 1, 0, 2, 1, 0,
+    ];
+    let of_eight = [
+        9, 0, 1, 2, 3, 4, 9, 3, 1, 0, 4, 9, 3, 3, 9, 4, 5, 0, 3, 9, 7, 0, 0, 4, 6,
+    ];
+    let heard = [listen(&rt, 2)?, listen(&rt, 3)?, listen(&rt, 8)?];
+    let wanted = [[of_two, of_two], [of_three, of_three], [of_eight, of_eight]];
+    assert_eq!(rt; heard, wanted);
+    Ok(())
 }

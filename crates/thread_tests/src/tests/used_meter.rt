@@ -4,12 +4,23 @@
 ghost use Rattle.std.specs.Prelude.{◌≡◌, IfOk};
 ghost use Rattle.std.specs.List.{All};
 
-use ms_base::Refusal;
 use ms_shared::{MeterSeat, UsedMeter};
 use std::alloc::AllocError;
 use std::test::Fail;
 use std::thread;
 use std::thread::Threads;
+
+/// What one seat reads after both have added, and after the other has taken more off.
+fn read_beside(meter: &UsedMeter, one: &mut MeterSeat, other: &mut MeterSeat) -> [u64; 2]
+    requires own { one.old.id ≡ meter.now.id }
+    requires other_own { other.old.id ≡ meter.now.id }
+{
+    meter.add(one, 5);
+    meter.add(other, 7);
+    let added = meter.now(one);
+    meter.sub(other, 22);
+    [added, meter.now(one)]
+}
 
 #[test]
 fn now_counts_what_other_seats_added(rt: HostRuntime) -> Result<(), Fail> {
@@ -17,49 +28,8 @@ fn now_counts_what_other_seats_added(rt: HostRuntime) -> Result<(), Fail> {
     let (Some(mut one), Some(mut other)) = (seats.pop(), seats.pop()) else {
         panic!(rt; "two seats were made")
     };
-    meter.add(&mut one, 5);
-    meter.add(&mut other, 7);
-    assert_eq!(rt; meter.now(&mut one), 12);
-    meter.sub(&mut other, 22);
-    assert_eq!(rt; meter.now(&mut one), u64::MAX - 9);
-    Ok(())
-}
-
-#[test]
-fn a_meter_that_lacks_a_seat_is_not_closed(rt: HostRuntime) -> Result<(), Fail> {
-    let (meter, mut seats) = UsedMeter::new(rt.alloc(), 2)?;
-    let Some(mut other) = seats.pop() else {
-        panic!(rt; "two seats were made")
-    };
-    let Err((refusal, meter, mut seats)) = meter.close(seats) else {
-        panic!(rt; "a seat is wanting")
-    };
-    assert_eq!(rt;
-        refusal,
-        Refusal::Unsettled {
-            opened: 2,
-            gathered: 1
-        }
-    );
-    meter.add(&mut other, 3);
-    seats.push(other)?;
-    assert!(rt; meter.close(seats).is_ok_and(|words| words == 3));
-    Ok(())
-}
-
-#[test]
-fn a_meter_that_gives_back_more_than_it_got_ends_below_zero(rt: HostRuntime) -> Result<(), Fail> {
-    let (meter, mut seats) = UsedMeter::new(rt.alloc(), 1)?;
-    let Some(mut seat) = seats.pop() else {
-        panic!(rt; "a seat was made")
-    };
-    meter.sub(&mut seat, 10);
-    seats.push(seat)?;
-    assert!(rt;
-        meter
-            .close(seats)
-            .is_ok_and(|words| words == 18_446_744_073_709_551_606)
-    );
+    let read = read_beside(&meter, &mut one, &mut other);
+    assert_eq!(rt; read, [12, u64::MAX - 9]);
     Ok(())
 }
 
