@@ -7,7 +7,7 @@
 //! Only `options_of` takes memory.
 ghost use Rattle.std.specs.Prelude.{◌≡◌, ◌≢◌, ◌≤◌, ◌<◌, ◌^◌, ℕ, IfOk, IfErr, IsOkAnd, None, Some, codes, decimal};
 ghost use Rattle.std.specs.Prelude.{length, map, false};
-ghost use Rattle.clap.specs.Words.{app_of, found_of, kind_of, new_rule, one_of, rows_of, rule_of, with_rule};
+ghost use Rattle.clap.specs.Words.{App, app_of, found_of, kind_of, new_rule, one_of, rows_of, rule_of, with_rule};
 ghost use Rattle.metarun.specs.Asked.{IsAllowed, IsDefault, IsTold, AreRead, AreAsked};
 ghost use Rattle.metarun.specs.Asked.{ReadsDetail, ReadsFlag, ReadsNumber, ReadsPolicy};
 ghost use Rattle.metarun.specs.CommandLine.{IsCommandLine, IsShown, AskToBeTold, IsPolicyRule, IsReportRule};
@@ -221,32 +221,40 @@ Example:
 fn command<'a>(alloc: Global) -> Result<Command<'a>, AllocError>
     ensures { IfOk result (λ command. IsCommandLine (app_of command)) }
 {
-    with_sizes(alloc, described(alloc)?)?
-        .arg(addresses(alloc))?
-        .arg(policy(alloc))?
-        .arg(class_nodes(alloc))?
-        .arg(report(alloc))
+    let command = described(alloc);
+    let command = with(command, workers(alloc));
+    let command = with(command, granules(alloc));
+    let command = with(command, nodes(alloc));
+    let command = with(command, addresses(alloc));
+    let command = with(command, policy(alloc));
+    let command = with(command, class_nodes(alloc));
+    with(command, report(alloc))
+}
+
+/// Adds an option, where there was memory so far.
+fn with<'a>(
+    command: Result<Command<'a>, AllocError>,
+    option: Arg<'a>,
+) -> Result<Command<'a>, AllocError>
+    ensures { (app : App) → IfOk command.entry (λ before. app_of before ≡ app)
+        → option.entry.global ≡ false
+        → IfOk result (λ after. app_of after ≡ with_rule app (rule_of option.entry)) }
+{
+    match command {
+        Ok(command) => command.arg(option),
+        Err(error) => Err(error),
+    }
 }
 
 /// Describes the program.
 fn described<'a>(alloc: Global) -> Result<Command<'a>, AllocError>
     ensures { IfOk result (λ command. app_of command ≡ named (codes "metarun")) }
 {
-    let command = Command::new(alloc, "metarun").bin_name("metarun")?;
-    Ok(command.version(VERSION).about(ABOUT).after_help(AFTER))
-}
-
-/// Adds how many workers, granules and nodes there may be.
-fn with_sizes<'a>(alloc: Global, command: Command<'a>) -> Result<Command<'a>, AllocError>
-    ensures { IfOk result (λ sized. app_of sized ≡ with_rule (with_rule (with_rule (app_of command.entry)
-        (number_rule (codes "workers") 1 8))
-        (number_rule (codes "max-granules") 1 40960))
-        (number_rule (codes "nodes") 1 64)) }
-{
-    command
-        .arg(workers(alloc))?
-        .arg(granules(alloc))?
-        .arg(nodes(alloc))
+    Command::new(alloc, "metarun")
+        .version(VERSION)
+        .about(ABOUT)
+        .after_help(AFTER)
+        .bin_name("metarun")
 }
 
 /// Describes an option with a number, of so many.

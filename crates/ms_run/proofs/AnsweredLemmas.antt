@@ -1,9 +1,8 @@
 -- Each step over the lock: a loader's words and blocks, its end, a purge, and all steps together. For
 -- `answer` in metering.rt.
-use Rattle.std.proofs.Common.{◌≡◌, ◌≢◌, ◌<◌, ℕ, Bool, false, Option, Some, None, List, [], inl, inr, refl, sym, ap, ◌∙◌}
+use Rattle.std.proofs.Common.{◌≡◌, ◌≢◌, ℕ, Bool, false, Option, Some, List, inl, inr, refl, sym, ap, ◌∙◌}
 use Rattle.std.proofs.Common.{subst}
 use Rattle.std.proofs.lemmas.Bool.{cases_eq}
-use Rattle.ms_base.specs.declared.kind.Space.{Space}
 use Rattle.ms_base.specs.declared.kind.Space.TheVariants.{NonClass, Class}
 use Rattle.ms_base.specs.declared.refusal.Refusal.{Refusal}
 use Rattle.ms_base.specs.declared.refusal.Refusal.TheVariants.{NoLoader}
@@ -12,7 +11,7 @@ use Rattle.ms_base.specs.declared.step.Step.TheVariants.{New, Alloc, Calloc, Wri
 use Rattle.ms_base.specs.declared.step.Reply.{Reply}
 use Rattle.ms_base.specs.declared.step.Reply.TheVariants.{Ok as Done, At, Value, Refused}
 use Rattle.ms_base.specs.Run.Alone.{OwnReply}
-use Rattle.ms_base.specs.Names.{AreNamed, named, without}
+use Rattle.ms_base.specs.Names.{AreNamed, named}
 use Rattle.ms_base.specs.Request.{loader_of}
 use Rattle.ms_base.proofs.entries.LookupLemmas.{named_changed_same, named_without_other}
 use Rattle.ms_pool.specs.Ledger.{Ledger, opened_in}

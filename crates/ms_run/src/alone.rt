@@ -70,11 +70,7 @@ fn answer_alone<G: Gate>(
 }
 
 /// Begins a run: a system without loaders, and peaks where reports shall be full.
-pub fn begin_run(
-    alloc: Global,
-    settings: Settings,
-    detail: Detail,
-) -> Result<Metered, AllocError>
+pub fn begin_run(alloc: Global, settings: Settings, detail: Detail) -> Result<Metered, AllocError>
     ensures taken { IfOk result (HasTaken (begun (empty_machine (limits_of settings)))) }
     ensures good { IfOk result (λ run. IsGood run.system) }
     ensures used { IfOk result (λ run. run.used ≡ used_words_of run.system) }

@@ -139,16 +139,8 @@ pub fn put_loader(name: u16, loader: Loader, others: &mut Loaders) -> Result<(),
 {
     match others.insert(name, loader) {
         Ok(()) => Ok(()),
-        Err(back) => Err(refusal_of(back)),
+        Err((refusal, _loader)) => Err(refusal),
     }
-}
-
-/// Tells why a loader was refused, and drops it.
-fn refusal_of(back: (Refusal, Loader)) -> Refusal
-    ensures { result ≡ back.0 }
-{
-    let (refusal, _loader) = back;
-    refusal
 }
 
 /// Tells the fault that a refusal at the end of a phase is.

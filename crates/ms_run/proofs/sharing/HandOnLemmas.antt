@@ -341,12 +341,12 @@ pub beside_after : (name : ℕ) (v : LoaderView) (loaders others after others_af
     (from to from_end to_end : SeatState)
     → named loaders name ≡ Some v → named others name ≡ None → AreBeside from.knows loaders to.knows others
     → from_end ≡ record from {
-        knows = without_account v.class_owner Class (without_account v.owner NonClass from.knows);
-      }
+      knows = without_account v.class_owner Class (without_account v.owner NonClass from.knows);
+    }
     → to_end ≡ record to {
-        knows = with_account v.class_owner Class (without_account v.owner NonClass from.knows)
-            (with_account v.owner NonClass from.knows to.knows);
-      }
+      knows = with_account v.class_owner Class (without_account v.owner NonClass from.knows)
+          (with_account v.owner NonClass from.knows to.knows);
+    }
     → after ≡ without loaders name → others_after ≡ with_new others name v
     → AreBeside from_end.knows after to_end.knows others_after
 beside_after name v loaders others after others_after from to from_end to_end found none its from_is to_is left made =

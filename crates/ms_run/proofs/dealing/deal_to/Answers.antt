@@ -1,7 +1,6 @@
 use Rattle.std.proofs.Common.{◌+◌, ◌∙◌, sym, ap, arith, vec_len, length, List, inl, inr, refl}
 use Rattle.std.proofs.lemmas.Result.{IfOk-weaker}
 use Rattle.ms_shared.specs.SeatView.{SeatState}
-use Rattle.ms_loaders.specs.Used.{used_in}
 use Rattle.ms_run.specs.Turn.{place_in}
 use Rattle.ms_run.specs.Shares.{place_for}
 use Rattle.ms_run.proofs.sharing.StandByLemmas.{handed_at, same_tasks}
