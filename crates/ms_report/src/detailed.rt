@@ -126,8 +126,7 @@ fn push_tables(text: &mut String, details: &Details) -> Result<(), AllocError>
         ++ holdings_part (details_in details.now).loaders)) }
 {
     push_kinds(text, details.loaders.as_slice())?;
-    push_holdings(text, details.loaders.as_slice())?;
-    Ok(())
+    push_holdings(text, details.loaders.as_slice())
 }
 
 /// Appends how much of the memory is what.
@@ -137,8 +136,7 @@ fn push_usages(text: &mut String, settings: &Settings, totals: &Totals) -> Resul
 {
     let usages = weigh(totals, settings);
     push_usage(text, "Usage\n", &usages.space)?;
-    push_class_usage(text, totals.class_space.nodes, &usages)?;
-    Ok(())
+    push_class_usage(text, totals.class_space.nodes, &usages)
 }
 
 /// Appends the usage of the class space and of both, where the class space has nodes.
@@ -158,8 +156,7 @@ fn push_class_usages(text: &mut String, usages: &Usages) -> Result<(), AllocErro
         ≡ string_bytes text.old ++ class_usages usages.now) }
 {
     push_usage(text, "Class usage\n", &usages.class_space)?;
-    push_usage(text, "Usage of both\n", &usages.both)?;
-    Ok(())
+    push_usage(text, "Usage of both\n", &usages.both)
 }
 
 /// Appends a usage under its title.

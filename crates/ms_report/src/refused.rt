@@ -77,60 +77,27 @@ pub fn count(counts: &mut Refusals, reply: Reply)
     let Reply::Refused(refusal) = reply else {
         return;
     };
-    *counts = with_refusal(*counts, refusal);
+    count_refusal(counts, refusal);
 }
 
 /// Counts one more refusal.
-fn with_refusal(counts: Refusals, refusal: Refusal) -> Refusals
-    requires { AreFew (2 ^ 63) counts }
-    ensures { result ≡ with_reply counts (IsRefused refusal) }
+fn count_refusal(counts: &mut Refusals, refusal: Refusal)
+    requires { AreFew (2 ^ 63) counts.old }
+    ensures { counts.new ≡ with_reply counts.old (IsRefused refusal) }
 {
     match refusal {
-        Refusal::LoaderExists => Refusals {
-            loader_exists: counts.loader_exists + 1,
-            ..counts
-        },
-        Refusal::IdsUsedUp => Refusals {
-            ids_used_up: counts.ids_used_up + 1,
-            ..counts
-        },
-        Refusal::NoLoader => Refusals {
-            no_loader: counts.no_loader + 1,
-            ..counts
-        },
-        Refusal::BlockExists => Refusals {
-            block_exists: counts.block_exists + 1,
-            ..counts
-        },
-        Refusal::ZeroWords => Refusals {
-            zero_words: counts.zero_words + 1,
-            ..counts
-        },
-        Refusal::TooLarge => Refusals {
-            too_large: counts.too_large + 1,
-            ..counts
-        },
-        Refusal::OutOfMemory => Refusals {
-            out_of_memory: counts.out_of_memory + 1,
-            ..counts
-        },
-        Refusal::ReserveLimit { .. } => Refusals {
-            reserve_limit: counts.reserve_limit + 1,
-            ..counts
-        },
-        Refusal::CommitLimit { .. } => Refusals {
-            commit_limit: counts.commit_limit + 1,
-            ..counts
-        },
-        Refusal::NoBlock => Refusals {
-            no_block: counts.no_block + 1,
-            ..counts
-        },
-        Refusal::OutOfRange { .. } => Refusals {
-            out_of_range: counts.out_of_range + 1,
-            ..counts
-        },
-        Refusal::NotLive | Refusal::Unsettled { .. } | Refusal::NoRoom { .. } => counts,
+        Refusal::LoaderExists => counts.loader_exists += 1,
+        Refusal::IdsUsedUp => counts.ids_used_up += 1,
+        Refusal::NoLoader => counts.no_loader += 1,
+        Refusal::BlockExists => counts.block_exists += 1,
+        Refusal::ZeroWords => counts.zero_words += 1,
+        Refusal::TooLarge => counts.too_large += 1,
+        Refusal::OutOfMemory => counts.out_of_memory += 1,
+        Refusal::ReserveLimit { .. } => counts.reserve_limit += 1,
+        Refusal::CommitLimit { .. } => counts.commit_limit += 1,
+        Refusal::NoBlock => counts.no_block += 1,
+        Refusal::OutOfRange { .. } => counts.out_of_range += 1,
+        Refusal::NotLive | Refusal::Unsettled { .. } | Refusal::NoRoom { .. } => {}
     }
 }
 
@@ -140,8 +107,7 @@ pub fn push_refused(text: &mut String, counts: &Refusals) -> Result<(), AllocErr
         ≡ string_bytes text.old ++ refused_part counts.now) }
 {
     text.push_str("Refused\n")?;
-    push_refused_rows(text, counts)?;
-    Ok(())
+    push_refused_rows(text, counts)
 }
 
 /// Appends the line of each name.

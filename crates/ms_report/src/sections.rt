@@ -55,8 +55,7 @@ fn push_main(text: &mut String, totals: &Totals) -> Result<(), AllocError>
     push_number_line(text, "loaders", u64::from(totals.loaders))?;
     push_space(text, &totals.space)?;
     text.push_str("Chunks by level\n")?;
-    push_levels(text, &totals.space)?;
-    Ok(())
+    push_levels(text, &totals.space)
 }
 
 /// Appends the class space, where it has nodes.
@@ -78,8 +77,7 @@ fn push_class_lines(text: &mut String, space: &SpaceTotals) -> Result<(), AllocE
     text.push_str("Class space\n")?;
     push_space(text, space)?;
     text.push_str("Class chunks by level\n")?;
-    push_levels(text, space)?;
-    Ok(())
+    push_levels(text, space)
 }
 
 /// Appends the eleven numbers of a space.

@@ -21,8 +21,7 @@ pub fn push_settings(text: &mut String, settings: &Settings) -> Result<(), Alloc
 {
     text.push_str("Settings\n")?;
     text.push_str(policy_row(settings.policy))?;
-    push_setting_rows(text, settings)?;
-    Ok(())
+    push_setting_rows(text, settings)
 }
 
 /// Appends the five numbers of the settings.
