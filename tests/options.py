@@ -1,9 +1,12 @@
 """The command line: what is refused before anything is read, what runs as it is asked for, the help and the version."""
+import os
+import re
 import subprocess
 
 from claims import Test, expect, expect_ended
 from examples import content_of
 from outputs import answers_of, report_of
+from workbench import ROOT
 
 TRACE = b"new 1 standard\nalloc 1 1 10\nreport\n"
 # words that are refused, and how the text on standard error begins
@@ -117,11 +120,15 @@ def helps(bench):
 
 
 def tells_its_version(bench):
-    """The version tells the toolchain by the line that it says of itself."""
-    line = subprocess.run(["rt", "version"], capture_output=True, check=True).stdout.strip()
+    """The version tells the toolchain's line as the docs do, and the logic of this machine's."""
+    with open(os.path.join(ROOT, "docs", "PROMISES.md"), encoding="utf-8") as page:
+        line = re.search(r"The toolchain: `([^`]+)`", page.read())[1]
+    here = subprocess.run(["rt", "version"], capture_output=True, check=True, text=True).stdout
+    # Kits of several names have one logic; the docs name the kit that was used last.
+    expect(line.split()[-2:] == here.split()[-2:], "the docs say", line, "and here is", here)
     for word in ("-V", "--version"):
         text = text_of(bench, word)
-        expect(text == b"metarun 1.0.0 (proved with %s)\n" % line, word, text, line)
+        expect(text == f"metarun 1.0.0 (proved with {line})\n".encode(), word, text, line)
 
 
 def tests():
