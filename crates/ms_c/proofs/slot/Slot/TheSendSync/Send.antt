@@ -25,6 +25,8 @@ use Rattle.ms_pool.specs.contracts.pool.Pool as pool
 use Rattle.ms_loaders.specs.contracts.loaders.Loaders as loaders
 use Rattle.ms_loaders.specs.contracts.loaders.boxed.Boxed as boxed
 use Rattle.ms_loaders.specs.contracts.loaders.page.Page as page
+use Rattle.ms_loaders.specs.contracts.loaders.spares.Spares as spares
+use Rattle.ms_loaders.specs.contracts.room.LoaderRoom as room
 use Rattle.ms_loaders.specs.contracts.system.System as system
 use Rattle.ms_c.specs.Holding.{Held, held_by}
 use Rattle.ms_c.specs.contracts.slot.Slot.{the_row, the_type}
@@ -37,8 +39,14 @@ boxed_send =
 page_send : IsSend page.the_row
 page_send = search (boxed_send, sendable, crosses, option.the_send) depth 20
 
+room_send : IsSend room.the_row
+room_send = search (sendable, crosses, rows.the_send, names.the_send, handle.the_send) depth 60 fits 30000
+
+spares_send : IsSend spares.the_row
+spares_send = search (room_send, sendable, crosses) depth 20
+
 loaders_send : IsSend loaders.the_row
-loaders_send = search (page_send, owners.the_send, sendable, crosses, handle.the_send) depth 20
+loaders_send = search (page_send, owners.the_send, spares_send, sendable, crosses, handle.the_send) depth 20
 
 pool_send : IsSend pool.the_row
 pool_send = search (sendable, crosses, node.send-Node, mask.the_send, nodes.the_send) depth 60 fits 30000
