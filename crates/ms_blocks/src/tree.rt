@@ -201,8 +201,6 @@ fn is_level<A: Allocator>(tree: &mut Tree<A>) -> bool
 }
 
 /// Levels a fork whose sides are level: where one is higher by two, what stands on its top goes up.
-/// Not inlined, since the calls in which nothing is moved would pay for its locals.
-#[inline(never)]
 fn leveled<A: Allocator>(mut fork: Box<Fork<A>, A>) -> Tree<A>
     ensures { blocks_of result ≡ blocks_at fork.value }
 {
