@@ -92,7 +92,7 @@ impl<A: Allocator> FreeBlocks<A> {
         ensures back { IfSome result (λ block. MayBeKept self.new.kept (run_of block)) }
         ensures unchanged { IfNone result (self.new ≡ self.old) }
     {
-        match take_fit(&mut self.tree, words) {
+        match take_fit(&mut self.tree, words, &mut false) {
             None => None,
             Some(fork) => {
                 let block = fork.block;

@@ -49,28 +49,36 @@ impl<A: Allocator> Fork<A> {
     }
 }
 
-/// Adds the spare fork's block to those of a ranked tree.
-pub fn insert<A: Allocator>(tree: &mut Tree<A>, spare: Box<Fork<A>, A>)
+/// Adds the spare fork's block to those of a ranked tree. Tells whether the tree is higher then.
+pub fn insert<A: Allocator>(tree: &mut Tree<A>, spare: Box<Fork<A>, A>) -> bool
     ensures { IsRanked (blocks_of tree.old) →
         blocks_of tree.new ≡ with_ranked (blocks_of tree.old) spare.value.block }
 {
     match tree {
-        Tree::Empty => *tree = alone(spare),
+        Tree::Empty => {
+            *tree = alone(spare);
+            true
+        }
         Tree::Forked(fork) => {
             if ranks_first(&fork.block, &spare.block) {
-                insert(&mut fork.right, spare);
-                level(tree);
+                let higher = insert(&mut fork.right, spare);
+                level(tree, higher)
             } else {
-                insert(&mut fork.left, spare);
-                level(tree);
+                let higher = insert(&mut fork.left, spare);
+                level(tree, higher)
             }
         }
     }
 }
 
 /// Takes the first block of a ranked tree that has so many words, with its fork: the fork on the
-/// way that fits, and has nothing to its left that does.
-pub fn take_fit<A: Allocator>(tree: &mut Tree<A>, words: u64) -> Option<Box<Fork<A>, A>>
+/// way that fits, and has nothing to its left that does. Where one is taken, `moved` tells whether the
+/// tree has another height then.
+pub fn take_fit<A: Allocator>(
+    tree: &mut Tree<A>,
+    words: u64,
+    moved: &mut bool,
+) -> Option<Box<Fork<A>, A>>
     ensures found { IsRanked (blocks_of tree.old) →
         first_fit (blocks_of tree.old) words ≡ option_map (λ fork. fork.value.block) result }
     ensures left { IsRanked (blocks_of tree.old) →
@@ -80,20 +88,20 @@ pub fn take_fit<A: Allocator>(tree: &mut Tree<A>, words: u64) -> Option<Box<Fork
         Tree::Empty => None,
         Tree::Forked(fork) => {
             if fork.block.words < words {
-                return match take_fit(&mut fork.right, words) {
+                return match take_fit(&mut fork.right, words, moved) {
                     Some(found) => {
-                        level(tree);
+                        *moved = level(tree, *moved);
                         Some(found)
                     }
                     None => None,
                 };
             }
-            match take_fit(&mut fork.left, words) {
+            match take_fit(&mut fork.left, words, moved) {
                 Some(found) => {
-                    level(tree);
+                    *moved = level(tree, *moved);
                     Some(found)
                 }
-                None => take_top(tree),
+                None => take_top(tree, moved),
             }
         }
     }
@@ -102,7 +110,7 @@ pub fn take_fit<A: Allocator>(tree: &mut Tree<A>, words: u64) -> Option<Box<Fork
 /// Takes the fork on top, and joins the trees below it. Out of line, so that what it keeps for
 /// itself isn't kept at each turn of `take_fit`.
 #[inline(never)]
-fn take_top<A: Allocator>(tree: &mut Tree<A>) -> Option<Box<Fork<A>, A>>
+fn take_top<A: Allocator>(tree: &mut Tree<A>, moved: &mut bool) -> Option<Box<Fork<A>, A>>
     ensures { TakesTop tree.old (blocks_of tree.new) (option_map (λ fork. fork.value.block) result) }
 {
     match mem::replace(tree, Tree::Empty) {
@@ -111,6 +119,7 @@ fn take_top<A: Allocator>(tree: &mut Tree<A>) -> Option<Box<Fork<A>, A>>
             let left = mem::replace(&mut fork.left, Tree::Empty);
             let right = mem::replace(&mut fork.right, Tree::Empty);
             *tree = join(left, right);
+            *moved = height_of(tree) != fork.height;
             Some(fork)
         }
     }
@@ -121,7 +130,7 @@ fn take_top<A: Allocator>(tree: &mut Tree<A>) -> Option<Box<Fork<A>, A>>
 fn join<A: Allocator>(before: Tree<A>, mut behind: Tree<A>) -> Tree<A>
     ensures { blocks_of result ≡ blocks_of before ++ blocks_of behind }
 {
-    match take_first(&mut behind) {
+    match take_first(&mut behind, &mut false) {
         None => before,
         Some(mut fork) => {
             fork.left = before;
@@ -131,19 +140,22 @@ fn join<A: Allocator>(before: Tree<A>, mut behind: Tree<A>) -> Tree<A>
     }
 }
 
-/// Takes the first fork of a tree.
-fn take_first<A: Allocator>(tree: &mut Tree<A>) -> Option<Box<Fork<A>, A>>
+/// Takes the first fork of a tree; `moved` tells then whether the tree has another height.
+fn take_first<A: Allocator>(tree: &mut Tree<A>, moved: &mut bool) -> Option<Box<Fork<A>, A>>
     ensures { TakesFirst (blocks_of tree.old) (option_map (λ fork. fork.value.block) result)
         (blocks_of tree.new) }
 {
     match tree {
         Tree::Empty => None,
-        Tree::Forked(fork) => match take_first(&mut fork.left) {
+        Tree::Forked(fork) => match take_first(&mut fork.left, moved) {
             Some(found) => {
-                level(tree);
+                *moved = level(tree, *moved);
                 Some(found)
             }
-            None => take_lowest(tree),
+            None => {
+                *moved = true;
+                take_lowest(tree)
+            }
         },
     }
 }
@@ -173,8 +185,21 @@ fn alone<A: Allocator>(mut spare: Box<Fork<A>, A>) -> Tree<A>
     Tree::Forked(spare)
 }
 
-/// Levels a tree on top, whose sides are level. Nothing is moved where neither is higher by two.
-fn level<A: Allocator>(tree: &mut Tree<A>)
+/// Levels a tree on top, whose sides are level, where one of them has another height than before, and
+/// tells whether the tree has another height then. Else nothing is looked at: few changes reach far up.
+fn level<A: Allocator>(tree: &mut Tree<A>, moved: bool) -> bool
+    ensures { blocks_of tree.new ≡ blocks_of tree.old }
+{
+    if !moved {
+        return false;
+    }
+    let height = height_of(tree);
+    turn(tree);
+    height_of(tree) != height
+}
+
+/// Levels a tree on top. Nothing is moved where neither side is higher by two.
+fn turn<A: Allocator>(tree: &mut Tree<A>)
     ensures { blocks_of tree.new ≡ blocks_of tree.old }
 {
     if is_level(tree) {
