@@ -20,7 +20,7 @@ sys.dont_write_bytecode = True
 from workbench import Workbench, build
 from claims import Skipped, Wrong
 
-SUBJECTS = ("hostile", "growths", "limits", "devices", "texts", "faults", "options", "examples", "rows", "schedules",
+SUBJECTS = ("hostile", "growths", "limits", "peaks", "devices", "texts", "faults", "options", "examples", "rows", "schedules",
             "orders", "scripts", "calls", "library", "twin")
 PASSED, FAILED, SKIPPED = "ok", "FAILED", "skipped"
 GROWTHS = re.compile(r"\b(\d+) growths\b")
