@@ -59,6 +59,10 @@ TRACES = {
     "four loaders move on": (
         ["--policy", "none", "--max-granules", "256"],
         FOUR_LOADERS),
+    "full reports tell of two loaders": (
+        ["--report", "full", "--class-nodes", "1"],
+        "new 1 standard / new 2 hidden / alloc 1 1 10 / calloc 2 1 20 / free 1 9 / sync / alloc 2 2 200 / calloc 1 2 30 / "
+        "read 2 1 20 / report / new 3 boot / free 1 1 / unload 2 / report"),
     "fine granules": (
         ["--policy", "aggressive", "--max-granules", "4"],
         "new 1 standard / alloc 1 1 10 / sync / new 2 standard / alloc 2 1 2049 / sync / alloc 1 2 9000 / "

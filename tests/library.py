@@ -18,6 +18,8 @@ PREFIX = "nizgrabul_"
 WRAPPED = "-Wl,--wrap=malloc,--wrap=realloc,--wrap=free"
 SOURCES = os.path.join(ROOT, "crates", "ms_c", "src")
 MARKS = ("///", "/*", "*", "*/")
+# Variables of the environment that would have the Makefile do otherwise.
+OF_MAKE = ("LIBRARY", "TOOLCHAIN", "MAKEFLAGS", "MAKELEVEL")
 # A call of the header, one with its comment, and an export with its docs.
 CALL = re.compile(r"^\w+ (nizgrabul_\w+)\(", re.MULTILINE)
 COMMENTED = re.compile(r"(/\*(?:(?!\*/).)*\*/)\n\w+ (nizgrabul_\w+)\(", re.DOTALL)
@@ -49,12 +51,35 @@ def printed(words, **how):
     return ended.stdout
 
 
-def answers_each_call(bench):
-    """Each call's answer and numbers, worked by hand."""
-    found = printed([linked(bench, EXAMPLES, "calls")])
+def expect_calls_answered(program):
+    """Fails the test where the example's calls are answered otherwise than by hand."""
+    found = printed([program])
     with open(os.path.join(EXAMPLES, "calls.out"), "rb") as file:
         wanted = file.read()
     expect(found == wanted, first_difference(found, wanted))
+
+
+def answers_each_call(bench):
+    """Each call's answer and numbers, worked by hand."""
+    expect_calls_answered(linked(bench, EXAMPLES, "calls"))
+
+
+def is_made_by_its_makefile(bench):
+    """Both programs are built by `make` alone, in a copy whose folders lie to each other as here, and do as they do."""
+    if not shutil.which("make"):
+        raise Skipped("make")
+    expect(os.path.exists(ARCHIVE), "there is no archive: rt lib has not made it")
+    copy = bench.built("library_make")
+    folder, out = os.path.join(copy, "examples", "c"), os.path.join(copy, "crates", "ms_c", "out")
+    for place in (folder, out):
+        os.makedirs(place)
+    for name in ("Makefile", "nizgrabul.h", "calls.c", "runtime.c"):
+        shutil.copy(os.path.join(EXAMPLES, name), folder)
+    os.symlink(ARCHIVE, os.path.join(out, os.path.basename(ARCHIVE)))
+    others = {name: word for name, word in os.environ.items() if name not in OF_MAKE}
+    printed(["make", "-C", folder], env={**others, "CC": " ".join(compiler()), "CFLAGS": "-Werror"})
+    expect_calls_answered(os.path.join(folder, "calls"))
+    printed([os.path.join(folder, "runtime")])
 
 
 def commits_real_memory(bench):
@@ -147,6 +172,7 @@ def runs_from_rust(bench):
 
 def tests():
     yield Test("library: each call answers from C", answers_each_call)
+    yield Test("library: the example's Makefile builds it", is_made_by_its_makefile)
     yield Test("library: real memory follows the account", commits_real_memory)
     yield Test("library: each growth is refused in turn", gives_all_memory_back)
     yield Test("library: whose each word is, of 1,000 loaders", tells_whose_each_word_is)

@@ -4,8 +4,15 @@ The trace meets both of its limits. Its last phase alone has lines that get in e
 has the node, the granules, or what a purge left; under policy none granules stay committed until then. An order mixes
 the lines of that phase and keeps those of each worker as they are, the purge among the first one's. Each order is
 written as a trace of its own and run by one worker; its replies are put back under the numbers of their lines, and what
-it reports at the end stays. No loader is asked to let a chunk grow, since a growth that is refused may be asked for at a
-moment that no order of whole lines has.
+it reports at the end stays.
+
+So what the outputs of several workers are compared with is the same program's own: with one worker it runs each line by
+`System::step`, one after another. That this gives what the rules say is for the rows and the proofs; here is tested only
+that threads add nothing to it.
+
+No loader of the trace is asked to let a chunk grow. An allocation over the shared pool takes the lock once for a growth
+that is refused and once more for the chunk that it takes then, and between both another worker's line may come: such an
+allocation has no place of its own among whole lines, and its output may be that of none of the orders.
 """
 from claims import Test, expect, expect_ended
 from outputs import answers_of

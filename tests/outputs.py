@@ -38,7 +38,8 @@ class Report(NamedTuple):
     """A report: its spaces, the class space second where there is one, and the loaders' rows. Of a full report the settings
     by their labels, the usages, of which each has an amount's words, size and share by its label, of the space, the class space
     and both, the sums of each kind, the number of its loaders first, those of each loader, as its name, kind, space and sums,
-    how many lines were refused, by name, the peaks by theirs, and the places of each root by its number."""
+    how many lines were refused, by name, the peaks by theirs, each as its number and size, and the places of each root by its
+    number."""
 
     spaces: list
     loaders: list
@@ -154,7 +155,9 @@ def peaks_of(lines):
     expect(lines.pop(0).decode().split() == ["number", "size"], "other headings of Peaks")
     rows = [lines.pop(0).decode().split() for _ in PEAKS]
     expect(tuple(row[0] for row in rows) == PEAKS, "other peaks", rows)
-    return {row[0]: int(row[1]) for row in rows}
+    sizes = [rest for _, _, *rest in rows]
+    expect([len(size) for size in sizes] == [2, 2, 2, 0], "other sizes of peaks", rows)
+    return {label: told for label, *told in rows}
 
 
 def maps_of(lines):
@@ -241,6 +244,13 @@ def expect_refusals(answers):
 
 
 def of_any_schedule(report):
-    """The part of a report that no schedule of workers changes."""
+    """The part of a report that no schedule of workers changes: of a full one also the settings but for the number of workers,
+    the refused lines but for those that wanted memory, the loaders and live words of each kind, and those of each loader by space."""
     live = [space.numbers["live"] for space in report.spaces]
-    return report.spaces[0].numbers["loaders"], live, [(name, kind, rest[3]) for name, kind, *rest in report.loaders]
+    loaders = [(name, kind, rest[3]) for name, kind, *rest in report.loaders]
+    settings = {label: told for label, told in report.settings.items() if label != "workers"}
+    refusals = {name: number for name, number in report.refusals.items() if name != "OutOfMemory"}
+    at = SUMS.index("live")
+    kinds = {kind: (number, sums[at]) for kind, (number, *sums) in report.kinds.items()}
+    holdings = [(name, kind, space, sums[at]) for name, kind, space, *sums in report.holdings]
+    return report.spaces[0].numbers["loaders"], live, loaders, settings, refusals, kinds, holdings

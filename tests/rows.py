@@ -4,9 +4,10 @@ In a file of rows/ a line without indent is a test's name; the indented lines be
 Two spaces or more stand before the answer. Behind `report` stand the numbers that the report must have, by their
 labels, with `class` before those of the class space; or, where it is a full one, settings, as `setting nodes 64`, and
 amounts of a usage, each with its words, size and share: `usage used 10 0.0 KB 0.1`, with `class` or `both` before it,
-and refused lines, as `refused NoBlock 2`; peaks, as `peak used 10`; the sums of a kind, its loaders first, as `kind hidden 1 1 128 128 10 10 0 0`,
-of what a loader holds in a space, `holding 7 class 1 128 128 10 10 0 0`, or `holding 7 class none`; and the places of a
-root, as letters with how many of them stand in a row, `root 128 O1 u15 o1 -47`, or `root 0 none`.
+and refused lines, as `refused NoBlock 2`; peaks, as `peak used 10`, or with the size, `peak used 10 0.0 KB`; the sums
+of a kind, its loaders first, as `kind hidden 1 1 128 128 10 10 0 0`, of what a loader holds in a space,
+`holding 7 class 1 128 128 10 10 0 0`, or `holding 7 class none`, and of how many there is a line, `holdings 3`; and the
+places of a root, as letters with how many of them stand in a row, `root 128 O1 u15 o1 -47`, or `root 0 none`.
 A line `with ..` has options, and `#` begins a remark. Where the options ask for workers, the answers are the same for
 each number of them.
 """
@@ -49,8 +50,8 @@ def expect_numbers(report, told):
             expect(report.refusals.get(name) == int(wanted), fact, "is", report.refusals)
             continue
         if fact.startswith("peak "):
-            _, label, wanted = fact.split()
-            expect(report.peaks.get(label) == int(wanted), fact, "is", report.peaks)
+            _, label, *wanted = fact.split()
+            expect(report.peaks.get(label, [])[:len(wanted)] == wanted, fact, "is", report.peaks)
             continue
         if fact.startswith("kind "):
             _, kind, *wanted = fact.split()
@@ -58,6 +59,9 @@ def expect_numbers(report, told):
             continue
         if fact.startswith("holding "):
             expect_holding(report, fact)
+            continue
+        if fact.startswith("holdings "):
+            expect(len(report.holdings) == int(fact.split()[1]), fact, "is", report.holdings)
             continue
         if fact.startswith("root "):
             _, root, *wanted = fact.split()

@@ -1,13 +1,15 @@
 """Runs the system tests over a built program: python3 tests/run.py PROGRAM [WORD..]
 
 Each test says its name and time as it ends, and the last line is 'N passed, M failed'; where a tool is missing that
-isn't asked of each machine, also ', K skipped', and the tests that need it. With words, those tests alone whose names
-have one of them. As many tests run side by side as there are processors.
+isn't asked of each machine, also ', K skipped', and the tests that need it. The line before it has the sum of the growths
+that tests refused in turn, as they say it. With words, those tests alone whose names have one of them. As many tests run
+side by side as there are processors.
 """
 import concurrent.futures
 import importlib
 import multiprocessing
 import os
+import re
 import sys
 import tempfile
 import time
@@ -18,9 +20,10 @@ sys.dont_write_bytecode = True
 from workbench import Workbench, build
 from claims import Skipped, Wrong
 
-SUBJECTS = ("hostile", "growths", "limits", "devices", "texts", "faults", "options", "examples", "rows", "schedules",
+SUBJECTS = ("hostile", "growths", "limits", "peaks", "devices", "texts", "faults", "options", "examples", "rows", "schedules",
             "orders", "scripts", "calls", "library", "twin")
 PASSED, FAILED, SKIPPED = "ok", "FAILED", "skipped"
+GROWTHS = re.compile(r"\b(\d+) growths\b")
 bench = None
 
 
@@ -54,9 +57,9 @@ def chosen(words):
 
 
 def run_all(program, words, room):
-    """Runs the tests side by side, and lists the names of those that passed, failed and were skipped."""
+    """Runs the tests side by side: lists the names of those that passed, failed and were skipped, and counts growths."""
     processors = len(os.sched_getaffinity(0))
-    names = {PASSED: [], FAILED: [], SKIPPED: []}
+    names, growths = {PASSED: [], FAILED: [], SKIPPED: []}, 0
     pool = concurrent.futures.ProcessPoolExecutor(
         processors, multiprocessing.get_context("spawn"), initializer=prepare, initargs=(program, room))
     with pool:
@@ -65,9 +68,10 @@ def run_all(program, words, room):
             error = done.exception()
             became, seconds, said = (FAILED, 0, repr(error)) if error else done.result()
             names[became].append(running[done])
+            growths += sum(map(int, GROWTHS.findall(said or ""))) if became == PASSED else 0
             about = f": {said}" if said else ""
             print(f"{became}: {running[done]} ({seconds:.2f} s){about}", flush=True)
-    return names
+    return names, growths
 
 
 def main(words):
@@ -76,7 +80,9 @@ def main(words):
     program = os.path.abspath(words[0])
     with tempfile.TemporaryDirectory(prefix="metarun-tests-") as room:
         build(room)
-        names = run_all(program, words[1:], room)
+        names, growths = run_all(program, words[1:], room)
+    if growths:
+        print(f"{growths} growths were refused in turn, by all of these tests together")
     skipped = f", {len(names[SKIPPED])} skipped: {'; '.join(names[SKIPPED])}" if names[SKIPPED] else ""
     print(f"{len(names[PASSED])} passed, {len(names[FAILED])} failed{skipped}")
     sys.exit(names[FAILED] != [] or names[PASSED] == [])
