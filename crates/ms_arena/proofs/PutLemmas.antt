@@ -1,6 +1,6 @@
 -- Rows that are put at a start: the words of any two lie apart still, and the live blocks have one more or
 -- one less. The functions of `rows` use these.
-use Rattle.std.proofs.Common.{◌≡◌, ◌≢◌, ℕ, ◌+◌, ◌-◌, ◌*◌, ◌%◌, ◌^◌, ◌<◌, ◌≤◌, cond, Some, None, List, length, replicate}
+use Rattle.std.proofs.Common.{◌≡◌, ◌≢◌, ℕ, ◌+◌, ◌-◌, ◌*◌, ◌%◌, ◌^◌, ◌<◌, ◌≤◌, cond, Option, Some, None, List, length, replicate}
 use Rattle.std.proofs.Common.{false, true, sym, ap, ◌∙◌, inl, inr, arith}
 use Rattle.std.specs.Prelude.{slice_set}
 use Rattle.std.specs.List.{sum_by}
@@ -13,9 +13,11 @@ use Rattle.ms_base.proofs.entries.EntryLemmas.{rises_without}
 use Rattle.ms_base.proofs.entries.LookupLemmas.{named_new_same, named_new_other, named_without_other}
 use Rattle.ms_base.proofs.entries.NameLemmas.{rises_with_new}
 use Rattle.ms_base.proofs.events.SeenEntryLemmas.{named_without_same}
+use Rattle.ms_arena.specs.declared.rows.Found.{Found}
 use Rattle.ms_arena.specs.declared.rows.Row.{Row}
 use Rattle.ms_arena.specs.Pages.{PagesView, Clears, word_at}
 use Rattle.ms_arena.specs.Rows.{WritesRow, Puts, KeepsRest, AreApart, AreRows, LieApart, contents_of, live_of, row_at}
+use Rattle.ms_arena.specs.Rows.{IsLiveRow, IsStillLive}
 use Rattle.ms_arena.proofs.RowLemmas.{shown, rises_live, named_live, live_is, same_live, shown_stays, contents_zero}
 use Rattle.ms_arena.proofs.CountLemmas.{one_more, one_less, one_same}
 
@@ -135,11 +137,16 @@ reordered words new old rows same stay =
     same_live words new old rows (λ start. ap (shown new) (same start)
     ∙ shown_stays words new (row_at old start) (λ row found at low high. stay at))
 
+still_reordered : (old rows : List (ℕ × Row)) (last : Option Found)
+    → ((start : ℕ) → row_at rows start ≡ row_at old start) → IsStillLive old last → IsStillLive rows last
+still_reordered old rows None same live = live
+still_reordered old rows (Some found) same live = same found.block.start ∙ live
+
 pub kept_reordered : (words new : PagesView) (old rows : List (ℕ × Row)) (top room count total spare more left : ℕ)
-    → AreRows old words top room count total spare → ((start : ℕ) → row_at rows start ≡ row_at old start)
+    (last : Option Found) → AreRows old words top room count total spare last → ((start : ℕ) → row_at rows start ≡ row_at old start)
     → ((at : ℕ) → word_at new at ≡ word_at words at) → top + more ≤ 512 * new.room → top + more < 2 ^ 64
-    → (0 < more → 2 ≤ left) → AreRows rows new top more count total left
-kept_reordered words new old rows top room count total spare more left are same stay enough fits places = record {
+    → (0 < more → 2 ≤ left) → AreRows rows new top more count total left last
+kept_reordered words new old rows top room count total spare more left last are same stay enough fits places = record {
   counted = are.counted ∙ ap (λ (blocks : List (ℕ × List ℕ)). length blocks) (sym live);
   summed = are.summed ∙ ap
       (λ (blocks : List (ℕ × List ℕ)). sum_by (λ (block : ℕ × List ℕ). length block.1) blocks % 2 ^ 64)
@@ -152,6 +159,7 @@ kept_reordered words new old rows top room count total spare more left are same 
   words_room = enough;
   fits = fits;
   rows_room = places;
+  found = still_reordered old rows last same are.found;
 }
   where
     live : live_of new rows ≡ live_of words old
@@ -159,10 +167,10 @@ kept_reordered words new old rows top room count total spare more left are same 
 
 -- It is so of a block more, and of a block less.
 pub kept_more : (words new : PagesView) (old rows : List (ℕ × Row)) (top higher room count total spare left start n : ℕ)
-    → AreRows old words top room count total spare → named (live_of words old) start ≡ None
+    (last : Option Found) → AreRows old words top room count total spare last → named (live_of words old) start ≡ None
     → live_of new rows ≡ with_new (live_of words old) start (replicate n 0) → LieApart rows higher
-    → higher ≤ 512 * new.room → higher < 2 ^ 64 → AreRows rows new higher 0 (count + 1) ((total + n) % 2 ^ 64) left
-kept_more words new old rows top higher room count total spare left start n are none live apart enough fits =
+    → higher ≤ 512 * new.room → higher < 2 ^ 64 → AreRows rows new higher 0 (count + 1) ((total + n) % 2 ^ 64) left None
+kept_more words new old rows top higher room count total spare left start n last are none live apart enough fits =
     let more = one_more (live_of words old) start (replicate n 0) none in record {
       counted = omega (arith, are.counted, more.0, ap (λ (blocks : List (ℕ × List ℕ)). length blocks) live);
       summed = omega (
@@ -176,14 +184,15 @@ kept_more words new old rows top higher room count total spare left start n are 
       words_room = omega (arith, enough);
       fits = omega (arith, fits);
       rows_room = λ none. absurd (omega (arith, none));
+      found = tt;
     }
 
 pub kept_less : (words : PagesView) (old rows : List (ℕ × Row)) (top room count total spare left start n at : ℕ)
-    → AreRows old words top room count total spare
+    (last : Option Found) → AreRows old words top room count total spare last
     → row_at old start ≡ Some (record { at = at; words = n; live = true })
     → Puts old start (record { at = at; words = n; live = false }) rows
-    → AreRows rows words top 0 (count - 1) ((total + (2 ^ 64 - n)) % 2 ^ 64) left
-kept_less words old rows top room count total spare left start n at are found puts =
+    → AreRows rows words top 0 (count - 1) ((total + (2 ^ 64 - n)) % 2 ^ 64) left None
+kept_less words old rows top room count total spare left start n at last are found puts =
     let less = one_less (live_of words old) start (contents_of words row)
     (named_live words old start ∙ ap (shown words) found) in
     let long = length-map-range_with_len (λ (index : ℕ). word_at words (at + index)) 0 n in
@@ -204,6 +213,7 @@ kept_less words old rows top room count total spare left start n at are found pu
       words_room = omega (arith, are.words_room);
       fits = omega (arith, are.fits);
       rows_room = λ none. absurd (omega (arith, none));
+      found = tt;
     }
   where
     row : Row
@@ -211,10 +221,11 @@ kept_less words old rows top room count total spare left start n at are found pu
 
 -- It is so of a word that is written.
 pub kept_written : (words new : PagesView) (rows : List (ℕ × Row)) (top room count total spare : ℕ) (block : Block)
-    (index value : ℕ) → AreRows rows words top room count total spare → new.room ≡ words.room
+    (index value at : ℕ) (last : Option Found) → AreRows rows words top room count total spare last
+    → IsLiveRow rows block at → new.room ≡ words.room
     → WritesRow (live_of words rows) block index value (live_of new rows)
-    → AreRows rows new top room count total spare
-kept_written words new rows top room count total spare block index value are same_room writes =
+    → AreRows rows new top room count total spare (Some (record { block = block; at = at }))
+kept_written words new rows top room count total spare block index value at last are live same_room writes =
     let same = one_same (live_of words rows) block.start writes.contents (slice_set writes.contents index value)
     writes.row.found (length-set writes.contents index value) in record {
       counted = omega (arith, are.counted, same.0, ap (λ (blocks : List (ℕ × List ℕ)). length blocks) writes.after);
@@ -228,4 +239,5 @@ kept_written words new rows top room count total spare block index value are sam
       words_room = omega (arith, are.words_room, same_room);
       fits = are.fits;
       rows_room = are.rows_room;
+      found = live;
     }

@@ -1,12 +1,13 @@
 -- The live blocks of an arena, which words of them are read and written, and the rows that stand for them.
 use Rattle.std.specs.Prelude.{◌≡◌, ◌≢◌, ℕ, ◌+◌, ◌*◌, ◌%◌, ◌^◌, ◌<◌, ◌≤◌, true, false, cond, nat_eq, List, []}
-use Rattle.std.specs.Prelude.{◌∷◌, ◌⊎◌, length, map, slice_get, slice_set, Option, Some, None}
+use Rattle.std.specs.Prelude.{◌∷◌, ◌⊎◌, length, map, slice_get, slice_set, Option, Some, None, IfSome}
 use Rattle.std.specs.List.{range_with_len, sum_by}
 use Rattle.std.specs.Map.{lookup}
 use Rattle.ms_base.specs.declared.span.Block.{Block}
 use Rattle.ms_base.specs.declared.refusal.Refusal.{Refusal}
 use Rattle.ms_base.specs.declared.refusal.Refusal.TheVariants.{NotLive, OutOfRange}
 use Rattle.ms_base.specs.Names.{named, with_new, with_changed, without}
+use Rattle.ms_arena.specs.declared.rows.Found.{Found}
 use Rattle.ms_arena.specs.declared.rows.Row.{Row}
 use Rattle.ms_arena.specs.Pages.{PagesView, word_at}
 
@@ -74,6 +75,10 @@ pub record IsFreeRow (rows : List (ℕ × Row)) (start n : ℕ) (row : Row) : Ty
   pub free : row.live ≡ false
   pub enough : n ≤ row.words
 
+-- A block that was found is live still.
+abbrev pub IsStillLive : List (ℕ × Row) → Option Found → Type 0
+IsStillLive rows last = IfSome last (λ found. IsLiveRow rows found.block found.at)
+
 -- A row is put at a start, and the others stay.
 abbrev pub Puts : List (ℕ × Row) → ℕ → Row → List (ℕ × Row) → Type 0
 Puts old start row new = (other : ℕ) → row_at new other ≡ cond (nat_eq start other) (Some row) (row_at old other)
@@ -93,12 +98,14 @@ pub record LieApart (rows : List (ℕ × Row)) (top : ℕ) : Type 0 where
   pub apart : (start other : ℕ) (row second : Row) → start ≢ other → row_at rows start ≡ Some row
       → row_at rows other ≡ Some second → AreApart row second
 
--- What is kept true: live rows and their words are counted, and there is room as said, in the words and
--- for two rows more.
-pub record AreRows (rows : List (ℕ × Row)) (words : PagesView) (top room count total spare : ℕ) : Type 0 where
+-- What is kept true: live rows and their words are counted, there is room as said, in the words and for two
+-- rows more, and the block that was found last is live.
+pub record AreRows (rows : List (ℕ × Row)) (words : PagesView) (top room count total spare : ℕ)
+    (last : Option Found) : Type 0 where
   pub counted : count ≡ length (live_of words rows)
   pub summed : total ≡ sum_by (λ (block : ℕ × List ℕ). length block.1) (live_of words rows) % 2 ^ 64
   pub apart : LieApart rows top
   pub words_room : top + room ≤ 512 * words.room
   pub fits : top + room < 2 ^ 64
   pub rows_room : 0 < room → 2 ≤ spare
+  pub found : IsStillLive rows last

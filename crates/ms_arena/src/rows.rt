@@ -19,7 +19,7 @@ ghost use Rattle.std.specs.Prelude.{[], Some, None, true, false, replicate};
 ghost use Rattle.std.specs.List.{sum_by};
 ghost use Rattle.ms_base.specs.Names.{named, with_new, without};
 ghost use Rattle.std.specs.HashMap.{spare};
-ghost use Rattle.ms_arena.specs.Rows.{HasRow, LacksRow, ReadsRow, WritesRow, RowRefused, IsLiveRow, IsFreeRow, Puts};
+ghost use Rattle.ms_arena.specs.Rows.{HasRow, LacksRow, ReadsRow, WritesRow, RowRefused, IsLiveRow, IsFreeRow, IsStillLive, Puts};
 ghost use Rattle.ms_arena.specs.Rows.{KeepsRest, LieApart, live_of, row_at};
 
 use crate::pages::Pages;
@@ -39,6 +39,15 @@ pub struct Row {
     live: bool,
 }
 
+/// A live block that was found, and where its words begin in the list of words.
+#[derive(Clone, Copy, Drop)]
+pub struct Found {
+    /// The block.
+    block: Block,
+    /// Where its words begin.
+    at: usize,
+}
+
 /// The live blocks of one arena, and room for more of them. A start is a word number.
 #[derive(Drop)]
 pub struct Rows {
@@ -54,6 +63,8 @@ pub struct Rows {
     count: usize,
     /// How many words the live rows have together, modulo 2^64.
     total: u64,
+    /// The block that was written last, which mostly is the next one that is read or written.
+    last: Option<Found>,
 }
 
 impl Model for Rows {
@@ -64,7 +75,7 @@ impl Model for Rows {
 
     ghost view = { λ r. record { blocks = live_of r.words r.rows.entries; room = r.room } };
 
-    ghost invariant = { λ r. AreRows r.rows.entries r.words r.top r.room r.count r.total (spare r.rows) };
+    ghost invariant = { λ r. AreRows r.rows.entries r.words r.top r.room r.count r.total (spare r.rows) r.last };
 }
 
 impl Rows {
@@ -79,6 +90,7 @@ impl Rows {
             room: 0,
             count: 0,
             total: 0,
+            last: None,
         }
     }
 
@@ -92,6 +104,7 @@ impl Rows {
         self.room = 0;
         self.count = 0;
         self.total = 0;
+        self.last = None;
     }
 
     /// Tells for how many rows there is memory, and for how many pages of words.
@@ -137,7 +150,7 @@ impl Rows {
         ensures value { IfOk result (λ value. ReadsRow self.now.blocks block index value) }
         ensures refused { IfErr result (λ refusal. RowRefused self.now.blocks block index refusal) }
     {
-        let Some(at) = find(&self.rows, block) else {
+        let Some(at) = find(&self.last, &self.rows, block) else {
             return Err(Refusal::NotLive);
         };
         if index >= block.words {
@@ -153,13 +166,14 @@ impl Rows {
         ensures refused { IfErr result (λ refusal. RowRefused self.old.blocks block index refusal) }
         ensures unchanged { OnErr result (self.new ≡ self.old) }
     {
-        let Some(at) = find(&self.rows, block) else {
+        let Some(at) = find(&self.last, &self.rows, block) else {
             return Err(Refusal::NotLive);
         };
         if index >= block.words {
             return Err(Refusal::OutOfRange { words: block.words });
         }
         self.words.write(at + index as usize, value);
+        self.last = Some(Found { block, at });
         Ok(())
     }
 
@@ -184,6 +198,7 @@ impl Rows {
         self.count += 1;
         self.total = self.total.wrapping_add(n);
         self.room = 0;
+        self.last = None;
     }
 
     /// Takes a block out. Refused with `NotLive` where it is not live.
@@ -194,7 +209,7 @@ impl Rows {
         ensures not_live { OnErr result (LacksRow self.old.blocks block) }
         ensures unchanged { OnErr result (self.new ≡ self.old) }
     {
-        let Some(at) = find(&self.rows, block) else {
+        let Some(at) = find(&self.last, &self.rows, block) else {
             return Err(Refusal::NotLive);
         };
         let row = Row {
@@ -206,12 +221,28 @@ impl Rows {
         self.count -= 1;
         self.total = self.total.wrapping_sub(block.words);
         self.room = 0;
+        let _ = self.last.take();
         Ok(())
     }
 }
 
-/// Finds where the words of a live block begin.
-fn find(rows: &HashMap<u64, Row>, block: Block) -> Option<usize>
+/// Finds where the words of a live block begin: by the block that was found last, where it is that one.
+fn find(last: &Option<Found>, rows: &HashMap<u64, Row>, block: Block) -> Option<usize>
+    requires { IsStillLive rows.now.entries last.now }
+    ensures found { IfSome result (λ at. IsLiveRow rows.now.entries block at) }
+    ensures none { IfNone result ((at : ℕ) → IsLiveRow rows.now.entries block at → ⊥) }
+{
+    if let Some(found) = last
+        && found.block.start == block.start
+        && found.block.words == block.words
+    {
+        return Some(found.at);
+    }
+    look_up(rows, block)
+}
+
+/// Finds in the map where the words of a live block begin.
+fn look_up(rows: &HashMap<u64, Row>, block: Block) -> Option<usize>
     ensures found { IfSome result (λ at. IsLiveRow rows.now.entries block at) }
     ensures none { IfNone result ((at : ℕ) → IsLiveRow rows.now.entries block at → ⊥) }
 {

@@ -141,7 +141,7 @@ fn answer_line<G: Gate>(
     let after = used_by(counts, &run.system, &step);
     // A difference modulo 2^64, as the meter counts.
     run.used = run.used.wrapping_add(after).wrapping_sub(before);
-    run.peaks = raise(run.peaks, &run.system, run.used);
+    raise(&mut run.peaks, &run.system, run.used);
     gate.after(worker, line.number, run.used);
     Ok(())
 }

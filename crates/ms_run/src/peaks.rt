@@ -24,15 +24,14 @@ pub fn begin(system: &System, detail: Detail) -> Option<Peaks>
 }
 
 /// Raises peaks to what a system has now, where they are kept; so many words are in use.
-pub fn raise(peaks: Option<Peaks>, system: &System, used: u64) -> Option<Peaks>
-    requires { is_some peaks ≡ true → used ≡ used_words_of system.now }
-    ensures peaks { (states : List Machine) → ArePeaksIfKept states peaks
-        → ArePeaksIfKept (system.now ∷ states) result }
-    ensures kept { is_some result ≡ is_some peaks }
+pub fn raise(peaks: &mut Option<Peaks>, system: &System, used: u64)
+    requires { is_some peaks.old ≡ true → used ≡ used_words_of system.now }
+    ensures peaks { (states : List Machine) → ArePeaksIfKept states peaks.old
+        → ArePeaksIfKept (system.now ∷ states) peaks.new }
+    ensures kept { is_some peaks.new ≡ is_some peaks.old }
 {
-    match peaks {
-        Some(peaks) => Some(greater(peaks, usage(system, used))),
-        None => None,
+    if let Some(most) = *peaks {
+        *peaks = Some(greater(most, usage(system, used)));
     }
 }
 

@@ -100,7 +100,7 @@ fn run_shares<R: Threads + Wait + Sync, G: Gate + Sync>(
     let Metered {
         system,
         used,
-        peaks,
+        mut peaks,
     } = run;
     let (pool, loaders) = system.into_parts();
     let (shared, shares, meter) = deal(alloc, turn, lines, pool, loaders)?;
@@ -109,7 +109,7 @@ fn run_shares<R: Threads + Wait + Sync, G: Gate + Sync>(
     let (system, meters) = gather(alloc, shared, shares)?;
     let amount = close(meter, meters)?;
     let used = used.wrapping_add(amount);
-    let peaks = raise(peaks, &system, used);
+    raise(&mut peaks, &system, used);
     Ok(Metered {
         system,
         used,

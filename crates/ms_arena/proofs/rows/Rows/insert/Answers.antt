@@ -14,6 +14,6 @@ pub invariant_of-self : goal.invariant_of-self
 invariant_of-self c =
     kept_more c.self.inside.words c.enter.new.words c.self.inside.rows.entries c.enter.new.rows.entries
     c.self.inside.top
-    c.enter.new.top c.self.inside.room _ _ _ _ c.args.start c.args.n c.self.invariant
+    c.enter.new.top c.self.inside.room _ _ _ _ c.args.start c.args.n _ c.self.invariant
     (subst (λ (rows : LiveRows). named rows.blocks c.args.start ≡ None) (sym c.self.view_is) c.requires.other)
     c.enter.ensures.blocks c.enter.ensures.apart c.enter.ensures.room c.enter.ensures.fits

@@ -21,7 +21,7 @@ overflow_sub-self c =
 pub invariant_of-self : goal.invariant_of-self
 invariant_of-self c =
     kept_less c.self.inside.words c.self.inside.rows.entries c.put.new.rows.entries c.self.inside.top c.self.inside.room
-    _ _ _ _ c.args.block.start c.args.block.words c.in-Some.at c.self.invariant c.in-Some.ensures.found
+    _ _ _ _ c.args.block.start c.args.block.words c.in-Some.at _ c.self.invariant c.in-Some.ensures.found
     c.put.ensures.put
 
 pub returns-clause-removed : goal.returns-clause-removed

@@ -3,7 +3,7 @@ use Rattle.ms_arena.specs.Rows.{LiveRows, LacksRow, WritesRow, IsPastRow, live_o
 use Rattle.ms_arena.proofs.RowLemmas.{has_row, lacks_row, wrote}
 use Rattle.ms_arena.proofs.PutLemmas.{kept_written}
 use Rattle.ms_arena.proofs.rows.Rows.write.Goals as goal
-use Rattle.ms_arena.proofs.rows.Rows.write.Goals.{After-write}
+use Rattle.ms_arena.proofs.rows.Rows.write.Goals.{After-self-1}
 
 pub returns-in_default-clause-refused : goal.returns-in_default-clause-refused
 returns-in_default-clause-refused c =
@@ -17,7 +17,7 @@ returns-then-index-block-clause-refused c =
     c.in-Some.ensures.found in
     record { contents = _; row = row; words_are = row.words; past = c.if-index-block.true })
 
-writes : (c : After-write)
+writes : (c : After-self-1)
     → WritesRow (live_of c.self.inside.words c.self.inside.rows.entries) c.args.block c.args.index
     c.args.value (live_of c.write.new.self c.self.inside.rows.entries)
 writes c =
@@ -28,7 +28,7 @@ writes c =
 pub invariant_of-self : goal.invariant_of-self
 invariant_of-self c =
     kept_written c.self.inside.words c.write.new.self c.self.inside.rows.entries _ _ _ _ _ c.args.block c.args.index
-    c.args.value c.self.invariant c.write.ensures.room (writes c)
+    c.args.value c.in-Some.at _ c.self.invariant c.in-Some.ensures.found c.write.ensures.room (writes c)
 
 pub returns-clause-written : goal.returns-clause-written
 returns-clause-written c =
