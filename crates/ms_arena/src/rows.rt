@@ -221,7 +221,7 @@ impl Rows {
         self.count -= 1;
         self.total = self.total.wrapping_sub(block.words);
         self.room = 0;
-        let _ = self.last.take();
+        self.last = None::<Found>;
         Ok(())
     }
 }
