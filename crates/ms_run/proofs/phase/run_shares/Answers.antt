@@ -77,10 +77,10 @@ returns-clause-phase g c = λ before same. phase_added (worker_in before) c.args
     c.in_ok-system.ensures.history c.in_ok-system.ensures.limits
     (ap (λ (l : Ledger). l.limits) c.in_ok-shared.ensures.first
     ∙ ap (λ (m : Machine). m.limits) c.into_parts-pool.ensures.machine))
-    c.raise-peaks.ensures.peaks
+    c.raise.ensures.peaks
 
-pub raise-peaks-requires : goal.raise-peaks-requires
-raise-peaks-requires g c = λ kept.
+pub raise-requires : goal.raise-requires
+raise-requires g c = λ kept.
     used_after c.in_ok-shared.meter _ c.in_ok-shared.shares.items c.in_ok-shares.shares.items
     c.in_ok-system.meters.items _ _ c.in_ok-system.system
     c.in_ok-shared.ensures.meters.unmoved_all c.in_ok-shares.ensures.worked c.in_ok-system.ensures.meters
