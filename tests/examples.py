@@ -1,4 +1,4 @@
-"""The traces of examples/ and tests/worked/ with the options of their pages, byte for byte.
+"""The traces of examples/, examples/reports/ and tests/worked/ with the options of their pages, byte for byte.
 
 A page names a trace as **[NAME](NAME.trace)**, with its options behind it between backquotes, and its output is in
 NAME.out. A trace that is run with several options has an output for each, which the same paragraph names as
@@ -12,7 +12,7 @@ from workbench import ROOT
 
 NAMED = re.compile(r"\*\*\[(\w+)\]\((\w+)\.trace\)\*\*(?:, `([^`]*)`)?")
 RUN = re.compile(r"\[`([^`]*)`\]\((\w+\.\w+\.out)\)")
-FOLDERS = ("examples", "tests/worked")
+FOLDERS = ("examples", "examples/reports", "tests/worked")
 
 
 def content_of(*path):

@@ -89,12 +89,12 @@ def commits_real_memory(bench):
 
 def gives_all_memory_back(bench):
     """Each growth is refused in turn."""
-    return printed([linked(bench, FOLDER, "wanting", WRAPPED)]).decode().strip()
+    return printed([linked(bench, os.path.join(FOLDER, "c"), "wanting", WRAPPED)]).decode().strip()
 
 
 def tells_whose_each_word_is(bench):
     """With 1,000 loaders, while a third of them is gone, and once others have come under their numbers."""
-    return printed([linked(bench, FOLDER, "holders"), "1000"]).decode().strip()
+    return printed([linked(bench, os.path.join(FOLDER, "c"), "holders"), "1000"]).decode().strip()
 
 
 CPP = """#include "nizgrabul.h"

@@ -1,4 +1,4 @@
-"""The scripts of examples/ that make traces: what they print is a trace, with the reports that their page tells of."""
+"""The scripts of examples/scripts/ that make traces: what they print is a trace, with the reports that their page tells of."""
 import os
 import shutil
 import subprocess
@@ -38,7 +38,7 @@ def printed(name, text=b"", **settings):
     if not shutil.which("awk"):
         raise Skipped("awk")
     words = [word for setting, value in settings.items() for word in ("-v", f"{setting}={value}")]
-    script = os.path.join(ROOT, "examples", f"{name}.awk")
+    script = os.path.join(ROOT, "examples", "scripts", f"{name}.awk")
     made = subprocess.run(["awk", "-f", script, *words], input=text, capture_output=True, check=True)
     expect(made.stderr == b"", made.stderr)
     return made.stdout

@@ -63,9 +63,9 @@ def spoilt(chance, text):
 
 
 def examples_are_answered_the_same(bench):
-    """Each trace of examples/ and of tests/worked/, with and without addresses."""
+    """Each trace of examples/, of examples/reports/ and of tests/worked/, with and without addresses."""
     twin = built(bench)
-    folders = ("examples", os.path.join("tests", "worked"))
+    folders = ("examples", os.path.join("examples", "reports"), os.path.join("tests", "worked"))
     names = [name for folder in folders for name in glob.glob(os.path.join(ROOT, folder, "*.trace"))]
     expect(names, "there are no traces")
     for name in names:

@@ -44,5 +44,5 @@ def build(room):
     """Builds the C files: each is a library to be preloaded, which calls the C library that it is loaded beside."""
     how = ["-O2", "-shared", "-fPIC", "-nostdlib", "-fno-builtin"]
     for name in ("refuse", "devices", "colliding"):
-        words = [*compiler(), *how, "-o", os.path.join(room, name), os.path.join(FOLDER, f"{name}.c")]
+        words = [*compiler(), *how, "-o", os.path.join(room, name), os.path.join(FOLDER, "c", f"{name}.c")]
         subprocess.run(words, check=True)
