@@ -4,6 +4,8 @@
 //! `ms_base`), how steps are spread over events (`Spread`), and when each counts as done (`Serial`).
 ghost use Rattle.ms_base.specs.Laws.Spread.{SpreadsAreSerial};
 ghost use Rattle.ms_base.specs.Laws.Sum.{NoLoaderHoldsNothing};
+ghost use Rattle.ms_loaders.specs.CallEvents.{PurgesAreEvents, TotalsAreEvents, ClosesAreEvents};
+ghost use Rattle.ms_loaders.specs.CallEvents.{OpensAreEvents};
 
 /// Says what spreads of steps over events come to: from a good state the state is good after each
 /// event, no loader's event changes what is another's, and the steps in the order of their places
@@ -13,4 +15,15 @@ ghost use Rattle.ms_base.specs.Laws.Sum.{NoLoaderHoldsNothing};
 pub fn events()
     ensures serial { SpreadsAreSerial }
     ensures given_back { NoLoaderHoldsNothing }
+{}
+
+/// Says that the calls of the pool are the events of those names: what a call makes of a pool, by
+/// the relations of its own contract, happens at the machine that the pool and all its loaders are,
+/// and leaves them together. Opening and closing are of both accounts of a loader; for a single
+/// account, as the clauses of `Pool::open` and `Pool::close` have it, there is no event.
+pub fn pool_calls_are_events()
+    ensures purges { PurgesAreEvents }
+    ensures totals { TotalsAreEvents }
+    ensures closes { ClosesAreEvents }
+    ensures opens { OpensAreEvents }
 {}

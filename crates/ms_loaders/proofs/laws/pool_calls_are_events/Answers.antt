@@ -1,0 +1,16 @@
+use Rattle.ms_loaders.proofs.events.WholeCallLemmas.{purges, totals, closes}
+use Rattle.ms_loaders.proofs.events.OpenCallLemmas.{opens}
+use Rattle.ms_loaders.proofs.laws.pool_calls_are_events.Goals as goal
+
+pub returns-clause-purges : goal.returns-clause-purges
+returns-clause-purges c = λ old new loaders gone its purged. purges old new loaders gone its purged
+
+pub returns-clause-totals : goal.returns-clause-totals
+returns-clause-totals c = λ old new loaders account sums its told. totals old new loaders account sums its told
+
+pub returns-clause-closes : goal.returns-clause-closes
+returns-clause-closes c = λ old new loaders name loader its none closed. closes old new loaders name loader its none closed
+
+pub returns-clause-opens : goal.returns-clause-opens
+returns-clause-opens c = λ old new loaders name kind answer its unused given opened.
+    opens old new loaders name kind answer its unused given opened
