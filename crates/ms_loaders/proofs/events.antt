@@ -2,3 +2,6 @@
 pub mod TalliedLemmas
 pub mod WholeCallLemmas
 pub mod OpenCallLemmas
+pub mod ChangedLemmas
+pub mod TakeCallLemmas
+pub mod GrowCallLemmas

@@ -5,7 +5,7 @@
 ghost use Rattle.ms_base.specs.Laws.Spread.{SpreadsAreSerial};
 ghost use Rattle.ms_base.specs.Laws.Sum.{NoLoaderHoldsNothing};
 ghost use Rattle.ms_loaders.specs.CallEvents.{PurgesAreEvents, TotalsAreEvents, ClosesAreEvents};
-ghost use Rattle.ms_loaders.specs.CallEvents.{OpensAreEvents};
+ghost use Rattle.ms_loaders.specs.CallEvents.{OpensAreEvents, TakesAreEvents, GrowsAreEvents};
 
 /// Says what spreads of steps over events come to: from a good state the state is good after each
 /// event, no loader's event changes what is another's, and the steps in the order of their places
@@ -26,4 +26,6 @@ pub fn pool_calls_are_events()
     ensures totals { TotalsAreEvents }
     ensures closes { ClosesAreEvents }
     ensures opens { OpensAreEvents }
+    ensures takes { TakesAreEvents }
+    ensures grows { GrowsAreEvents }
 {}
