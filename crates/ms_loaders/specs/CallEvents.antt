@@ -39,57 +39,65 @@ TotalsAreEvents =
     → AreTogether old loaders → Totalled old account totals new
     → IsEvent old loaders (telling account.space) (told (sums_in totals)) new loaders
 
--- The loader is there under its name. So it is between the calls of a step too: a loader is asked for
--- before its accounts are, and what a call leaves of it is put back before the next.
+-- The loader is there under its name. So it is between the calls of one step too: what a call leaves of a
+-- loader is put back before the next, and what the loader does by itself are events of its own.
 pub record IsThere (ledger : Ledger) (loaders : List (ℕ × LoaderView)) (name : ℕ) (loader : LoaderView) : Type 0 where
   pub together : AreTogether ledger loaders
   pub found : named loaders name ≡ Some loader
 
--- A loader has neither live nor free blocks: its books are dropped before its accounts are closed, which
--- is the local event of an unload; and a new loader has none.
-pub record HasNoBlocks (loader : LoaderView) : Type 0 where
+-- A call of `Pool::close_both` for a loader's accounts. The loader has neither live nor free blocks: an
+-- unload drops its books before, which is the local event of it, and a loader just made has none.
+pub record IsCloseCall (old : Ledger) (loaders : List (ℕ × LoaderView)) (name : ℕ) (loader : LoaderView)
+    (new : Ledger) : Type 0 where
+  pub there : IsThere old loaders name loader
   pub blocks : loader.state.blocks ≡ []
   pub kept : (space : Space) → (arena_of space loader.state).kept ≡ []
+  pub closed : ClosedBoth old (account_in NonClass loader) (account_in Class loader) new
 
--- `Pool::close_both` for a loader's accounts is its closing: the loader is gone.
+-- It is the closing of that loader, which is gone then.
 abbrev pub ClosesAreEvents : Type 0
 ClosesAreEvents =
     (old new : Ledger) (loaders : List (ℕ × LoaderView)) (name : ℕ) (loader : LoaderView)
-    → IsThere old loaders name loader → HasNoBlocks loader
-    → ClosedBoth old (account_in NonClass loader) (account_in Class loader) new
+    → IsCloseCall old loaders name loader new
     → IsEvent old loaders (closing name) accepted new (without loaders name)
 
--- The event of a call that opens both accounts: a loader of them stands under the name, or nothing
--- changes.
-abbrev pub OpensEvent : Ledger → List (ℕ × LoaderView) → ℕ → Kind → Result (AccountState × AccountState) Refusal
+-- A call of `Pool::open_both` for a name that no loader has, which is looked for before the call.
+pub record IsOpenCall (old : Ledger) (loaders : List (ℕ × LoaderView)) (name : ℕ)
+    (result : Result (AccountState × AccountState) Refusal) (new : Ledger) : Type 0 where
+  pub together : AreTogether old loaders
+  pub unused : named loaders name ≡ None
+  pub opened : OpenedBoth old result new
+  pub given : new.given < 2 ^ 32
+
+-- What it opens: a loader of the two accounts stands under the name, or nothing changes.
+abbrev pub OpensLoader : Ledger → List (ℕ × LoaderView) → ℕ → Kind → Result (AccountState × AccountState) Refusal
     → Ledger → Type 0
-OpensEvent old loaders name kind (Ok accounts) new =
+OpensLoader old loaders name kind (Ok accounts) new =
     IsEvent old loaders (opening name kind) accepted new
     (with_new loaders name (new_loader accounts.0 accounts.1 kind))
-OpensEvent old loaders name kind (Err refusal) new =
+OpensLoader old loaders name kind (Err refusal) new =
     IsEvent old loaders (opening name kind) (refused refusal) new loaders
 
--- `Pool::open_both` is the opening of a loader of any kind, under a name that none has; that fewer than
--- 2^32 numbers were given out is the call's clause `given`.
+-- It is the opening of a loader, of any kind.
 abbrev pub OpensAreEvents : Type 0
 OpensAreEvents =
     (old new : Ledger) (loaders : List (ℕ × LoaderView)) (name : ℕ) (kind : Kind)
-    (answer : Result (AccountState × AccountState) Refusal) → AreTogether old loaders → named loaders name ≡ None
-    → new.given < 2 ^ 32 → OpenedBoth old answer new → OpensEvent old loaders name kind answer new
+    (result : Result (AccountState × AccountState) Refusal) → IsOpenCall old loaders name result new
+    → OpensLoader old loaders name kind result new
 
 -- The loader with these chunks in a space, as its account has them after a call; its tops and blocks stay.
 abbrev pub with_chunks : Space → LoaderView → List Chunk → LoaderView
 with_chunks space loader chunks =
     with_state loader (with_arena space loader.state (record (arena_of space loader.state) { chunks = chunks }))
 
--- The answer says where the chunk lies that the event lends, or is its refusal.
+-- The event's answer is what a call answers: the chunk that lies there, or the refusal.
 abbrev pub AnswersAs : Result Span Refusal → Answer → Type 0
 AnswersAs (Ok span) (lent chunk) = span ≡ span_of chunk
 AnswersAs (Err refusal) (refused other) = other ≡ refusal
 AnswersAs _ _ = ⊥
 
--- A call for a loader's account is the event, whose answer its own stands for; the loader has the chunks
--- of the account that the call leaves.
+-- A call for a loader's account is the event; the loader has the chunks then that the call leaves to the
+-- account.
 pub record IsAnswered (space : Space) (old : Ledger) (loaders : List (ℕ × LoaderView)) (name : ℕ) (loader : LoaderView)
     (event : Event) (result : Result Span Refusal) (account : AccountState) (new : Ledger) : Type 0 where
   pub answer : Answer
@@ -97,24 +105,38 @@ pub record IsAnswered (space : Space) (old : Ledger) (loaders : List (ℕ × Loa
   pub is : IsEvent old loaders event answer new
       (with_changed loaders name (with_chunks space loader account.chunks))
 
--- `Pool::take` for a loader's account is a taking in its space, of levels that there are. What the
--- account is after it says the call's clauses `added` and `unchanged`.
+-- A call of `Pool::take` for a loader's account, by its clauses; no level is past the last, 12.
+pub record IsTakeCall (space : Space) (old : Ledger) (loaders : List (ℕ × LoaderView)) (name : ℕ) (loader : LoaderView)
+    (wanted most words : ℕ) (result : Result Span Refusal) (account : AccountState) (new : Ledger) : Type 0 where
+  pub there : IsThere old loaders name loader
+  pub asks : MayTake wanted most words
+  pub least : most ≤ 12
+  pub took : Took old (account_in space loader) wanted most words result new
+  pub added : IfOk result (λ span. Adds old.limits.policy wanted most words (account_in space loader) span account)
+  pub unchanged : OnErr result (account ≡ account_in space loader)
+
+-- It is a taking in that space.
 abbrev pub TakesAreEvents : Type 0
 TakesAreEvents =
     (space : Space) (old new : Ledger) (loaders : List (ℕ × LoaderView)) (name : ℕ) (loader : LoaderView)
-    (wanted most words : ℕ) (result : Result Span Refusal) (after : AccountState) → IsThere old loaders name loader
-    → MayTake wanted most words → most ≤ 12 → Took old (account_in space loader) wanted most words result new
-    → IfOk result (λ span. Adds old.limits.policy wanted most words (account_in space loader) span after)
-    → OnErr result (after ≡ account_in space loader)
-    → IsAnswered space old loaders name loader (taking space name wanted most words) result after new
+    (wanted most words : ℕ) (result : Result Span Refusal) (account : AccountState)
+    → IsTakeCall space old loaders name loader wanted most words result account new
+    → IsAnswered space old loaders name loader (taking space name wanted most words) result account new
 
--- `Pool::grow` for a loader's account is a growing in its space; what the account is after it say the
--- call's clauses `grown` and `unchanged`.
+-- A call of `Pool::grow` for a loader's account, by its clauses.
+pub record IsGrowCall (space : Space) (old : Ledger) (loaders : List (ℕ × LoaderView)) (name : ℕ) (loader : LoaderView)
+    (start total : ℕ) (may_enlarge : Bool) (result : Result Span Refusal) (account : AccountState)
+    (new : Ledger) : Type 0 where
+  pub there : IsThere old loaders name loader
+  pub grew : Grew old (account_in space loader) start total may_enlarge result new
+  pub grown : IfOk result
+      (λ span. Grows old.limits.policy start total may_enlarge (account_in space loader) span account)
+  pub unchanged : OnErr result (account ≡ account_in space loader)
+
+-- It is a growing in that space.
 abbrev pub GrowsAreEvents : Type 0
 GrowsAreEvents =
     (space : Space) (old new : Ledger) (loaders : List (ℕ × LoaderView)) (name : ℕ) (loader : LoaderView)
-    (start total : ℕ) (may_enlarge : Bool) (result : Result Span Refusal) (after : AccountState)
-    → IsThere old loaders name loader → Grew old (account_in space loader) start total may_enlarge result new
-    → IfOk result (λ span. Grows old.limits.policy start total may_enlarge (account_in space loader) span after)
-    → OnErr result (after ≡ account_in space loader)
-    → IsAnswered space old loaders name loader (growing space name start total may_enlarge) result after new
+    (start total : ℕ) (may_enlarge : Bool) (result : Result Span Refusal) (account : AccountState)
+    → IsGrowCall space old loaders name loader start total may_enlarge result account new
+    → IsAnswered space old loaders name loader (growing space name start total may_enlarge) result account new

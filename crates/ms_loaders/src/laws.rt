@@ -1,7 +1,8 @@
-//! The law of the whole: however the steps of loaders are spread over atomic events, the replies and
-//! the state are those of whole steps, one after another. It is the contract of a function that does
-//! nothing, and speaks of the model alone: what happens at an event (`Event` in the specs of
+//! The laws of the whole, each the contract of a function that does nothing. `events` speaks of the
+//! model alone: however the steps of loaders are spread over atomic events, the replies and the state
+//! are those of whole steps, one after another; what happens at an event (`Event` in the specs of
 //! `ms_base`), how steps are spread over events (`Spread`), and when each counts as done (`Serial`).
+//! `pool_calls_are_events` says that the calls of `Pool` are such events (`CallEvents`).
 ghost use Rattle.ms_base.specs.Laws.Spread.{SpreadsAreSerial};
 ghost use Rattle.ms_base.specs.Laws.Sum.{NoLoaderHoldsNothing};
 ghost use Rattle.ms_loaders.specs.CallEvents.{PurgesAreEvents, TotalsAreEvents, ClosesAreEvents};
@@ -17,10 +18,11 @@ pub fn events()
     ensures given_back { NoLoaderHoldsNothing }
 {}
 
-/// Says that the calls of the pool are the events of those names: what a call makes of a pool, by
-/// the relations of its own contract, happens at the machine that the pool and all its loaders are,
-/// and leaves them together. Opening and closing are of both accounts of a loader; for a single
-/// account, as the clauses of `Pool::open` and `Pool::close` have it, there is no event.
+/// Says that the calls of `Pool` are events, each under its premises: what `purge`, `totals`,
+/// `close_both`, `open_both`, `take` and `grow` make of a pool, by the relations of their own
+/// clauses, happens at the machine that the pool and all its loaders are, of however many seats, and
+/// leaves both together, so that the next call is an event too. A single account's `open` and
+/// `close` are no event: the machine opens and closes a loader's two at once.
 pub fn pool_calls_are_events()
     ensures purges { PurgesAreEvents }
     ensures totals { TotalsAreEvents }

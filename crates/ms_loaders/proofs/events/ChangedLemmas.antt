@@ -1,6 +1,6 @@
 -- Pool and loaders after a call for one account that changes its chunks: they belong together, and the
 -- machine is the one where the loader has them. For TakeCallLemmas and GrowCallLemmas.
-use Rattle.std.proofs.Common.{◌≡◌, ◌≢◌, ◌++◌, ◌∷◌, ℕ, Some, List, map, length, refl, sym, ap, ◌∙◌, subst}
+use Rattle.std.proofs.Common.{◌≡◌, ◌++◌, ◌∷◌, ℕ, Some, List, refl, sym, ap, ◌∙◌, subst}
 use Rattle.std.specs.Ordering.{nat_cmp}
 use Rattle.std.specs.List.{All, AllByRecursion}
 use Rattle.std.specs.List.Sorted.{IsPermutation}
@@ -11,12 +11,10 @@ use Rattle.ms_base.specs.declared.kind.Space.{Space}
 use Rattle.ms_base.specs.declared.kind.Space.TheVariants.{NonClass, Class}
 use Rattle.ms_base.specs.declared.span.Chunk.{Chunk}
 use Rattle.ms_base.specs.Spaces.{other_space}
-use Rattle.ms_base.specs.Committed.{is_among}
 use Rattle.ms_base.specs.Names.{named, with_changed}
-use Rattle.ms_base.specs.State.{ArenaState, Machine, arena_of, with_arena, chunks_held}
+use Rattle.ms_base.specs.State.{ArenaState, arena_of, chunks_held}
 use Rattle.ms_base.specs.State.{recommitted as machine_recommitted}
 use Rattle.ms_base.specs.Good.{IsSoundLoader}
-use Rattle.ms_base.specs.Transition.{with_loader}
 use Rattle.ms_base.proofs.entries.EntryLemmas.{Split, split_at, rises_with_changed}
 use Rattle.ms_base.proofs.machine.GoodLemmas.{each_space}
 use Rattle.ms_base.proofs.events.GrownEventLemmas.{same_arena}

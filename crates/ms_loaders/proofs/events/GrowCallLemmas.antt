@@ -1,7 +1,6 @@
 -- A chunk of a loader's account that is asked to grow as an event: it does, or is refused.
 use Rattle.std.proofs.Common.{◌≡◌, ℕ, Bool, true, Some, Result, Ok, Err, List, map, cond, refl, sym, ap, ◌∙◌, subst}
-use Rattle.std.specs.Prelude.{◌==◌, IfOk, OnErr, slice_get, slice_set}
-use Rattle.std.specs.List.{All}
+use Rattle.std.specs.Prelude.{◌==◌, slice_get, slice_set}
 use Rattle.ms_base.specs.declared.kind.Space.{Space}
 use Rattle.ms_base.specs.declared.span.Chunk.{Chunk}
 use Rattle.ms_base.specs.declared.span.Span.{Span}
@@ -14,22 +13,22 @@ use Rattle.ms_base.specs.State.{recommitted as machine_recommitted}
 use Rattle.ms_base.specs.Good.{IsSoundLoader}
 use Rattle.ms_base.specs.PoolSteps.{grown}
 use Rattle.ms_base.specs.Transition.{with_loader}
-use Rattle.ms_base.specs.Run.Event.{growing, lent, refused, GrowsChunk, IsAsked, with_chunk_at}
+use Rattle.ms_base.specs.Run.Event.{growing, lent, refused, GrowsChunk, with_chunk_at}
 use Rattle.ms_base.proofs.free.AlikeLemmas.{permuted_are_alike}
 use Rattle.ms_base.proofs.free.OrderLemmas.{grown_alike}
 use Rattle.ms_base.proofs.entries.LookupLemmas.{named_changed_same}
 use Rattle.ms_base.proofs.machine.GoodLemmas.{loader_is_sound}
 use Rattle.ms_base.proofs.events.GrownEventLemmas.{good_with_greater}
 use Rattle.ms_pool.specs.Account.{AccountState, AreChunks}
-use Rattle.ms_pool.specs.Lending.{Grows, reaching, span_of}
+use Rattle.ms_pool.specs.Lending.{span_of}
 use Rattle.ms_pool.specs.Ledger.{Loan, Ledger, Serves, held_in, state_in, with_grown}
 use Rattle.ms_pool.specs.Calls.{GrewFrom, Grew}
 use Rattle.ms_pool.proofs.ledger.LoanAtLemmas.{same_from_start, owners_replaced}
 use Rattle.ms_pool.proofs.ledger.GrowLemmas.{GrownWell, grown_well}
 use Rattle.ms_pool.proofs.ledger.GrewLemmas.{grow_refused_raises, grew_keeps}
-use Rattle.ms_loaders.specs.Loader.{LoaderView, account_in, IsSoundView}
+use Rattle.ms_loaders.specs.Loader.{LoaderView, account_in}
 use Rattle.ms_loaders.specs.System.{states_of, owners_of, machine_of, AreTogether}
-use Rattle.ms_loaders.specs.CallEvents.{IsEvent, IsThere, IsAnswered, with_chunks}
+use Rattle.ms_loaders.specs.CallEvents.{IsEvent, IsThere, IsGrowCall, IsAnswered, with_chunks}
 use Rattle.ms_loaders.proofs.sums.FitLemmas.{fits, machine_is_good}
 use Rattle.ms_loaders.proofs.steps.ServedLemmas.{own_sound, own_served}
 use Rattle.ms_loaders.proofs.steps.StepLemmas.{has_loader, machine_with}
@@ -159,39 +158,45 @@ module _ (space : Space) (old : Ledger) (loaders : List (ℕ × LoaderView)) (na
         together = together_tallied old new loaders raises.tallies raises.is there.together;
       }
 
-  -- What the account is after the call; its clauses find the chunk by the same start.
-  pub grows : (new : Ledger) (result : Result Span Refusal) (account : AccountState)
-      → Grew old (account_in space loader) start total may_enlarge result new
-      → IfOk result (λ span. Grows old.limits.policy start total may_enlarge (account_in space loader) span account)
-      → OnErr result (account ≡ account_in space loader)
-      → IsAnswered space old loaders name loader (growing space name start total may_enlarge) result account new
-  grows new (Ok span) account grew changed unchanged = record {
-    answer = lent grew.after.0;
-    answers = grew.after.2;
-    is = subst (λ (l : Ledger). IsEvent old loaders (growing space name start total may_enlarge) (lent grew.after.0) l
-        (with_changed loaders name (with_chunks space loader account.chunks))) (sym grew.after.3)
-        (subst (λ (a : AccountState). IsEvent old loaders (growing space name start total may_enlarge)
-        (lent grew.after.0) (with_grown old grew.after.0)
-        (with_changed loaders name (with_chunks space loader a.chunks))) (sym same)
-        (grows_chunk changed.place changed.chunk grew.after.0 changed.found changed.starts answered));
-  }
-    where
-      one : changed.chunk ≡ grew.chunk
-      one = same_from_start own changed.place grew.place changed.chunk grew.chunk own_chunks.apart changed.found
-          grew.found (changed.starts ∙ sym grew.starts)
+-- The chunks that the call leaves to the account: its clauses find the chunk by the same start.
+pub grows : (space : Space) (old new : Ledger) (loaders : List (ℕ × LoaderView)) (name : ℕ) (loader : LoaderView)
+    (start total : ℕ) (may_enlarge : Bool) (result : Result Span Refusal) (account : AccountState)
+    → IsGrowCall space old loaders name loader start total may_enlarge result account new
+    → IsAnswered space old loaders name loader (growing space name start total may_enlarge) result account new
+grows space old new loaders name loader start total may_enlarge (Ok span) account its = record {
+  answer = lent its.grew.after.0;
+  answers = its.grew.after.2;
+  is = subst (λ (l : Ledger). IsEvent old loaders (growing space name start total may_enlarge)
+      (lent its.grew.after.0) l (with_changed loaders name (with_chunks space loader account.chunks)))
+      (sym its.grew.after.3)
+      (subst (λ (a : AccountState). IsEvent old loaders (growing space name start total may_enlarge)
+      (lent its.grew.after.0) (with_grown old its.grew.after.0)
+      (with_changed loaders name (with_chunks space loader a.chunks))) (sym same)
+      (grows_chunk space old loaders name loader start total may_enlarge its.there its.grown.place its.grown.chunk
+      its.grew.after.0 its.grown.found its.grown.starts answered));
+}
+  where
+    one : its.grown.chunk ≡ its.grew.chunk
+    one = same_from_start (arena_of space loader.state).chunks its.grown.place its.grew.place its.grown.chunk
+        its.grew.chunk ((own_sound old loaders name loader its.there.found its.there.together).chunks space).apart
+        its.grown.found its.grew.found (its.grown.starts ∙ sym its.grew.starts)
 
-      answered : grown (state_in space old) changed.chunk total may_enlarge ≡ Ok grew.after.0
-      answered = ap (λ (c : Chunk). grown (state_in space old) c total may_enlarge) one ∙ grew.after.1
+    answered : grown (state_in space old) its.grown.chunk total may_enlarge ≡ Ok its.grew.after.0
+    answered = ap (λ (c : Chunk). grown (state_in space old) c total may_enlarge) one ∙ its.grew.after.1
 
-      same : account ≡ record (account_in space loader) { chunks = slice_set own changed.place grew.after.0 }
-      same = changed.after
-          ∙ ap (λ (c : Chunk). record (account_in space loader) { chunks = slice_set own changed.place c })
-          (sym (well changed.place changed.chunk grew.after.0 changed.found changed.starts answered).reaches)
-  grows new (Err refusal) account grew changed unchanged = record {
-    answer = refused refusal;
-    answers = refl;
-    is = subst (IsEvent old loaders (growing space name start total may_enlarge) (refused refusal) new)
-        (sym (ap (λ (a : AccountState). with_changed loaders name (with_chunks space loader a.chunks)) unchanged
-        ∙ same_with space loaders name loader there.found))
-        (grows_none refusal new grew);
-  }
+    same : account ≡ record (account_in space loader) {
+      chunks = slice_set (arena_of space loader.state).chunks its.grown.place its.grew.after.0;
+    }
+    same = its.grown.after
+        ∙ ap (λ (c : Chunk).
+        record (account_in space loader) { chunks = slice_set (arena_of space loader.state).chunks its.grown.place c })
+        (sym (well space old loaders name loader start total may_enlarge its.there its.grown.place its.grown.chunk
+        its.grew.after.0 its.grown.found its.grown.starts answered).reaches)
+grows space old new loaders name loader start total may_enlarge (Err refusal) account its = record {
+  answer = refused refusal;
+  answers = refl;
+  is = subst (IsEvent old loaders (growing space name start total may_enlarge) (refused refusal) new)
+      (sym (ap (λ (a : AccountState). with_changed loaders name (with_chunks space loader a.chunks)) its.unchanged
+      ∙ same_with space loaders name loader its.there.found))
+      (grows_none space old loaders name loader start total may_enlarge its.there refusal new its.grew);
+}

@@ -1,7 +1,7 @@
 -- Both accounts of a loader opened as an event, or refused for want of owner numbers.
-use Rattle.std.proofs.Common.{◌≡◌, ◌≤◌, ◌<◌, ◌+◌, ℕ, None, Result, Ok, Err, List, [], ◌∷◌, refl, sym, ap, ◌∙◌, subst, arith}
+use Rattle.std.proofs.Common.{◌≡◌, ◌≤◌, ◌<◌, ◌+◌, ℕ, None, Result, Ok, Err, List, [], ◌∷◌, refl, sym, subst, arith}
 use Rattle.std.specs.Prelude.{◌^◌}
-use Rattle.std.specs.List.{All, AllByRecursion}
+use Rattle.std.specs.List.{AllByRecursion}
 use Rattle.std.proofs.lemmas.List.Elements.{recursion_from_All, All-from_recursion}
 use Rattle.ms_base.specs.declared.kind.Kind.{Kind}
 use Rattle.ms_base.specs.declared.kind.Space.{Space}
@@ -16,10 +16,10 @@ use Rattle.ms_base.proofs.machine.GoodLemmas.{sound_when_empty}
 use Rattle.ms_pool.specs.Account.{AccountState, AreChunks}
 use Rattle.ms_pool.specs.Tallies.{Tallies, one_more}
 use Rattle.ms_pool.specs.Ledger.{Loan, Ledger, IsSoundLedger, state_in}
-use Rattle.ms_pool.specs.Calls.{OpenedBoth, tallied}
+use Rattle.ms_pool.specs.Calls.{tallied}
 use Rattle.ms_loaders.specs.Loader.{LoaderView, new_loader, IsSoundView}
-use Rattle.ms_loaders.specs.System.{machine_of, AreTogether}
-use Rattle.ms_loaders.specs.CallEvents.{IsEvent, OpensEvent}
+use Rattle.ms_loaders.specs.System.{AreTogether}
+use Rattle.ms_loaders.specs.CallEvents.{IsEvent, IsOpenCall, OpensLoader}
 use Rattle.ms_loaders.proofs.steps.StepLemmas.{lacks_loader}
 use Rattle.ms_loaders.proofs.steps.CloseLemmas.{with_both, first_account, second_account, together_made, machine_made}
 use Rattle.ms_loaders.proofs.events.TalliedLemmas.{together_tallied}
@@ -91,16 +91,17 @@ module _ (old : Ledger) (loaders : List (ℕ × LoaderView)) (name : ℕ) (kind 
   }
 
 pub opens : (old new : Ledger) (loaders : List (ℕ × LoaderView)) (name : ℕ) (kind : Kind)
-    (answer : Result (AccountState × AccountState) Refusal) → AreTogether old loaders → named loaders name ≡ None
-    → new.given < 2 ^ 32 → OpenedBoth old answer new → OpensEvent old loaders name kind answer new
-opens old new loaders name kind (Ok accounts) its unused given made =
-    subst (λ (l : Ledger). OpensEvent old loaders name kind (Ok accounts) l) (sym made.1)
-    (subst (λ (pair : AccountState × AccountState). OpensEvent old loaders name kind (Ok pair) (with_both old))
-    (sym made.0) (opened old loaders name kind its unused (subst (λ (l : Ledger). l.given < 2 ^ 32) made.1 given)))
-opens old new loaders name kind (Err refusal) its unused given none =
-    subst (λ (l : Ledger). OpensEvent old loaders name kind (Err refusal) l) (sym none.2)
-    (subst (λ (r : Refusal). OpensEvent old loaders name kind (Err r) (tallied old tallies))
-    (sym none.0) (used_up old loaders name kind its unused tallies none.1))
+    (result : Result (AccountState × AccountState) Refusal) → IsOpenCall old loaders name result new
+    → OpensLoader old loaders name kind result new
+opens old new loaders name kind (Ok accounts) its =
+    subst (λ (l : Ledger). OpensLoader old loaders name kind (Ok accounts) l) (sym its.opened.1)
+    (subst (λ (pair : AccountState × AccountState). OpensLoader old loaders name kind (Ok pair) (with_both old))
+    (sym its.opened.0) (opened old loaders name kind its.together its.unused
+    (subst (λ (l : Ledger). l.given < 2 ^ 32) its.opened.1 its.given)))
+opens old new loaders name kind (Err refusal) its =
+    subst (λ (l : Ledger). OpensLoader old loaders name kind (Err refusal) l) (sym its.opened.2)
+    (subst (λ (r : Refusal). OpensLoader old loaders name kind (Err r) (tallied old tallies))
+    (sym its.opened.0) (used_up old loaders name kind its.together its.unused tallies its.opened.1))
   where
     tallies : Tallies
     tallies = record old.tallies { open_ids = one_more old.tallies.open_ids }

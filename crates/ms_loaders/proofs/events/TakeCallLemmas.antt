@@ -1,8 +1,7 @@
 -- A chunk that is taken for a loader's account as an event, or refused.
 use Rattle.std.proofs.Common.{◌≡◌, ◌≤◌, ◌++◌, ◌∷◌, [], ℕ, Some, Result, Ok, Err, List, refl, sym, ap, ◌∙◌, subst, inl, inr}
-use Rattle.std.proofs.Common.{true, ◌-◌, ◌+◌, arith}
-use Rattle.std.specs.Prelude.{IfOk, OnErr, is_ok, IsOk}
-use Rattle.std.specs.List.{All}
+use Rattle.std.proofs.Common.{true, ◌-◌, arith}
+use Rattle.std.specs.Prelude.{is_ok}
 use Rattle.std.proofs.lemmas.Nat.{pow_pos}
 use Rattle.ms_base.specs.declared.kind.Space.{Space}
 use Rattle.ms_base.specs.declared.kind.Space.TheVariants.{NonClass, Class}
@@ -10,12 +9,11 @@ use Rattle.ms_base.specs.declared.span.Chunk.{Chunk}
 use Rattle.ms_base.specs.declared.span.Span.{Span}
 use Rattle.ms_base.specs.declared.refusal.Refusal.{Refusal}
 use Rattle.ms_base.specs.declared.refusal.Refusal.TheVariants.{CommitLimit, ReserveLimit, OutOfMemory}
-use Rattle.ms_base.specs.Level.{size_of}
 use Rattle.ms_base.specs.Spaces.{by_space, is_in}
 use Rattle.ms_base.specs.Names.{named, with_changed}
 use Rattle.ms_base.specs.State.{LoaderState, Machine, arena_of, with_arena, chunks_held, slots_in, with_slots, pool_of}
 use Rattle.ms_base.specs.State.{recommitted as machine_recommitted}
-use Rattle.ms_base.specs.Good.{IsSoundLoader, IsGood}
+use Rattle.ms_base.specs.Good.{IsSoundLoader}
 use Rattle.ms_base.specs.PoolSteps.{taken, slots_with}
 use Rattle.ms_base.specs.Place.{with_chunk}
 use Rattle.ms_base.specs.Transition.{with_loader}
@@ -26,10 +24,9 @@ use Rattle.ms_base.proofs.entries.LookupLemmas.{named_changed_same}
 use Rattle.ms_base.proofs.machine.GoodLemmas.{loader_is_sound}
 use Rattle.ms_base.proofs.events.KeptEventLemmas.{good_with_taken}
 use Rattle.ms_pool.specs.Account.{AccountState}
-use Rattle.ms_pool.specs.Lending.{MayTake, Adds, chunk_at, span_of}
+use Rattle.ms_pool.specs.Lending.{MayTake, chunk_at, span_of}
 use Rattle.ms_pool.specs.Ledger.{Loan, Ledger, held_in, state_in, with_lent, with_loan}
-use Rattle.ms_pool.specs.Calls.{Lends, TakeRefused, Took}
-use Rattle.ms_pool.proofs.ledger.KeepsLemmas.{Keeps, RaisesTally}
+use Rattle.ms_pool.specs.Calls.{TakeRefused}
 use Rattle.ms_pool.proofs.ledger.LedgerSlotLemmas.{slot_of_space}
 use Rattle.ms_pool.proofs.ledger.LoanOrderLemmas.{all_with}
 use Rattle.ms_pool.proofs.ledger.TakenLemmas.{IsLendable, taken_is_lendable}
@@ -37,7 +34,7 @@ use Rattle.ms_pool.proofs.ledger.TakeLemmas.{TakenWell, taken_well}
 use Rattle.ms_pool.proofs.ledger.TookLemmas.{take_refused_raises, took_keeps}
 use Rattle.ms_loaders.specs.Loader.{LoaderView, account_in}
 use Rattle.ms_loaders.specs.System.{states_of, owners_of, machine_of, AreTogether}
-use Rattle.ms_loaders.specs.CallEvents.{IsEvent, IsThere, IsAnswered, with_chunks}
+use Rattle.ms_loaders.specs.CallEvents.{IsEvent, IsThere, IsTakeCall, IsAnswered, with_chunks}
 use Rattle.ms_loaders.proofs.calls.LoaderSpaceLemmas.{chunk_in_space}
 use Rattle.ms_loaders.proofs.sums.FitLemmas.{HasOwner, fits, machine_is_good}
 use Rattle.ms_loaders.proofs.steps.AddableLemmas.{taking_is_addable}
@@ -179,32 +176,36 @@ module _ (space : Space) (old : Ledger) (loaders : List (ℕ × LoaderView)) (na
         together = together_tallied old new loaders raises.tallies raises.is there.together;
       }
 
-  -- What the account is after the call.
-  pub takes : (new : Ledger) (result : Result Span Refusal) (account : AccountState)
-      → Took old (account_in space loader) wanted most words result new
-      → IfOk result (λ span. Adds old.limits.policy wanted most words (account_in space loader) span account)
-      → OnErr result (account ≡ account_in space loader)
-      → IsAnswered space old loaders name loader (taking space name wanted most words) result account new
-  takes new (Ok span) account took adds unchanged = record {
-    answer = lent took.chunk;
-    answers = took.answer;
-    is = subst (λ (l : Ledger). IsEvent old loaders (taking space name wanted most words) (lent took.chunk) l
-        (with_changed loaders name (with_chunks space loader account.chunks))) (sym took.after)
-        (subst (λ (a : AccountState). IsEvent old loaders (taking space name wanted most words) (lent took.chunk)
-        (after took.chunk took.picked) (with_changed loaders name (with_chunks space loader a.chunks))) (sym same)
-        (lends took.chunk took.picked));
-  }
-    where
-      same : account ≡ record (account_in space loader) { chunks = longer took.chunk took.picked }
-      same = adds.after
-          ∙ ap (λ (one : Span). record (account_in space loader) {
-          chunks = (arena_of space loader.state).chunks ++ chunk_at old.limits.policy one words ∷ [] }) took.answer
-          ∙ sym (well took.chunk took.picked).adds.after
-  takes new (Err refusal) account none added unchanged = record {
-    answer = refused refusal;
-    answers = refl;
-    is = subst (IsEvent old loaders (taking space name wanted most words) (refused refusal) new)
-        (sym (ap (λ (a : AccountState). with_changed loaders name (with_chunks space loader a.chunks)) unchanged
-        ∙ same_with space loaders name loader there.found))
-        (lends_none refusal new none);
-  }
+-- The chunks that the call leaves to the account.
+pub takes : (space : Space) (old new : Ledger) (loaders : List (ℕ × LoaderView)) (name : ℕ) (loader : LoaderView)
+    (wanted most words : ℕ) (result : Result Span Refusal) (account : AccountState)
+    → IsTakeCall space old loaders name loader wanted most words result account new
+    → IsAnswered space old loaders name loader (taking space name wanted most words) result account new
+takes space old new loaders name loader wanted most words (Ok span) account its = record {
+  answer = lent its.took.chunk;
+  answers = its.took.answer;
+  is = subst (λ (l : Ledger). IsEvent old loaders (taking space name wanted most words) (lent its.took.chunk) l
+      (with_changed loaders name (with_chunks space loader account.chunks))) (sym its.took.after)
+      (subst (λ (a : AccountState). IsEvent old loaders (taking space name wanted most words)
+      (lent its.took.chunk) (with_lent old space (account_in space loader).owner its.took.chunk)
+      (with_changed loaders name (with_chunks space loader a.chunks))) (sym same)
+      (lends space old loaders name loader wanted most words its.there its.asks its.least its.took.chunk
+      its.took.picked));
+}
+  where
+    same : account
+        ≡ record (account_in space loader) { chunks = (arena_of space loader.state).chunks ++ its.took.chunk ∷ [] }
+    same = its.added.after
+        ∙ ap (λ (one : Span). record (account_in space loader) {
+          chunks = (arena_of space loader.state).chunks ++ chunk_at old.limits.policy one words ∷ [];
+        }) its.took.answer
+        ∙ sym (well space old loaders name loader wanted most words its.there its.asks its.least its.took.chunk
+        its.took.picked).adds.after
+takes space old new loaders name loader wanted most words (Err refusal) account its = record {
+  answer = refused refusal;
+  answers = refl;
+  is = subst (IsEvent old loaders (taking space name wanted most words) (refused refusal) new)
+      (sym (ap (λ (a : AccountState). with_changed loaders name (with_chunks space loader a.chunks)) its.unchanged
+      ∙ same_with space loaders name loader its.there.found))
+      (lends_none space old loaders name loader wanted most words its.there its.asks its.least refusal new its.took);
+}

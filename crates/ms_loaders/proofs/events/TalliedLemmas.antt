@@ -1,6 +1,5 @@
 -- Where a call of the pool raises a tally alone, pool and loaders stay together.
 use Rattle.std.proofs.Common.{◌≡◌, ℕ, List, refl, sym, subst, arith}
-use Rattle.std.specs.List.{All}
 use Rattle.std.proofs.lemmas.List.Elements.{recursion_from_All, All-from_recursion}
 use Rattle.ms_base.specs.declared.kind.Space.{Space}
 use Rattle.ms_base.specs.declared.kind.Space.TheVariants.{NonClass, Class}
@@ -9,8 +8,7 @@ use Rattle.ms_pool.specs.Tallies.{Tallies}
 use Rattle.ms_pool.specs.Ledger.{Ledger, IsSoundLedger, Serves, state_in}
 use Rattle.ms_pool.specs.Calls.{tallied}
 use Rattle.ms_loaders.specs.Loader.{LoaderView}
-use Rattle.ms_loaders.specs.System.{accounts_of, owners_of, AreTogether}
-use Rattle.ms_loaders.proofs.sums.FitLemmas.{HasOwner}
+use Rattle.ms_loaders.specs.System.{accounts_of, AreTogether}
 use Rattle.ms_loaders.proofs.steps.CloseLemmas.{served_with}
 
 sound_tallied : (old : Ledger) (tallies : Tallies) → IsSoundLedger old → IsSoundLedger (tallied old tallies)

@@ -1,24 +1,23 @@
 -- Calls of the pool for no account's chunks as events: a purge, the sums that are told, and both accounts
 -- of a loader closed.
-use Rattle.std.proofs.Common.{◌≡◌, ◌-◌, ◌+◌, ℕ, List, map, length, refl, sym, ap, ◌∙◌, subst, arith}
+use Rattle.std.proofs.Common.{◌≡◌, ℕ, List, length, refl, sym, ap, ◌∙◌, subst, arith}
 use Rattle.std.proofs.lemmas.List.{length-map}
 use Rattle.ms_base.specs.declared.kind.Space.{Space}
 use Rattle.ms_base.specs.declared.kind.Space.TheVariants.{NonClass, Class}
-use Rattle.ms_base.specs.Names.{named, without}
+use Rattle.ms_base.specs.Names.{without}
 use Rattle.ms_base.specs.State.{LoaderState, pool_of}
-use Rattle.ms_base.specs.Totals.{PoolSums, pool_sums}
+use Rattle.ms_base.specs.Totals.{pool_sums}
 use Rattle.ms_base.specs.Transition.{Unloads}
-use Rattle.ms_base.specs.Good.{IsGood}
 use Rattle.ms_base.specs.Run.Event.{purging, telling, closing, accepted, counted, told}
 use Rattle.ms_pool.specs.declared.totals.PoolTotals.{PoolTotals}
 use Rattle.ms_pool.specs.Account.{AccountState}
-use Rattle.ms_pool.specs.Ledger.{Ledger, IsSoundLedger, state_in, opened_in, purged}
-use Rattle.ms_pool.specs.Calls.{ClosedBoth, Purged, Totalled, sums_in}
+use Rattle.ms_pool.specs.Ledger.{Ledger, IsSoundLedger, opened_in, purged}
+use Rattle.ms_pool.specs.Calls.{Purged, Totalled, sums_in}
 use Rattle.ms_pool.proofs.ledger.PurgeLemmas.{purged_is_sound}
 use Rattle.ms_pool.proofs.ledger.LedgerCloseLemmas.{both_closed_is_sound}
 use Rattle.ms_loaders.specs.Loader.{LoaderView, account_in}
 use Rattle.ms_loaders.specs.System.{states_of, machine_of, AreTogether}
-use Rattle.ms_loaders.specs.CallEvents.{IsEvent, IsThere, HasNoBlocks}
+use Rattle.ms_loaders.specs.CallEvents.{IsEvent, IsCloseCall}
 use Rattle.ms_loaders.proofs.sums.TotalsLemmas.{pool_tells}
 use Rattle.ms_loaders.proofs.steps.StepLemmas.{has_loader}
 use Rattle.ms_loaders.proofs.steps.CloseLemmas.{together_purged, machine_purged_is}
@@ -65,23 +64,23 @@ totals old new loaders account sums its totalled =
 
 -- Both accounts of a loader without blocks are closed.
 pub closes : (old new : Ledger) (loaders : List (ℕ × LoaderView)) (name : ℕ) (loader : LoaderView)
-    → IsThere old loaders name loader → HasNoBlocks loader
-    → ClosedBoth old (account_in NonClass loader) (account_in Class loader) new
+    → IsCloseCall old loaders name loader new
     → IsEvent old loaders (closing name) accepted new (without loaders name)
-closes old new loaders name loader its none closed = record {
+closes old new loaders name loader its = record {
   happens = record {
     loader = loader.state;
-    has = has_loader old loaders name loader its.found;
-    blocks = none.blocks;
-    kept = none.kept;
+    has = has_loader old loaders name loader its.there.found;
+    blocks = its.blocks;
+    kept = its.kept;
     after = unloads.after;
   };
-  together = together_unloaded old new loaders name loader its.found closed sound its.together;
+  together = together_unloaded old new loaders name loader its.there.found its.closed sound its.there.together;
 }
   where
     sound : IsSoundLedger new
-    sound = subst IsSoundLedger (sym closed)
-        (both_closed_is_sound old (account_in NonClass loader) (account_in Class loader) its.together.ledger_sound)
+    sound = subst IsSoundLedger (sym its.closed)
+        (both_closed_is_sound old (account_in NonClass loader) (account_in Class loader)
+        its.there.together.ledger_sound)
 
     unloads : Unloads (machine_of old loaders) name (machine_of new (without loaders name))
-    unloads = (is_unloaded old new loaders name loader its.found closed sound its.together).0
+    unloads = (is_unloaded old new loaders name loader its.there.found its.closed sound its.there.together).0
