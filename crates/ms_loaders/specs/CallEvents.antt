@@ -1,5 +1,5 @@
--- The calls of the pool as events: what a call makes of a pool's ledger, and of the loaders whose accounts
--- it serves, is the event of its name at the machine that both are (this project's choice).
+-- The calls of the pool as events: what a call makes of a pool's ledger, and of the loaders whose
+-- accounts it serves, is an event at the machine that both are (this project's choice).
 use Rattle.std.specs.Prelude.{◌≡◌, ℕ, ◌<◌, ◌≤◌, ◌^◌, Bool, List, [], Some, None, Result, Ok, Err, IfOk, OnErr}
 use Rattle.ms_base.specs.declared.kind.Kind.{Kind}
 use Rattle.ms_base.specs.declared.kind.Space.{Space}
@@ -19,8 +19,8 @@ use Rattle.ms_pool.specs.Calls.{OpenedBoth, Took, Grew, ClosedBoth, Purged, Tota
 use Rattle.ms_loaders.specs.Loader.{LoaderView, account_in, new_loader, with_state}
 use Rattle.ms_loaders.specs.System.{machine_of, AreTogether}
 
--- The event happens, with the answer, at the machine that pool and loaders are, and they belong together
--- still: so the next call may be made, and is an event too.
+-- The event happens, with the answer, at the machine that pool and loaders are, and these belong
+-- together still, as a `System` keeps them between its calls: so the next call is an event too.
 pub record IsEvent (old : Ledger) (loaders : List (ℕ × LoaderView)) (event : Event) (answer : Answer) (new : Ledger)
     (others : List (ℕ × LoaderView)) : Type 0 where
   pub happens : Happens (machine_of old loaders) event answer (machine_of new others)
@@ -39,14 +39,14 @@ TotalsAreEvents =
     → AreTogether old loaders → Totalled old account totals new
     → IsEvent old loaders (telling account.space) (told (sums_in totals)) new loaders
 
--- The loader is there under its name. So it is between the calls of one step too: what a call leaves of a
--- loader is put back before the next, and what the loader does by itself are events of its own.
+-- The loader is there under its name: from its opening to its closing, between the calls of one step
+-- too, though the program's map has it a little later and gives it up a little sooner.
 pub record IsThere (ledger : Ledger) (loaders : List (ℕ × LoaderView)) (name : ℕ) (loader : LoaderView) : Type 0 where
   pub together : AreTogether ledger loaders
   pub found : named loaders name ≡ Some loader
 
--- A call of `Pool::close_both` for a loader's accounts. The loader has neither live nor free blocks: an
--- unload drops its books before, which is the local event of it, and a loader just made has none.
+-- A call of `Pool::close_both` for a loader's accounts. The loader has neither live nor free blocks:
+-- an unload drops its books before, which is the local event of it, and one just made has none.
 pub record IsCloseCall (old : Ledger) (loaders : List (ℕ × LoaderView)) (name : ℕ) (loader : LoaderView)
     (new : Ledger) : Type 0 where
   pub there : IsThere old loaders name loader
@@ -61,7 +61,8 @@ ClosesAreEvents =
     → IsCloseCall old loaders name loader new
     → IsEvent old loaders (closing name) accepted new (without loaders name)
 
--- A call of `Pool::open_both` for a name that no loader has, which is looked for before the call.
+-- A call of `Pool::open_both` for a name that no loader has: it is looked for before. That numbers
+-- were left is the call's clause `given`.
 pub record IsOpenCall (old : Ledger) (loaders : List (ℕ × LoaderView)) (name : ℕ)
     (result : Result (AccountState × AccountState) Refusal) (new : Ledger) : Type 0 where
   pub together : AreTogether old loaders
@@ -85,7 +86,7 @@ OpensAreEvents =
     (result : Result (AccountState × AccountState) Refusal) → IsOpenCall old loaders name result new
     → OpensLoader old loaders name kind result new
 
--- The loader with these chunks in a space, as its account has them after a call; its tops and blocks stay.
+-- The loader with these chunks in a space, as its account has them after a call; all else stays.
 abbrev pub with_chunks : Space → LoaderView → List Chunk → LoaderView
 with_chunks space loader chunks =
     with_state loader (with_arena space loader.state (record (arena_of space loader.state) { chunks = chunks }))
@@ -96,8 +97,8 @@ AnswersAs (Ok span) (lent chunk) = span ≡ span_of chunk
 AnswersAs (Err refusal) (refused other) = other ≡ refusal
 AnswersAs _ _ = ⊥
 
--- A call for a loader's account is the event; the loader has the chunks then that the call leaves to the
--- account.
+-- A call for a loader's account is the event: the loader has the chunks then that the call leaves to
+-- the account.
 pub record IsAnswered (space : Space) (old : Ledger) (loaders : List (ℕ × LoaderView)) (name : ℕ) (loader : LoaderView)
     (event : Event) (result : Result Span Refusal) (account : AccountState) (new : Ledger) : Type 0 where
   pub answer : Answer
@@ -105,7 +106,8 @@ pub record IsAnswered (space : Space) (old : Ledger) (loaders : List (ℕ × Loa
   pub is : IsEvent old loaders event answer new
       (with_changed loaders name (with_chunks space loader account.chunks))
 
--- A call of `Pool::take` for a loader's account, by its clauses; no level is past the last, 12.
+-- A call of `Pool::take` for a loader's account, by its clauses, which leaves the account so. No
+-- level is past 12, the last.
 pub record IsTakeCall (space : Space) (old : Ledger) (loaders : List (ℕ × LoaderView)) (name : ℕ) (loader : LoaderView)
     (wanted most words : ℕ) (result : Result Span Refusal) (account : AccountState) (new : Ledger) : Type 0 where
   pub there : IsThere old loaders name loader
@@ -123,7 +125,7 @@ TakesAreEvents =
     → IsTakeCall space old loaders name loader wanted most words result account new
     → IsAnswered space old loaders name loader (taking space name wanted most words) result account new
 
--- A call of `Pool::grow` for a loader's account, by its clauses.
+-- A call of `Pool::grow` for a loader's account, by its clauses, which leaves the account so.
 pub record IsGrowCall (space : Space) (old : Ledger) (loaders : List (ℕ × LoaderView)) (name : ℕ) (loader : LoaderView)
     (start total : ℕ) (may_enlarge : Bool) (result : Result Span Refusal) (account : AccountState)
     (new : Ledger) : Type 0 where

@@ -1,5 +1,5 @@
--- Pool and loaders after a call for one account that changes its chunks: they belong together, and the
--- machine is the one where the loader has them. For TakeCallLemmas and GrowCallLemmas.
+-- Pool and loaders after a call for one account that changes its chunks: they belong together, and
+-- their machine's granules follow. For TakeCallLemmas and GrowCallLemmas.
 use Rattle.std.proofs.Common.{◌≡◌, ◌++◌, ◌∷◌, ℕ, Some, List, refl, sym, ap, ◌∙◌, subst}
 use Rattle.std.specs.Ordering.{nat_cmp}
 use Rattle.std.specs.List.{All, AllByRecursion}

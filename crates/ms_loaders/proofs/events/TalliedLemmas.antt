@@ -11,6 +11,7 @@ use Rattle.ms_loaders.specs.Loader.{LoaderView}
 use Rattle.ms_loaders.specs.System.{accounts_of, AreTogether}
 use Rattle.ms_loaders.proofs.steps.CloseLemmas.{served_with}
 
+-- The ledger is sound still.
 sound_tallied : (old : Ledger) (tallies : Tallies) → IsSoundLedger old → IsSoundLedger (tallied old tallies)
 sound_tallied old tallies sound = record {
   spaces = each;
@@ -26,6 +27,7 @@ sound_tallied old tallies sound = record {
     each NonClass = sound.spaces NonClass
     each Class = sound.spaces Class
 
+-- And it serves the loaders as before.
 pub together_tallied : (old new : Ledger) (loaders : List (ℕ × LoaderView)) (tallies : Tallies)
     → new ≡ tallied old tallies → AreTogether old loaders → AreTogether new loaders
 together_tallied old new loaders tallies is its =

@@ -1,5 +1,5 @@
--- Calls of the pool for no account's chunks as events: a purge, the sums that are told, and both accounts
--- of a loader closed.
+-- Calls of the pool as events that ask for no chunk: a purge, the sums that are told, and both
+-- accounts of a loader closed.
 use Rattle.std.proofs.Common.{◌≡◌, ℕ, List, length, refl, sym, ap, ◌∙◌, subst, arith}
 use Rattle.std.proofs.lemmas.List.{length-map}
 use Rattle.ms_base.specs.declared.kind.Space.{Space}
