@@ -13,3 +13,4 @@ pub mod calls
 pub mod places
 pub mod steps
 pub mod sums
+pub mod events

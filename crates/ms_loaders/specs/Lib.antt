@@ -18,3 +18,4 @@ pub mod Finding
 pub mod Freeing
 pub mod Committing
 pub mod Serving
+pub mod CallEvents
