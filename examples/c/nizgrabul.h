@@ -188,8 +188,9 @@ typedef struct nizgrabul_sums_of_loader {
 uint32_t nizgrabul_version(void);
 
 /* Makes a system with no loader in an empty handle, under the settings that the options name. Answers
- * DONE, IN_USE where the handle has a system already, BAD_SETTINGS where an option is out of its range,
- * or OUT_OF_MEMORY; all but DONE leave the handle as it was. Takes memory. */
+ * IN_USE exactly where the handle has a system already, in an empty one BAD_SETTINGS exactly where an
+ * option is out of its range, and else DONE or OUT_OF_MEMORY; all but DONE leave the handle as it was.
+ * Takes memory. */
 uint32_t nizgrabul_new(const nizgrabul_options *options, nizgrabul_handle *out);
 
 /* Ends the handle's system, if there is one, and gives all its memory back; the handle is empty then, and

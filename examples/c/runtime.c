@@ -14,12 +14,14 @@
 
 #include "nizgrabul.h"
 
-/* Words of a granule, granules of a node, nodes up to the end of the class space's first. */
-enum { WORDS = 8192, NODE = 128, NODES = 65, GRANULES = NODES * NODE, LOADERS = 4, BLOCKS = 12 };
+/* The words of all nodes up to the end of the class space's first, and the most granules that they make, of
+ * 2048 words each. */
+enum { WORDS = 65 * 1048576, MOST = WORDS / 2048, LOADERS = 4, BLOCKS = 12 };
 
 static nizgrabul_handle handle;
 static volatile uint64_t *base;
-static bool mapped[GRANULES], wanted[GRANULES];
+static bool mapped[MOST], wanted[MOST];
+static uint64_t granule_words, all_granules; /* under the policy that runs */
 static sigjmp_buf back;
 
 static struct block { uint64_t start, words; } blocks[LOADERS][BLOCKS];
@@ -30,7 +32,8 @@ static void ends(const char *what) {
 }
 
 static void give_access(uint64_t granule, uint64_t granules, int access) {
-    if (granules && mprotect((void *)(base + granule * WORDS), granules * WORDS * 8, access)) ends("mprotect");
+    void *at = (void *)(base + granule * granule_words);
+    if (granules && mprotect(at, granules * granule_words * 8, access)) ends("mprotect");
 }
 
 /* Commits the granules of a run: as many came as it says. */
@@ -46,11 +49,11 @@ static void commit(nizgrabul_run run) {
 
 /* Gives back the granules that are committed no more; none comes without a run. */
 static void give_back(void) {
-    nizgrabul_granules(&handle, 0, wanted, GRANULES);
-    for (uint64_t granule = 0; granule < GRANULES; granule++) {
+    nizgrabul_granules(&handle, 0, wanted, all_granules);
+    for (uint64_t granule = 0; granule < all_granules; granule++) {
         if (wanted[granule] == mapped[granule]) continue;
         if (wanted[granule]) ends("a granule came that no run told");
-        if (madvise((void *)(base + granule * WORDS), WORDS * 8, MADV_DONTNEED)) ends("madvise");
+        if (madvise((void *)(base + granule * granule_words), granule_words * 8, MADV_DONTNEED)) ends("madvise");
         give_access(granule, 1, PROT_NONE);
         mapped[granule] = false;
     }
@@ -70,9 +73,10 @@ static bool can_be_read(uint64_t word) {
 /* Counts the granules that can be touched, which are those that the library counts. */
 static void count(const char *when) {
     uint64_t touched = 0;
-    for (uint64_t granule = 0; granule < GRANULES; granule++) {
+    for (uint64_t granule = 0; granule < all_granules; granule++) {
         bool is = nizgrabul_is_committed(&handle, granule);
-        if (can_be_read(granule * WORDS) != is || can_be_read(granule * WORDS + WORDS - 1) != is) ends("another account");
+        uint64_t first = granule * granule_words, last = first + granule_words - 1;
+        if (can_be_read(first) != is || can_be_read(last) != is) ends("another account");
         touched += is;
     }
     nizgrabul_limit_counts counts = {0};
@@ -108,7 +112,11 @@ static void read_all(int first) {
 static void run_under(uint32_t policy, const char *name) {
     nizgrabul_options options = {.nodes = 4, .class_nodes = 1, .max_granules = 512, .policy = policy};
     printf("policy %s\n", name);
+    nizgrabul_limit_counts counts = {0};
     if (nizgrabul_new(&options, &handle) != NIZGRABUL_DONE) ends("no system");
+    if (nizgrabul_counts(&handle, &counts) != NIZGRABUL_DONE) ends("no counts");
+    granule_words = counts.granule_words;
+    all_granules = WORDS / granule_words;
     count("empty");
     for (int loader = 0; loader < LOADERS; loader++) {
         if (nizgrabul_new_loader(&handle, loader, loader % 2).status != NIZGRABUL_DONE) ends("no loader");
@@ -132,12 +140,13 @@ static void run_under(uint32_t policy, const char *name) {
 
 int main(void) {
     struct sigaction action;
-    size_t bytes = (size_t)GRANULES * WORDS * 8;
+    size_t bytes = (size_t)WORDS * 8;
     memset(&action, 0, sizeof action);
     action.sa_handler = fault;
     base = mmap(NULL, bytes, PROT_NONE, MAP_PRIVATE | MAP_ANONYMOUS | MAP_NORESERVE, -1, 0);
     if (base == MAP_FAILED || sigaction(SIGSEGV, &action, NULL)) ends("mmap");
     run_under(NIZGRABUL_BALANCED, "balanced");
+    run_under(NIZGRABUL_AGGRESSIVE, "aggressive");
     run_under(NIZGRABUL_NONE, "none");
     return 0;
 }

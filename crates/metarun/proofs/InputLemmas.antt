@@ -9,9 +9,10 @@ use Rattle.std.proofs.lemmas.List.{append-nil}
 use Rattle.ms_trace.specs.declared.fault.ParseFault.{ParseFault}
 use Rattle.ms_trace.specs.declared.fault.ParseFault.TheVariants.{Trace, OutOfMemory}
 use Rattle.ms_trace.specs.Faults.{BlamesText, HasFault}
-use Rattle.metarun.specs.declared.options.Options.{Options}
+use Rattle.ms_trace.specs.declared.trace.Trace.{Trace as Parsed}
+use Rattle.ms_trace.specs.Spelling.{ReadsAs}
 use Rattle.metarun.specs.Failure.{Blames, failure_of_parsing}
-use Rattle.metarun.specs.Session.{IsOutput}
+use Rattle.metarun.specs.Session.{IsWhole}
 use Rattle.metarun.proofs.FaultLemmas.{fault_stays}
 use Rattle.metarun.proofs.LengthLemmas.{reads_short}
 
@@ -43,11 +44,9 @@ blames_whole (Some xs) (Some ys) text (Trace fault) read blames = elim (cases_lt
       (fault_stays text ys fault.line fault.kind (omega (arith, read.most, long)) blames)
 ]
 
--- The output for all of the input.
-pub outputs_whole : (old new : Option (List ℕ)) (options : Options) (text written : List ℕ)
-    → IsRead old new text
-    → IsOutput options text written → IfSome old (λ bytes. IsOutput options bytes written)
-outputs_whole None new options text written read output = tt
-outputs_whole (Some xs) new options text written read output =
-    subst (λ (bytes : List ℕ). IsOutput options bytes written)
-    (sym (reads_whole (Some xs) new text read (omega (arith, reads_short text output.trace output.reads)))) output
+-- What reads as a trace is all of the input.
+pub is_whole : (old new : Option (List ℕ)) (text : List ℕ) (trace : Parsed) → IsRead old new text → ReadsAs text trace
+    → IsWhole old new text
+is_whole old new text trace read reads =
+    let short : length text < 8100001 = omega (arith, reads_short text trace reads) in
+    record { all = reads_whole old new text read short; ended = read.whole short }

@@ -6,17 +6,13 @@ use Rattle.std.specs.Result.{result_ok}
 use Rattle.std.specs.Fmt.{decimal}
 use Rattle.std.specs.Str.Parse.{ParsesUnsigned}
 use Rattle.std.proofs.lemmas.Fmt.{parse-decimal}
-use Rattle.std.specs.Prelude.{IfSome}
-use Rattle.std.specs.Io.KnownBytes.{Appends}
 use Rattle.clap.specs.Matches.{ReadsOne}
 use Rattle.clap.specs.Words.{Row, Text, first_of, one_of}
 use Rattle.ms_base.specs.declared.policy.Policy.{Policy}
 use Rattle.ms_base.specs.declared.policy.Policy.TheVariants.{Balanced, Aggressive, None as NonePolicy}
-use Rattle.metarun.specs.declared.options.Options.{Options}
 use Rattle.ms_loaders.specs.declared.details.Detail.{Detail}
 use Rattle.ms_loaders.specs.declared.details.Detail.TheVariants.{Basic, Full}
-use Rattle.metarun.specs.Asked.{IsDefault, ReadsDetail, ReadsNumber, ReadsPolicy}
-use Rattle.metarun.specs.Session.{IsOutput}
+use Rattle.metarun.specs.Asked.{ReadsDetail, ReadsNumber, ReadsPolicy}
 
 -- The digits of a number are read as that number.
 pub decimal_is_read : (E : Type 0) (gives : List ℕ → Result ℕ E → Type 0) (number : ℕ) (read : Option ℕ)
@@ -76,12 +72,3 @@ detail_given rows word chosen found basic full = record {
   basic = λ text. basic (ap (λ (given : Option (List ℕ)). unwrap_or given []) (sym found ∙ text));
   full = λ text. full (ap (λ (given : Option (List ℕ)). unwrap_or given []) (sym found ∙ text));
 }
-
--- The options are the default ones.
-pub answered_by_default : (remaining old new : Option (List ℕ)) (options : Options) → IsDefault options
-    → IfSome remaining
-    (λ bytes. (written : List ℕ) × IsOutput options bytes written × Appends old new written)
-    → IfSome remaining (λ bytes. (chosen : Options) × (written : List ℕ) × IsDefault chosen
-    × IsOutput chosen bytes written × Appends old new written)
-answered_by_default None old new options default told = tt
-answered_by_default (Some bytes) old new options default told = (options, told.0, default, told.1, told.2)

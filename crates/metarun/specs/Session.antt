@@ -1,6 +1,6 @@
 -- What a session writes for a trace (this project's choice).
 use Rattle.std.specs.Prelude.{◌≡◌, ◌⊎◌, ℕ, List, [], ◌∷◌, ◌++◌, Option, Some, IfSome, take}
-use Rattle.std.specs.Io.KnownBytes.{Appends, Keeps}
+use Rattle.std.specs.Io.KnownBytes.{Appends, IsAtEnd, Keeps}
 use Rattle.std.specs.List.{All}
 use Rattle.ms_base.specs.declared.step.Reply.{Reply}
 use Rattle.ms_base.specs.State.{empty_machine, limits_of}
@@ -57,8 +57,29 @@ pub record IsOutput (options : Options) (text output : List ℕ) : Type 0 where
   pub run : options.settings.workers ≡ 1
       → (last : Course) × Outputs options [] (begun (empty_machine (limits_of options.settings))) trace.lines output last
 
--- What a session leaves on an output where a device fails: the output as it was, or with the
--- beginning of what it writes for the text.
-abbrev pub IsBrokenOff : Options → Option (List ℕ) → Option (List ℕ) → Option (List ℕ) → Type 0
-IsBrokenOff options remaining old new = Keeps old new ⊎ IfSome remaining (λ text. (written : List ℕ) × (count : ℕ)
-    × IsOutput options text written × Appends old new (take count written))
+-- The text is all that a reader had to give, where it tells its bytes, and then nothing is left to read.
+pub record IsWhole (input left : Option (List ℕ)) (text : List ℕ) : Type 0 where
+  pub all : IfSome input (λ bytes. bytes ≡ text)
+  pub ended : IsAtEnd left
+
+-- There is a text, all of the input, and the output has grown by what a session writes for it.
+pub record IsAnswered (options : Options) (input left old new : Option (List ℕ)) : Type 0 where
+  pub text : List ℕ
+  pub written : List ℕ
+  pub whole : IsWhole input left text
+  pub output : IsOutput options text written
+  pub out : Appends old new written
+
+-- There is a text, all of the input, and the output has grown by the beginning of what a session writes for it.
+pub record IsCutShort (options : Options) (input left old new : Option (List ℕ)) : Type 0 where
+  pub text : List ℕ
+  pub written : List ℕ
+  pub count : ℕ
+  pub whole : IsWhole input left text
+  pub output : IsOutput options text written
+  pub out : Appends old new (take count written)
+
+-- What a session leaves on an output where a device fails: the output as it was, which it is unless all of
+-- the input was read, or with the beginning of what it writes for that.
+abbrev pub IsBrokenOff : Options → Option (List ℕ) → Option (List ℕ) → Option (List ℕ) → Option (List ℕ) → Type 0
+IsBrokenOff options input left old new = Keeps old new ⊎ IsCutShort options input left old new

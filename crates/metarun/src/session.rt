@@ -1,10 +1,10 @@
 //! A session: the whole input is read and parsed, then run, then answered.
-ghost use Rattle.std.specs.Prelude.{◌≡◌, ◌*◌, ◌≤◌, ◌<◌, ◌⊎◌, ℕ, List, IfOk, IfErr, IfSome, string_bytes};
-ghost use Rattle.std.specs.Io.KnownBytes.{Appends, Keeps};
+ghost use Rattle.std.specs.Prelude.{◌≡◌, ◌⊎◌, ℕ, List, IfOk, IfErr, IfSome, string_bytes};
+ghost use Rattle.std.specs.Io.KnownBytes.{Keeps};
 ghost use Rattle.ms_trace.specs.declared.fault.FaultKind.{FaultKind};
 ghost use Rattle.ms_trace.specs.Faults.{HasFault};
 ghost use Rattle.metarun.specs.Failure.{Blames, IsSettled};
-ghost use Rattle.metarun.specs.Session.{IsOutput, IsBrokenOff};
+ghost use Rattle.metarun.specs.Session.{IsOutput, IsAnswered, IsBrokenOff, IsWhole};
 
 use crate::devices::{read_text, write_text};
 use crate::failure::Failure;
@@ -21,8 +21,9 @@ use std::thread::Threads;
 ///
 /// 0: each line is answered. 1: the trace has a fault, told on `errors`; 3: memory or a thread was
 /// wanting; in both cases nothing was written to `output`. 5: a device failed, and no more than a
-/// beginning of the answer was written. Nothing runs before the whole trace is read. With two
-/// workers or more it waits for their threads. This project's choice.
+/// beginning of the answer was written, and nothing unless all of the input was read. Nothing runs
+/// before the whole trace is read. With two workers or more it waits for their threads. This
+/// project's choice.
 pub fn session<T: Threads + Wait + Sync, R: Read, W: Write, E: Write>(
     rt: &T,
     alloc: Global,
@@ -31,15 +32,15 @@ pub fn session<T: Threads + Wait + Sync, R: Read, W: Write, E: Write>(
     output: &mut W,
     errors: &mut E,
 ) -> u8
-    ensures answered { result ≡ 0 → IfSome (R.remaining input.old) (λ bytes. (written : List ℕ)
-        × IsOutput options.now bytes written
-        × Appends (W.contents output.old) (W.contents output.new) written) }
+    ensures answered { result ≡ 0
+        → IsAnswered options.now (R.remaining input.old) (R.remaining input.new)
+        (W.contents output.old) (W.contents output.new) }
     ensures faulty { result ≡ 1 → IfSome (R.remaining input.old) (λ bytes. (line : ℕ)
         × (kind : FaultKind) × HasFault bytes line kind) }
     ensures untouched { (result ≡ 1) ⊎ (result ≡ 3)
         → Keeps (W.contents output.old) (W.contents output.new) }
     ensures failed { result ≡ 5
-        → IsBrokenOff options.now (R.remaining input.old)
+        → IsBrokenOff options.now (R.remaining input.old) (R.remaining input.new)
         (W.contents output.old) (W.contents output.new) }
     ensures statuses { (result ≡ 0) ⊎ (result ≡ 1) ⊎ (result ≡ 3) ⊎ (result ≡ 5) }
 {
@@ -59,8 +60,9 @@ fn answer_to<T: Threads + Wait + Sync, R: Read>(
     options: &Options,
     input: &mut R,
 ) -> Result<String, Failure>
-    ensures ok { IfOk result (λ text. IfSome (R.remaining input.old)
-        (λ bytes. IsOutput options.now bytes (string_bytes text))) }
+    ensures ok { IfOk result (λ text. (bytes : List ℕ)
+        × IsWhole (R.remaining input.old) (R.remaining input.new) bytes
+        × IsOutput options.now bytes (string_bytes text)) }
     ensures err { IfErr result (λ failure. IfSome (R.remaining input.old)
         (λ bytes. Blames bytes failure)) }
     ensures settled { IfErr result IsSettled }

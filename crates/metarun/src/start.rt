@@ -1,12 +1,12 @@
 //! The program as a call: the command line is judged, then the trace is read, run and answered.
-ghost use Rattle.std.specs.Prelude.{◌≡◌, ◌≢◌, ◌*◌, ◌≤◌, ◌⊎◌, ℕ, List, IfSome, length, map};
-ghost use Rattle.std.specs.Io.KnownBytes.{Appends, Keeps};
+ghost use Rattle.std.specs.Prelude.{◌≡◌, ◌≢◌, ◌≤◌, ◌⊎◌, ℕ, IfSome, length, map};
+ghost use Rattle.std.specs.Io.KnownBytes.{Keeps};
 ghost use Rattle.ms_trace.specs.declared.fault.FaultKind.{FaultKind};
 ghost use Rattle.ms_trace.specs.Faults.{HasFault};
 ghost use Rattle.metarun.specs.Asked.{IsDefault, IsTold};
 ghost use Rattle.metarun.specs.CommandLine.{AskToBeTold};
 ghost use Rattle.metarun.specs.declared.options.Options.{Options};
-ghost use Rattle.metarun.specs.Session.{IsOutput};
+ghost use Rattle.metarun.specs.Session.{IsAnswered};
 ghost use Rattle.metarun.specs.Start.{IsObeyed, IsStopped};
 
 use crate::devices::write_text;
@@ -34,19 +34,19 @@ pub fn start<T: Threads + Wait + Sync, S: AsStr, R: Read, W: Write, E: Write>(
     output: &mut W,
     errors: &mut E,
 ) -> u8
-    ensures answered { result ≡ 0 → length words.now ≤ 1 → IfSome (R.remaining input.old)
-        (λ bytes. (options : Options) × (written : List ℕ) × IsDefault options
-        × IsOutput options bytes written
-        × Appends (W.contents output.old) (W.contents output.new) written) }
+    ensures answered { result ≡ 0 → length words.now ≤ 1 → (options : Options)
+        × IsDefault options
+        × IsAnswered options (R.remaining input.old) (R.remaining input.new)
+        (W.contents output.old) (W.contents output.new) }
     ensures obeyed { result ≡ 0
         → (AskToBeTold (map S.text words.now) × (R.remaining input.new ≡ R.remaining input.old))
-        ⊎ IsObeyed (map S.text words.now) (R.remaining input.old)
+        ⊎ IsObeyed (map S.text words.now) (R.remaining input.old) (R.remaining input.new)
         (W.contents output.old) (W.contents output.new) }
     ensures faulty { result ≡ 1 → IfSome (R.remaining input.old) (λ bytes. (line : ℕ)
         × (kind : FaultKind) × HasFault bytes line kind) }
     ensures failed { result ≡ 5
         → (AskToBeTold (map S.text words.now) × (R.remaining input.new ≡ R.remaining input.old))
-        ⊎ IsStopped (map S.text words.now) (R.remaining input.old)
+        ⊎ IsStopped (map S.text words.now) (R.remaining input.old) (R.remaining input.new)
         (W.contents output.old) (W.contents output.new) }
     ensures unread { result ≡ 2 → R.remaining input.new ≡ R.remaining input.old }
     ensures untouched { result ≡ 2 → Keeps (W.contents output.old) (W.contents output.new) }

@@ -62,12 +62,19 @@ impl Answer {
     pub fn of(value: u64) -> Answer
         ensures { result ≡ numbers 0 value 0 0 }
     {
-        Answer {
-            status: 0,
-            value,
-            limit: 0,
-            need: 0,
-        }
+        numbered(0, value, 0, 0)
+    }
+}
+
+/// A status with its numbers.
+fn numbered(status: u32, value: u64, limit: u64, need: u64) -> Answer
+    ensures { result ≡ numbers status value limit need }
+{
+    Answer {
+        status,
+        value,
+        limit,
+        need,
     }
 }
 
@@ -75,12 +82,7 @@ impl Answer {
 fn plain(status: u32) -> Answer
     ensures { result ≡ numbers status 0 0 0 }
 {
-    Answer {
-        status,
-        value: 0,
-        limit: 0,
-        need: 0,
-    }
+    numbered(status, 0, 0, 0)
 }
 
 /// Tells a refusal in numbers.
@@ -95,42 +97,17 @@ fn refused(refusal: Refusal) -> Answer
             committed,
             limit,
             need,
-        } => Answer {
-            status: 4,
-            value: committed,
-            limit,
-            need,
-        },
-        Refusal::ReserveLimit { nodes, limit } => Answer {
-            status: 5,
-            value: nodes as u64,
-            limit: limit as u64,
-            need: 0,
-        },
+        } => numbered(4, committed, limit, need),
+        Refusal::ReserveLimit { nodes, limit } => numbered(5, nodes as u64, limit as u64, 0),
         Refusal::NotLive => plain(6),
-        Refusal::OutOfRange { words } => Answer {
-            status: 7,
-            value: words,
-            limit: 0,
-            need: 0,
-        },
+        Refusal::OutOfRange { words } => numbered(7, words, 0, 0),
         Refusal::NoLoader => plain(8),
         Refusal::LoaderExists => plain(9),
         Refusal::NoBlock => plain(10),
         Refusal::BlockExists => plain(11),
         Refusal::IdsUsedUp => plain(12),
-        Refusal::Unsettled { opened, gathered } => Answer {
-            status: 13,
-            value: opened,
-            limit: gathered,
-            need: 0,
-        },
-        Refusal::NoRoom { level } => Answer {
-            status: 14,
-            value: level.number() as u64,
-            limit: 0,
-            need: 0,
-        },
+        Refusal::Unsettled { opened, gathered } => numbered(13, opened, gathered, 0),
+        Refusal::NoRoom { level } => numbered(14, level.number() as u64, 0, 0),
     }
 }
 

@@ -7,7 +7,7 @@ ghost use Rattle.ms_c.specs.Answers.{Steps};
 ghost use Rattle.ms_c.specs.Runs.{TellsCommitted};
 
 use crate::answer::{Answer, DONE, tell};
-use crate::handle::Handle;
+use crate::holding::Handle;
 use crate::runs::{Run, tell_run};
 use ms_base::{Reply, Space};
 use std::alloc::Global;

@@ -9,7 +9,7 @@
 
 mod answer;
 mod committing;
-mod handle;
+mod holding;
 mod kinds;
 mod making;
 mod options;

@@ -1,10 +1,10 @@
 //! Systems come and go: the exports that make one and end it, and the library's version.
-ghost use Rattle.std.specs.Prelude.{◌≡◌, ◌≢◌, None, IsSome};
+ghost use Rattle.std.specs.Prelude.{◌≡◌, ◌≢◌, ◌↔◌, ◌*◌, ◌⊎◌, None, IsSome};
 ghost use Rattle.ms_c.specs.Answers.{IsMade};
-ghost use Rattle.ms_c.specs.Settings.{AreFit};
+ghost use Rattle.ms_c.specs.Settings.{AreUnfit};
 
 use crate::answer::{BAD_SETTINGS, DONE, IN_USE, OUT_OF_MEMORY};
-use crate::handle::Handle;
+use crate::holding::Handle;
 use crate::options::{Options, settings_of};
 use ms_loaders::System;
 use std::alloc::Global;
@@ -22,14 +22,18 @@ pub extern "C" fn nizgrabul_version() -> u32
 }
 
 /// Makes a system with no loader in an empty handle, under the settings that the options name. Answers
-/// DONE, IN_USE where the handle has a system already, BAD_SETTINGS where an option is out of its
-/// range, or OUT_OF_MEMORY; all but DONE leave the handle as it was. Takes memory.
+/// IN_USE exactly where the handle has a system already, in an empty one BAD_SETTINGS exactly where an
+/// option is out of its range, and else DONE or OUT_OF_MEMORY; all but DONE leave the handle as it was.
+/// Takes memory.
 #[unsafe(no_mangle)]
 pub extern "C" fn nizgrabul_new(alloc: Global, options: &Options, out: &mut Handle) -> u32
     ensures made { result ≡ DONE → IsMade options.now out.old.slot.held out.new.slot.held }
     ensures refused { result ≢ DONE → out.new.slot.held ≡ out.old.slot.held }
-    ensures in_use { IsSome out.old.slot.held → result ≡ IN_USE }
-    ensures fit { AreFit options.now → result ≢ BAD_SETTINGS }
+    ensures in_use { (result ≡ IN_USE) ↔ IsSome out.old.slot.held }
+    ensures bad_settings { (result ≡ BAD_SETTINGS)
+        ↔ ((out.old.slot.held ≡ None) × AreUnfit options.now) }
+    ensures statuses { (result ≡ DONE) ⊎ (result ≡ OUT_OF_MEMORY)
+        ⊎ (result ≡ IN_USE) ⊎ (result ≡ BAD_SETTINGS) }
 {
     if let Some(system) = out.take(alloc) {
         out.put(system);

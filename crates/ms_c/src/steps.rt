@@ -4,7 +4,7 @@ ghost use Rattle.ms_c.specs.Answers.{Steps, MakesLoader, Purges};
 ghost use Rattle.ms_c.specs.Freeing.{FreesBlock};
 
 use crate::answer::{Answer, tell, tell_done};
-use crate::handle::Handle;
+use crate::holding::Handle;
 use crate::kinds::kind_of;
 use ms_base::{Block, Step};
 use std::alloc::Global;

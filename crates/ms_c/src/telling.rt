@@ -1,5 +1,5 @@
 //! The exports that tell of a system and change nothing.
-ghost use Rattle.std.specs.Prelude.{◌≡◌, ◌≢◌, ◌↔◌, ◌++◌, false, None, IfSome, IfNone, length, map};
+ghost use Rattle.std.specs.Prelude.{◌≡◌, ◌≢◌, ◌↔◌, ◌⊎◌, ◌++◌, false, None, IfSome, IfNone, length, map};
 ghost use Rattle.std.specs.List.{range_with_len};
 ghost use Rattle.ms_base.specs.Committed.{is_among};
 ghost use Rattle.ms_base.specs.Names.{named};
@@ -10,7 +10,7 @@ ghost use Rattle.ms_c.specs.Holder.{TellsHolder};
 ghost use Rattle.ms_c.specs.Sums.{AreTotals, AreBits, bit_at, counts_of, TellsLoader};
 
 use crate::answer::{Answer, DONE, NO_LOADER, NO_SYSTEM, OUT_OF_MEMORY};
-use crate::handle::Handle;
+use crate::holding::Handle;
 use crate::totals::{Counts, LoaderSums, Totals, tell_counts, tell_loader, tell_sums};
 use ms_loaders::System;
 use std::alloc::Global;
@@ -133,7 +133,8 @@ fn write_bits(system: &System, first: u32, out: &mut [bool])
 #[unsafe(no_mangle)]
 pub extern "C" fn nizgrabul_totals(alloc: Global, handle: &mut Handle, out: &mut Totals) -> u32
     ensures totals { IfSome handle.old.slot.held (λ m. result ≡ DONE → AreTotals m out.new) }
-    ensures no_system { handle.old.slot.held ≡ None → result ≡ NO_SYSTEM }
+    ensures no_system { (result ≡ NO_SYSTEM) ↔ (handle.old.slot.held ≡ None) }
+    ensures statuses { (result ≡ DONE) ⊎ (result ≡ OUT_OF_MEMORY) ⊎ (result ≡ NO_SYSTEM) }
     ensures refused { result ≢ DONE → out.new ≡ out.old }
     ensures unchanged { handle.new.slot.held ≡ handle.old.slot.held }
 {
@@ -167,7 +168,8 @@ pub extern "C" fn nizgrabul_loader_totals(
 ) -> u32
     ensures totals { IfSome handle.old.slot.held (λ m. result ≡ DONE → TellsLoader m loader out.new) }
     ensures no_loader { IfSome handle.old.slot.held (λ m. (result ≡ NO_LOADER) ↔ LacksLoader m loader) }
-    ensures no_system { handle.old.slot.held ≡ None → result ≡ NO_SYSTEM }
+    ensures no_system { (result ≡ NO_SYSTEM) ↔ (handle.old.slot.held ≡ None) }
+    ensures statuses { (result ≡ DONE) ⊎ (result ≡ NO_LOADER) ⊎ (result ≡ NO_SYSTEM) }
     ensures refused { result ≢ DONE → out.new ≡ out.old }
     ensures unchanged { handle.new.slot.held ≡ handle.old.slot.held }
 {
