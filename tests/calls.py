@@ -13,8 +13,8 @@ from growths import MAY_WANT, MOST_GROWTHS, TRACES, Told, text_of
 from program import Program
 from workbench import ROOT
 
-TAKING = ("carve", "reserve", "pool", "take", "place", "alloc", "insert", "new_loader", "run", "totals", "shared", "meter",
-          "parse", "print", "text", "lines")
+TAKING = ("carve", "reserve", "pool", "take", "place", "alloc", "insert", "new_loader", "step", "run", "totals", "shared",
+          "meter", "parse", "print", "text", "lines")
 QUIET = ("sizes", "nodes", "tree", "blocks", "accounts", "counter", "arena", "loaders", "system", "lock")
 # Lines that stand in a row, in this order among others, worked by hand.
 SAID = {
