@@ -13,19 +13,52 @@ from growths import MAY_WANT, MOST_GROWTHS, TRACES, Told, text_of
 from program import Program
 from workbench import ROOT
 
-TAKING = ("carve", "reserve", "pool", "take", "place", "alloc", "insert", "new_loader", "run", "totals", "shared", "meter",
-          "parse", "print", "text", "lines")
-QUIET = ("sizes", "nodes", "tree", "blocks", "accounts", "counter", "arena", "loaders", "system", "lock")
+TAKING = ("carve", "reserve", "pool", "take", "place", "alloc", "insert", "new_loader", "step", "run", "totals", "shared",
+          "meter", "parse", "print", "text", "lines")
+QUIET = ("sizes", "nodes", "tree", "blocks", "accounts", "counter", "arena", "loaders", "system", "report", "lock")
+
+
+def usage_line(about, *amounts):
+    """A line on how much of a space is what: words, and their share of what stands above in tenths of a per cent."""
+    names = ("reserved", "committed", "used", "live", "free_blocks", "waste")
+    told = (f"{name}: Amount {{ words: {words}, share: {f'Some({share})' if share is not None else 'None'} }}"
+            for name, (words, share) in zip(names, amounts))
+    return f"{about} Usage {{ {', '.join(told)} }}"
+
+
+def sums_line(about, name, **sums):
+    """A line of sums."""
+    return f"{about}{name} {{ {', '.join(f'{word}: {number}' for word, number in sums.items())} }}"
+
+
 # Lines that stand in a row, in this order among others, worked by hand.
 SAID = {
+    "tree": ("count (9, 1)", "count (10, 0)", "count (11, 1)", "count (12, 1)", "count (11, 1)", "count (12, 0)",
+             "count (10, 1)", "count (8, 0)", "count (9, 0)"),
     "arena": ("write (3999, Ok(()))", "read (1, Ok(0))", "read (3999, Ok(7))",
-              "read (4000, Err(OutOfRange { words: 4000 }))", "free Ok(())", "free Err(NotLive)", "account (2, Class)"),
+              "read (4000, Err(OutOfRange { words: 4000 }))", "free Ok(())", "free Err(NotLive)",
+              "account (1, NonClass)", "read gone Err(NotLive)",
+              sums_line("of (Hidden, 0, ", "ArenaTotals", chunks=0, capacity=0, fronts=0, used=0, live=0, free_blocks=0,
+                        waste=0) + ")", "account (2, NonClass)", "account (3, Class)"),
     "loaders": ("at (1, (true, true), 4512)", "word (1, 2, 3999, Ok(()), Ok(7))",
                 "word (2, 2, 0, Err(NoBlock), Err(NoBlock))", "free (Ok(()), Err(NoBlock))", "remove false", "first 1",
                 "count 0"),
-    "system": ("(Read { loader: 2, block: 1, index: 19 }, Value(5))", "free Ok(())", "free Err(NotLive)", "unload Ok(())",
-               "unload Err(NoLoader)", "purge 1", "without Boot",
+    "system": ("loaders 3", "(Read { loader: 2, block: 1, index: 19 }, Value(5))", "free Ok(())", "free Err(NotLive)",
+               "unload Ok(())", "unload Err(NoLoader)", "purge 1", "loaders 2", "without Boot",
                "refused Unsettled { opened: 4, gathered: 2 }", "left (4, 30)"),
+    "report": (usage_line("usage", (1048576, None), (8192, 10), (4512, 550), (4010, 888), (502, 111), (0, 0)),
+               usage_line("class usage", (1048576, None), (16384, 20), (50, 3), (50, 1000), (0, 0), (0, 0)),
+               usage_line("usage of both", (2097152, None), (24576, 30), (4562, 185), (4060, 889), (502, 110), (0, 0)),
+               sums_line("boot ", "KindTotals", loaders=1, chunks=1, capacity=131072, fronts=8192, used=20, live=20,
+                         free_blocks=0, waste=0),
+               sums_line("standard ", "KindTotals", loaders=1, chunks=2, capacity=4608, fronts=4608, used=4512, live=4010,
+                         free_blocks=502, waste=0),
+               sums_line("hidden ", "KindTotals", loaders=1, chunks=1, capacity=128, fronts=128, used=30, live=30,
+                         free_blocks=0, waste=0),
+               sums_line("reflection ", "KindTotals", loaders=0, chunks=0, capacity=0, fronts=0, used=0, live=0,
+                         free_blocks=0, waste=0),
+               sums_line("refusals ", "Refusals", loader_exists=0, ids_used_up=0, no_loader=0, block_exists=0, zero_words=0,
+                         too_large=0, out_of_memory=0, reserve_limit=0, commit_limit=0, no_block=2, out_of_range=1)),
     "lock": ("grow Ok(Span { start: 0, level: Level { number: 11 } })", "open 2", "open both (3, 4)",
              "purge 1", "refused Unsettled { opened: 2, gathered: 0 }"),
 }

@@ -1,25 +1,15 @@
-//! The smallest program over the machine: a loader asks for blocks and goes; each reply is told,
-//! and what is held meanwhile. `demo_arena` has one arena over a pool alone.
+//! The smallest programs over the library, each in a module of its own: the machine, one arena over
+//! a pool alone, and loaders that two threads work.
 #![tactic(auto)]
 
-use ms_base::{Kind, Settings, Step};
-use ms_loaders::System;
+mod arena;
+mod machine;
+mod workers;
+
 use std::io;
 
 fn main(rt: HostRuntime) -> io::Result<()> {
-    let mut system = System::new(rt.alloc(), Settings::DEFAULT)?;
-    let (loader, kind) = (1, Kind::Standard);
-    println!(rt; "new: {:?}", system.step(Step::New { loader, kind }))?;
-    for (block, words) in [(1, 100), (2, 4000), (3, 600000)] {
-        let reply = system.step(Step::Alloc {
-            loader,
-            block,
-            words,
-        });
-        println!(rt; "{words} words: {reply:?}")?;
-    }
-    let space = system.totals()?.space;
-    println!(rt; "live {}, committed {}", space.live, space.committed)?;
-    println!(rt; "unload: {:?}", system.step(Step::Unload { loader }))?;
-    println!(rt; "committed {}", system.committed())
+    machine::show(&rt)?;
+    arena::show(&rt)?;
+    workers::show(&rt, &rt)
 }

@@ -1,4 +1,5 @@
-//! The row of an arena: its words are written and read, a block is freed, the account comes back.
+//! The row of an arena: its words are written and read, a block is freed, the account comes back, and
+//! another arena has the memory.
 ghost use Rattle.std.specs.Prelude.{◌≡◌, [], IfOk};
 
 use crate::row::{SETTINGS, mark, tell, tell_account, unprepared};
@@ -17,7 +18,7 @@ pub fn tell_all(rt: &HostRuntime) -> io::Result<()> {
     mark(rt, "arena");
     tell_words(rt, &mut arena, second);
     tell_freed(rt, &mut arena, first);
-    tell_account(rt, "arena account", &arena.into_account());
+    tell_over(rt, &mut pool, arena, second);
     tell_new(rt, &mut pool);
     Ok(())
 }
@@ -65,7 +66,19 @@ fn tell_freed(rt: &HostRuntime, arena: &mut Arena, block: Block) {
     tell_arena(rt, arena);
 }
 
-/// Makes an arena over a new account, and takes it apart.
+/// Takes an arena apart that has a live block, and makes one that has none in the memory that it had.
+fn tell_over(rt: &HostRuntime, pool: &mut Pool, arena: Arena, block: Block) {
+    let (account, room) = arena.into_parts();
+    tell_account(rt, "arena account", &account);
+    let Ok(account) = pool.open(Space::NonClass) else {
+        return tell(rt, "arena over", &"no account is opened");
+    };
+    let arena = Arena::over(room, account, Kind::Hidden);
+    tell(rt, "arena read gone", &arena.read(block, 0));
+    tell_arena(rt, &arena);
+}
+
+/// Makes an arena over a new account, and has the account back.
 fn tell_new(rt: &HostRuntime, pool: &mut Pool) {
     let Ok(account) = pool.open(Space::Class) else {
         return tell(rt, "arena new", &"no account is opened");

@@ -16,6 +16,7 @@ mod counter;
 mod held;
 mod loaders;
 mod nodes;
+mod reports;
 mod row;
 mod seats;
 mod sizes;
@@ -60,6 +61,7 @@ fn tell_each<R: Wait>(rt: &HostRuntime, waits: &R) -> io::Result<()> {
     arenas::tell_all(rt)?;
     loaders::tell_all(rt)?;
     systems::tell_all(rt)?;
+    reports::tell_all(rt)?;
     seats::tell_all(rt, waits)
 }
 
@@ -75,6 +77,7 @@ fn tell_named<R: Wait>(rt: &HostRuntime, waits: &R, name: &str) -> io::Result<()
         "arena" => arenas::tell_all(rt),
         "loaders" => loaders::tell_all(rt),
         "system" => systems::tell_all(rt),
+        "report" => reports::tell_all(rt),
         "lock" => seats::tell_all(rt, waits),
         _ => Err(ErrorKind::InvalidInput.into()),
     }

@@ -110,6 +110,7 @@ fn tell_system(rt: &HostRuntime, system: &System) {
         "system sums",
         &(system.committed(), system.used(), system.counts()),
     );
+    tell(rt, "system loaders", &system.loader_count());
     for name in [1, 2, 3, 4] {
         tell(
             rt,

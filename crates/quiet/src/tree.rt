@@ -102,4 +102,8 @@ fn tell_tree(rt: &HostRuntime, tree: &SplitTree<Global>) {
     for span in tree.free_leaves() {
         tell(rt, "tree free", &span);
     }
+    for number in 8..13 {
+        let count = tree.free_count(Level::new(number));
+        tell(rt, "tree count", &(number, count));
+    }
 }

@@ -2,17 +2,30 @@
 use crate::pools::{SETTINGS, tell_account, tell_pool};
 use crate::row::{Answer, Row, tell, told, unprepared};
 use ms_arena::Arena;
-use ms_base::{Kind, Refusal, Space};
+use ms_base::{Block, Kind, Refusal, Space};
 use ms_pool::Pool;
 use std::alloc::Global;
 use std::io;
 use std::marker::Model;
 
-/// Tells a pool and an arena over it: its sums and its chunks.
+/// Tells a pool and an arena over it: its sums, its chunks, and its live blocks.
 fn tell_both(rt: &HostRuntime, pool: &Pool, arena: &Arena) {
     tell_pool(rt, pool);
-    tell(rt, &(arena.kind(), arena.totals()));
+    tell(rt, &(arena.kind(), arena.used(), arena.totals()));
     tell_account(rt, arena.account());
+    for words in [2, 100, 500, 509] {
+        tell_live(rt, arena, words);
+    }
+}
+
+/// Tells the live blocks of so many words that start in the first granule, each with its first word.
+fn tell_live(rt: &HostRuntime, arena: &Arena, words: u64) {
+    for start in 0..8192 {
+        let block = Block { start, words };
+        if let Ok(word) = arena.read(block, 0) {
+            tell(rt, &(block, word));
+        }
+    }
 }
 
 /// An arena over a pool, in which a block is to be allocated.
@@ -64,7 +77,7 @@ impl Allocating {
 }
 
 impl Row for Allocating {
-    fn tell_state(&self, rt: &HostRuntime) -> io::Result<()> {
+    fn tell_state(&mut self, rt: &HostRuntime) -> io::Result<()> {
         tell_both(rt, &self.pool, &self.arena);
         Ok(())
     }
@@ -90,7 +103,7 @@ impl Placing {
 }
 
 impl Row for Placing {
-    fn tell_state(&self, rt: &HostRuntime) -> io::Result<()> {
+    fn tell_state(&mut self, rt: &HostRuntime) -> io::Result<()> {
         tell_both(rt, &self.pool, &self.arena);
         Ok(())
     }

@@ -29,7 +29,7 @@ impl Reserving {
 }
 
 impl Row for Reserving {
-    fn tell_state(&self, rt: &HostRuntime) -> io::Result<()> {
+    fn tell_state(&mut self, rt: &HostRuntime) -> io::Result<()> {
         let kept = (self.blocks.len(), self.blocks.total(), self.blocks.room());
         tell(rt, &kept);
         Ok(())

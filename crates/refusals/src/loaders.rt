@@ -49,7 +49,7 @@ impl Inserting {
 }
 
 impl Row for Inserting {
-    fn tell_state(&self, rt: &HostRuntime) -> io::Result<()> {
+    fn tell_state(&mut self, rt: &HostRuntime) -> io::Result<()> {
         tell(rt, &self.loaders.len());
         for (name, loader) in self.loaders.iter() {
             tell(rt, &name);

@@ -87,6 +87,7 @@ fn tell_upper(rt: &HostRuntime, name: &str) -> io::Result<()> {
         "alloc" => tell_row(rt, "alloc", Allocating::prepared(rt.alloc())),
         "insert" => tell_row(rt, "insert", Inserting::prepared(rt.alloc())),
         "new_loader" => tell_row(rt, "new_loader", Asking::new_loader(rt.alloc())),
+        "step" => tell_row(rt, "step", Asking::step(rt.alloc())),
         "run" => tell_row(rt, "run", Asking::run(rt.alloc())),
         "totals" => tell_row(rt, "totals", Asking::totals(rt.alloc())),
         _ => tell_other(rt, name),

@@ -18,8 +18,11 @@ pub const SETTINGS: Settings = Settings {
 /// How many granules there are at most, of 8192 words: 128 in each of 80 nodes.
 pub const GRANULES: u64 = 10240;
 
-/// Tells a pool: the sums over each space, what counts beside the limits, and which granules are
-/// committed.
+/// How many chunks of the lowest level, of 128 words, there are at most.
+pub const SMALLEST: u64 = 655360;
+
+/// Tells a pool: the sums over each space, what counts beside the limits, which granules are
+/// committed, and to whom words are lent.
 pub fn tell_pool(rt: &HostRuntime, pool: &Pool) {
     tell(rt, &pool.all_totals(Space::NonClass));
     tell(rt, &pool.all_totals(Space::Class));
@@ -27,6 +30,19 @@ pub fn tell_pool(rt: &HostRuntime, pool: &Pool) {
     for granule in 0..GRANULES {
         if pool.is_committed(granule) {
             tell(rt, &granule);
+        }
+    }
+    tell_owners(rt, pool);
+}
+
+/// Tells each word from which on words are lent to another owner, or to none.
+fn tell_owners(rt: &HostRuntime, pool: &Pool) {
+    let mut last = None;
+    for number in 0..SMALLEST {
+        let owner = pool.owner_of(128 * number);
+        if owner != last {
+            tell(rt, &(128 * number, owner));
+            last = owner;
         }
     }
 }
@@ -54,7 +70,7 @@ impl Making {
 }
 
 impl Row for Making {
-    fn tell_state(&self, rt: &HostRuntime) -> io::Result<()> {
+    fn tell_state(&mut self, rt: &HostRuntime) -> io::Result<()> {
         match &self.pool {
             Some(pool) => tell_pool(rt, pool),
             None => say(rt, "no pool"),
@@ -103,7 +119,7 @@ impl Taking {
 }
 
 impl Row for Taking {
-    fn tell_state(&self, rt: &HostRuntime) -> io::Result<()> {
+    fn tell_state(&mut self, rt: &HostRuntime) -> io::Result<()> {
         tell_pool(rt, &self.pool);
         tell_account(rt, &self.account);
         Ok(())

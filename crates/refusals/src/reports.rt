@@ -23,7 +23,7 @@ impl Reporting {
 }
 
 impl Row for Reporting {
-    fn tell_state(&self, rt: &HostRuntime) -> io::Result<()> {
+    fn tell_state(&mut self, rt: &HostRuntime) -> io::Result<()> {
         tell_totals(rt, &self.totals);
         Ok(())
     }
@@ -89,7 +89,7 @@ fn plain_answers(alloc: Global) -> Result<Vec<Answered>, AllocError> {
 }
 
 impl Row for Replying {
-    fn tell_state(&self, rt: &HostRuntime) -> io::Result<()> {
+    fn tell_state(&mut self, rt: &HostRuntime) -> io::Result<()> {
         for answer in &self.replies.answers {
             tell(rt, &(answer.line, answer.reply));
             if let Some(totals) = &answer.report {

@@ -14,8 +14,8 @@ pub enum Answer {
 
 /// A state, and a call on it that takes memory.
 pub trait Row {
-    /// Tells the state: the rest of a line. It fails where it lacks memory of its own.
-    fn tell_state(&self, rt: &HostRuntime) -> io::Result<()>;
+    /// Tells the state, and leaves it: the rest of a line. It fails where it lacks memory of its own.
+    fn tell_state(&mut self, rt: &HostRuntime) -> io::Result<()>;
 
     /// Makes the call, and tells its answer where it is served: the rest of a line.
     fn call(&mut self, rt: &HostRuntime) -> Answer;
@@ -47,7 +47,7 @@ fn tell_lines<R: Row>(rt: &HostRuntime, name: &str, row: &mut R) -> io::Result<(
 }
 
 /// Tells the state on a line of its own.
-fn tell_state<R: Row>(rt: &HostRuntime, name: &str, word: &str, row: &R) -> io::Result<()> {
+fn tell_state<R: Row>(rt: &HostRuntime, name: &str, word: &str, row: &mut R) -> io::Result<()> {
     let _ = print!(rt; "{name} {word}");
     row.tell_state(rt)?;
     let _ = println!(rt; "");

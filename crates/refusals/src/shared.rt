@@ -27,7 +27,7 @@ impl Sharing {
 }
 
 impl Row for Sharing {
-    fn tell_state(&self, rt: &HostRuntime) -> io::Result<()> {
+    fn tell_state(&mut self, rt: &HostRuntime) -> io::Result<()> {
         match &self.pool {
             Some(pool) => tell_pool(rt, pool),
             None => say(rt, "no pool"),
@@ -72,7 +72,7 @@ impl Metering {
 }
 
 impl Row for Metering {
-    fn tell_state(&self, rt: &HostRuntime) -> io::Result<()> {
+    fn tell_state(&mut self, rt: &HostRuntime) -> io::Result<()> {
         match &self.made {
             Some((_, seats)) => tell(rt, &seats.len()),
             None => say(rt, "no meter"),

@@ -1,7 +1,7 @@
 //! The rows of a system: a loader is made, steps are run, sums are told.
-use crate::pools::{GRANULES, SETTINGS};
+use crate::pools::{GRANULES, SETTINGS, SMALLEST};
 use crate::row::{Answer, Row, gave, say, tell, told, unprepared};
-use ms_base::{Kind, Reply, Step};
+use ms_base::{Kind, Refusal, Reply, Step};
 use ms_loaders::{System, Totals};
 use std::alloc::{AllocError, Global};
 use std::io;
@@ -61,6 +61,13 @@ const QUIET_STEPS: [Step; 5] = [
     Step::Purge,
 ];
 
+/// A step that takes memory.
+const ALLOC: Step = Step::Alloc {
+    loader: 1,
+    block: 3,
+    words: 9000,
+};
+
 /// Makes a system with loaders and blocks.
 pub fn filled(alloc: Global) -> io::Result<System> {
     let mut system = System::new(alloc, SETTINGS)?;
@@ -96,6 +103,8 @@ pub fn tell_totals(rt: &HostRuntime, totals: &Totals) {
 enum Asked {
     /// A loader is to be made.
     NewLoader,
+    /// A block is to be allocated, by a step.
+    Step,
     /// Steps are to be run.
     Run,
     /// Sums are to be told.
@@ -117,6 +126,13 @@ impl Asking {
         Ok(Asking { system, asked })
     }
 
+    /// Prepares a system with loaders and blocks, which is to take a step.
+    pub fn step(alloc: Global) -> io::Result<Asking> {
+        let system = filled(alloc)?;
+        let asked = Asked::Step;
+        Ok(Asking { system, asked })
+    }
+
     /// Prepares a system with loaders and blocks, which is to run steps.
     pub fn run(alloc: Global) -> io::Result<Asking> {
         let system = filled(alloc)?;
@@ -133,25 +149,28 @@ impl Asking {
 }
 
 impl Row for Asking {
-    /// Tells the counts, the sums, those of each loader, and which granules are committed. Takes
-    /// memory for the sums.
-    fn tell_state(&self, rt: &HostRuntime) -> io::Result<()> {
+    /// Tells the sums, the counts and those of each loader, which granules are committed, to whom
+    /// words are lent, and the named blocks. Takes memory for the sums.
+    fn tell_state(&mut self, rt: &HostRuntime) -> io::Result<()> {
         let totals = self.system.totals()?;
         tell_totals(rt, &totals);
         tell_system(rt, &self.system);
+        tell_names(rt, &mut self.system);
         Ok(())
     }
 
     fn call(&mut self, rt: &HostRuntime) -> Answer {
         match self.asked {
             Asked::NewLoader => told(rt, self.system.new_loader(3, Kind::Reflection)),
+            Asked::Step => step_told(rt, self.system.step(ALLOC)),
             Asked::Run => run_told(rt, self.system.run(QUIET_STEPS.as_slice())),
             Asked::Totals => totals_told(rt, self.system.totals()),
         }
     }
 }
 
-/// Tells a system: its counts, the sums of each loader, and which granules are committed.
+/// Tells a system: its counts, the sums of each loader, which granules are committed, and to whom
+/// words are lent.
 fn tell_system(rt: &HostRuntime, system: &System) {
     tell(rt, &system.counts());
     for name in 0..4 {
@@ -161,6 +180,42 @@ fn tell_system(rt: &HostRuntime, system: &System) {
         if system.is_committed(granule) {
             tell(rt, &granule);
         }
+    }
+    tell_holders(rt, system);
+}
+
+/// Tells each word from which on words are lent to another loader, or to none.
+fn tell_holders(rt: &HostRuntime, system: &System) {
+    let mut last = None;
+    for number in 0..SMALLEST {
+        let holder = system.holder(128 * number);
+        if holder != last {
+            tell(rt, &(128 * number, holder));
+            last = holder;
+        }
+    }
+}
+
+/// Tells the first word of each named block.
+fn tell_names(rt: &HostRuntime, system: &mut System) {
+    for loader in 0..4 {
+        for block in 0..4 {
+            let index = 0;
+            let reply = system.step(Step::Read {
+                loader,
+                block,
+                index,
+            });
+            tell(rt, &(loader, block, reply));
+        }
+    }
+}
+
+/// Tells the reply of a step.
+fn step_told(rt: &HostRuntime, reply: Reply) -> Answer {
+    match reply {
+        Reply::Refused(Refusal::OutOfMemory) => Answer::Refused,
+        reply => gave(rt, &reply),
     }
 }
 

@@ -32,7 +32,7 @@ impl Parsing {
 }
 
 impl Row for Parsing {
-    fn tell_state(&self, rt: &HostRuntime) -> io::Result<()> {
+    fn tell_state(&mut self, rt: &HostRuntime) -> io::Result<()> {
         tell(rt, &TRACE.len());
         Ok(())
     }
@@ -76,7 +76,7 @@ impl Printing {
 }
 
 impl Row for Printing {
-    fn tell_state(&self, rt: &HostRuntime) -> io::Result<()> {
+    fn tell_state(&mut self, rt: &HostRuntime) -> io::Result<()> {
         tell(rt, &self.trace.lines.as_slice().len());
         Ok(())
     }

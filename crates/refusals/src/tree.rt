@@ -24,7 +24,7 @@ impl Carving {
 }
 
 impl Row for Carving {
-    fn tell_state(&self, rt: &HostRuntime) -> io::Result<()> {
+    fn tell_state(&mut self, rt: &HostRuntime) -> io::Result<()> {
         for offset in [0, 128, 512, 1024] {
             tell(rt, &self.tree.leaf_at(offset));
         }

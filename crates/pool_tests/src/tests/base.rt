@@ -99,27 +99,11 @@ fn expect_said(
 }
 
 #[test]
-fn a_refusal_says_why_with_its_numbers(rt: HostRuntime) -> Result<(), Fail> {
+fn a_refusal_says_why(rt: HostRuntime) -> Result<(), Fail> {
     let rows = [
         (Refusal::ZeroWords, "zero words were asked for"),
         (Refusal::TooLarge, "more than 524288 words were asked for"),
-        (
-            Refusal::CommitLimit {
-                committed: 60,
-                limit: 63,
-                need: 64,
-            },
-            "commit limit: 60 of 63 granules are committed, and 64 more are needed",
-        ),
-        (
-            Refusal::ReserveLimit { nodes: 2, limit: 2 },
-            "reserve limit: 2 of 2 nodes are reserved, and none has room",
-        ),
         (Refusal::NotLive, "the block is not live here"),
-        (
-            Refusal::OutOfRange { words: 10 },
-            "the index is past the block's 10 words",
-        ),
         (Refusal::OutOfMemory, "out of memory"),
         (Refusal::NoLoader, "no loader has this name"),
         (Refusal::LoaderExists, "a loader has this name already"),
@@ -129,19 +113,40 @@ fn a_refusal_says_why_with_its_numbers(rt: HostRuntime) -> Result<(), Fail> {
             "the loader has a block of this name already",
         ),
         (Refusal::IdsUsedUp, "all owner numbers are used up"),
+    ];
+    for (refusal, text) in &rows {
+        expect_said(&rt, refusal, text)?;
+    }
+    Ok(())
+}
+
+#[test]
+fn a_refusal_tells_its_numbers(rt: HostRuntime) -> Result<(), Fail> {
+    let over = Refusal::CommitLimit {
+        committed: 60,
+        limit: 63,
+        need: 64,
+    };
+    let (opened, gathered) = (3, 2);
+    let level = Level::new(7);
+    let rows = [
         (
-            Refusal::Unsettled {
-                opened: 3,
-                gathered: 2,
-            },
+            over,
+            "commit limit: 60 of 63 granules are committed, and 64 more are needed",
+        ),
+        (
+            Refusal::ReserveLimit { nodes: 2, limit: 2 },
+            "reserve limit: 2 of 2 nodes are reserved, and none has room",
+        ),
+        (
+            Refusal::OutOfRange { words: 10 },
+            "the index is past the block's 10 words",
+        ),
+        (
+            Refusal::Unsettled { opened, gathered },
             "3 were opened and 2 gathered",
         ),
-        (
-            Refusal::NoRoom {
-                level: Level::new(7),
-            },
-            "no room at level 7",
-        ),
+        (Refusal::NoRoom { level }, "no room at level 7"),
     ];
     for (refusal, text) in &rows {
         expect_said(&rt, refusal, text)?;

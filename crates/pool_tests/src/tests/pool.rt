@@ -7,8 +7,9 @@ ghost use Rattle.ms_pool.specs.Account.{has_chunk_at};
 ghost use Rattle.ms_pool.specs.Ledger.{Serves};
 
 use ms_base::{Level, Policy, Refusal, Settings, Space, Span};
-use ms_pool::{Account, ChunkSource, Pool};
+use ms_pool::{Account, ChunkSource, Place, Pool, RootMap};
 use std::process::Abort;
+use std::test::Fail;
 
 /// What a row of the table asks for the account.
 #[derive(Clone, Copy, Debug)]
@@ -239,4 +240,38 @@ fn the_limit_of_nodes_is_told_with_its_numbers(rt: HostRuntime) {
     let none = Err(Refusal::ReserveLimit { nodes: 0, limit: 0 });
     let of_classes = [(Call::Take(11, 12, 10), none)];
     ask_all(&rt, Settings::DEFAULT, Space::Class, &of_classes);
+}
+
+/// Lends an account a chunk of one granule, one of two, of which the first is committed, and one of
+/// 512 words. One that isn't lent is missed in the map.
+fn lend_three(pool: &mut Pool) {
+    let Ok(mut account) = pool.open(Space::NonClass) else {
+        return;
+    };
+    let (five, six, ten) = (Level::new(5), Level::new(6), Level::new(10));
+    let _ = ChunkSource::take(pool, &mut account, six, six, 8192);
+    let _ = ChunkSource::take(pool, &mut account, five, five, 1);
+    let _ = ChunkSource::take(pool, &mut account, ten, ten, 2);
+}
+
+/// The first chunk is place 0, the second places 2 and 3, the third 512 words of place 1.
+#[test]
+fn a_map_tells_what_is_lent_and_committed(rt: HostRuntime) -> Result<(), Fail> {
+    let mut pool = Pool::new(rt.alloc(), Settings::DEFAULT)?;
+    lend_three(&mut pool);
+    let told = pool.maps(rt.alloc());
+    drop(pool);
+    let mut places = [Place::Free; 64];
+    places[0] = Place::LentWholly;
+    places[1] = Place::LentPartly;
+    places[2] = Place::LentWholly;
+    places[3] = Place::LentUncommitted;
+    let first = RootMap { root: 0, places };
+    let (root, places) = (1, [Place::Free; 64]);
+    let maps = told?;
+    assert_eq!(rt;
+        maps.as_slice(),
+        [first, RootMap { root, places }].as_slice()
+    );
+    Ok(())
 }

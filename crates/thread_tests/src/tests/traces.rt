@@ -25,80 +25,84 @@ fn printed(alloc: Global, lines: &[Line]) -> Result<Vec<u8>, AllocError> {
     }
 }
 
+/// Lines with gaps between their numbers, and a command of each sort.
+const LINES: [Line; 10] = [
+    Line {
+        number: 2,
+        command: Command::Step(Step::New {
+            loader: 7,
+            kind: Kind::Reflection,
+        }),
+    },
+    Line {
+        number: 3,
+        command: Command::Step(Step::Alloc {
+            loader: 7,
+            block: 0,
+            words: u64::MAX,
+        }),
+    },
+    Line {
+        number: 4,
+        command: Command::Step(Step::Calloc {
+            loader: 7,
+            block: 4294967295,
+            words: 1,
+        }),
+    },
+    Line {
+        number: 6,
+        command: Command::Step(Step::Write {
+            loader: 7,
+            block: 0,
+            index: u64::MAX,
+            value: 2,
+        }),
+    },
+    Line {
+        number: 7,
+        command: Command::Step(Step::Read {
+            loader: 7,
+            block: 0,
+            index: 1,
+        }),
+    },
+    Line {
+        number: 8,
+        command: Command::Step(Step::Free {
+            loader: 7,
+            block: 0,
+        }),
+    },
+    Line {
+        number: 9,
+        command: Command::Step(Step::Unload { loader: 65535 }),
+    },
+    Line {
+        number: 10,
+        command: Command::Step(Step::Purge),
+    },
+    Line {
+        number: 11,
+        command: Command::Sync,
+    },
+    Line {
+        number: 13,
+        command: Command::Report,
+    },
+];
+
+/// Their text, with an empty line for each that is missing.
+const TEXT: &[u8] = b"\nnew 7 reflection\nalloc 7 0 18446744073709551615\ncalloc 7 4294967295 1\n\n\
+    write 7 0 18446744073709551615 2\nread 7 0 1\nfree 7 0\nunload 65535\npurge\nsync\n\n\
+    report\n";
+
 #[test]
 fn a_trace_is_printed_with_its_gaps(rt: HostRuntime) -> Result<(), Fail> {
-    let lines = [
-        Line {
-            number: 2,
-            command: Command::Step(Step::New {
-                loader: 7,
-                kind: Kind::Reflection,
-            }),
-        },
-        Line {
-            number: 3,
-            command: Command::Step(Step::Alloc {
-                loader: 7,
-                block: 0,
-                words: u64::MAX,
-            }),
-        },
-        Line {
-            number: 4,
-            command: Command::Step(Step::Calloc {
-                loader: 7,
-                block: 4294967295,
-                words: 1,
-            }),
-        },
-        Line {
-            number: 6,
-            command: Command::Step(Step::Write {
-                loader: 7,
-                block: 0,
-                index: u64::MAX,
-                value: 2,
-            }),
-        },
-        Line {
-            number: 7,
-            command: Command::Step(Step::Read {
-                loader: 7,
-                block: 0,
-                index: 1,
-            }),
-        },
-        Line {
-            number: 8,
-            command: Command::Step(Step::Free {
-                loader: 7,
-                block: 0,
-            }),
-        },
-        Line {
-            number: 9,
-            command: Command::Step(Step::Unload { loader: 65535 }),
-        },
-        Line {
-            number: 10,
-            command: Command::Step(Step::Purge),
-        },
-        Line {
-            number: 11,
-            command: Command::Sync,
-        },
-        Line {
-            number: 13,
-            command: Command::Report,
-        },
-    ];
-    let text = printed(rt.alloc(), lines.as_slice())?;
+    let text = printed(rt.alloc(), LINES.as_slice())?;
     let back = parse(rt.alloc(), text.as_slice())?;
-    let expected = b"\nnew 7 reflection\nalloc 7 0 18446744073709551615\ncalloc 7 4294967295 1\n\n\
-          write 7 0 18446744073709551615 2\nread 7 0 1\nfree 7 0\nunload 65535\npurge\nsync\n\n\
-          report\n";
-    let is_meant = text.as_slice() == expected.as_slice();
-    let reads_back = back.lines.as_slice() == lines.as_slice();
+    let is_meant = text.as_slice() == TEXT;
+    let reads_back = back.lines.as_slice() == LINES.as_slice();
     assert_eq!(rt; (is_meant, reads_back), (true, true));
     Ok(())
 }

@@ -1,16 +1,15 @@
 //! One arena over a pool, with no loader and no names: where blocks lie, what is written and read,
 //! and what the pool has lent for them.
-#![tactic(auto)]
-
 use ms_arena::Arena;
 use ms_base::{Kind, Refusal, Settings, Space};
 use ms_pool::{Pool, PoolTotals};
 use std::alloc::Global;
 use std::io;
 
-fn main(rt: HostRuntime) -> io::Result<()> {
+/// Works an arena, and tells what came of it.
+pub fn show(rt: &HostRuntime) -> io::Result<()> {
     let mut pool = Pool::new(rt.alloc(), Settings::DEFAULT)?;
-    match worked(rt.alloc(), &mut pool) {
+    match work(rt.alloc(), &mut pool) {
         Ok((start, value, totals)) => {
             println!(rt; "the second block lies at {start}, its last word is {value}")?;
             println!(rt;
@@ -24,7 +23,7 @@ fn main(rt: HostRuntime) -> io::Result<()> {
 
 /// Works an arena; tells where its second block lies, the word that was written into it, and the
 /// sums over the pool then. The account stays open, as that of a loader that lives.
-fn worked(alloc: Global, pool: &mut Pool) -> Result<(u64, u64, PoolTotals), Refusal> {
+fn work(alloc: Global, pool: &mut Pool) -> Result<(u64, u64, PoolTotals), Refusal> {
     let account = pool.open(Space::NonClass)?;
     let mut arena = Arena::new(alloc, account, Kind::Standard);
     let first = arena.alloc(pool, 10)?;
