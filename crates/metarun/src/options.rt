@@ -195,7 +195,7 @@ fn detail_named(word: &str) -> Detail
 }
 
 /// The version, and the toolchain that all is proved with.
-const VERSION: &str = "1.0.0 (proved with rattle-kit-13b logic dac8208d650f15bf)";
+const VERSION: &str = "1.0.0 (proved with rattle-kit-13f logic dac8208d650f15bf)";
 
 /// The first words of the help.
 const ABOUT: &str = "Runs a trace of class loader operations over an elastic metaspace.
