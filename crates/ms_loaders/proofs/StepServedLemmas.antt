@@ -73,6 +73,9 @@ served_goes old loaders Purge Done new others its sound made =
     subst (λ (l : List (ℕ × LoaderView)). Goes old loaders Purge Done new l) (sym made.1)
     (purges old loaders its made.0.0 new sound made.0.1)
 served_goes old loaders Purge (Refused refusal) new others its sound made = absurd made
+served_goes old loaders (Write name block index value) _ new others its sound made = absurd made.0
+served_goes old loaders (Read name block index) _ new others its sound made = absurd made.0
+served_goes old loaders (Free name block) _ new others its sound made = absurd made.0
 served_goes old loaders _ _ new others its sound made = absurd made
 
 -- What a step asks of the pool: it serves each loader, and counts its accounts.

@@ -136,37 +136,63 @@ abbrev pub IsLacking : List (ℕ × LoaderView) → ℕ → (LoaderState → Ref
 IsLacking old name why refusal new =
     FindsNone old name refusal new ⊎ LooksAt old name (λ loader. why loader refusal) new
 
--- A step with its reply, the loaders before, and the source and the loaders after. No other reply is
--- given.
+-- What each step is answered, with the source and the loaders before and after: no other reply is given.
+abbrev pub AnswersNew : {S : Type 0} → SourceCalls S → List (ℕ × LoaderView) → ℕ → Kind → S → Reply
+    → List (ℕ × LoaderView) → S → Type 0
+AnswersNew calls old name kind before Done new after = MakesLoader calls old name kind before new after
+AnswersNew calls old name kind before (Refused refusal) new after =
+    MakesNone calls old name kind before refusal after × (new ≡ old)
+AnswersNew calls old name kind before _ new after = ⊥
+
+abbrev pub AnswersAlloc : {S : Type 0} → SourceCalls S → Space → List (ℕ × LoaderView) → ℕ → ℕ → ℕ → S → Reply
+    → List (ℕ × LoaderView) → S → Type 0
+AnswersAlloc calls space old name block words before (At start) new after =
+    AllocatesAt calls space old name block words before start new after
+AnswersAlloc calls space old name block words before (Refused refusal) new after =
+    AllocatesNone calls space old name block words before refusal new after
+AnswersAlloc calls space old name block words before _ new after = ⊥
+
+abbrev pub AnswersWrite : List (ℕ × LoaderView) → ℕ → ℕ → ℕ → ℕ → Reply → List (ℕ × LoaderView) → Type 0
+AnswersWrite old name block index value Done new = ChangesOne old name (λ was is. WritesWord was block index value is) new
+AnswersWrite old name block index value (Refused refusal) new =
+    IsLacking old name (λ loader why. LacksWord loader block index why) refusal new
+AnswersWrite old name block index value _ new = ⊥
+
+abbrev pub AnswersRead : List (ℕ × LoaderView) → ℕ → ℕ → ℕ → Reply → List (ℕ × LoaderView) → Type 0
+AnswersRead old name block index (Value value) new = LooksAt old name (λ loader. HasWord loader block index value) new
+AnswersRead old name block index (Refused refusal) new =
+    IsLacking old name (λ loader why. LacksWord loader block index why) refusal new
+AnswersRead old name block index _ new = ⊥
+
+abbrev pub AnswersFree : List (ℕ × LoaderView) → ℕ → ℕ → Reply → List (ℕ × LoaderView) → Type 0
+AnswersFree old name block Done new = ChangesOne old name (λ was is. FreesBlock was block is) new
+AnswersFree old name block (Refused refusal) new =
+    IsLacking old name (λ loader why. LacksName loader block why) refusal new
+AnswersFree old name block _ new = ⊥
+
+abbrev pub AnswersUnload : {S : Type 0} → SourceCalls S → List (ℕ × LoaderView) → ℕ → S → Reply
+    → List (ℕ × LoaderView) → S → Type 0
+AnswersUnload calls old name before Done new after = ClosesLoader calls old name before new after
+AnswersUnload calls old name before (Refused refusal) new after =
+    FindsNone old name refusal new × (after ≡ before)
+AnswersUnload calls old name before _ new after = ⊥
+
+-- A step with its reply, the loaders before, and the source and the loaders after.
 abbrev pub Served : {S : Type 0} → SourceCalls S → List (ℕ × LoaderView) → Step → Reply → S
     → List (ℕ × LoaderView) → S → Type 0
-Served calls old (New name kind) Done before new after = MakesLoader calls old name kind before new after
-Served calls old (New name kind) (Refused refusal) before new after =
-    MakesNone calls old name kind before refusal after × (new ≡ old)
-Served calls old (Alloc name block words) (At start) before new after =
-    AllocatesAt calls NonClass old name block words before start new after
-Served calls old (Alloc name block words) (Refused refusal) before new after =
-    AllocatesNone calls NonClass old name block words before refusal new after
-Served calls old (Calloc name block words) (At start) before new after =
-    AllocatesAt calls Class old name block words before start new after
-Served calls old (Calloc name block words) (Refused refusal) before new after =
-    AllocatesNone calls Class old name block words before refusal new after
-Served calls old (Write name block index value) Done before new after =
-    ChangesOne old name (λ was is. WritesWord was block index value is) new × (after ≡ before)
-Served calls old (Write name block index value) (Refused refusal) before new after =
-    IsLacking old name (λ loader why. LacksWord loader block index why) refusal new × (after ≡ before)
-Served calls old (Read name block index) (Value value) before new after =
-    LooksAt old name (λ loader. HasWord loader block index value) new × (after ≡ before)
-Served calls old (Read name block index) (Refused refusal) before new after =
-    IsLacking old name (λ loader why. LacksWord loader block index why) refusal new × (after ≡ before)
-Served calls old (Free name block) Done before new after =
-    ChangesOne old name (λ was is. FreesBlock was block is) new × (after ≡ before)
-Served calls old (Free name block) (Refused refusal) before new after =
-    IsLacking old name (λ loader why. LacksName loader block why) refusal new × (after ≡ before)
-Served calls old (Unload name) Done before new after = ClosesLoader calls old name before new after
-Served calls old (Unload name) (Refused refusal) before new after = FindsNone old name refusal new × (after ≡ before)
+Served calls old (New name kind) reply before new after = AnswersNew calls old name kind before reply new after
+Served calls old (Alloc name block words) reply before new after =
+    AnswersAlloc calls NonClass old name block words before reply new after
+Served calls old (Calloc name block words) reply before new after =
+    AnswersAlloc calls Class old name block words before reply new after
+Served calls old (Write name block index value) reply before new after =
+    AnswersWrite old name block index value reply new × (after ≡ before)
+Served calls old (Read name block index) reply before new after =
+    AnswersRead old name block index reply new × (after ≡ before)
+Served calls old (Free name block) reply before new after = AnswersFree old name block reply new × (after ≡ before)
+Served calls old (Unload name) reply before new after = AnswersUnload calls old name before reply new after
 Served calls old Purge Done before new after = ((gone : ℕ) × calls.purged before gone after) × (new ≡ old)
-Served calls old _ _ before new after = ⊥
+Served calls old Purge _ before new after = ⊥
 
 -- All that a source says of itself, as one.
 abbrev pub calls_of : {S : Type 0} → (S → AccountState → Type 0) → (S → Space → ℕ) → (S → Limits) → GrowRelation S

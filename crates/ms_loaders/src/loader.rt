@@ -192,7 +192,7 @@ impl Loader {
         ensures owners { self.new ≡ with_state self.old self.new.state }
         ensures sound { IsSoundView self.new }
     {
-        let Some(block) = self.names.get(name) else {
+        let Some(block) = self.names.find(name) else {
             return Err(Refusal::NoBlock);
         };
         if is_class(block.start) {

@@ -5,15 +5,17 @@
 //!
 //! A hash map from each name to where its block starts, and its words; the names lie in no order. A name
 //! is found, entered and taken out in about the same time, however many there are; only where the room
-//! is used up do all names move.
+//! is used up do all names move. Kept true: the name that was found last to write has its block still;
+//! it is looked at before the map, and dropped where any name is taken out.
 //! Making room for a name takes memory, so it is done before the arena is asked; the room is then held
 //! until the block is known, and the name enters it with no second search. Where the arena refuses, no
 //! name was ever entered, and the room stays for a later one.
-ghost use Rattle.std.specs.Prelude.{◌≡◌, ◌<◌, IfOk, IfNone, OnOk, []};
+ghost use Rattle.std.specs.Prelude.{◌≡◌, ◌<◌, IfOk, IfNone, OnOk, [], nat_eq};
+ghost use Rattle.std.specs.Map.{lookup};
 ghost use Rattle.ms_base.specs.Names.{AreNamed, named, without};
 ghost use Rattle.ms_arena.specs.Arena.{IsSoundArena, PlaceRefused, account_of};
 ghost use Rattle.ms_pool.specs.Source.{LeavesRest};
-ghost use Rattle.ms_loaders.specs.Naming.{AllocatesNamed};
+ghost use Rattle.ms_loaders.specs.Naming.{AllocatesNamed, IsStillNamed};
 
 mod finding;
 
@@ -25,24 +27,33 @@ use std::collections::HashMap;
 use std::collections::hash_map::Entry;
 use std::marker::Model;
 
+/// A name that was found, and its block.
+#[derive(Clone, Copy, Drop)]
+pub struct FoundName {
+    /// The name.
+    name: u32,
+    /// The block.
+    block: Block,
+}
+
 /// Blocks by name, 0 to 2^32 - 1.
 #[derive(Drop)]
 pub struct Names {
     /// The block of each name: where it starts, and its words.
     blocks: HashMap<u32, Block>,
+    /// The name that was found last to write, which mostly is the next one that is looked up.
+    last: Option<FoundName>,
 }
 
 impl Model for Names {
-    ghost use Rattle.std.specs.Prelude.{nat_eq};
-    ghost use Rattle.std.specs.HashMap.{IsUnique};
     ghost use Rattle.ms_base.specs.Hashed.{by_name};
-    ghost use Rattle.ms_loaders.specs.Naming.{BlockNames};
+    ghost use Rattle.ms_loaders.specs.Naming.{BlockNames, AreNames};
 
     ghost Value = { BlockNames };
 
     ghost view = { λ names. record { entries = by_name names.blocks.entries } };
 
-    ghost invariant = { λ names. IsUnique nat_eq names.blocks };
+    ghost invariant = { λ names. AreNames names.blocks.entries names.last };
 }
 
 impl Names {
@@ -52,6 +63,7 @@ impl Names {
     {
         Names {
             blocks: HashMap::new(alloc),
+            last: None,
         }
     }
 
@@ -60,6 +72,7 @@ impl Names {
         ensures empty { self.new.entries ≡ [] }
     {
         self.blocks.clear();
+        self.last = None;
     }
 
     /// Tells for how many names there is memory.
@@ -72,7 +85,19 @@ impl Names {
         ensures block { result ≡ named self.now.entries name }
         ensures names { AreNamed self.now.entries }
     {
-        self.blocks.get(&name).copied()
+        find(&self.last, &self.blocks, name)
+    }
+
+    /// Tells which block has a name, if one has, and tells it sooner from then on. Takes no memory.
+    pub fn find(&mut self, name: u32) -> Option<Block>
+        ensures block { result ≡ named self.old.entries name }
+        ensures unchanged { self.new ≡ self.old }
+    {
+        let Some(block) = find(&self.last, &self.blocks, name) else {
+            return None;
+        };
+        self.last = Some(FoundName { name, block });
+        Some(block)
     }
 
     /// Takes a name out, and tells which block had it, if one had. Takes no memory.
@@ -81,8 +106,22 @@ impl Names {
         ensures entries { self.new.entries ≡ without self.old.entries name }
         ensures unchanged { IfNone result (self.new ≡ self.old) }
     {
+        self.last = None::<FoundName>;
         self.blocks.remove(&name)
     }
+}
+
+/// Finds the block of a name: by the name that was found last, where it is that one.
+fn find(last: &Option<FoundName>, blocks: &HashMap<u32, Block>, name: u32) -> Option<Block>
+    requires { IsStillNamed blocks.now.entries last.now }
+    ensures { result ≡ lookup (nat_eq name) blocks.now.entries }
+{
+    if let Some(found) = last
+        && found.name == name
+    {
+        return Some(found.block);
+    }
+    blocks.get(&name).copied()
 }
 
 /// Allocates a block of so many words in the arena, under a new name. Refused with `BlockExists` where

@@ -6,11 +6,9 @@
 //! So a step has one body, whether one thread runs it or many do; what it says is said of the source's
 //! own relations. A refusal changes no loader. Takes memory for a new loader, a block and its chunk;
 //! waits as the source does.
-ghost use Rattle.std.specs.Prelude.{◌≡◌, IfOk, OnOk, IfErr, OnErr};
-ghost use Rattle.ms_loaders.specs.Loader.{HasWord, WritesWord, FreesBlock, LacksWord, LacksName};
-ghost use Rattle.ms_loaders.specs.System.{reply_of, IsNoRefusal};
-ghost use Rattle.ms_loaders.specs.Serving.{MayServe, Served, calls_of, MakesLoader, MakesNone, ClosesLoader};
-ghost use Rattle.ms_loaders.specs.Serving.{AllocatesAt, AllocatesNone, ChangesOne, LooksAt, IsLacking, FindsNone};
+ghost use Rattle.std.specs.Prelude.{IfOk, IfErr};
+ghost use Rattle.ms_loaders.specs.Serving.{MayServe, Served, calls_of, AllocatesAt, AllocatesNone};
+ghost use Rattle.ms_loaders.specs.Serving.{AnswersNew, AnswersAlloc, AnswersWrite, AnswersRead, AnswersFree, AnswersUnload};
 
 use crate::loader::Loader;
 use crate::loaders::Loaders;
@@ -33,55 +31,34 @@ pub fn serve<S: AccountSource>(
         S.purged)
         loaders.old step result source.old loaders.new source.new }
 {
-    match served(alloc, source, loaders, step) {
-        Ok(reply) => reply,
-        Err(refusal) => Reply::Refused(refusal),
-    }
-}
-
-/// Takes one step, with a refusal as an error.
-pub(crate) fn served<S: AccountSource>(
-    alloc: Global,
-    source: &mut S,
-    loaders: &mut Loaders,
-    step: Step,
-) -> Result<Reply, Refusal>
-    requires { MayServe S.serves S.opened source.old loaders.old }
-    ensures served { Served (calls_of S.serves S.opened S.limits S.grew S.took S.opened_both S.closed_both
-        S.purged)
-        loaders.old step (reply_of result) source.old loaders.new source.new }
-    ensures plain { IfOk result IsNoRefusal }
-{
     match step {
-        Step::New { loader, kind } => {
-            new_loader(alloc, source, loaders, loader, kind).map(|()| Reply::Ok)
-        }
+        Step::New { loader, kind } => new_loader(alloc, source, loaders, loader, kind),
         Step::Alloc {
             loader,
             block,
             words,
-        } => Ok(Reply::At(allocate(source, loaders, Space::NonClass, loader, block, words)?)),
+        } => make_block(source, loaders, Space::NonClass, loader, block, words),
         Step::Calloc {
             loader,
             block,
             words,
-        } => Ok(Reply::At(allocate(source, loaders, Space::Class, loader, block, words)?)),
+        } => make_block(source, loaders, Space::Class, loader, block, words),
         Step::Write {
             loader,
             block,
             index,
             value,
-        } => write(loaders, loader, block, index, value).map(|()| Reply::Ok),
+        } => write(loaders, loader, block, index, value),
         Step::Read {
             loader,
             block,
             index,
-        } => Ok(Reply::Value(read(loaders, loader, block, index)?)),
-        Step::Free { loader, block } => free(loaders, loader, block).map(|()| Reply::Ok),
-        Step::Unload { loader } => unload(source, loaders, loader).map(|()| Reply::Ok),
+        } => read(loaders, loader, block, index),
+        Step::Free { loader, block } => free(loaders, loader, block),
+        Step::Unload { loader } => unload(source, loaders, loader),
         Step::Purge => {
             let _ = source.purge();
-            Ok(Reply::Ok)
+            Reply::Ok
         }
     }
 }
@@ -94,30 +71,46 @@ fn new_loader<S: AccountSource>(
     loaders: &mut Loaders,
     name: u16,
     kind: Kind,
-) -> Result<(), Refusal>
-    ensures served { OnOk result (MakesLoader (calls_of S.serves S.opened S.limits S.grew S.took S.opened_both S.closed_both
+) -> Reply
+    ensures { AnswersNew (calls_of S.serves S.opened S.limits S.grew S.took S.opened_both S.closed_both
         S.purged)
-        loaders.old name kind source.old loaders.new source.new) }
-    ensures refused { IfErr result (λ refusal. MakesNone (calls_of S.serves S.opened S.limits S.grew S.took S.opened_both S.closed_both
-        S.purged)
-        loaders.old name kind source.old refusal source.new) }
-    ensures unchanged { OnErr result (loaders.new ≡ loaders.old) }
+        loaders.old name kind source.old result loaders.new source.new }
 {
     if loaders.contains(name) {
-        return Err(Refusal::LoaderExists);
+        return Reply::Refused(Refusal::LoaderExists);
     }
     let (account, class_account) = match source.open_both() {
         Ok(accounts) => accounts,
-        Err(refusal) => return Err(refusal),
+        Err(refusal) => return Reply::Refused(refusal),
     };
     let loader = loaders.make(alloc, account, class_account, kind);
     match loaders.insert(name, loader) {
-        Ok(()) => Ok(()),
+        Ok(()) => Reply::Ok,
         Err((refusal, loader)) => {
             let (account, class_account) = loader.into_accounts();
             source.close_both(account, class_account);
-            Err(refusal)
+            Reply::Refused(refusal)
         }
+    }
+}
+
+/// Allocates a block in a space for a step, which is answered where it starts.
+fn make_block<S: AccountSource>(
+    source: &mut S,
+    loaders: &mut Loaders,
+    space: Space,
+    name: u16,
+    block: u32,
+    words: u64,
+) -> Reply
+    requires { MayServe S.serves S.opened source.old loaders.old }
+    ensures { AnswersAlloc (calls_of S.serves S.opened S.limits S.grew S.took S.opened_both S.closed_both
+        S.purged)
+        space loaders.old name block words source.old result loaders.new source.new }
+{
+    match allocate(source, loaders, space, name, block, words) {
+        Ok(start) => Reply::At(start),
+        Err(refusal) => Reply::Refused(refusal),
     }
 }
 
@@ -148,71 +141,57 @@ pub(crate) fn allocate<S: AccountSource>(
 }
 
 /// Writes a word of a block; the others stay.
-fn write(
-    loaders: &mut Loaders,
-    name: u16,
-    block: u32,
-    index: u64,
-    value: u64,
-) -> Result<(), Refusal>
-    ensures served { OnOk result (ChangesOne loaders.old name
-        (λ was is. WritesWord was block index value is) loaders.new) }
-    ensures refused { IfErr result (λ refusal. IsLacking loaders.old name
-        (λ loader why. LacksWord loader block index why) refusal loaders.new) }
+fn write(loaders: &mut Loaders, name: u16, block: u32, index: u64, value: u64) -> Reply
+    ensures { AnswersWrite loaders.old name block index value result loaders.new }
 {
     match loaders.get_mut(name) {
-        None => Err(Refusal::NoLoader),
+        None => Reply::Refused(Refusal::NoLoader),
         Some(loader) => match loader.write(block, index, value) {
-            Ok(()) => Ok(()),
-            Err(refusal) => Err(refusal),
+            Ok(()) => Reply::Ok,
+            Err(refusal) => Reply::Refused(refusal),
         },
     }
 }
 
 /// Reads a word of a block.
-fn read(loaders: &Loaders, name: u16, block: u32, index: u64) -> Result<u64, Refusal>
-    ensures served { IfOk result (λ value. LooksAt loaders.now name
-        (λ loader. HasWord loader block index value) loaders.now) }
-    ensures refused { IfErr result (λ refusal. IsLacking loaders.now name
-        (λ loader why. LacksWord loader block index why) refusal loaders.now) }
+fn read(loaders: &Loaders, name: u16, block: u32, index: u64) -> Reply
+    ensures { AnswersRead loaders.now name block index result loaders.now }
 {
-    let Some(loader) = loaders.get(name) else {
-        return Err(Refusal::NoLoader);
-    };
-    loader.read(block, index)
+    match loaders.get(name) {
+        None => Reply::Refused(Refusal::NoLoader),
+        Some(loader) => match loader.read(block, index) {
+            Ok(value) => Reply::Value(value),
+            Err(refusal) => Reply::Refused(refusal),
+        },
+    }
 }
 
 /// Frees a block: its words become a free block of its arena.
-fn free(loaders: &mut Loaders, name: u16, block: u32) -> Result<(), Refusal>
-    ensures served { OnOk result (ChangesOne loaders.old name
-        (λ was is. FreesBlock was block is) loaders.new) }
-    ensures refused { IfErr result (λ refusal. IsLacking loaders.old name
-        (λ loader why. LacksName loader block why) refusal loaders.new) }
+fn free(loaders: &mut Loaders, name: u16, block: u32) -> Reply
+    ensures { AnswersFree loaders.old name block result loaders.new }
 {
     match loaders.get_mut(name) {
-        None => Err(Refusal::NoLoader),
+        None => Reply::Refused(Refusal::NoLoader),
         Some(loader) => match loader.free(block) {
-            Ok(()) => Ok(()),
-            Err(refusal) => Err(refusal),
+            Ok(()) => Reply::Ok,
+            Err(refusal) => Reply::Refused(refusal),
         },
     }
 }
 
 /// Unloads a loader, with both its accounts.
-fn unload<S: AccountSource>(source: &mut S, loaders: &mut Loaders, name: u16) -> Result<(), Refusal>
+fn unload<S: AccountSource>(source: &mut S, loaders: &mut Loaders, name: u16) -> Reply
     requires { MayServe S.serves S.opened source.old loaders.old }
-    ensures served { OnOk result (ClosesLoader (calls_of S.serves S.opened S.limits S.grew S.took S.opened_both S.closed_both
+    ensures { AnswersUnload (calls_of S.serves S.opened S.limits S.grew S.took S.opened_both S.closed_both
         S.purged)
-        loaders.old name source.old loaders.new source.new) }
-    ensures refused { IfErr result (λ refusal. FindsNone loaders.old name refusal loaders.new) }
-    ensures unchanged { OnErr result (source.new ≡ source.old) }
+        loaders.old name source.old result loaders.new source.new }
 {
     match loaders.remove(name) {
         Some(loader) => {
             let (account, class_account) = loaders.take_apart(loader);
             source.close_both(account, class_account);
-            Ok(())
+            Reply::Ok
         }
-        None => Err(Refusal::NoLoader),
+        None => Reply::Refused(Refusal::NoLoader),
     }
 }

@@ -28,7 +28,7 @@ mod sums;
 
 use crate::collecting::{gather, space_totals};
 use crate::loaders::Loaders;
-use crate::serving::served;
+use crate::serving::serve;
 use crate::totals::Totals;
 pub use committing::{Allocation, GranuleRun};
 use ms_base::{Kind, Policy, Refusal, Reply, Settings, Space, Step, granule};
@@ -184,24 +184,21 @@ impl System {
         ensures step { Transition self.old step result self.new }
         ensures good { IsGood self.new }
     {
-        let reply = match self.serve(step) {
-            Ok(reply) => reply,
-            Err(refusal) => Reply::Refused(refusal),
-        };
-        // That the state is good is learnt here.
-        let _ = &self.loaders;
+        let alloc = self.alloc;
+        let reply = serve(alloc, &mut self.pool, &mut self.loaders, step);
+        let _ = self.pool.committed();
         reply
     }
 
-    /// Takes one step of the machine over the pool, with a refusal as an error.
+    /// Takes one step of the machine, with a refusal as an error.
     fn serve(&mut self, step: Step) -> Result<Reply, Refusal>
         ensures step { Transition self.old step (reply_of result) self.new }
         ensures plain { IfOk result IsNoRefusal }
     {
-        let alloc = self.alloc;
-        let answer = served(alloc, &mut self.pool, &mut self.loaders, step);
-        let _ = self.pool.committed();
-        answer
+        match self.step(step) {
+            Reply::Refused(refusal) => Err(refusal),
+            reply => Ok(reply),
+        }
     }
 
     /// Takes a step whose reply has no value.

@@ -261,4 +261,7 @@ answered old loaders (Unload name) (Refused refusal) new others manned names (it
 answered old loaders Purge Done new others manned names (its, same) =
     rw same (purges old loaders manned its.0 new its.1)
 answered old loaders Purge (Refused refusal) new others manned names its = absurd its
+answered old loaders (Write name block index value) _ new others manned names its = absurd its.0
+answered old loaders (Read name block index) _ new others manned names its = absurd its.0
+answered old loaders (Free name block) _ new others manned names its = absurd its.0
 answered old loaders _ _ new others manned names its = absurd its

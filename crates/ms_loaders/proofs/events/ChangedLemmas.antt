@@ -1,12 +1,8 @@
 -- Pool and loaders after a call for one account that changes its chunks: they belong together, and
 -- their machine's granules follow. For TakeCallLemmas and GrowCallLemmas.
-use Rattle.std.proofs.Common.{◌≡◌, ◌++◌, ◌∷◌, ℕ, Some, List, refl, sym, ap, ◌∙◌, subst}
-use Rattle.std.specs.Ordering.{nat_cmp}
-use Rattle.std.specs.List.{All, AllByRecursion}
+use Rattle.std.proofs.Common.{◌≡◌, ℕ, Some, List, refl, sym, ap, ◌∙◌, subst}
+use Rattle.std.specs.List.{All}
 use Rattle.std.specs.List.Sorted.{IsPermutation}
-use Rattle.std.specs.BTreeMap.{is_at}
-use Rattle.std.proofs.lemmas.List.Elements.{recursion_from_All, All-from_recursion}
-use Rattle.std.proofs.lemmas.Map.Views.{All-values-set_value}
 use Rattle.ms_base.specs.declared.kind.Space.{Space}
 use Rattle.ms_base.specs.declared.kind.Space.TheVariants.{NonClass, Class}
 use Rattle.ms_base.specs.declared.span.Chunk.{Chunk}
@@ -15,7 +11,6 @@ use Rattle.ms_base.specs.Names.{named, with_changed}
 use Rattle.ms_base.specs.State.{ArenaState, arena_of, chunks_held}
 use Rattle.ms_base.specs.State.{recommitted as machine_recommitted}
 use Rattle.ms_base.specs.Good.{IsSoundLoader}
-use Rattle.ms_base.proofs.entries.EntryLemmas.{Split, split_at, rises_with_changed}
 use Rattle.ms_base.proofs.machine.GoodLemmas.{each_space}
 use Rattle.ms_base.proofs.events.GrownEventLemmas.{same_arena}
 use Rattle.ms_base.proofs.arena.BlockLemmas.{arena_there, arena_elsewhere}
@@ -23,11 +18,10 @@ use Rattle.ms_pool.specs.Account.{AccountState, AreChunks}
 use Rattle.ms_pool.specs.Ledger.{Loan, Ledger, Serves, IsSoundLedger, held_in, recommitted}
 use Rattle.ms_pool.proofs.ledger.KeepsLemmas.{Keeps, keeps_serves}
 use Rattle.ms_loaders.specs.Loader.{LoaderView, account_in, owner_in, with_state, IsSoundView}
-use Rattle.ms_loaders.specs.System.{states_of, accounts_of, owners_of, machine_of, AreDistinct, AreTogether}
+use Rattle.ms_loaders.specs.System.{states_of, owners_of, machine_of, AreTogether}
 use Rattle.ms_loaders.specs.CallEvents.{with_chunks}
 use Rattle.ms_loaders.proofs.sums.FitLemmas.{HasOwner, fits, recommitted_machine}
-use Rattle.ms_loaders.proofs.steps.ServedLemmas.{accounts_split, owners_split, served_in, KeepsOther, length_changed}
-use Rattle.ms_loaders.proofs.steps.ServedLemmas.{own_sound}
+use Rattle.ms_loaders.proofs.steps.ServedLemmas.{KeepsOther, own_sound, together_still}
 use Rattle.ms_loaders.proofs.steps.CallLemmas.{same_loaders}
 
 -- The account has the chunks, and the loader's other arena stays.
@@ -69,17 +63,6 @@ module _ (space : Space) (old new : Ledger) (loaders : List (ℕ × LoaderView))
   abbrev is : LoaderView
   is = with_chunks space loader chunks
 
-  split : Split loaders name loader
-  split = split_at loaders name loader found
-
-  now : accounts_of (with_changed loaders name is)
-      ≡ accounts_of split.before ++ account_in NonClass is ∷ account_in Class is ∷ accounts_of split.after
-  now = ap accounts_of (split.changed is) ∙ accounts_split split.before split.after name is
-
-  owners_same : owners_of (with_changed loaders name is) ≡ owners_of loaders
-  owners_same = ap owners_of (split.changed is) ∙ owners_split split.before split.after name is
-      ∙ sym (ap owners_of split.is ∙ owners_split split.before split.after name loader)
-
   view_is_sound : LeavesChanged space old new loaders loader chunks → IsSoundView is
   view_is_sound leaves = record {
     sound = leaves.sound;
@@ -92,32 +75,11 @@ module _ (space : Space) (old new : Ledger) (loaders : List (ℕ × LoaderView))
 
   pub together_changed : LeavesChanged space old new loaders loader chunks
       → AreTogether new (with_changed loaders name is)
-  together_changed leaves = record {
-    ledger_sound = leaves.ledger_sound;
-    loaders_sound = All-values-set_value (is_at (nat_cmp name)) IsSoundView loaders is its.loaders_sound
-        (view_is_sound leaves);
-    names = rises_with_changed loaders name is its.names;
-    served = record {
-      served = All-from_recursion (Serves new) (accounts_of (with_changed loaders name is))
-          (subst (λ (l : List AccountState). AllByRecursion (Serves new) l) (sym now)
-          (served_in (Serves old) (Serves new) space (accounts_of split.before) (accounts_of split.after) loader is
-          (keeps_other space loader chunks)
-          (subst AreDistinct (ap owners_of split.is ∙ owners_split split.before split.after name loader)
-          its.served.distinct)
-          (λ other differs served. keeps_serves (owner_in space loader) old new other leaves.keeps differs served)
-          (subst (Serves new) (sym (account_with space loader chunks)) leaves.own)
-          (subst (λ (l : List AccountState). AllByRecursion (Serves old) l)
-          (ap accounts_of split.is ∙ accounts_split split.before split.after name loader)
-          (recursion_from_All (Serves old) (accounts_of loaders) its.served.served))));
-      distinct = subst AreDistinct (sym owners_same) its.served.distinct;
-      no_other = subst (λ (owners : List ℕ). All (λ (loan : Loan). HasOwner owners loan) new.loans) (sym owners_same)
-          leaves.no_other;
-      opened = ap (λ (f : Space → ℕ). f NonClass) leaves.keeps.opened ∙ its.served.opened
-          ∙ sym (length_changed loaders name is);
-      class_opened = ap (λ (f : Space → ℕ). f Class) leaves.keeps.opened ∙ its.served.class_opened
-          ∙ sym (length_changed loaders name is);
-    };
-  }
+  together_changed leaves =
+      together_still space old new loaders name loader is found (keeps_other space loader chunks)
+      (subst (Serves new) (sym (account_with space loader chunks)) leaves.own)
+      (λ other differs served. keeps_serves (owner_in space loader) old new other leaves.keeps differs served)
+      leaves.no_other leaves.keeps.opened leaves.ledger_sound (view_is_sound leaves) its
 
 -- The machine of a pool whose granules follow is the one whose granules do.
 pub machine_follows : (mid : Ledger) (loaders : List (ℕ × LoaderView)) → AreTogether (recommitted mid) loaders

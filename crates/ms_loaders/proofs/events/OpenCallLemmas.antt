@@ -58,7 +58,7 @@ no_chunks space = record {
   few = omega arith;
 }
 
-new_is_sound : (kind : Kind) (a b : AccountState) → IsSoundView (new_loader a b kind)
+pub new_is_sound : (kind : Kind) (a b : AccountState) → IsSoundView (new_loader a b kind)
 new_is_sound kind a b = record { sound = sound_when_empty kind; chunks = each }
   where
     each : (space : Space) → AreChunks space (arena_of space (empty_loader kind)).chunks

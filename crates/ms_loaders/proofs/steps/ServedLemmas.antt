@@ -271,7 +271,7 @@ block_has owners space was is name words old new answer sound (inr asks) own all
     (outcome asks.was words old answer asks.is new (apart_of space was asks.was sound asks.arena) asks.allocates)
     (ap (is_among owners) asks.arena.owner ∙ own) all
 
--- So pool and loaders are together still.
+-- Changing a loader leaves as many as there were.
 pub length_changed : {X : Type 0} (entries : List (ℕ × X)) (name : ℕ) (x : X)
     → length (with_changed entries name x) ≡ length entries
 length_changed [] name x = refl
@@ -288,46 +288,34 @@ own_sound ledger loaders name v found its =
     subst (λ (o : Option LoaderView). IfSome o IsSoundView) found
     (IfSome-lookup_from_All IsSoundView (is_at (nat_cmp name)) loaders its.loaders_sound)
 
-pub together_after : (space : Space) (old new : Ledger) (loaders : List (ℕ × LoaderView)) (name block words : ℕ)
-    (was is : LoaderView) (answer : Result Block Refusal)
-    → named loaders name ≡ Some was
-    → AllocatesBlock GrewAtAll TookAtAll old.limits.policy space was block words old answer is new
-    → Serves new (account_in space is)
+-- So pool and loaders are together still where one loader changed in a space, and the pool for it alone.
+pub together_still : (space : Space) (old new : Ledger) (loaders : List (ℕ × LoaderView)) (name : ℕ)
+    (was is : LoaderView) → named loaders name ≡ Some was → KeepsOther space was is → Serves new (account_in space is)
     → ((other : AccountState) → other.owner ≢ (account_in space was).owner → Serves old other → Serves new other)
-    → opened_in new ≡ opened_in old → IsSoundLedger new → IsSoundView is → AreTogether old loaders
-    → AreTogether new (with_changed loaders name is)
-together_after space old new loaders name block words was is answer found allocates own each opened ledger_sound
-    is_sound its = record {
-      ledger_sound = ledger_sound;
-      loaders_sound = All-values-set_value (is_at (nat_cmp name)) IsSoundView loaders is its.loaders_sound is_sound;
-      names = rises_with_changed loaders name is its.names;
-      served = record {
-        served = All-from_recursion (Serves new) (accounts_of (with_changed loaders name is))
-            (subst (λ (l : List AccountState). AllByRecursion (Serves new) l) (sym now)
-            (served_in (Serves old) (Serves new) space (accounts_of split.before) (accounts_of split.after) was is keeps
-            (rw (ap owners_of split.is ∙ owners_split split.before split.after name was) at its.served.distinct) each
-            own
-            (rw (ap accounts_of split.is
-            ∙ accounts_split split.before split.after name was) at (recursion_from_All (Serves old)
-            (accounts_of loaders) its.served.served))));
-        distinct = subst AreDistinct (sym owners_same) its.served.distinct;
-        no_other =
-            All-from_recursion _ new.loans
-            (subst (λ (owners : List ℕ). AllByRecursion (HasOwner owners) new.loans) (sym owners_same)
-            (block_has (owners_of loaders) space was is block words old new answer
-            (own_sound old loaders name was found its) allocates (own_is_among space loaders name was found)
-            (recursion_from_All _ old.loans its.served.no_other)));
-        opened = ap (λ (f : Space → ℕ). f NonClass) opened ∙ its.served.opened ∙ sym (length_changed loaders name is);
-        class_opened = ap (λ (f : Space → ℕ). f Class) opened ∙ its.served.class_opened
-            ∙ sym (length_changed loaders name is);
-      };
-    }
+    → All (HasOwner (owners_of loaders)) new.loans → opened_in new ≡ opened_in old → IsSoundLedger new
+    → IsSoundView is → AreTogether old loaders → AreTogether new (with_changed loaders name is)
+together_still space old new loaders name was is found keeps own each no_other opened ledger_sound is_sound its = record {
+  ledger_sound = ledger_sound;
+  loaders_sound = All-values-set_value (is_at (nat_cmp name)) IsSoundView loaders is its.loaders_sound is_sound;
+  names = rises_with_changed loaders name is its.names;
+  served = record {
+    served = All-from_recursion (Serves new) (accounts_of (with_changed loaders name is))
+        (subst (λ (l : List AccountState). AllByRecursion (Serves new) l) (sym now)
+        (served_in (Serves old) (Serves new) space (accounts_of split.before) (accounts_of split.after) was is keeps
+        (rw (ap owners_of split.is ∙ owners_split split.before split.after name was) at its.served.distinct) each own
+        (rw (ap accounts_of split.is
+        ∙ accounts_split split.before split.after name was) at (recursion_from_All (Serves old)
+        (accounts_of loaders) its.served.served))));
+    distinct = subst AreDistinct (sym owners_same) its.served.distinct;
+    no_other = subst (λ (owners : List ℕ). All (HasOwner owners) new.loans) (sym owners_same) no_other;
+    opened = ap (λ (f : Space → ℕ). f NonClass) opened ∙ its.served.opened ∙ sym (length_changed loaders name is);
+    class_opened = ap (λ (f : Space → ℕ). f Class) opened ∙ its.served.class_opened
+        ∙ sym (length_changed loaders name is);
+  };
+}
   where
     split : Split loaders name was
     split = split_at loaders name was found
-
-    keeps : KeepsOther space was is
-    keeps = block_keeps GrewAtAll TookAtAll old.limits.policy space was is block words old new answer allocates
 
     now : accounts_of (with_changed loaders name is)
         ≡ accounts_of split.before ++ account_in NonClass is ∷ account_in Class is ∷ accounts_of split.after
@@ -338,6 +326,24 @@ together_after space old new loaders name block words was is answer found alloca
         ∙ ap (λ (n : ℕ). owners_of split.before ++ n ∷ is.class_owner ∷ owners_of split.after) keeps.owner
         ∙ ap (λ (n : ℕ). owners_of split.before ++ was.owner ∷ n ∷ owners_of split.after) keeps.class_owner
         ∙ sym (ap owners_of split.is ∙ owners_split split.before split.after name was)
+
+pub together_after : (space : Space) (old new : Ledger) (loaders : List (ℕ × LoaderView)) (name block words : ℕ)
+    (was is : LoaderView) (answer : Result Block Refusal)
+    → named loaders name ≡ Some was
+    → AllocatesBlock GrewAtAll TookAtAll old.limits.policy space was block words old answer is new
+    → Serves new (account_in space is)
+    → ((other : AccountState) → other.owner ≢ (account_in space was).owner → Serves old other → Serves new other)
+    → opened_in new ≡ opened_in old → IsSoundLedger new → IsSoundView is → AreTogether old loaders
+    → AreTogether new (with_changed loaders name is)
+together_after space old new loaders name block words was is answer found allocates own each opened ledger_sound
+    is_sound its =
+    together_still space old new loaders name was is found
+    (block_keeps GrewAtAll TookAtAll old.limits.policy space was is block words old new answer allocates) own each
+    (All-from_recursion (HasOwner (owners_of loaders)) new.loans
+    (block_has (owners_of loaders) space was is block words old new answer
+    (own_sound old loaders name was found its) allocates (own_is_among space loaders name was found)
+    (recursion_from_All (HasOwner (owners_of loaders)) old.loans its.served.no_other)))
+    opened ledger_sound is_sound its
 
 -- Each loader's accounts are served.
 pub own_served : (space : Space) (ledger : Ledger) (loaders : List (ℕ × LoaderView)) (name : ℕ) (v : LoaderView)

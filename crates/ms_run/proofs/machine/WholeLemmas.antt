@@ -9,24 +9,20 @@ use Rattle.std.proofs.lemmas.Bool.{eqb-true}
 use Rattle.std.proofs.lemmas.List.{get_or-set_other}
 use Rattle.std.proofs.lemmas.List.Elements.{recursion_from_All, All-from_recursion}
 use native.Mathlib.Decide.{ℕ_discrete}
-use Rattle.ms_base.specs.declared.kind.Kind.{Kind}
-use Rattle.ms_base.specs.declared.kind.Space.{Space}
-use Rattle.ms_base.specs.declared.kind.Space.TheVariants.{NonClass, Class}
 use Rattle.ms_base.specs.declared.step.Step.{Step}
 use Rattle.ms_base.specs.declared.step.Reply.{Reply}
 use Rattle.ms_base.specs.Names.{named, AreNamed}
 use Rattle.ms_base.specs.Request.{loader_of}
-use Rattle.ms_base.specs.State.{LoaderState, arena_of, empty_loader}
+use Rattle.ms_base.specs.State.{LoaderState}
 use Rattle.ms_base.specs.Transition.{Transition}
 use Rattle.ms_base.specs.Run.{Run}
-use Rattle.ms_base.proofs.machine.GoodLemmas.{sound_when_empty}
 use Rattle.ms_base.proofs.events.SeenEntryLemmas.{same_entries}
-use Rattle.ms_pool.specs.Account.{AccountState, AreChunks}
 use Rattle.ms_pool.specs.Ledger.{Ledger, Serves}
-use Rattle.ms_loaders.specs.Loader.{LoaderView, new_loader, IsSoundView}
+use Rattle.ms_loaders.specs.Loader.{LoaderView}
 use Rattle.ms_loaders.specs.System.{states_of, machine_of, accounts_of, AreTogether}
 use Rattle.ms_loaders.proofs.steps.CloseLemmas.{served_with}
 use Rattle.ms_loaders.proofs.MappedLemmas.{named-mapped, rises-mapped}
+use Rattle.ms_loaders.proofs.events.OpenCallLemmas.{new_is_sound}
 use Rattle.ms_shared.specs.Weaving.{where_so, without_numbers, of, Steps, Runs}
 use Rattle.ms_run.specs.Own.{Said}
 use Rattle.ms_run.specs.Acts.{seen, IsStep}
@@ -37,23 +33,6 @@ use Rattle.ms_run.proofs.machine.GoesLemmas.{GoesTo}
 use Rattle.ms_run.proofs.machine.StepGoesLemmas.{step_goes}
 use Rattle.ms_run.proofs.machine.PartsLemmas.{same_elements}
 use Rattle.ms_run.proofs.machine.KeptLemmas.{kept_by_worker, kept_all}
-
--- A new loader is sound.
-no_chunks : (space : Space) → AreChunks space []
-no_chunks space = record {
-  parts = All-from_recursion _ [] tt;
-  inside = All-from_recursion _ [] tt;
-  fronts = All-from_recursion _ [] tt;
-  apart = refl;
-  few = omega arith;
-}
-
-new_is_sound : (kind : Kind) (a b : AccountState) → IsSoundView (new_loader a b kind)
-new_is_sound kind a b = record { sound = sound_when_empty kind; chunks = each }
-  where
-    each : (space : Space) → AreChunks space (arena_of space (empty_loader kind)).chunks
-    each NonClass = no_chunks NonClass
-    each Class = no_chunks Class
 
 -- All loaders, of which each worker has those of its place, and the pool are together.
 pub record IsWhole (place : Place) (view : Ledger) (teams : List (List (ℕ × LoaderView))) : Type 0 where

@@ -1,4 +1,4 @@
-use Rattle.std.proofs.Common.{◌≡◌, arith}
+use Rattle.std.proofs.Common.{arith}
 use Rattle.ms_loaders.specs.System.{states_of}
 use Rattle.ms_loaders.proofs.sums.DetailLemmas.{loader_is, details_lead_on}
 use Rattle.ms_loaders.proofs.details.gather_loaders.Goals as goal

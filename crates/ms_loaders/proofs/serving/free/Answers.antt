@@ -2,12 +2,12 @@ use Rattle.std.proofs.Common.{inl, inr, refl, sym}
 use Rattle.ms_loaders.proofs.steps.CallLemmas.{same_loaders}
 use Rattle.ms_loaders.proofs.serving.free.Goals as goal
 
-pub returns-in-None-clause-refused : goal.returns-in-None-clause-refused
-returns-in-None-clause-refused c =
+pub returns-in-None : goal.returns-in-None
+returns-in-None c =
     inl (record { refusal_is = refl; none = sym c.in-None.ensures.found; same = refl })
 
-pub returns-in-Ok-clause-served : goal.returns-in-Ok-clause-served
-returns-in-Ok-clause-served c = record {
+pub returns-in-Ok : goal.returns-in-Ok
+returns-in-Ok c = record {
   was = c.in-Some.loader.now;
   is = c.free.new.self;
   found = sym c.in-Some.ensures.found;
@@ -17,8 +17,8 @@ returns-in-Ok-clause-served c = record {
   changed = refl;
 }
 
-pub returns-in-Err-clause-refused : goal.returns-in-Err-clause-refused
-returns-in-Err-clause-refused c = inr (record {
+pub returns-in-Err : goal.returns-in-Err
+returns-in-Err c = inr (record {
   loader = c.in-Some.loader.now;
   found = sym c.in-Some.ensures.found;
   so = c.in-Err.ensures.refused;

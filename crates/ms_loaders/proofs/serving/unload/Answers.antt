@@ -17,8 +17,8 @@ close_both-requires g c =
       counted = c.requires.counted c.args.name c.in-Some.loader found;
     }
 
-pub returns-in-Some-clause-served : goal.returns-in-Some-clause-served
-returns-in-Some-clause-served g c =
+pub returns-in-Some : goal.returns-in-Some
+returns-in-Some g c =
     let found = sym c.remove.ensures.found ∙ c.in-Some.is in record {
       loader = c.in-Some.loader;
       found = found;
@@ -35,10 +35,13 @@ returns-in-Some-clause-served g c =
       gone = c.take_apart-account.ensures.stays ∙ c.remove.ensures.rest;
     }
 
-pub returns-in-None-clause-refused : goal.returns-in-None-clause-refused
-returns-in-None-clause-refused g c =
-    let none = sym c.remove.ensures.found ∙ c.in-None.is in record {
-      refusal_is = refl;
-      none = none;
-      same = c.remove.ensures.rest ∙ without_missing c.args.loaders.now c.args.name none;
-    }
+pub returns-in-None : goal.returns-in-None
+returns-in-None g c =
+    let none = sym c.remove.ensures.found ∙ c.in-None.is in (
+      record {
+        refusal_is = refl;
+        none = none;
+        same = c.remove.ensures.rest ∙ without_missing c.args.loaders.now c.args.name none;
+      },
+      refl,
+    )

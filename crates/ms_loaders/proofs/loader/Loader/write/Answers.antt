@@ -13,18 +13,18 @@ returns-in_default-clause-refused c =
     (sym c.in_default.ensures.block))
 
 pub returns-in_default-clause-sound : goal.returns-in_default-clause-sound
-returns-in_default-clause-sound c = rw (← c.self.view_is) (view_is_sound c.self.inside c.self.invariant)
+returns-in_default-clause-sound c = rw c.find.ensures.unchanged (view_is_sound c.self.inside c.self.invariant)
 
-pub invariant_of-self : goal.invariant_of-self
-invariant_of-self c =
-    (word_is_written c.self.inside c.self.invariant Class c.args.name c.in-Some.block (sym c.in-Some.ensures.block)
+pub invariant_of-self-then-is_class : goal.invariant_of-self-then-is_class
+invariant_of-self-then-is_class c =
+    rw c.find.ensures.unchanged ((word_is_written c.self.inside c.self.invariant Class c.args.name c.in-Some.block (sym c.in-Some.ensures.block)
     (sym c.is_class.ensures ∙ c.if-is_class.true)
     c.write-answer.result c.args.index c.args.value c.write-answer.new.self c.write-answer.ensures.written
-    c.write-answer.ensures.unchanged c.account.ensures.sound).loader
+    c.write-answer.ensures.unchanged c.account.ensures.sound).loader)
 
 pub returns-then-is_class-clause-written : goal.returns-then-is_class-clause-written
 returns-then-is_class-clause-written c =
-    rw (← c.self.view_is)
+    rw (← c.self.view_is, c.find.ensures.unchanged)
     (word_is_written c.self.inside c.self.invariant Class c.args.name c.in-Some.block (sym c.in-Some.ensures.block)
     (sym c.is_class.ensures ∙ c.if-is_class.true)
     c.write-answer.result c.args.index c.args.value c.write-answer.new.self c.write-answer.ensures.written
@@ -37,23 +37,23 @@ returns-then-is_class-clause-refused c = rw (← c.self.view_is) (err_then _ _ c
 
 pub returns-then-is_class-clause-sound : goal.returns-then-is_class-clause-sound
 returns-then-is_class-clause-sound c =
-    view_is_sound _
+    rw c.find.ensures.unchanged (view_is_sound _
     (word_is_written c.self.inside c.self.invariant Class c.args.name c.in-Some.block (sym c.in-Some.ensures.block)
     (sym c.is_class.ensures ∙ c.if-is_class.true)
     c.write-answer.result c.args.index c.args.value c.write-answer.new.self c.write-answer.ensures.written
-    c.write-answer.ensures.unchanged c.account.ensures.sound).loader
+    c.write-answer.ensures.unchanged c.account.ensures.sound).loader)
 
 pub invariant_of-self-else-is_class : goal.invariant_of-self-else-is_class
 invariant_of-self-else-is_class c =
-    (word_is_written c.self.inside c.self.invariant NonClass c.args.name c.in-Some.block
+    rw c.find.ensures.unchanged ((word_is_written c.self.inside c.self.invariant NonClass c.args.name c.in-Some.block
     (sym c.in-Some.ensures.block) (not_class c.in-Some.block.start (sym c.is_class.ensures ∙ c.if-is_class.false))
     c.write-answer-else-is_class.result c.args.index c.args.value c.write-answer-else-is_class.new.self
     c.write-answer-else-is_class.ensures.written c.write-answer-else-is_class.ensures.unchanged
-    c.account-else-is_class.ensures.sound).loader
+    c.account-else-is_class.ensures.sound).loader)
 
 pub returns-else-is_class-clause-written : goal.returns-else-is_class-clause-written
 returns-else-is_class-clause-written c =
-    rw (← c.self.view_is)
+    rw (← c.self.view_is, c.find.ensures.unchanged)
     (word_is_written c.self.inside c.self.invariant NonClass c.args.name c.in-Some.block
     (sym c.in-Some.ensures.block) (not_class c.in-Some.block.start (sym c.is_class.ensures ∙ c.if-is_class.false))
     c.write-answer-else-is_class.result c.args.index c.args.value c.write-answer-else-is_class.new.self
@@ -69,9 +69,9 @@ returns-else-is_class-clause-refused c = rw (← c.self.view_is) (err_then _ _ c
 
 pub returns-else-is_class-clause-sound : goal.returns-else-is_class-clause-sound
 returns-else-is_class-clause-sound c =
-    view_is_sound _
+    rw c.find.ensures.unchanged (view_is_sound _
     (word_is_written c.self.inside c.self.invariant NonClass c.args.name c.in-Some.block
     (sym c.in-Some.ensures.block) (not_class c.in-Some.block.start (sym c.is_class.ensures ∙ c.if-is_class.false))
     c.write-answer-else-is_class.result c.args.index c.args.value c.write-answer-else-is_class.new.self
     c.write-answer-else-is_class.ensures.written c.write-answer-else-is_class.ensures.unchanged
-    c.account-else-is_class.ensures.sound).loader
+    c.account-else-is_class.ensures.sound).loader)

@@ -7,7 +7,7 @@ use Rattle.ms_loaders.proofs.naming.Names.name_of.Goals as goal
 pub returns-clause-named : goal.returns-clause-named
 returns-clause-named c = rw (← c.self.view_is)
     (some_then _ _ c.name_in.result
-    (λ name h. entry_named name c.args.block c.self.inside.blocks.entries c.self.invariant h) c.name_in.ensures.named)
+    (λ name h. entry_named name c.args.block c.self.inside.blocks.entries c.self.invariant.unique h) c.name_in.ensures.named)
 
 pub returns-clause-none : goal.returns-clause-none
 returns-clause-none c = rw (← c.self.view_is)
