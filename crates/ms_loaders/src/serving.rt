@@ -110,13 +110,11 @@ fn new_loader<S: AccountSource>(
         Ok(accounts) => accounts,
         Err(refusal) => return Err(refusal),
     };
-    let loader = loaders.make(alloc, account, class_account, kind);
-    match loaders.insert(name, loader) {
+    match loaders.open(alloc, name, account, class_account, kind) {
         Ok(()) => Ok(()),
-        Err((refusal, loader)) => {
-            let (account, class_account) = loader.into_accounts();
+        Err((account, class_account)) => {
             source.close_both(account, class_account);
-            Err(refusal)
+            Err(Refusal::OutOfMemory)
         }
     }
 }
@@ -207,9 +205,8 @@ fn unload<S: AccountSource>(source: &mut S, loaders: &mut Loaders, name: u16) ->
     ensures refused { IfErr result (λ refusal. FindsNone loaders.old name refusal loaders.new) }
     ensures unchanged { OnErr result (source.new ≡ source.old) }
 {
-    match loaders.remove(name) {
-        Some(loader) => {
-            let (account, class_account) = loaders.take_apart(loader);
+    match loaders.close(name) {
+        Some((account, class_account)) => {
             source.close_both(account, class_account);
             Ok(())
         }
