@@ -5,6 +5,7 @@ pub mod Boxed
 pub mod Places
 pub mod Lent
 pub mod Loaders
+pub mod GivenBack
 pub mod System
 pub mod Settles
 pub mod SystemInside

@@ -7,15 +7,17 @@
 //! stands at its name, none below `first`, and there are `count`. Beside them a map guesses a loader's
 //! name from an owner number (`owners`), of which nothing is kept true, and the rooms of loaders that were
 //! taken apart wait for new ones (`spares`). Apart from the system so that loaders can be handed to workers
-//! and gathered again. Only `insert` takes memory.
-ghost use Rattle.std.specs.Prelude.{◌≡◌, ◌<◌, ◌^◌, ◌∷◌, None, IfSome, OnOk, IfErr, OnErr, [], length};
+//! and gathered again. Only `insert` and `open` take memory. A loader is large, so it is made into its box and
+//! taken apart out of it, and else a pointer moves.
+ghost use Rattle.std.specs.Prelude.{◌≡◌, ◌<◌, ◌^◌, ◌∷◌, None, IfSome, IfNone, OnOk, IfErr, OnErr, Some, [], length};
 ghost use Rattle.std.specs.Option.{option_copied, option_copied_mut, is_some};
 ghost use Rattle.std.specs.List.{All};
 ghost use Rattle.std.specs.Map.{values_of};
 ghost use Rattle.std.specs.Borrow.{sem};
 ghost use Rattle.ms_base.specs.Names.{AreNamed, named, with_new, without};
 ghost use Rattle.ms_base.specs.declared.kind.Space.TheVariants.{NonClass, Class};
-ghost use Rattle.ms_loaders.specs.Loader.{IsSoundView, account_in, new_loader};
+ghost use Rattle.ms_loaders.specs.GivenBack.{AreAccountsOf, AreAccountsAt};
+ghost use Rattle.ms_loaders.specs.Loader.{IsSoundView, new_loader};
 ghost use Rattle.ms_loaders.specs.Loaders.{LendsLoader, InsertRefused};
 ghost use Rattle.ms_loaders.specs.Used.{used_at};
 
@@ -81,39 +83,96 @@ impl Loaders {
         }
     }
 
-    /// Makes a loader over two accounts, as `Loader::new` does, which is not among these yet: in a spare
-    /// room where there is one. Takes no memory.
-    pub(crate) fn make(
+    /// Adds a loader over two accounts, as `Loader::new` makes it, under a name that is not used: in a spare
+    /// room where there is one. Where memory is wanting, the accounts are given back and nothing changes.
+    /// Takes memory.
+    pub(crate) fn open(
         &mut self,
         alloc: Global,
+        name: u16,
         account: Account,
         class_account: Account,
         kind: Kind,
-    ) -> Loader
+    ) -> Result<(), (Account, Account)>
+        requires unused { named self.old name ≡ None }
         requires empty { account.chunks ≡ [] }
         requires class_empty { class_account.chunks ≡ [] }
         requires space { account.space ≡ NonClass }
         requires class_space { class_account.space ≡ Class }
-        ensures made { result ≡ new_loader account class_account kind }
-        ensures sound { IsSoundView result }
-        ensures stays { self.new ≡ self.old }
+        ensures made { OnOk result (self.new ≡ with_new self.old name (new_loader account class_account kind)) }
+        ensures sound { IsSoundView (new_loader account class_account kind) }
+        ensures back { IfErr result (AreAccountsOf (new_loader account class_account kind)) }
+        ensures unchanged { OnErr result (self.new ≡ self.old) }
     {
-        match self.spares.take() {
-            Some(room) => Loader::over(room, account, class_account, kind),
-            None => Loader::new(alloc, account, class_account, kind),
+        let owner = account.owner();
+        let boxed = match self.spares.make(alloc, name, account, class_account, kind) {
+            Ok(boxed) => boxed,
+            Err(accounts) => return Err(accounts),
+        };
+        if self.owners.reserve().is_err() {
+            return Err(boxed.into_accounts());
+        }
+        if self.spares.reserve(self.count + 1).is_err() {
+            return Err(boxed.into_accounts());
+        }
+        match self.stand(owner, name, boxed) {
+            Ok(()) => Ok(()),
+            Err(boxed) => Err(boxed.into_accounts()),
         }
     }
 
-    /// Takes a loader apart that is not among these, and gives its accounts back, the class space's last.
-    /// Its room is kept for a new loader where it is small and there is place. Takes no memory.
-    pub(crate) fn take_apart(&mut self, loader: Loader) -> (Account, Account)
-        ensures account { result.0 ≡ account_in NonClass loader }
-        ensures class_account { result.1 ≡ account_in Class loader }
-        ensures stays { self.new ≡ self.old }
+    /// Puts a loader that is boxed with its name at that name, which is not used, and notes the name by its first
+    /// owner number, for which there is room; or hands it back where memory is wanting. Takes memory.
+    fn stand(&mut self, owner: u32, name: u16, boxed: Boxed) -> Result<(), Boxed>
+        requires unused { named self.old name ≡ None }
+        requires name_is { boxed.0 ≡ name }
+        ensures stands { OnOk result (self.new ≡ with_new self.old name boxed.1) }
+        ensures back { IfErr result (λ back. back ≡ boxed) }
+        ensures unchanged { OnErr result (self.new ≡ self.old) }
     {
-        let (account, class_account, room) = loader.into_parts();
-        self.spares.keep(room);
-        (account, class_account)
+        match self.places.put(self.alloc, name, boxed) {
+            Ok(()) => {
+                // In the room that was made.
+                let _ = self.owners.note(owner, name);
+                self.first = self.first.min(usize::from(name));
+                self.count += 1;
+                Ok(())
+            }
+            Err(boxed) => Err(boxed),
+        }
+    }
+
+    /// Takes the loader of a name out in its box, where there is one; the others stay. What was noted of it stays.
+    fn take_out(&mut self, name: u16) -> Option<Boxed>
+        ensures found { IfSome result (λ boxed. named self.old name ≡ Some boxed.1) }
+        ensures none { IfNone result (named self.old name ≡ None) }
+        ensures rest { self.new ≡ without self.old name }
+    {
+        match self.places.take(name) {
+            Some(boxed) => {
+                self.count -= 1;
+                Some(boxed)
+            }
+            None => None,
+        }
+    }
+
+    /// Takes the loader of a name out and apart, where there is one, and gives its accounts back, the class
+    /// space's last; the others stay. Its room is kept for a new loader where it is small and there is place.
+    /// Takes no memory.
+    pub(crate) fn close(&mut self, name: u16) -> Option<(Account, Account)>
+        ensures found { IfSome result (AreAccountsAt self.old name) }
+        ensures none { IfNone result (named self.old name ≡ None) }
+        ensures rest { self.new ≡ without self.old name }
+    {
+        match self.take_out(name) {
+            Some(boxed) => {
+                let (account, class_account) = self.spares.take_apart(boxed);
+                self.owners.forget(account.owner());
+                Some((account, class_account))
+            }
+            None => None,
+        }
     }
 
     /// Adds a loader under a new name. Refused with `LoaderExists` where the name is used, and with
@@ -139,14 +198,8 @@ impl Loaders {
             Ok(boxed) => boxed,
             Err(loader) => return Err((Refusal::OutOfMemory, loader)),
         };
-        match self.places.put(self.alloc, name, boxed) {
-            Ok(()) => {
-                // In the room that was made.
-                let _ = self.owners.note(owner, name);
-                self.first = self.first.min(usize::from(name));
-                self.count += 1;
-                Ok(())
-            }
+        match self.stand(owner, name, boxed) {
+            Ok(()) => Ok(()),
             Err(boxed) => {
                 let (_, loader) = boxed.into_named();
                 Err((Refusal::OutOfMemory, loader))
@@ -159,9 +212,8 @@ impl Loaders {
         ensures found { result ≡ named self.old name }
         ensures rest { self.new ≡ without self.old name }
     {
-        match self.places.take(name) {
+        match self.take_out(name) {
             Some(boxed) => {
-                self.count -= 1;
                 let (_, loader) = boxed.into_named();
                 let owner = first_owner(&loader);
                 self.owners.forget(owner);

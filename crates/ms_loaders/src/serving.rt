@@ -83,13 +83,11 @@ fn new_loader<S: AccountSource>(
         Ok(accounts) => accounts,
         Err(refusal) => return Reply::Refused(refusal),
     };
-    let loader = loaders.make(alloc, account, class_account, kind);
-    match loaders.insert(name, loader) {
+    match loaders.open(alloc, name, account, class_account, kind) {
         Ok(()) => Reply::Ok,
-        Err((refusal, loader)) => {
-            let (account, class_account) = loader.into_accounts();
+        Err((account, class_account)) => {
             source.close_both(account, class_account);
-            Reply::Refused(refusal)
+            Reply::Refused(Refusal::OutOfMemory)
         }
     }
 }
@@ -186,9 +184,8 @@ fn unload<S: AccountSource>(source: &mut S, loaders: &mut Loaders, name: u16) ->
         S.purged)
         loaders.old name source.old result loaders.new source.new }
 {
-    match loaders.remove(name) {
-        Some(loader) => {
-            let (account, class_account) = loaders.take_apart(loader);
+    match loaders.close(name) {
+        Some((account, class_account)) => {
             source.close_both(account, class_account);
             Reply::Ok
         }

@@ -18,10 +18,7 @@ use Rattle.ms_base.specs.Committed.{is_among}
 use Rattle.ms_base.specs.Names.{named, without}
 use Rattle.ms_base.specs.State.{LoaderState, chunks_held, recommitted as machine_recommitted}
 use Rattle.ms_base.specs.Good.{IsGood}
-use Rattle.ms_base.specs.declared.refusal.Refusal.{Refusal}
-use Rattle.ms_base.specs.declared.refusal.Refusal.TheVariants.{LoaderExists, OutOfMemory}
 use Rattle.ms_base.specs.Transition.{Unloads, HasOwnerNumbers}
-use Rattle.ms_loaders.specs.Loaders.{InsertRefused}
 use Rattle.ms_base.proofs.entries.EntryLemmas.{Split, split_at, rises_without}
 use Rattle.ms_base.proofs.machine.GoodLemmas.{good_with_numbers_used}
 use Rattle.ms_base.proofs.machine.ChangeLemmas.{recommitted_same}
@@ -263,10 +260,3 @@ module _ (old new : Ledger) (loaders : List (ℕ × LoaderView))
 
   pub numbers_left : HasOwnerNumbers (machine_of old loaders)
   numbers_left = omega (arith, sound.given, more)
-
--- Only want of memory refuses a name that none has.
-pub insert_is_refused : (loaders : List (ℕ × LoaderView)) (name : ℕ) (refusal : Refusal) → named loaders name ≡ None
-    → InsertRefused loaders name refusal → refusal ≡ OutOfMemory
-insert_is_refused loaders name LoaderExists none its = absurd (let e = its.1 in cc)
-insert_is_refused loaders name OutOfMemory none its = refl
-insert_is_refused loaders name _ none its = absurd its

@@ -1,9 +1,15 @@
 //! A loader in a box with its name: what stands at a place, so that what is moved is a pointer.
-ghost use Rattle.std.specs.Prelude.{◌≡◌, IfOk, IfErr};
+ghost use Rattle.std.specs.Prelude.{◌≡◌, IfOk, IfErr, []};
 ghost use Rattle.std.specs.Borrow.{sem};
+ghost use Rattle.ms_base.specs.declared.kind.Space.TheVariants.{NonClass, Class};
 ghost use Rattle.ms_loaders.specs.Boxed.{LendsBoxed};
+ghost use Rattle.ms_loaders.specs.GivenBack.{AreAccountsOf};
+ghost use Rattle.ms_loaders.specs.Loader.{IsSoundView, account_in, new_loader};
 
 use crate::loader::Loader;
+use crate::room::LoaderRoom;
+use ms_base::Kind;
+use ms_pool::Account;
 use std::alloc::Global;
 use std::marker::Model;
 
@@ -37,6 +43,71 @@ impl Boxed {
         }
     }
 
+    /// Makes a loader in a box over two accounts, as `Loader::new` does, or gives these back where memory is
+    /// wanting. Takes memory.
+    pub(super) fn made(
+        alloc: Global,
+        name: u16,
+        account: Account,
+        class_account: Account,
+        kind: Kind,
+    ) -> Result<Boxed, (Account, Account)>
+        requires empty { account.chunks ≡ [] }
+        requires class_empty { class_account.chunks ≡ [] }
+        requires space { account.space ≡ NonClass }
+        requires class_space { class_account.space ≡ Class }
+        ensures made { IfOk result (λ boxed. boxed ≡ (name, new_loader account class_account kind)) }
+        ensures sound { IsSoundView (new_loader account class_account kind) }
+        ensures back { IfErr result (AreAccountsOf (new_loader account class_account kind)) }
+    {
+        let loader = Loader::new(alloc, account, class_account, kind);
+        match Box::new(alloc, (name, loader)) {
+            Ok(named) => Ok(Boxed { named }),
+            Err(failed) => Err(accounts_of(failed.value)),
+        }
+    }
+
+    /// Makes a loader in a box as `made` does, in the memory that another loader had. Takes memory for the box.
+    pub(super) fn over(
+        alloc: Global,
+        name: u16,
+        room: LoaderRoom,
+        account: Account,
+        class_account: Account,
+        kind: Kind,
+    ) -> Result<Boxed, (Account, Account)>
+        requires empty { account.chunks ≡ [] }
+        requires class_empty { class_account.chunks ≡ [] }
+        requires space { account.space ≡ NonClass }
+        requires class_space { class_account.space ≡ Class }
+        ensures made { IfOk result (λ boxed. boxed ≡ (name, new_loader account class_account kind)) }
+        ensures sound { IsSoundView (new_loader account class_account kind) }
+        ensures back { IfErr result (AreAccountsOf (new_loader account class_account kind)) }
+    {
+        let loader = Loader::over(room, account, class_account, kind);
+        match Box::new(alloc, (name, loader)) {
+            Ok(named) => Ok(Boxed { named }),
+            Err(failed) => Err(accounts_of(failed.value)),
+        }
+    }
+
+    /// Takes the loader apart, as `Loader::into_parts` does.
+    pub(super) fn into_parts(self) -> (Account, Account, LoaderRoom)
+        ensures account { result.0 ≡ account_in NonClass self.1 }
+        ensures class_account { result.1 ≡ account_in Class self.1 }
+    {
+        let named = Box::into_inner(self.named);
+        named.1.into_parts()
+    }
+
+    /// Gives the accounts back, the class space's last, and drops all else.
+    #[inline(never)]
+    pub(super) fn into_accounts(self) -> (Account, Account)
+        ensures { AreAccountsOf self.1 result }
+    {
+        accounts_of(Box::into_inner(self.named))
+    }
+
     /// Takes the loader out of its box, with its name.
     pub(super) fn into_named(self) -> (u16, Loader)
         ensures { result ≡ self }
@@ -65,4 +136,11 @@ impl Boxed {
     {
         &mut self.named.1
     }
+}
+
+/// Gives a loader's accounts back, the class space's last, and drops all else.
+fn accounts_of(named: (u16, Loader)) -> (Account, Account)
+    ensures { AreAccountsOf named.1 result }
+{
+    named.1.into_accounts()
 }

@@ -1,11 +1,8 @@
-use Rattle.std.proofs.Common.{ℕ, List, inl, inr, refl, sym, ap, ◌∙◌, subst, arith}
-use Rattle.ms_base.specs.Names.{named, with_new}
-use Rattle.ms_base.specs.declared.kind.Space.TheVariants.{NonClass, Class}
-use Rattle.ms_loaders.specs.Loader.{LoaderView, account_in, new_loader, IsSoundView}
-use Rattle.ms_loaders.specs.Loaders.{InsertRefused}
+use Rattle.std.proofs.Common.{inl, inr, refl, sym, ◌∙◌, arith}
+use Rattle.ms_base.specs.Names.{named}
+use Rattle.ms_loaders.specs.Loader.{new_loader}
 use Rattle.ms_loaders.proofs.steps.CallLemmas.{found, unused_name}
 use Rattle.ms_loaders.proofs.ServingLemmas.{both_of_new, both_back, closed_back}
-use Rattle.ms_loaders.proofs.steps.UnloadLemmas.{insert_is_refused}
 use Rattle.ms_loaders.proofs.serving.new_loader.Goals as goal
 
 pub returns-then-contains : goal.returns-then-contains
@@ -23,35 +20,34 @@ returns-in-Err g c = (
   refl,
 )
 
-pub returns-in-Ok-insert : goal.returns-in-Ok-insert
-returns-in-Ok-insert g c = record {
+pub open-requires-clause-unused : goal.open-requires-clause-unused
+open-requires-clause-unused g c =
+    unused_name c.args.loaders.now c.args.name c.contains.result c.contains.ensures c.if-contains.false
+
+pub returns-in-Ok-open : goal.returns-in-Ok-open
+returns-in-Ok-open g c = record {
   accounts = c.in-Ok.accounts;
   unused = unused_name c.args.loaders.now c.args.name c.contains.result c.contains.ensures c.if-contains.false;
   opened = c.in-Ok.ensures.opened;
-  added = c.in-Ok-insert.ensures.inserted
-      ∙ ap (λ (loaders : List (ℕ × LoaderView)). with_new loaders c.args.name c.make-loader.result) c.make-loader.ensures.stays
-      ∙ ap (with_new c.args.loaders.now c.args.name) c.make-loader.ensures.made;
-  sound = subst IsSoundView c.make-loader.ensures.made c.make-loader.ensures.sound;
+  added = c.in-Ok-open.ensures.made;
+  sound = c.in-Ok-open.ensures.sound;
 }
 
 pub close_both-requires : goal.close_both-requires
 close_both-requires g c =
-    let same = c.in-Err-insert.ensures.back ∙ c.make-loader.ensures.made in let opened = c.in-Ok.ensures in record {
+    let back = c.in-Err-open.ensures.back in let opened = c.in-Ok.ensures in record {
       both = both_back _ _ (new_loader c.in-Ok.accounts.0 c.in-Ok.accounts.1 c.args.kind)
-          c.into_accounts-account.result (c.into_accounts-account.ensures.account ∙ ap (account_in NonClass) same)
-          (c.into_accounts-account.ensures.class_account ∙ ap (account_in Class) same)
+          (c.in-Err-open.account, c.in-Err-open.class_account) back.account back.class_account
           (both_of_new _ _ c.in-Ok.accounts c.args.kind opened.empty opened.class_empty opened.served);
       counted = λ space. omega (arith, opened.counted space);
     }
 
-pub returns-in-Err-insert : goal.returns-in-Err-insert
-returns-in-Err-insert g c =
-    let same = c.in-Err-insert.ensures.back ∙ c.make-loader.ensures.made in let opened = c.in-Ok.ensures in
+pub returns-in-Err-open : goal.returns-in-Err-open
+returns-in-Err-open g c =
+    let back = c.in-Err-open.ensures.back in let opened = c.in-Ok.ensures in
     let unused = unused_name c.args.loaders.now c.args.name c.contains.result c.contains.ensures c.if-contains.false in (
       inr (inr (
-        insert_is_refused c.args.loaders.now c.args.name c.in-Err-insert.refusal unused
-            (subst (λ (loaders : List (ℕ × LoaderView)). InsertRefused loaders c.args.name c.in-Err-insert.refusal)
-            c.make-loader.ensures.stays c.in-Err-insert.ensures.refused),
+        refl,
         record {
           accounts = c.in-Ok.accounts;
           middle = c.open_both.new.self;
@@ -59,10 +55,9 @@ returns-in-Err-insert g c =
           opened = opened.opened;
           both = both_of_new _ _ c.in-Ok.accounts c.args.kind opened.empty opened.class_empty opened.served;
           closed = closed_back g.S.AccountSource.closed_both c.open_both.new.self c.close_both.new.self (new_loader c.in-Ok.accounts.0 c.in-Ok.accounts.1 c.args.kind)
-              c.into_accounts-account.result (c.into_accounts-account.ensures.account ∙ ap (account_in NonClass) same)
-              (c.into_accounts-account.ensures.class_account ∙ ap (account_in Class) same)
+              (c.in-Err-open.account, c.in-Err-open.class_account) back.account back.class_account
               c.close_both.ensures.closed;
         },
       )),
-      c.in-Err-insert.ensures.unchanged ∙ c.make-loader.ensures.stays,
+      c.in-Err-open.ensures.unchanged,
     )
