@@ -1,4 +1,5 @@
--- An allocation over the lock, arena by arena, as events of its seat.
+-- An allocation over the lock, arena by arena: its events, and that it is whole at the one where it is
+-- done. For the lemmas of `answer`.
 use Rattle.std.proofs.Common.{◌≡◌, ℕ, Bool, true, false, Option, Some, None, Result, Ok, Err, List, [], ◌∷◌, inl, inr}
 use Rattle.std.proofs.Common.{refl, sym, ap, ◌∙◌, subst}
 use Rattle.ms_base.specs.declared.kind.Space.{Space}
@@ -27,8 +28,6 @@ use Rattle.ms_shared.proofs.LockCallLemmas.{IsCall, served_by_pool, serves_then}
 use Rattle.ms_run.specs.Acts.{LacksGrowth, GrewSeen, IsAllocation, Asks, start_of, HasMade}
 use Rattle.ms_run.proofs.ActLemmas.{made_none, made_one, made_two}
 
--- An allocation over the lock, arena by arena: its events, and that it is whole at the one where it is
--- done.
 -- The events of a relation between pools: none, one, or one after a refused growth.
 abbrev AskedBy : AccountState → (Ledger → Ledger → Type 0) → List Event → Type 0
 AskedBy account whole [] = (pool : Ledger) → whole pool pool

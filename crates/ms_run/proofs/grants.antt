@@ -1,4 +1,4 @@
--- Allocations over the lock: what they tell, and which events they are.
+-- What allocations over the lock tell a loader.
 pub mod GrantToldLemmas
 pub mod GrantClearLemmas
 pub mod GrantLemmas

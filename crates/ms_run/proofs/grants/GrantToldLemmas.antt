@@ -1,6 +1,7 @@
--- What an allocation over the lock was answered: a block, or a refusal that is the request's own or for want.
+-- What an allocation over the lock was answered: a block, or a refusal that is the request's own or for
+-- want. For the lemmas of `answer`.
 use Rattle.std.proofs.Common.{◌≡◌, ℕ, ◌⊎◌, Bool, true, false, Option, Some, None, Result, Ok, Err}
-use Rattle.std.proofs.Common.{[], refl, sym, subst, inl, inr}
+use Rattle.std.proofs.Common.{refl, sym, subst, inl, inr}
 use Rattle.ms_base.specs.declared.kind.Space.{Space}
 use Rattle.ms_base.specs.declared.policy.Policy.{Policy}
 use Rattle.ms_base.specs.declared.span.Chunk.{Chunk}

@@ -1,4 +1,4 @@
--- A refusal follows from what is known of the loader that the request names.
+-- A refusal follows from what is known of the loader that the request names. For `alone`.
 use Rattle.std.proofs.Common.{◌≡◌, ℕ, true, false, Bool, Option, Some, None}
 use Rattle.std.proofs.Common.{refl, sym, ap, ◌∙◌, subst}
 use Rattle.std.proofs.lemmas.Option.{same_Some}

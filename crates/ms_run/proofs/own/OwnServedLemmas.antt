@@ -1,4 +1,4 @@
--- What is served follows from what is known of the loader that the request names.
+-- What is served follows from what is known of the loader that the request names. For `alone`.
 use Rattle.std.proofs.Common.{◌≡◌, ℕ, false, Some, None, List, [], ◌∷◌, map, length, slice_set}
 use Rattle.std.proofs.Common.{refl, sym, ap, ◌∙◌}
 use Rattle.std.specs.List.{AllByRecursion}

@@ -20,7 +20,7 @@ use Rattle.std.proofs.lemmas.List.Elements.{All-nil}
 use Rattle.ms_base.specs.State.{Limits, empty_machine, pool_of}
 use Rattle.ms_base.specs.Good.{IsGood, IsSoundLoader, IsSoundPool}
 
--- The machine without loaders is good.
+-- Nothing of it is committed, and nothing held.
 none_pass : (p : ℕ → Bool) (xs : List ℕ) → ((n : ℕ) → p n ≡ false) → filter p xs ≡ []
 none_pass p [] none = refl
 none_pass p (x ∷ xs) none = rw (none x) (none_pass p xs none)
