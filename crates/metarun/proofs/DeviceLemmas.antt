@@ -1,18 +1,9 @@
 -- What a device holds after one write more, where it tells its bytes. Used by `write_text`.
-use Rattle.std.proofs.Common.{◌+◌, ◌-◌, ◌≤◌, ℕ, List, ◌++◌, length, take, drop, Some, None, Option, ap, ◌∙◌}
-use Rattle.std.proofs.Common.{append_assoc, arith}
+use Rattle.std.proofs.Common.{◌+◌, ◌-◌, ◌≤◌, ℕ, List, length, take, drop, Option, arith}
+use Rattle.std.proofs.KnownBytes.{Appends-trans}
 use Rattle.std.proofs.Math.Seq.{take-add}
 use Rattle.std.proofs.lemmas.List.{take_rest, length-drop}
 use Rattle.std.specs.Io.KnownBytes.{Appends}
-
--- First one text goes out, then another.
-appends_both : (old mid new : Option (List ℕ)) (first second : List ℕ) → Appends old mid first → Appends mid new second
-    → Appends old new (first ++ second)
-appends_both None mid new first second a b = tt
-appends_both (Some xs) None new first second a b = absurd a
-appends_both (Some xs) (Some ys) None first second a b = absurd b
-appends_both (Some xs) (Some ys) (Some zs) first second a b =
-    b ∙ ap (λ (bytes : List ℕ). bytes ++ second) a ∙ append_assoc xs first second
 
 -- The first bytes of a text are out, and some of the rest.
 pub appends_more : (old mid new : Option (List ℕ)) (text : List ℕ) (out count : ℕ) → Appends old mid (take out text)
@@ -20,7 +11,7 @@ pub appends_more : (old mid new : Option (List ℕ)) (text : List ℕ) (out coun
     → Appends old new (take (out + count) text)
 appends_more old mid new text out count a b =
     rw (take-add out count text)
-    (appends_both old mid new (take out text) (take count (drop out text)) a (rw (take_rest text out) at b))
+    (Appends-trans old mid new (take out text) (take count (drop out text)) a (rw (take_rest text out) at b))
 
 -- What was taken of the rest of a text lies within the text.
 pub taken_within : (text : List ℕ) (out count : ℕ) → out ≤ length text

@@ -6,6 +6,7 @@ use Rattle.std.proofs.Common.{None, length, refl, sym, ap, ◌∙◌, arith, inl
 use Rattle.std.specs.List.{slice_split, onto_first}
 use Rattle.std.proofs.lemmas.Bool.{cases_lt, lt-ltb, le-ltb}
 use Rattle.std.proofs.lemmas.List.Splits.{length-slice_split}
+use Rattle.std.proofs.lemmas.Option.{none-some}
 use Rattle.ms_trace.specs.declared.fault.FaultKind.{FaultKind}
 use Rattle.ms_trace.specs.declared.fault.FaultKind.TheVariants.{TooManyLines, LineTooLong}
 use Rattle.ms_trace.specs.Grammar.{without_empty_end}
@@ -97,11 +98,11 @@ lines_or_more ([] ∷ part ∷ parts) = elim (lines_or_more (part ∷ parts)) [
 ]
 
 -- The first parts are lines where one that isn't empty, or any other, comes after them.
-abbrev Keeps : List (List ℕ) → List ℕ → List (List ℕ) → Type 0
-Keeps before line rest = (after : List (List ℕ)) × (without_empty_end (before ++ line ∷ rest) ≡ before ++ line ∷ after)
+abbrev KeepsLine : List (List ℕ) → List ℕ → List (List ℕ) → Type 0
+KeepsLine before line rest = (after : List (List ℕ)) × (without_empty_end (before ++ line ∷ rest) ≡ before ++ line ∷ after)
 
 keeps_lines : (before : List (List ℕ)) (line : List ℕ) (rest : List (List ℕ)) → 1 ≤ length line + length rest
-    → Keeps before line rest
+    → KeepsLine before line rest
 keeps_lines [] [] [] some = absurd (omega (arith, some))
 keeps_lines [] [] (part ∷ rest) some = (without_empty_end (part ∷ rest), refl)
 keeps_lines [] (byte ∷ line) rest some = (without_empty_end rest, refl)
@@ -122,9 +123,9 @@ too_long number line low long = rw (le-ltb 100000 number low, lt-ltb 80 (length 
 -- A line without a fault is short and has a small number.
 none_is_short : (number : ℕ) (line : List ℕ) → fault_of number line ≡ None → (number ≤ 100000) × (length line ≤ 80)
 none_is_short number line none = elim (cases_lt 100000 number) [
-  | inl high ↦ let both : Some TooManyLines ≡ None = sym (too_many number line high) ∙ none in absurd (cc)
+  | inl high ↦ absurd (none-some TooManyLines (sym none ∙ too_many number line high))
   | inr low ↦ elim (cases_lt 80 (length line)) [
-    | inl long ↦ let both : Some LineTooLong ≡ None = sym (too_long number line low long) ∙ none in absurd (cc)
+    | inl long ↦ absurd (none-some LineTooLong (sym none ∙ too_long number line low long))
     | inr short ↦ (low, short)
   ]
 ]

@@ -1,11 +1,12 @@
 -- What a number option reads of its text, what a policy is by its word, and what a session with
 -- default options answers. Used by `number_given` and `policy_in` of `options` and by `start`.
 use Rattle.std.proofs.Common.{◌≡◌, ◌<◌, ◌^◌, ℕ, List, [], Option, Some, None, Result, Ok, Err, refl, ap, sym, ◌∙◌}
-use Rattle.std.specs.Prelude.{codes, unwrap_or}
+use Rattle.std.specs.Prelude.{codes}
 use Rattle.std.specs.Result.{result_ok}
 use Rattle.std.specs.Fmt.{decimal}
 use Rattle.std.specs.Str.Parse.{ParsesUnsigned}
 use Rattle.std.proofs.lemmas.Fmt.{parse-decimal}
+use Rattle.std.proofs.lemmas.Option.{none-some, same_Some}
 use Rattle.clap.specs.Matches.{ReadsOne}
 use Rattle.clap.specs.Words.{Row, Text, first_of, one_of}
 use Rattle.ms_base.specs.declared.policy.Policy.{Policy}
@@ -33,7 +34,7 @@ pub number_unasked : (rows : List Row) (id : Text) (least most default number : 
     → number ≡ default → ReadsNumber rows id least most default number
 number_unasked rows id least most default number none is = record {
   absent = λ _. is;
-  given = λ asked text low high. let both : None ≡ Some (decimal asked) = sym none ∙ text in absurd (cc);
+  given = λ asked text low high. absurd (none-some (decimal asked) (sym none ∙ text));
 }
 
 pub policy_unasked : (rows : List Row) (chosen : Policy) → first_of (codes "policy") rows ≡ None
@@ -41,8 +42,8 @@ pub policy_unasked : (rows : List Row) (chosen : Policy) → first_of (codes "po
 policy_unasked rows chosen none is = record {
   absent = λ _. is;
   balanced = λ _. is;
-  aggressive = λ text. let both : None ≡ Some (codes "aggressive") = sym none ∙ text in absurd (cc);
-  none = λ text. let both : None ≡ Some (codes "none") = sym none ∙ text in absurd (cc);
+  aggressive = λ text. absurd (none-some (codes "aggressive") (sym none ∙ text));
+  none = λ text. absurd (none-some (codes "none") (sym none ∙ text));
 }
 
 -- A policy that was given by its word.
@@ -50,10 +51,10 @@ pub policy_given : (rows : List Row) (word : List ℕ) (chosen : Policy) → fir
     → (word ≡ codes "balanced" → chosen ≡ Balanced) → (word ≡ codes "aggressive" → chosen ≡ Aggressive)
     → (word ≡ codes "none" → chosen ≡ NonePolicy) → ReadsPolicy rows chosen
 policy_given rows word chosen found balanced aggressive none = record {
-  absent = λ empty. let both : None ≡ Some word = sym empty ∙ found in absurd (cc);
-  balanced = λ text. balanced (ap (λ (given : Option (List ℕ)). unwrap_or given []) (sym found ∙ text));
-  aggressive = λ text. aggressive (ap (λ (given : Option (List ℕ)). unwrap_or given []) (sym found ∙ text));
-  none = λ text. none (ap (λ (given : Option (List ℕ)). unwrap_or given []) (sym found ∙ text));
+  absent = λ empty. absurd (none-some word (sym empty ∙ found));
+  balanced = λ text. balanced (same_Some word (codes "balanced") (sym found ∙ text));
+  aggressive = λ text. aggressive (same_Some word (codes "aggressive") (sym found ∙ text));
+  none = λ text. none (same_Some word (codes "none") (sym found ∙ text));
 }
 
 -- The same of a report's detail.
@@ -62,13 +63,13 @@ pub detail_unasked : (rows : List Row) (chosen : Detail) → first_of (codes "re
 detail_unasked rows chosen none is = record {
   absent = λ _. is;
   basic = λ _. is;
-  full = λ text. let both : None ≡ Some (codes "full") = sym none ∙ text in absurd (cc);
+  full = λ text. absurd (none-some (codes "full") (sym none ∙ text));
 }
 
 pub detail_given : (rows : List Row) (word : List ℕ) (chosen : Detail) → first_of (codes "report") rows ≡ Some word
     → (word ≡ codes "basic" → chosen ≡ Basic) → (word ≡ codes "full" → chosen ≡ Full) → ReadsDetail rows chosen
 detail_given rows word chosen found basic full = record {
-  absent = λ empty. let both : None ≡ Some word = sym empty ∙ found in absurd (cc);
-  basic = λ text. basic (ap (λ (given : Option (List ℕ)). unwrap_or given []) (sym found ∙ text));
-  full = λ text. full (ap (λ (given : Option (List ℕ)). unwrap_or given []) (sym found ∙ text));
+  absent = λ empty. absurd (none-some word (sym empty ∙ found));
+  basic = λ text. basic (same_Some word (codes "basic") (sym found ∙ text));
+  full = λ text. full (same_Some word (codes "full") (sym found ∙ text));
 }

@@ -5,12 +5,15 @@
 //! Kept true: what is accepted lies within the ranges that `Settings` has, and what is not asked
 //! for is the default. `clap` reads the words and writes the texts of refusals and of the help.
 //! Only `options_of` takes memory.
-ghost use Rattle.std.specs.Prelude.{◌≡◌, ◌≢◌, ◌≤◌, ◌<◌, ◌^◌, ℕ, IfOk, IfErr, IsOkAnd, None, Some, codes, decimal};
+ghost use Rattle.std.specs.Prelude.{◌≡◌, ◌≢◌, ◌≤◌, ◌<◌, ◌^◌, ℕ, IfOk, IfErr, IsOkAnd, None, Some};
+ghost use Rattle.std.specs.Prelude.{codes, decimal};
 ghost use Rattle.std.specs.Prelude.{length, map, false};
-ghost use Rattle.clap.specs.Words.{App, app_of, found_of, kind_of, new_rule, one_of, rows_of, rule_of, with_rule};
+ghost use Rattle.clap.specs.Words.{App, app_of, found_of, kind_of, new_rule, one_of, rows_of};
+ghost use Rattle.clap.specs.Words.{rule_of, with_rule};
 ghost use Rattle.metarun.specs.Asked.{IsAllowed, IsDefault, IsTold, AreRead, AreAsked};
 ghost use Rattle.metarun.specs.Asked.{ReadsDetail, ReadsFlag, ReadsNumber, ReadsPolicy};
-ghost use Rattle.metarun.specs.CommandLine.{IsCommandLine, IsShown, AskToBeTold, IsPolicyRule, IsReportRule};
+ghost use Rattle.metarun.specs.CommandLine.{IsCommandLine, IsShown, AskToBeTold, IsPolicyRule};
+ghost use Rattle.metarun.specs.CommandLine.{IsReportRule};
 ghost use Rattle.metarun.specs.CommandLine.{number_rule, addresses_rule, named};
 
 use clap::builder::ValueParser;
@@ -21,8 +24,8 @@ use ms_report::Detail;
 use std::alloc::{AllocError, Global};
 use std::convert::AsStr;
 
-/// The options of a run: its settings, whether an accepted `alloc` tells where its block starts, and
-/// how much a report tells. This project's choice.
+/// The options of a run: its settings, whether an accepted `alloc` tells where its block starts,
+/// and how much a report tells. This project's choice.
 #[derive(Clone, Copy, Debug, PartialEq, Eq)]
 pub struct Options {
     pub settings: Settings,

@@ -16,7 +16,9 @@ pub use mir.Syntax.{a_type, dcons, dnil}
 pub use mir.Val.{Val, vptr, vint, vstruct, vcons, vnil, of_list, has_ty, WT}
 pub use prog.Wp.{WpFn}
 pub use types.Logic.{sem}
-pub use types.Kit.{Item, ‵, raw, ◌⊛◌, some, later, prop, at_ret, ◌$◌, ◌∵◌, !, qed, by, done, move, drop, use1, split, split3, join, fsplit, fsplit3, fjoin, fjoin3, fpick, fpack, feq_i, feq_l, pick, await, rewrite, regoal, suffices, group}
+pub use types.Kit.{Item, ‵, raw, ◌⊛◌, some, later, prop, at_ret, ◌$◌, ◌∵◌, !, qed, by, done, move, drop, use1, split}
+pub use types.Kit.{split3, join, fsplit, fsplit3, fjoin, fjoin3, fpick, fpack, feq_i, feq_l, pick, await, rewrite}
+pub use types.Kit.{regoal, suffices, group}
 pub use types.Part.{whole, sub, agg}
 pub use types.Run.{enter, of_opd, lit, stop, fld, no_more, and_then, first, blocks, exec, returns}
 pub use types.ByLocal.{alloc_all, pass_all, free_all, look_at, get, get_in, sets, lands_as, lands_last, env}

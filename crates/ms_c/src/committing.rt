@@ -13,9 +13,9 @@ use ms_base::{Reply, Space};
 use std::alloc::Global;
 
 /// Allocates a block as `nizgrabul_alloc` does, and tells in `out` the run of granules that it
-/// committed: each that became committed lies in it, and each of it is committed now; none has gone.
-/// Under the policies balanced and aggressive all of the run became committed; under none some of it may
-/// have been before. All but DONE leave `out` as it was. Takes memory.
+/// committed: each that became committed lies in it, and each of it is committed now; none has
+/// gone. Under the policies balanced and aggressive all of the run became committed; under none
+/// some of it may have been before. All but DONE leave `out` as it was. Takes memory.
 #[unsafe(no_mangle)]
 pub extern "C" fn nizgrabul_alloc_with_run(
     alloc: Global,
@@ -25,7 +25,8 @@ pub extern "C" fn nizgrabul_alloc_with_run(
     words: u64,
     out: &mut Run,
 ) -> Answer
-    ensures step { Steps handle.old.slot.held (Alloc loader block words) result handle.new.slot.held }
+    ensures step { Steps handle.old.slot.held
+        (Alloc loader block words) result handle.new.slot.held }
     ensures run { result.status ≡ DONE
         → TellsCommitted NonClass handle.old.slot.held out.new handle.new.slot.held }
     ensures refused { result.status ≢ DONE → out.new ≡ out.old }
@@ -44,7 +45,8 @@ pub extern "C" fn nizgrabul_calloc_with_run(
     words: u64,
     out: &mut Run,
 ) -> Answer
-    ensures step { Steps handle.old.slot.held (Calloc loader block words) result handle.new.slot.held }
+    ensures step { Steps handle.old.slot.held
+        (Calloc loader block words) result handle.new.slot.held }
     ensures run { result.status ≡ DONE
         → TellsCommitted Class handle.old.slot.held out.new handle.new.slot.held }
     ensures refused { result.status ≢ DONE → out.new ≡ out.old }
@@ -62,7 +64,8 @@ fn allocate(
     words: u64,
     out: &mut Run,
 ) -> Answer
-    ensures step { Steps handle.old.slot.held (alloc_in space loader block words) result handle.new.slot.held }
+    ensures step { Steps handle.old.slot.held
+        (alloc_in space loader block words) result handle.new.slot.held }
     ensures run { result.status ≡ DONE
         → TellsCommitted space handle.old.slot.held out.new handle.new.slot.held }
     ensures refused { result.status ≢ DONE → out.new ≡ out.old }

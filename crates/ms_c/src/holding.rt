@@ -4,8 +4,8 @@
 //!                       |
 //!     on the heap     System
 //!
-//! A call takes the box of the system out, uses the system as any Rattle code does, and puts it back. So
-//! raw pointers stay in `parts` and `slot`, and each export is safe code. Takes no memory.
+//! A call takes the box of the system out, uses the system as any Rattle code does, and puts it
+//! back. So raw pointers stay in `parts` and `slot`, and each export is safe code. Takes no memory.
 ghost use Rattle.std.specs.Prelude.{◌≡◌, ◌↔◌, Some, None, IsSome, IsTrue, IfSome, IsNone};
 
 use crate::parts::Parts;

@@ -12,8 +12,8 @@ use std::alloc::Global;
 /// What the calls and structs for C are counted by: it rises where one of them changes.
 const VERSION: u32 = 4;
 
-/// Tells the library's version, for a program to compare with the NIZGRABUL_VERSION of its header. Takes
-/// no memory.
+/// Tells the library's version, for a program to compare with the NIZGRABUL_VERSION of its header.
+/// Takes no memory.
 #[unsafe(no_mangle)]
 pub extern "C" fn nizgrabul_version() -> u32
     ensures { result ≡ VERSION }
@@ -21,10 +21,10 @@ pub extern "C" fn nizgrabul_version() -> u32
     VERSION
 }
 
-/// Makes a system with no loader in an empty handle, under the settings that the options name. Answers
-/// IN_USE exactly where the handle has a system already, in an empty one BAD_SETTINGS exactly where an
-/// option is out of its range, and else DONE or OUT_OF_MEMORY; all but DONE leave the handle as it was.
-/// Takes memory.
+/// Makes a system with no loader in an empty handle, under the settings that the options name.
+/// Answers IN_USE exactly where the handle has a system already, in an empty one BAD_SETTINGS
+/// exactly where an option is out of its range, and else DONE or OUT_OF_MEMORY; all but DONE leave
+/// the handle as it was. Takes memory.
 #[unsafe(no_mangle)]
 pub extern "C" fn nizgrabul_new(alloc: Global, options: &Options, out: &mut Handle) -> u32
     ensures made { result ≡ DONE → IsMade options.now out.old.slot.held out.new.slot.held }
@@ -54,8 +54,8 @@ pub extern "C" fn nizgrabul_new(alloc: Global, options: &Options, out: &mut Hand
     }
 }
 
-/// Ends the handle's system, if there is one, and gives all its memory back; the handle is empty then,
-/// and may be used anew. Takes no memory.
+/// Ends the handle's system, if there is one, and gives all its memory back; the handle is empty
+/// then, and may be used anew. Takes no memory.
 #[unsafe(no_mangle)]
 pub extern "C" fn nizgrabul_delete(alloc: Global, handle: &mut Handle)
     ensures { handle.new.slot.held ≡ None }

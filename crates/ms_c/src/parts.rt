@@ -18,7 +18,8 @@ pub struct Parts<T, A: Allocator> {
 }
 
 impl<T, A: Allocator> Model for Parts<T, A> {
-    ghost also_owns = { λ parts. box_owns (A.dealloc_token parts.alloc) T.row parts.at parts.value };
+    ghost also_owns = { λ parts.
+        box_owns (A.dealloc_token parts.alloc) T.row parts.at parts.value };
 }
 
 impl<T: Drop, A: Allocator> Parts<T, A> {

@@ -4,8 +4,8 @@ ghost use Rattle.ms_c.specs.Runs.{run_in};
 
 use ms_loaders::GranuleRun;
 
-/// A run of granules, by their numbers over both spaces: the first one, how many they are, and how many
-/// of them became committed. What it says of them stands at `ms_loaders::GranuleRun`.
+/// A run of granules, by their numbers over both spaces: the first one, how many they are, and how
+/// many of them became committed. What it says of them stands at `ms_loaders::GranuleRun`.
 #[repr(C)]
 #[derive(Clone, Copy, Debug, PartialEq, Eq)]
 pub struct Run {

@@ -1,7 +1,8 @@
 //! Room for a system in a box, as a C program holds it.
 //!
 //! The pointer's type is opaque, so that what a system is made of stays out of C's sight; what it
-//! points to is said by the ghost field `held`. A slot is not `Drop`, so no path can forget a system.
+//! points to is said by the ghost field `held`. A slot is not `Drop`, so no path can forget a
+//! system.
 ghost use Rattle.std.specs.Prelude.{◌≡◌, Some, None, IsSome};
 ghost use Rattle.ms_c.specs.Holding.{Held, held_by, held_coded};
 

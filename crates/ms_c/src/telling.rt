@@ -1,5 +1,6 @@
 //! The exports that tell of a system and change nothing.
-ghost use Rattle.std.specs.Prelude.{◌≡◌, ◌≢◌, ◌↔◌, ◌⊎◌, ◌++◌, false, None, IfSome, IfNone, length, map};
+ghost use Rattle.std.specs.Prelude.{◌≡◌, ◌≢◌, ◌↔◌, ◌⊎◌, ◌++◌, false, None, IfSome, IfNone, length};
+ghost use Rattle.std.specs.Prelude.{map};
 ghost use Rattle.std.specs.List.{range_with_len};
 ghost use Rattle.ms_base.specs.Committed.{is_among};
 ghost use Rattle.ms_base.specs.Names.{named};
@@ -16,8 +17,8 @@ use ms_loaders::System;
 use std::alloc::Global;
 
 /// Tells how many granules are committed in both spaces and how many may be, and the same of nodes
-/// outside the class space. Answers DONE, or NO_SYSTEM, which leaves `out` as it was. Takes no memory,
-/// and looks at no loader and no chunk.
+/// outside the class space. Answers DONE, or NO_SYSTEM, which leaves `out` as it was. Takes no
+/// memory, and looks at no loader and no chunk.
 #[unsafe(no_mangle)]
 pub extern "C" fn nizgrabul_counts(alloc: Global, handle: &mut Handle, out: &mut Counts) -> u32
     ensures counts { IfSome handle.old.slot.held (λ m. (result ≡ DONE) × (out.new ≡ counts_of m)) }
@@ -34,7 +35,8 @@ pub extern "C" fn nizgrabul_counts(alloc: Global, handle: &mut Handle, out: &mut
     }
 }
 
-/// Tells the words in use of one loader, in both spaces, and 0 where none has the number. Takes no memory.
+/// Tells the words in use of one loader, in both spaces, and 0 where none has the number. Takes no
+/// memory.
 #[unsafe(no_mangle)]
 pub extern "C" fn nizgrabul_used_by(alloc: Global, handle: &mut Handle, loader: u16) -> u64
     ensures words { IfSome handle.old.slot.held (λ m. result ≡ used_if (named m.loaders loader)) }
@@ -51,9 +53,9 @@ pub extern "C" fn nizgrabul_used_by(alloc: Global, handle: &mut Handle, loader: 
     }
 }
 
-/// Tells whose a word is: `value` is the number of the loader in whose chunk the word lies, in use or not.
-/// Answers NO_LOADER where it lies in nobody's. Takes no memory, and answers in the depth of a tree and
-/// one look-up.
+/// Tells whose a word is: `value` is the number of the loader in whose chunk the word lies, in use
+/// or not. Answers NO_LOADER where it lies in nobody's. Takes no memory, and answers in the depth
+/// of a tree and one look-up.
 #[unsafe(no_mangle)]
 pub extern "C" fn nizgrabul_holder(alloc: Global, handle: &mut Handle, word: u64) -> Answer
     ensures holder { TellsHolder handle.old.slot.held word result }
@@ -80,11 +82,12 @@ fn tell_holder(holder: Option<u16>) -> Answer
     }
 }
 
-/// Tells whether a granule is committed: the words from its number times a granule's words on, which
-/// are 8192, or 2048 under the policy aggressive. With no system none is. Takes no memory.
+/// Tells whether a granule is committed: the words from its number times a granule's words on,
+/// which are 8192, or 2048 under the policy aggressive. With no system none is. Takes no memory.
 #[unsafe(no_mangle)]
 pub extern "C" fn nizgrabul_is_committed(alloc: Global, handle: &mut Handle, granule: u64) -> bool
-    ensures answer { IfSome handle.old.slot.held (λ m. result ≡ is_among (m.committed ++ m.class_committed) granule) }
+    ensures answer { IfSome handle.old.slot.held
+        (λ m. result ≡ is_among (m.committed ++ m.class_committed) granule) }
     ensures no_system { handle.old.slot.held ≡ None → result ≡ false }
     ensures unchanged { handle.new.slot.held ≡ handle.old.slot.held }
 {
@@ -98,8 +101,8 @@ pub extern "C" fn nizgrabul_is_committed(alloc: Global, handle: &mut Handle, gra
     }
 }
 
-/// Tells of each granule from the first on, as many as `out` has places, whether it is committed; with
-/// no system none is. So a program compares before and after in one call. Takes no memory.
+/// Tells of each granule from the first on, as many as `out` has places, whether it is committed;
+/// with no system none is. So a program compares before and after in one call. Takes no memory.
 #[unsafe(no_mangle)]
 pub extern "C" fn nizgrabul_granules(
     alloc: Global,
@@ -128,8 +131,9 @@ fn write_bits(system: &System, first: u32, out: &mut [bool])
     }
 }
 
-/// Tells all sums over the system. Answers DONE, NO_SYSTEM or OUT_OF_MEMORY; all but DONE leave `out` as
-/// it was. Takes memory while it runs; looks at each node, loader and chunk, and at no block.
+/// Tells all sums over the system. Answers DONE, NO_SYSTEM or OUT_OF_MEMORY; all but DONE leave
+/// `out` as it was. Takes memory while it runs; looks at each node, loader and chunk, and at no
+/// block.
 #[unsafe(no_mangle)]
 pub extern "C" fn nizgrabul_totals(alloc: Global, handle: &mut Handle, out: &mut Totals) -> u32
     ensures totals { IfSome handle.old.slot.held (λ m. result ≡ DONE → AreTotals m out.new) }
@@ -156,9 +160,9 @@ pub extern "C" fn nizgrabul_totals(alloc: Global, handle: &mut Handle, out: &mut
     }
 }
 
-/// Tells the sums of one loader. Answers DONE, NO_SYSTEM, or NO_LOADER where none has the number; all but
-/// DONE leave `out` as it was. Takes no memory; looks at each chunk of that loader, at no block, and at
-/// no other loader.
+/// Tells the sums of one loader. Answers DONE, NO_SYSTEM, or NO_LOADER where none has the number;
+/// all but DONE leave `out` as it was. Takes no memory; looks at each chunk of that loader, at no
+/// block, and at no other loader.
 #[unsafe(no_mangle)]
 pub extern "C" fn nizgrabul_loader_totals(
     alloc: Global,
@@ -166,8 +170,10 @@ pub extern "C" fn nizgrabul_loader_totals(
     loader: u16,
     out: &mut LoaderSums,
 ) -> u32
-    ensures totals { IfSome handle.old.slot.held (λ m. result ≡ DONE → TellsLoader m loader out.new) }
-    ensures no_loader { IfSome handle.old.slot.held (λ m. (result ≡ NO_LOADER) ↔ LacksLoader m loader) }
+    ensures totals { IfSome handle.old.slot.held
+        (λ m. result ≡ DONE → TellsLoader m loader out.new) }
+    ensures no_loader { IfSome handle.old.slot.held
+        (λ m. (result ≡ NO_LOADER) ↔ LacksLoader m loader) }
     ensures no_system { (result ≡ NO_SYSTEM) ↔ (handle.old.slot.held ≡ None) }
     ensures statuses { (result ≡ DONE) ⊎ (result ≡ NO_LOADER) ⊎ (result ≡ NO_SYSTEM) }
     ensures refused { result ≢ DONE → out.new ≡ out.old }

@@ -1,12 +1,11 @@
 -- Loaders one after the other: sums over those of a kind, and what each holds. `sum_one` and `push_all` use
 -- these.
-use Rattle.std.proofs.Common.{◌≡◌, ◌<◌, ◌+◌, ℕ, true, false, List, [], ◌∷◌, ◌++◌, length, map, take, drop}
-use Rattle.std.proofs.Common.{get_or, codes, decimal, if◌then◌else◌, is_ok, Result, Ok, Err, OnOk}
-use Rattle.std.proofs.Common.{refl, sym, ap, ◌∙◌, arith}
-use Rattle.std.specs.List.{filter, sum_by}
+use Rattle.std.proofs.Common.{◌≡◌, ◌<◌, ◌+◌, ℕ, true, false, List, [], ◌∷◌, ◌++◌, length, map, take, drop, get_or}
+use Rattle.std.proofs.Common.{codes, decimal, if◌then◌else◌, is_ok, Result, Ok, Err, OnOk, refl, sym, ap, ◌∙◌, arith}
+use Rattle.std.specs.List.{filter}
 use Rattle.std.proofs.lemmas.List.{map-append, take_more, drop_more, length-append, append-nil, append_assoc}
 use Rattle.std.proofs.lemmas.List.Elements.{filter-append}
-use Rattle.std.proofs.lemmas.List.Sums.{sum_by-append, sum_by-cons}
+use Rattle.std.proofs.lemmas.List.Sums.{sum_by_push}
 use Rattle.ms_base.specs.declared.kind.Kind.{Kind}
 use Rattle.ms_loaders.specs.Details.{LoaderSums, loader_in}
 use Rattle.ms_loaders.specs.declared.details.LoaderDetails.{LoaderDetails}
@@ -17,25 +16,19 @@ use Rattle.ms_report.specs.Kinds.{kind_line, sum_columns, sum_texts}
 use Rattle.ms_report.specs.Layout.{cells, kind_text, right_in}
 use Rattle.ms_report.proofs.TextLemmas.{adds_two}
 
--- A sum with one more loader.
-sum_more : (amount : LoaderSums → ℕ) (loaders : List LoaderSums) (loader : LoaderSums)
-    → sum_by amount (loaders ++ loader ∷ []) ≡ sum_by amount loaders + amount loader
-sum_more amount loaders loader =
-    omega (arith, sum_by-append amount loaders (loader ∷ []), sum_by-cons amount loader [])
-
--- So are all sums.
+-- The sums with one more loader.
 sums_more : (loaders : List LoaderSums) (loader : LoaderSums)
     → sums_over (loaders ++ loader ∷ []) ≡ with_loader (sums_over loaders) loader
 sums_more loaders loader =
     rw (
       length-append loaders (loader ∷ []),
-      sum_more (in_both (λ arena. arena.chunks)) loaders loader,
-      sum_more (in_both (λ arena. arena.capacity)) loaders loader,
-      sum_more (in_both (λ arena. arena.fronts)) loaders loader,
-      sum_more (in_both (λ arena. arena.used)) loaders loader,
-      sum_more (in_both (λ arena. arena.live)) loaders loader,
-      sum_more (in_both (λ arena. arena.free_blocks)) loaders loader,
-      sum_more (in_both (λ arena. arena.waste)) loaders loader,
+      sum_by_push (in_both (λ arena. arena.chunks)) loaders loader,
+      sum_by_push (in_both (λ arena. arena.capacity)) loaders loader,
+      sum_by_push (in_both (λ arena. arena.fronts)) loaders loader,
+      sum_by_push (in_both (λ arena. arena.used)) loaders loader,
+      sum_by_push (in_both (λ arena. arena.live)) loaders loader,
+      sum_by_push (in_both (λ arena. arena.free_blocks)) loaders loader,
+      sum_by_push (in_both (λ arena. arena.waste)) loaders loader,
     ) refl
 
 -- The loaders of a kind among the first ones: one more of the kind, or of another.

@@ -4,7 +4,8 @@
 //!     |       3 value 4711\n|    two numbers and a word, written from the end of a room
 //!
 //! Takes memory for the text alone.
-ghost use Rattle.std.specs.Prelude.{◌≡◌, ◌≤◌, ◌+◌, ◌++◌, OnOk, IsAscii, string_bytes, codes, decimal, length, drop};
+ghost use Rattle.std.specs.Prelude.{◌≡◌, ◌≤◌, ◌+◌, ◌++◌, OnOk, IsAscii, string_bytes, codes};
+ghost use Rattle.std.specs.Prelude.{decimal, length, drop};
 ghost use Rattle.ms_report.specs.Cells.{four_line};
 ghost use Rattle.ms_report.specs.Layout.{right_in};
 

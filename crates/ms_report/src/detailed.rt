@@ -1,6 +1,6 @@
-//! The full report: the fixed text, then the settings, then how much of the memory is what, then what
-//! the loaders of each kind and each loader hold, then how many lines were refused, then the peaks, and
-//! then the maps of roots.
+//! The full report: the fixed text, then the settings, then how much of the memory is what, then
+//! what the loaders of each kind and each loader hold, then how many lines were refused, then the
+//! peaks, and then the maps of roots.
 //!
 //!     Settings
 //!       policy          balanced
@@ -8,13 +8,15 @@
 //!                         words        size  per cent
 //!      committed           8192     64.0 KB       0.0
 //!
-//! A share is cut off after one digit, as a size is. Kept true: the text is the bytes that `specs/Detailed.antt` gives for
-//! the totals, the details, the settings, the counts of refusals and the peaks. Takes memory for the text alone.
+//! A share is cut off after one digit, as a size is. Kept true: the text is the bytes that
+//! `specs/Detailed.antt` gives for the totals, the details, the settings, the counts of refusals
+//! and the peaks. Takes memory for the text alone.
 ghost use Rattle.std.specs.Prelude.{◌≡◌, ◌++◌, IfOk, OnOk, string_bytes};
 ghost use Rattle.ms_loaders.specs.Sums.{sums_in};
 ghost use Rattle.ms_report.specs.Cells.{rows_in};
 ghost use Rattle.ms_loaders.specs.Details.{details_in, told_in};
-ghost use Rattle.ms_report.specs.Detailed.{amount_line, amount_lines, class_usage, class_usages, detailed_text, full_text, share_in};
+ghost use Rattle.ms_report.specs.Detailed.{amount_line, amount_lines, class_usage, class_usages};
+ghost use Rattle.ms_report.specs.Detailed.{detailed_text, full_text, share_in};
 ghost use Rattle.ms_report.specs.Detailed.{details_part, maps_part};
 ghost use Rattle.ms_report.specs.Kinds.{kinds_part};
 ghost use Rattle.ms_report.specs.Holdings.{holdings_part};
@@ -38,11 +40,12 @@ use std::alloc::{AllocError, Global};
 const HEADINGS: &str = "                     words        size  per cent\n";
 
 /// Writes the full report of these totals of a run with these settings, in which so many lines were
-/// refused: the text that `text` writes, then the settings, then the usage of the space, and where the
-/// class space has nodes its usage, and that of both; then, where the totals have details, what the
-/// loaders of each kind hold, and what each loader holds in each space; then the refused lines by name;
-/// then, where the totals have them, the peaks; and where they have details the maps of roots. Takes memory for the text; an error means that a
-/// growth was refused. This project's choice.
+/// refused: the text that `text` writes, then the settings, then the usage of the space, and where
+/// the class space has nodes its usage, and that of both; then, where the totals have details, what
+/// the loaders of each kind hold, and what each loader holds in each space; then the refused lines
+/// by name; then, where the totals have them, the peaks; and where they have details the maps of
+/// roots. Takes memory for the text; an error means that a growth was refused. This project's
+/// choice.
 pub fn full_text(
     alloc: Global,
     totals: &Totals,
@@ -67,8 +70,8 @@ pub fn push_detailed(
     totals: &Totals,
 ) -> Result<(), AllocError>
     ensures { OnOk result (string_bytes text.new
-        ≡ string_bytes text.old ++ detailed_text detail settings.now refusals.now (sums_in totals.now)
-        (told_in totals.now) totals.now.peaks) }
+        ≡ string_bytes text.old ++ detailed_text detail settings.now refusals.now
+        (sums_in totals.now) (told_in totals.now) totals.now.peaks) }
 {
     match detail {
         Detail::Basic => push_report(text, totals),

@@ -5,13 +5,14 @@
 //!           7      hidden  non-class       1       128 ..
 //!           7      hidden      class       1       128 ..
 //!
-//! Kept true: a loader has a line for each space in which it holds a chunk, and the text is the bytes
-//! that `specs/Holdings.antt` gives. Takes memory for the text alone.
+//! Kept true: a loader has a line for each space in which it holds a chunk, and the text is the
+//! bytes that `specs/Holdings.antt` gives. Takes memory for the text alone.
 ghost use Rattle.std.specs.Prelude.{◌≡◌, ◌≤◌, ◌+◌, ◌++◌, OnOk, IsAscii, length, map, string_bytes};
 ghost use Rattle.ms_loaders.specs.Details.{arena_in, loader_in};
 ghost use Rattle.ms_report.specs.Kinds.{sum_columns};
 ghost use Rattle.ms_report.specs.Layout.{cells, right_in};
-ghost use Rattle.ms_report.specs.Holdings.{all_holdings, arena_texts, holding, holding_line, holdings, holdings_part};
+ghost use Rattle.ms_report.specs.Holdings.{all_holdings, arena_texts, holding, holding_line};
+ghost use Rattle.ms_report.specs.Holdings.{holdings, holdings_part};
 ghost use Rattle.ms_report.specs.Holdings.{space_text};
 
 use crate::line::{COUNT, FREE_BLOCKS, Line, WORDS};

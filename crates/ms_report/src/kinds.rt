@@ -2,13 +2,15 @@
 //!
 //!     loaders   1 hidden, 2 standard, 3 hidden   -->   boot 0, standard 1, hidden 2, reflection 0
 //!
-//! Kept true: each number is exactly the sum over the loaders of the kind, and the text is the bytes
-//! that `specs/Kinds.antt` gives for them. Takes memory for the text alone.
-ghost use Rattle.std.specs.Prelude.{◌≡◌, ◌++◌, ◌+◌, ◌<◌, ◌^◌, ℕ, OnOk, IsAscii, codes, decimal, length, map, string_bytes};
+//! Kept true: each number is exactly the sum over the loaders of the kind, and the text is the
+//! bytes that `specs/Kinds.antt` gives for them. Takes memory for the text alone.
+ghost use Rattle.std.specs.Prelude.{◌≡◌, ◌++◌, ◌+◌, ◌<◌, ◌^◌, ℕ, OnOk, IsAscii, codes, decimal};
+ghost use Rattle.std.specs.Prelude.{length, map, string_bytes};
 ghost use Rattle.std.specs.List.{filter};
 ghost use Rattle.ms_loaders.specs.Details.{loader_in};
 ghost use Rattle.ms_report.specs.Layout.{cells, kind_text, right_in};
-ghost use Rattle.ms_report.specs.Kinds.{IsBelow, is_of, kind_line, kind_lines, kinds_of, kinds_part, same_kind, sum_columns};
+ghost use Rattle.ms_report.specs.Kinds.{IsBelow, is_of, kind_line, kind_lines, kinds_of};
+ghost use Rattle.ms_report.specs.Kinds.{kinds_part, same_kind, sum_columns};
 ghost use Rattle.ms_report.specs.Kinds.{sum_texts, sums_over, with_loader};
 
 use crate::layout::push_wides;
@@ -17,8 +19,8 @@ use ms_base::Kind;
 use ms_loaders::LoaderDetails;
 use std::alloc::AllocError;
 
-/// The sums over the loaders of a kind, over both spaces. Of 128 bits, so that a sum always has room.
-/// After HotSpot's VM.metaspace, with this project's numbers.
+/// The sums over the loaders of a kind, over both spaces. Of 128 bits, so that a sum always has
+/// room. After HotSpot's VM.metaspace, with this project's numbers.
 #[derive(Clone, Copy, Debug, PartialEq, Eq)]
 pub struct KindTotals {
     /// Loaders of the kind.

@@ -1,6 +1,7 @@
 //! Laws about the layout: what its definitions amount to, each the contract of a function that does
 //! nothing.
-ghost use Rattle.ms_report.specs.LayoutLaws.{NumbersLineUp, LevelsLineUp, LoadersLineUp, ColumnsStandApart};
+ghost use Rattle.ms_report.specs.LayoutLaws.{NumbersLineUp, LevelsLineUp, LoadersLineUp};
+ghost use Rattle.ms_report.specs.LayoutLaws.{ColumnsStandApart};
 ghost use Rattle.ms_report.specs.LayoutLaws.{HoldingsLineUp, KindsLineUp};
 
 /// Each line of a label and a number below 10 to the 12th has 26 bytes and a newline.
@@ -20,14 +21,14 @@ pub fn loaders_line_up()
     ensures { LoadersLineUp }
 {}
 
-/// With at most 65536 loaders, 655360 chunks and 83886080 words, each line of a kind is as long as the
-/// headings: 94 bytes and a newline.
+/// With at most 65536 loaders, 655360 chunks and 83886080 words, each line of a kind is as long as
+/// the headings: 94 bytes and a newline.
 pub fn kinds_line_up()
     ensures { KindsLineUp }
 {}
 
-/// With at most 655360 chunks and 83886080 words, each line of what a loader holds in a space is as long
-/// as the headings: 101 bytes and a newline.
+/// With at most 655360 chunks and 83886080 words, each line of what a loader holds in a space is as
+/// long as the headings: 101 bytes and a newline.
 pub fn holdings_line_up()
     ensures { HoldingsLineUp }
 {}

@@ -5,7 +5,8 @@
 //!
 //! Kept true: what stands before the bytes written so far is blank, and these are ASCII. A line is
 //! appended to a text in one go, and takes memory then alone.
-ghost use Rattle.std.specs.Prelude.{◌≡◌, ◌≤◌, ◌+◌, ◌++◌, OnOk, [], IsAscii, string_bytes, decimal, codes, length};
+ghost use Rattle.std.specs.Prelude.{◌≡◌, ◌≤◌, ◌+◌, ◌++◌, OnOk, [], IsAscii, string_bytes, decimal};
+ghost use Rattle.std.specs.Prelude.{codes, length};
 ghost use Rattle.ms_report.specs.Layout.{right_in};
 
 use itoa::write_digits;

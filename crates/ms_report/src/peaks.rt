@@ -5,8 +5,8 @@
 //!       granules               1     64.0 KB
 //!       loaders                2
 //!
-//! Kept true: the text is the bytes that `specs/Peaks.antt` gives for the peaks and the settings. Takes
-//! memory for the text alone.
+//! Kept true: the text is the bytes that `specs/Peaks.antt` gives for the peaks and the settings.
+//! Takes memory for the text alone.
 ghost use Rattle.std.specs.Prelude.{◌≡◌, ◌++◌, OnOk, string_bytes};
 ghost use Rattle.ms_report.specs.Peaks.{all_peaks, amount_peaks, peaks_part, sized_line};
 

@@ -2,12 +2,13 @@
 //!
 //!     replies   ok, NoLoader, ok, NoBlock, NoLoader   -->   NoLoader 2, NoBlock 1, others 0
 //!
-//! Kept true: each number is exactly that of the replies which are refused by the name. Only the text
-//! takes memory.
+//! Kept true: each number is exactly that of the replies which are refused by the name. Only the
+//! text takes memory.
 ghost use Rattle.std.specs.Prelude.{◌≡◌, ◌<◌, ◌^◌, ◌++◌, OnOk, length, string_bytes};
 ghost use Rattle.ms_base.specs.declared.step.Reply.TheVariants.{Refused as IsRefused};
 ghost use Rattle.ms_report.specs.Layout.{number_lines};
-ghost use Rattle.ms_report.specs.Refused.{AreFew, refusals_of, refused_part, refused_rows, with_reply};
+ghost use Rattle.ms_report.specs.Refused.{AreFew, refusals_of, refused_part, refused_rows};
+ghost use Rattle.ms_report.specs.Refused.{with_reply};
 ghost use Rattle.ms_report.specs.ReplyLines.{replies_in};
 
 use crate::layout::push_number_lines;
@@ -15,8 +16,8 @@ use ms_base::{Refusal, Reply};
 use ms_loaders::Answer;
 use std::alloc::AllocError;
 
-/// How many command lines were refused, by the name of the refusal, for each name that a line can be
-/// refused by. This project's choice.
+/// How many command lines were refused, by the name of the refusal, for each name that a line can
+/// be refused by. This project's choice.
 #[derive(Clone, Copy, Debug, PartialEq, Eq)]
 pub struct Refusals {
     /// A loader had the name.

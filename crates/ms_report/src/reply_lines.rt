@@ -51,7 +51,8 @@ fn push_answer(
     answer: &Answer,
 ) -> Result<(), AllocError>
     ensures { OnOk result (string_bytes text.new
-        ≡ string_bytes text.old ++ answer_text addresses detail settings.now refusals.now answer.now) }
+        ≡ string_bytes text.old
+        ++ answer_text addresses detail settings.now refusals.now answer.now) }
 {
     push_reply_line(text, addresses, u64::from(answer.line), answer.reply)?;
     if let Some(totals) = &answer.report {
@@ -89,7 +90,8 @@ fn push_ok(text: &mut String, number: u64) -> Result<(), AllocError>
 /// Appends the line that tells where a block starts.
 fn push_at(text: &mut String, number: u64, start: u64) -> Result<(), AllocError>
     ensures { OnOk result (string_bytes text.new
-        ≡ string_bytes text.old ++ (decimal number ++ (codes " at " ++ (decimal start ++ codes "\n")))) }
+        ≡ string_bytes text.old
+        ++ (decimal number ++ (codes " at " ++ (decimal start ++ codes "\n")))) }
 {
     push_both(text, number, " at ", start)
 }
@@ -97,7 +99,8 @@ fn push_at(text: &mut String, number: u64, start: u64) -> Result<(), AllocError>
 /// Appends the line that tells a word's value.
 fn push_value(text: &mut String, number: u64, value: u64) -> Result<(), AllocError>
     ensures { OnOk result (string_bytes text.new
-        ≡ string_bytes text.old ++ (decimal number ++ (codes " value " ++ (decimal value ++ codes "\n")))) }
+        ≡ string_bytes text.old
+        ++ (decimal number ++ (codes " value " ++ (decimal value ++ codes "\n")))) }
 {
     push_both(text, number, " value ", value)
 }
@@ -105,7 +108,8 @@ fn push_value(text: &mut String, number: u64, value: u64) -> Result<(), AllocErr
 /// Appends the line that names a refusal.
 fn push_refusal(text: &mut String, number: u64, refusal: Refusal) -> Result<(), AllocError>
     ensures { OnOk result (string_bytes text.new
-        ≡ string_bytes text.old ++ (decimal number ++ (codes " refused " ++ (name_of refusal ++ codes "\n")))) }
+        ≡ string_bytes text.old
+        ++ (decimal number ++ (codes " refused " ++ (name_of refusal ++ codes "\n")))) }
 {
     push_before(text, number, " refused ")?;
     text.push_str(name(refusal))?;

@@ -3,11 +3,14 @@
 //! Metaspace, its numbers, and its chunks by level; the same of the class space, where that has
 //! nodes; a line for each loader. Kept true: the text is the bytes that `specs/Sections.antt` gives
 //! for the totals. `text` takes memory for the text alone.
-ghost use Rattle.std.specs.Prelude.{◌≡◌, ◌≤◌, ◌+◌, ◌++◌, IfOk, OnOk, string_bytes, codes, decimal, length, map};
+ghost use Rattle.std.specs.Prelude.{◌≡◌, ◌≤◌, ◌+◌, ◌++◌, IfOk, OnOk, string_bytes, codes, decimal};
+ghost use Rattle.std.specs.Prelude.{length, map};
 ghost use Rattle.ms_loaders.specs.Sums.{sums_in, space_in, row_in};
-ghost use Rattle.ms_report.specs.Layout.{number_lines, space_rows, kind_text, level_table, level_texts, loader_table};
+ghost use Rattle.ms_report.specs.Layout.{number_lines, space_rows, kind_text, level_table};
+ghost use Rattle.ms_report.specs.Layout.{level_texts, loader_table};
 ghost use Rattle.ms_report.specs.Layout.{loader_lines, loader_texts, right_in, table_line};
-ghost use Rattle.ms_report.specs.Sections.{levels_part, main_part, class_part, class_lines, loaders_part, report_text};
+ghost use Rattle.ms_report.specs.Sections.{levels_part, main_part, class_part, class_lines};
+ghost use Rattle.ms_report.specs.Sections.{loaders_part, report_text};
 
 use crate::columns::push_four;
 use crate::kinds::kind_cell;

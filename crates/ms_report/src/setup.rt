@@ -4,8 +4,8 @@
 //!       policy          balanced
 //!       granule             8192
 //!
-//! Kept true: the text is the bytes that `specs/Setup.antt` gives for the settings. Takes memory for
-//! the text alone.
+//! Kept true: the text is the bytes that `specs/Setup.antt` gives for the settings. Takes memory
+//! for the text alone.
 ghost use Rattle.std.specs.Prelude.{◌≡◌, ◌++◌, OnOk, string_bytes};
 ghost use Rattle.ms_report.specs.Layout.{number_lines};
 ghost use Rattle.ms_report.specs.Setup.{policy_line, setting_rows, settings_part};

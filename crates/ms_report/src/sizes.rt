@@ -4,8 +4,8 @@
 //!     size    63.9 KB   64.0 KB    1023.9 KB     1.0 MB
 //!
 //! A size is told in KB of 1024 bytes where it is less than a MB, and else in MB, cut off after one
-//! digit. Kept true: the text is the bytes that `specs/Sizes.antt` gives for the words. Takes memory for
-//! the text alone.
+//! digit. Kept true: the text is the bytes that `specs/Sizes.antt` gives for the words. Takes
+//! memory for the text alone.
 ghost use Rattle.std.specs.Prelude.{◌≡◌, ◌≤◌, ◌<◌, ◌++◌, OnOk, codes, decimal, string_bytes};
 ghost use Rattle.ms_report.specs.Layout.{left_in, right_in};
 ghost use Rattle.ms_report.specs.Sizes.{pointed, size_in, units_in};

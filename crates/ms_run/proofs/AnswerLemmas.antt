@@ -30,19 +30,17 @@ use Rattle.ms_shared.proofs.LockCallLemmas.{IsCall, served_by_pool, serves_then,
 use Rattle.ms_shared.proofs.LockOpenLemmas.{open_both_serve, class_open_both_serve, open_both_others, open_both_counts}
 use Rattle.ms_shared.proofs.LockCloseLemmas.{closes_both, both_known}
 use Rattle.ms_run.specs.Own.{own_in}
-use Rattle.ms_run.specs.Acts.{HasMade, Makes, Touches, AsksOf, Once, OfLoader, IsOpening}
-use Rattle.ms_run.specs.Acts.{LacksLoader, start_of}
+use Rattle.ms_run.specs.Acts.{HasMade, Makes, Touches, AsksOf, Once, OfLoader, IsOpening, LacksLoader, start_of}
 use Rattle.ms_run.specs.Manned.{IsManned}
 use Rattle.ms_run.specs.Metering.{MovesNoTop}
-use Rattle.ms_run.proofs.ActLemmas.{made_none, made_one, made_two, block_made, is_closing}
-use Rattle.ms_run.proofs.GrantLemmas.{replies_without, replies_at, replies_why}
-use Rattle.ms_run.proofs.LifetimeOpenLemmas.{manned_refused, manned_opened}
-use Rattle.ms_run.proofs.LifetimeCloseLemmas.{Closes, counts_some, manned_closed}
-use Rattle.ms_run.proofs.LifetimeCloseLemmas.{new_then_without}
-use Rattle.ms_run.proofs.LifetimeReplyLemmas.{exists_reply, numbers_reply, made_reply}
+use Rattle.ms_run.proofs.ActLemmas.{made_none, made_one, made_two, is_closing}
+use Rattle.ms_run.proofs.AllocActLemmas.{block_made}
+use Rattle.ms_run.proofs.grants.GrantLemmas.{replies_without, replies_at, replies_why}
+use Rattle.ms_run.proofs.lifetimes.LifetimeOpenLemmas.{manned_refused, manned_opened}
+use Rattle.ms_run.proofs.lifetimes.LifetimeCloseLemmas.{Closes, counts_some, manned_closed, new_then_without}
+use Rattle.ms_run.proofs.lifetimes.LifetimeReplyLemmas.{exists_reply, numbers_reply, made_reply}
 use Rattle.ms_run.proofs.SeatStaysLemmas.{own_is_served, manned_after}
-use Rattle.ms_run.proofs.TouchLemmas.{own_found, own_missing}
-use Rattle.ms_run.proofs.TouchLemmas.{others_stay}
+use Rattle.ms_run.proofs.TouchLemmas.{own_found, own_missing, others_stay}
 
 -- What a lock says of itself, at a seat.
 abbrev pub lock_calls : SourceCalls SeatState

@@ -1,7 +1,6 @@
 -- Each step over the lock: a loader's words and blocks, its end, a purge, and all steps together. For
 -- `answer` in metering.rt.
-use Rattle.std.proofs.Common.{◌≡◌, ◌≢◌, ℕ, Bool, false, Option, Some, List, inl, inr, refl, sym, ap, ◌∙◌}
-use Rattle.std.proofs.Common.{subst}
+use Rattle.std.proofs.Common.{◌≡◌, ◌≢◌, ℕ, Bool, false, Option, Some, List, inl, inr, refl, sym, ap, ◌∙◌, subst}
 use Rattle.std.proofs.lemmas.Bool.{cases_eq}
 use Rattle.ms_base.specs.declared.kind.Space.TheVariants.{NonClass, Class}
 use Rattle.ms_base.specs.declared.refusal.Refusal.{Refusal}
@@ -31,8 +30,8 @@ use Rattle.ms_run.specs.Metering.{MovesNoTop}
 use Rattle.ms_run.proofs.ActLemmas.{made_none, made_one, is_closing}
 use Rattle.ms_run.proofs.AnswerLemmas.{OfOne, lock_calls, call_of, closes_of, refuses, makes, makes_none, allocates_at}
 use Rattle.ms_run.proofs.AnswerLemmas.{allocates_none}
-use Rattle.ms_run.proofs.LifetimeCloseLemmas.{counts_some, manned_closed}
-use Rattle.ms_run.proofs.LifetimeReplyLemmas.{unloaded_reply, none_reply}
+use Rattle.ms_run.proofs.lifetimes.LifetimeCloseLemmas.{counts_some, manned_closed}
+use Rattle.ms_run.proofs.lifetimes.LifetimeReplyLemmas.{unloaded_reply, none_reply}
 use Rattle.ms_run.proofs.SeatStaysLemmas.{own_is_served}
 use Rattle.ms_run.proofs.ServeLemmas.{purged_manned}
 use Rattle.ms_run.proofs.TouchLemmas.{own_missing, own_written, own_freed_in, own_read, own_not_read, own_found}

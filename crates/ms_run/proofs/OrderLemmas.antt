@@ -29,7 +29,7 @@ use Rattle.ms_run.specs.Own.{Said}
 use Rattle.ms_run.specs.Acts.{IsGrowing, IsOpening, IsClosing, AsksOf, Makes, Act, IsAct, Works, said_of, events_by}
 use Rattle.ms_run.specs.Acts.{seen, IsSoundEvent, AreSound, IsDoneBy, IsOwnStep, IsStep}
 use Rattle.ms_run.specs.Shares.{Place}
-use Rattle.ms_run.proofs.sharing.DealLemmas.{none_left}
+use Rattle.std.proofs.lemmas.List.{nil_from_length}
 
 -- An owner without a chunk has no loan.
 none_other : (owner : ℕ) (loans : List Loan)
@@ -47,7 +47,7 @@ none_held : (pool : Ledger) (account : AccountState) → account.chunks ≡ [] �
     → others_than account.owner pool.loans ≡ pool.loans
 none_held pool account none served =
     none_other account.owner pool.loans
-    (none_left (chunks_of pool account.owner)
+    (nil_from_length (chunks_of pool account.owner)
     (omega (arith, length_permutation (chunks_of pool account.owner) account.chunks served.chunks, ap length none)))
 
 -- The machine sees nothing of accounts closed without a chunk, nor of a refused growth.
@@ -163,7 +163,7 @@ pub record HasPart (place : Place) (said : List Said) (log : List Logged) (befor
   pub events : events_by acts ≡ events_of at log
 
 -- So there is one order.
-pub record IsOrdered (place : Place) (said : List Said) (first last : Ledger)
+pub record AreWoven (place : Place) (said : List Said) (first last : Ledger)
     (before after : List (List (ℕ × LoaderView))) : Type 0 where
   pub order : List (ℕ × Said)
   pub runs : Runs IsStep [] (seen first, before) order (seen last, after)
@@ -175,7 +175,7 @@ pub ordered : (place : Place) (said : List Said) (first last : Ledger) (before a
     → AreBelow (length before) log
     → ((at : ℕ) → at < length before
     → HasPart place said log (slice_index_or before at []) (slice_index_or after at []) at)
-    → IsOrdered place said first last before after
+    → AreWoven place said first last before after
 ordered place said first last before after log count chain below parts =
     let woven = weaves seen IsStep [] first last before after log acts chain below
     (record {

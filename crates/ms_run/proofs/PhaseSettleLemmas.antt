@@ -15,7 +15,7 @@ use Rattle.ms_base.specs.declared.span.Chunk.{Chunk}
 use Rattle.ms_base.specs.Committed.{is_among}
 use Rattle.ms_pool.specs.Account.{AccountState}
 use Rattle.ms_pool.specs.Ledger.{Loan, Ledger, Serves, IsSoundLedger, chunks_of, is_owned_by, opened_in}
-use Rattle.ms_loaders.specs.Loader.{LoaderView, account_in}
+use Rattle.ms_loaders.specs.Loader.{LoaderView}
 use Rattle.ms_loaders.specs.System.{accounts_of, owners_of}
 use Rattle.ms_loaders.specs.Settles.{MaySettle, open_accounts, accounts_in}
 use Rattle.ms_shared.specs.declared.lock_rule.SeatView.{SeatView}
@@ -28,71 +28,8 @@ use Rattle.ms_run.specs.Joined.{AreJoined, seat_of}
 use Rattle.ms_run.proofs.sharing.GatherLemmas.{Loaders, joined_sum, joined_all}
 use Rattle.ms_loaders.proofs.steps.ServedLemmas.{times, one_if, is_it}
 use Rattle.ms_loaders.proofs.sums.FitLemmas.{chunk_of, owner_of}
-
--- Of loaders, how many accounts are an owner's; and what is true of both accounts of one.
-abbrev owned : ℕ → ℕ × LoaderView → ℕ
-owned owner entry = is_it owner entry.1.owner + is_it owner entry.1.class_owner
-
-owned_sum : (owner : ℕ) (loaders : Loaders) → times owner (owners_of loaders) ≡ sum_by (owned owner) loaders
-owned_sum owner [] = refl
-owned_sum owner (e ∷ es) = omega (
-  arith,
-  sum_by-cons (is_it owner) e.1.owner (e.1.class_owner ∷ owners_of es),
-  sum_by-cons (is_it owner) e.1.class_owner (owners_of es),
-  sum_by-cons (owned owner) e es,
-  owned_sum owner es,
-)
-
-abbrev OfBoth : (AccountState → Type 0) → ℕ × LoaderView → Type 0
-OfBoth P entry = P (account_in NonClass entry.1) × P (account_in Class entry.1)
-
-by_loader : (P : AccountState → Type 0) (loaders : Loaders) → AllByRecursion P (accounts_of loaders)
-    → AllByRecursion (OfBoth P) loaders
-by_loader P [] all = tt
-by_loader P (e ∷ es) all = ((all.0, all.1.0), by_loader P es all.1.1)
-
-by_account : (P : AccountState → Type 0) (loaders : Loaders) → AllByRecursion (OfBoth P) loaders
-    → AllByRecursion P (accounts_of loaders)
-by_account P [] all = tt
-by_account P (e ∷ es) all = (all.0.0, (all.0.1, by_account P es all.1))
-
-one : ℕ × LoaderView → ℕ
-one entry = 1
-
-ones : (loaders : Loaders) → sum_by one loaders ≡ length loaders
-unfolding one
-ones [] = refl
-ones (e ∷ es) = omega (arith, sum_by-cons one e es, ones es)
-
--- Sums over shares.
-module _ (f g : Share → ℕ) where
-  sums_le : (shares : List Share) → AllByRecursion (λ (share : Share). f share ≤ g share) shares
-      → sum_by f shares ≤ sum_by g shares
-  sums_le [] all = omega arith
-  sums_le (share ∷ shares) all =
-      omega (arith, all.0, sums_le shares all.1, sum_by-cons f share shares, sum_by-cons g share shares)
-
-  sums_same : (shares : List Share) → AllByRecursion (λ (share : Share). f share ≡ g share) shares
-      → sum_by f shares ≡ sum_by g shares
-  sums_same [] all = refl
-  sums_same (share ∷ shares) all =
-      omega (arith, all.0, sums_same shares all.1, sum_by-cons f share shares, sum_by-cons g share shares)
-
-seats_sum : (f : SeatState → ℕ) (shares : List Share)
-    → sum_by f (map seat_of shares) ≡ sum_by (λ (share : Share). f share.seat) shares
-seats_sum f [] = refl
-seats_sum f (share ∷ shares) =
-    omega (
-      arith,
-      seats_sum f shares,
-      sum_by-cons f share.seat (map seat_of shares),
-      sum_by-cons (λ (s : Share). f s.seat) share shares,
-    )
-
-all_seats : (P : SeatState → Type 0) (shares : List Share) → AllByRecursion P (map seat_of shares)
-    → AllByRecursion (λ (share : Share). P share.seat) shares
-all_seats P [] all = tt
-all_seats P (share ∷ shares) all = (all.0, all_seats P shares all.1)
+use Rattle.ms_run.proofs.ShareSumLemmas.{OfBoth, all_seats, by_account, by_loader, one_each, ones, owned, owned_sum}
+use Rattle.ms_run.proofs.ShareSumLemmas.{seats_sum, sums_le, sums_same}
 
 -- A number that stands among others.
 among : (number : ℕ) (numbers : List ℕ) → is_among numbers number ≡ true → 1 ≤ times number numbers
@@ -176,14 +113,14 @@ all_serve pool seat (account ∷ accounts) records all =
     )
 
 -- What each share has, by its seat and its loaders.
-record IsOurs (pool : Ledger) (share : Share) : Type 0 where
+record IsSeated (pool : Ledger) (share : Share) : Type 0 where
   manned : IsManned share.seat.knows share.loaders
   records : AreRecords pool share.seat.knows.served
 
 both_facts : (pool : Ledger) (shares : List Share)
     → AllByRecursion (λ (share : Share). IsManned share.seat.knows share.loaders) shares
     → AllByRecursion (λ (share : Share). AreRecords pool share.seat.knows.served) shares
-    → AllByRecursion (IsOurs pool) shares
+    → AllByRecursion (IsSeated pool) shares
 both_facts pool [] manned records = tt
 both_facts pool (share ∷ shares) manned records =
     (record { manned = manned.0; records = records.0 }, both_facts pool shares manned.1 records.1)
@@ -200,7 +137,7 @@ owners_in owner share = times owner (owners_of share.loaders)
 abbrev entries_in : ℕ → Share → ℕ
 entries_in owner share = entries_of owner share.seat.knows.served
 
-holder_here : (pool : Ledger) (owner : ℕ) (share : Share) → IsOurs pool share → (chunks_of pool owner ≡ [] → ⊥)
+holder_here : (pool : Ledger) (owner : ℕ) (share : Share) → IsSeated pool share → (chunks_of pool owner ≡ [] → ⊥)
     → 1 ≤ entries_in owner share → 1 ≤ owners_in owner share
 holder_here pool owner share ours holds some =
     let its = has_some owner share.seat.knows.served some in
@@ -211,7 +148,7 @@ holder_here pool owner share ours holds some =
     ]
 
 holder_there : (pool : Ledger) (owner : ℕ) → (chunks_of pool owner ≡ [] → ⊥) → (shares : List Share)
-    → AllByRecursion (IsOurs pool) shares
+    → AllByRecursion (IsSeated pool) shares
     → 1 ≤ sum_by (entries_in owner) shares → 1 ≤ sum_by (owners_in owner) shares
 holder_there pool owner holds [] all some = absurd (omega (arith, some))
 holder_there pool owner holds (share ∷ shares) all some = elim (cases_lt (entries_in owner share) 1) [
@@ -248,7 +185,7 @@ module _ (pool : Ledger) (shares : List Share) (loaders : Loaders) (sound : IsSo
   manned : AllByRecursion (λ (share : Share). IsManned share.seat.knows share.loaders) shares
   manned = recursion_from_All _ shares all_manned
 
-  ours : AllByRecursion (IsOurs pool) shares
+  ours : AllByRecursion (IsSeated pool) shares
   ours = both_facts pool shares manned
       (all_seats (λ (seat : SeatState). AreRecords pool seat.knows.served) shares
       (recursion_from_All _ (map seat_of shares) gathers.served))
@@ -288,10 +225,10 @@ module _ (pool : Ledger) (shares : List Share) (loaders : Loaders) (sound : IsSo
   -- As many accounts are open in each space as there are loaders.
   pub as_many : (space : Space) → opened_in pool space ≡ length loaders
   as_many space = gathers.opened space ∙ seats_sum (λ (seat : SeatState). opened_by seat.knows space) shares
-      ∙ sums_same (λ (share : Share). opened_by share.seat.knows space) (λ (share : Share). sum_by one share.loaders)
+      ∙ sums_same (λ (share : Share). opened_by share.seat.knows space) (λ (share : Share). sum_by one_each share.loaders)
       shares
       (each (λ share its. its.manned.opened space ∙ sym (ones share.loaders)) shares ours)
-      ∙ sym (all_sum one) ∙ ones loaders
+      ∙ sym (all_sum one_each) ∙ ones loaders
 
   -- No other owner has a loan.
   no_others : (before rest : List Loan) → before ++ rest ≡ pool.loans

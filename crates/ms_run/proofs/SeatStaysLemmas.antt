@@ -5,6 +5,7 @@ use Rattle.std.proofs.Common.{[], ◌∷◌, ◌++◌, map, refl, sym, ap, ◌�
 use Rattle.std.specs.Prelude.{◌==◌}
 use Rattle.std.specs.List.{AllByRecursion, filter}
 use Rattle.std.proofs.lemmas.List.Elements.{recursion_from_All, All-from_recursion}
+use Rattle.std.proofs.lemmas.Bool.{both_ways}
 use Rattle.ms_base.specs.declared.kind.Space.{Space}
 use Rattle.ms_base.specs.declared.kind.Space.TheVariants.{NonClass, Class}
 use Rattle.ms_base.specs.declared.policy.Policy.{Policy}
@@ -38,17 +39,17 @@ use Rattle.ms_shared.specs.SeatView.{SeatState, ServesBy, OverLock, opened_by}
 use Rattle.ms_shared.specs.LockCalls.{TookOver, GrewOver}
 use Rattle.ms_shared.proofs.RecordLemmas.{has_record}
 use Rattle.ms_run.specs.Manned.{IsManned}
-use Rattle.ms_loaders.proofs.steps.ServedLemmas.{KeepsOther, block_keeps, length_changed, served_in, owners_split, all_parts}
-use Rattle.ms_loaders.proofs.steps.ServedLemmas.{own_is_among, accounts_split}
+use Rattle.ms_loaders.proofs.steps.ServedLemmas.{KeepsOther, block_keeps, length_changed, served_in, owners_split}
+use Rattle.ms_loaders.proofs.steps.ServedLemmas.{all_parts, own_is_among, accounts_split}
 use Rattle.ms_loaders.proofs.sums.FitLemmas.{chunk_of}
 
 -- All that the seat knows of an owner is that it holds no chunk.
-abbrev pub HasNone : SeatView → ℕ → Type 0
-HasNone view owner = (chunks : List Chunk) → Has view.served owner chunks → chunks ≡ []
+abbrev pub HoldsNothing : SeatView → ℕ → Type 0
+HoldsNothing view owner = (chunks : List Chunk) → Has view.served owner chunks → chunks ≡ []
 
 -- No owner but one gets a first chunk.
 pub record Stays (owner : ℕ) (old new : SeatState) : Type 0 where
-  pub none : (other : ℕ) → other ≢ owner → HasNone old.knows other → HasNone new.knows other
+  pub none : (other : ℕ) → other ≢ owner → HoldsNothing old.knows other → HoldsNothing new.knows other
 
 stays_same : (owner : ℕ) (old new : SeatState) → new ≡ old → Stays owner old new
 stays_same owner old new same = subst (Stays owner old) (sym same) (record { none = λ other differs has. has })
@@ -93,7 +94,7 @@ over_lock_stays : {event : Ledger → Ledger → Type 0} (owner : ℕ) (old new 
     → Stays owner old new
 over_lock_stays owner old new its quiet = subst (Stays owner old) (sym its.left) (record { none = none })
   where
-    none : (other : ℕ) → other ≢ owner → HasNone old.knows other
+    none : (other : ℕ) → other ≢ owner → HoldsNothing old.knows other
         → (chunks : List Chunk)
         → Has (refreshed its.after old.knows.served ++ fresh its.after its.before.given
         (its.after.given - its.before.given)) other chunks → chunks ≡ []
@@ -244,12 +245,11 @@ no_other_still own owners old new among stays each owner chunks here =
     ] refl
   where
     differs : is_among owners owner ≡ false → owner ≢ own
-    differs not_ours same =
-        absurd (let both : true ≡ false = sym among ∙ ap (is_among owners) (sym same) ∙ not_ours in cc)
+    differs not_ours same = both_ways (is_among owners owner) not_ours (ap (is_among owners) same ∙ among)
 
     nothing : {was : List Chunk} → is_among owners owner ≡ false → IsOurs owners owner was → was ≡ []
     nothing not_ours (inl none) = none
-    nothing not_ours (inr ours) = absurd (let both : true ≡ false = sym ours ∙ not_ours in cc)
+    nothing not_ours (inr ours) = absurd (both_ways (is_among owners owner) not_ours ours)
 
 -- So the loaders are manned still.
 pub manned_after : (space : Space) (old new : SeatState) (policy : Policy) (loaders : List (ℕ × LoaderView))

@@ -42,7 +42,8 @@ pub named_states : (loaders : List (ℕ × LoaderView)) (name : ℕ)
     → named (states_of loaders) name ≡ option_map state_of (named loaders name)
 named_states loaders name = lookup-map_values state_of (is_at (nat_cmp name)) loaders
 
--- What a loader's own requests know of it, where it is there, where it is not, and where it changed.
+-- What a loader's own requests know of it, where it is there, where it is not, where it stayed and where it
+-- changed.
 pub own_found : (loaders : List (ℕ × LoaderView)) (name : ℕ) (was : LoaderView) → named loaders name ≡ Some was
     → own_in (states_of loaders) name ≡ Some (own_state was.state)
 own_found loaders name was found = ap own_of (named_states loaders name ∙ ap (option_map state_of) found)
@@ -50,6 +51,11 @@ own_found loaders name was found = ap own_of (named_states loaders name ∙ ap (
 pub own_missing : (loaders : List (ℕ × LoaderView)) (name : ℕ) → named loaders name ≡ None
     → own_in (states_of loaders) name ≡ None
 own_missing loaders name none = ap own_of (named_states loaders name ∙ ap (option_map state_of) none)
+
+pub same_own : (loaders others : List (ℕ × LoaderView)) (name : ℕ) → named loaders name ≡ named others name
+    → own_in (states_of loaders) name ≡ own_in (states_of others) name
+same_own loaders others name same =
+    ap own_of (named_states loaders name ∙ ap (option_map state_of) same ∙ sym (named_states others name))
 
 pub own_changed : (loaders : List (ℕ × LoaderView)) (name : ℕ) (was is : LoaderView) → named loaders name ≡ Some was
     → own_in (states_of (with_changed loaders name is)) name ≡ Some (own_state is.state)
@@ -150,7 +156,7 @@ keeps_seats old new same count seat manned = record {
     owner_of account = account.owner
 
 -- Nor does either move a top.
-freed_used : (space : Space) (loader : LoaderState) (block : ℕ) (kept : List (ℕ × ℕ))
+pub freed_used : (space : Space) (loader : LoaderState) (block : ℕ) (kept : List (ℕ × ℕ))
     → used_by (with_freed space loader block kept) ≡ used_by loader
 freed_used NonClass loader block kept = refl
 freed_used Class loader block kept = refl

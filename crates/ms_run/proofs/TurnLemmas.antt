@@ -1,14 +1,14 @@
 -- Loaders numbered by their first lines, and the workers that they come to by turns; for turn.rt and
 -- replaying.rt.
-use Rattle.std.proofs.Common.{◌≡◌, ◌≤◌, ◌<◌, ◌+◌, ◌%◌, ℕ, zero, suc, Bool, true, false, not, cond, ◌||◌, Option, Some, None}
-use Rattle.std.proofs.Common.{List, [], ◌∷◌, ◌++◌, length, slice_get, refl, sym, ap, ◌∙◌, subst, arith, eq-eqb}
+use Rattle.std.proofs.Common.{◌≡◌, ◌≤◌, ◌<◌, ◌+◌, ◌%◌, ℕ, zero, suc, Bool, true, false, not, cond, ◌||◌, Option, Some}
+use Rattle.std.proofs.Common.{None, List, [], ◌∷◌, ◌++◌, length, slice_get, refl, sym, ap, ◌∙◌, subst, arith, eq-eqb}
 use Rattle.std.proofs.Common.{length-append, get_or-set_same, ◌⊎◌, inl, inr, take, drop, get_or, replicate}
 use Rattle.std.proofs.Common.{drop_of_length-le}
 use Rattle.std.specs.Prelude.{◌==◌, slice_index_or, slice_set}
 use Rattle.std.specs.List.{filter}
 use Rattle.std.proofs.Math.Nat.{add-mod, add-mod-mod, mod-eq_of_lt}
 use Rattle.std.proofs.Math.Seq.{take-length}
-use Rattle.std.proofs.lemmas.Bool.{eqb-true}
+use Rattle.std.proofs.lemmas.Bool.{eqb-true, or_right, both_ways, or_parts}
 use Rattle.std.proofs.lemmas.Bool.Decides.{nat_tests}
 use Rattle.std.proofs.lemmas.List.{get_or-set_other, append-nil, take_more}
 use Rattle.std.proofs.lemmas.List.Elements.{filter-append}
@@ -29,16 +29,16 @@ abbrev name_last : Option ℕ → List ℕ → List ℕ
 name_last None names = names
 name_last (Some name) names = cond (is_among names name) names (names ++ name ∷ [])
 
-abbrev others_than : ℕ → List ℕ → List ℕ
-others_than name names = filter (λ other. not (other == name)) names
+abbrev names_but : ℕ → List ℕ → List ℕ
+names_but name names = filter (λ other. not (other == name)) names
 
 -- Among those that differ from a name another is as before.
 among_others : (name other : ℕ) (names : List ℕ) → (name == other) ≡ false
-    → is_among (others_than name names) other ≡ is_among names other
+    → is_among (names_but name names) other ≡ is_among names other
 among_others name other [] differ = refl
 among_others name other (x ∷ names) differ =
     elim (x == name) as (λ b. (x == name) ≡ b
-    → is_among (cond (not b) (x ∷ others_than name names) (others_than name names)) other
+    → is_among (cond (not b) (x ∷ names_but name names) (names_but name names)) other
     ≡ ((x == other) || is_among names other)) [
       | true ↦ λ same. among_others name other names differ
           ∙ ap (λ b. b || is_among names other) (sym (subst (λ (n : ℕ). (n == other) ≡ false) (sym (eqb-true x name same)) differ))
@@ -51,31 +51,27 @@ first_last None p names = refl
 first_last (Some name) None names = refl
 first_last (Some name) (Some other) names =
     elim (name == other) as (λ b. (name == other) ≡ b
-    → name ∷ others_than name (cond (is_among names other) names (names ++ other ∷ []))
-    ≡ cond (b || is_among (others_than name names) other) (name ∷ others_than name names)
-    ((name ∷ others_than name names) ++ other ∷ [])) [
+    → name ∷ names_but name (cond (is_among names other) names (names ++ other ∷ []))
+    ≡ cond (b || is_among (names_but name names) other) (name ∷ names_but name names)
+    ((name ∷ names_but name names) ++ other ∷ [])) [
       | true ↦ λ same. ap (λ (l : List ℕ). name ∷ l) (gone same (is_among names other))
       | false ↦ λ differ. rw (among_others name other names differ) (stays differ (is_among names other))
     ] refl
   where
-    gone : (name == other) ≡ true → (b : Bool) → others_than name (cond b names (names ++ other ∷ [])) ≡ others_than name names
+    gone : (name == other) ≡ true → (b : Bool) → names_but name (cond b names (names ++ other ∷ [])) ≡ names_but name names
     gone same true = refl
     gone same false =
         filter-append (λ n. not (n == name)) names (other ∷ [])
-        ∙ ap (λ b. others_than name names ++ cond (not b) (other ∷ []) []) (eq-eqb other name (sym (eqb-true name other same)))
-        ∙ ends (others_than name names)
-      where
-        ends : (l : List ℕ) → l ++ [] ≡ l
-        ends [] = refl
-        ends (x ∷ l) = ap (λ (m : List ℕ). x ∷ m) (ends l)
+        ∙ ap (λ b. names_but name names ++ cond (not b) (other ∷ []) []) (eq-eqb other name (sym (eqb-true name other same)))
+        ∙ append-nil (names_but name names)
 
     stays : (name == other) ≡ false → (b : Bool)
-        → name ∷ others_than name (cond b names (names ++ other ∷ []))
-        ≡ cond b (name ∷ others_than name names) ((name ∷ others_than name names) ++ other ∷ [])
+        → name ∷ names_but name (cond b names (names ++ other ∷ []))
+        ≡ cond b (name ∷ names_but name names) ((name ∷ names_but name names) ++ other ∷ [])
     stays differ true = refl
     stays differ false = ap (λ (l : List ℕ). name ∷ l)
         (filter-append (λ n. not (n == name)) names (other ∷ [])
-        ∙ ap (λ b. others_than name names ++ cond (not b) (other ∷ []) []) turned)
+        ∙ ap (λ b. names_but name names ++ cond (not b) (other ∷ []) []) turned)
       where
         turned : (other == name) ≡ false
         turned = grind (arith, nat_tests)
@@ -95,11 +91,8 @@ among_if_there : (names : List ℕ) (number name : ℕ) → slice_get names numb
 among_if_there [] number name found = absurd (cc)
 among_if_there (x ∷ names) zero name found =
     ap (λ b. b || is_among names name) (eq-eqb x name (let same : x ≡ name = cc in same))
-among_if_there (x ∷ names) (suc number) name found = later (x == name) (among_if_there names number name found)
-  where
-    later : (b : Bool) → is_among names name ≡ true → (b || is_among names name) ≡ true
-    later true e = refl
-    later false e = e
+among_if_there (x ∷ names) (suc number) name found =
+    or_right (x == name) (is_among names name) (among_if_there names number name found)
 
 there_if_among : (names : List ℕ) (name : ℕ) → is_among names name ≡ true → (number : ℕ) × (slice_get names number ≡ Some name)
 there_if_among [] name is = absurd (cc)
@@ -164,35 +157,29 @@ module _ (lines : List Line) (workers : ℕ) (first : List ℕ) (next : ℕ) (it
       → is_among (loaders_in lines) name ≡ false → loaders_in more ≡ loaders_in lines ++ name ∷ []
       → new ≡ slice_set first name next → IsNumbered more workers new ((next + 1) % workers)
   new_numbered name new more within away are made = record {
-    loaders = λ number other found. elim (there_or_last (loaders_in lines) name number other (subst (λ (l : List ℕ). slice_get l number ≡ Some other) are found)) [
-      | inl there ↦ ap (λ (l : List ℕ). slice_index_or l other 0) made
-          ∙ get_or-set_other first name other next 0 (λ e. differs (among_if_there (loaders_in lines) number other there) e)
-          ∙ its.loaders number other there
-      | inr last ↦ ap (λ (l : List ℕ). slice_index_or l other 0) made
-          ∙ ap (λ (n : ℕ). slice_index_or (slice_set first name next) n 0) last.1
-          ∙ get_or-set_same first name next 0 within ∙ its.next_is ∙ ap (λ (n : ℕ). n % workers) (sym last.0)
-    ];
+    loaders = λ number other found. elim (there_or_last (loaders_in lines) name number other
+        (subst (λ (l : List ℕ). slice_get l number ≡ Some other) are found)) [
+          | inl there ↦ ap (λ (l : List ℕ). slice_index_or l other 0) made
+              ∙ get_or-set_other first name other next 0 (λ e. differs (among_if_there (loaders_in lines) number other there) e)
+              ∙ its.loaders number other there
+          | inr last ↦ ap (λ (l : List ℕ). slice_index_or l other 0) made
+              ∙ ap (λ (n : ℕ). slice_index_or (slice_set first name next) n 0) last.1
+              ∙ get_or-set_same first name next 0 within ∙ its.next_is ∙ ap (λ (n : ℕ). n % workers) (sym last.0)
+        ];
     others = λ other none.
-        let apart : (is_among (loaders_in lines) other || ((name == other) || false)) ≡ false =
-        sym (list_any-append (λ n. n == other) (loaders_in lines) (name ∷ [])) ∙ ap (λ (l : List ℕ). is_among l other) (sym are) ∙ none in
+        let apart = or_parts (is_among (loaders_in lines) other) ((name == other) || false)
+        (sym (list_any-append (λ n. n == other) (loaders_in lines) (name ∷ []))
+        ∙ ap (λ (l : List ℕ). is_among l other) (sym are) ∙ none) in
         ap (λ (l : List ℕ). slice_index_or l other 255) made
-        ∙ get_or-set_other first name other next 255 (λ e. last_of (is_among (loaders_in lines) other) (name == other) apart (eq-eqb name other (sym e)))
-        ∙ its.others other (first_of (is_among (loaders_in lines) other) (name == other) apart);
+        ∙ get_or-set_other first name other next 255
+        (λ e. both_ways (name == other) (or_parts (name == other) false apart.1).0 (eq-eqb name other (sym e)))
+        ∙ its.others other apart.0;
     next_is = ap (λ (n : ℕ). (n + 1) % workers) its.next_is ∙ next_worker (length (loaders_in lines)) workers
         ∙ ap (λ (n : ℕ). n % workers) (sym (ap length are ∙ length-append (loaders_in lines) (name ∷ [])));
   }
     where
       differs : {other : ℕ} → is_among (loaders_in lines) other ≡ true → other ≡ name → ⊥
-      differs is e = let no : true ≡ false = sym is ∙ ap (is_among (loaders_in lines)) e ∙ away in absurd (cc)
-
-      first_of : (b c : Bool) → (b || (c || false)) ≡ false → b ≡ false
-      first_of true c e = e
-      first_of false c e = refl
-
-      last_of : (b c : Bool) → (b || (c || false)) ≡ false → c ≡ true → ⊥
-      last_of true c e is = absurd (cc)
-      last_of false true e is = absurd (cc)
-      last_of false false e is = absurd (cc)
+      differs is e = both_ways (is_among (loaders_in lines) name) away (sym (ap (is_among (loaders_in lines)) e) ∙ is)
 
   -- A line more is numbered.
   named_numbered : (o : Option ℕ) (line : Line) (new : List ℕ) (came : Bool) → named_by line ≡ o

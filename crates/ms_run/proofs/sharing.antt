@@ -1,7 +1,12 @@
 -- Lines and loaders dealt to shares, worked, and put together.
+pub mod HandingLemmas
+pub mod ListingLemmas
+pub mod SeatsLemmas
 pub mod DealLemmas
+pub mod HandedEntryLemmas
 pub mod HandOnLemmas
 pub mod GatherLemmas
+pub mod TaskLemmas
 pub mod MergeLemmas
 pub mod TakenApartLemmas
 pub mod StandByLemmas

@@ -1,9 +1,9 @@
 //! Lines run by one worker: by the caller itself, line by line, over one system. They are a whole
 //! trace, or a phase of which one worker has all lines.
 //!
-//! Kept true: each line has one answer, in the trace's order; where they are counted, the words in use
-//! follow, and so do the peaks, for full reports. A line costs the same however many loaders stand by.
-//! Takes memory; nothing waits.
+//! Kept true: each line has one answer, in the trace's order; where they are counted, the words in
+//! use follow, and so do the peaks, for full reports. A line costs the same however many loaders
+//! stand by. Takes memory; nothing waits.
 ghost use Rattle.std.specs.Prelude.{◌≡◌, IfOk, OnOk, [], ◌∷◌, IsTrue};
 ghost use Rattle.ms_base.specs.Good.{IsGood};
 ghost use Rattle.ms_base.specs.State.{empty_machine, limits_of};
@@ -85,9 +85,9 @@ pub fn begin_run(alloc: Global, settings: Settings, detail: Detail) -> Result<Me
     })
 }
 
-/// Answers the lines in their order, by the worker of a number. The words in use are counted on where
-/// that is asked for, and else are told as they were; for full reports they have to be, and peaks are
-/// kept from line to line.
+/// Answers the lines in their order, by the worker of a number. The words in use are counted on
+/// where that is asked for, and else are told as they were; for full reports they have to be, and
+/// peaks are kept from line to line.
 pub fn answer_lines<G: Gate>(
     gate: &G,
     worker: usize,
@@ -146,8 +146,8 @@ fn answer_line<G: Gate>(
     Ok(())
 }
 
-/// Tells the words in use of the loader whose tops a step may move, and 0 where it moves none, or where
-/// they aren't counted.
+/// Tells the words in use of the loader whose tops a step may move, and 0 where it moves none, or
+/// where they aren't counted.
 #[inline(always)]
 fn used_by(counts: bool, system: &System, step: &Step) -> u64
     ensures { IsTrue counts → result ≡ used_around step.now system.now.loaders }

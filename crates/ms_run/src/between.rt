@@ -1,8 +1,8 @@
 //! Lines between two stretches of steps: a report, or a meeting of the workers.
 //!
 //! Where the words in use were counted on, a report has them from that count, and else from the
-//! loaders; its sums are the same. It has details and peaks only where it shall be full. Takes memory
-//! for a report and for answers; nothing waits.
+//! loaders; its sums are the same. It has details and peaks only where it shall be full. Takes
+//! memory for a report and for answers; nothing waits.
 ghost use Rattle.std.specs.Prelude.{◌≡◌, ◌+◌, ◌∷◌, ◌++◌, [], IfOk, IfSome, OnOk, None};
 ghost use Rattle.ms_loaders.specs.declared.replies.Answer.{Answer as AnswerOf};
 ghost use Rattle.std.specs.List.{All};
@@ -13,7 +13,8 @@ ghost use Rattle.ms_loaders.specs.Sums.{sums_in};
 ghost use Rattle.ms_trace.specs.Steps.{step_of};
 ghost use Rattle.ms_run.specs.Course.{Course};
 ghost use Rattle.ms_run.specs.Counting.{HasTaken};
-ghost use Rattle.ms_run.specs.Replay.{AreKept, AreOf, HasDetail, IsDetailed, IsEnd, Reports, is_full};
+ghost use Rattle.ms_run.specs.Replay.{AreKept, AreOf, HasDetail, IsDetailed, IsEnd, Reports};
+ghost use Rattle.ms_run.specs.Replay.{is_full};
 ghost use Rattle.ms_run.specs.Metering.{used_words_of};
 
 use crate::alone::Metered;
@@ -22,9 +23,9 @@ use ms_loaders::{Answer, Detail, Details, SpaceTotals, System, Totals};
 use ms_trace::{Command, Line};
 use std::alloc::{AllocError, Global};
 
-/// Answers a line that asks no step: a report with the totals as they are, in so much detail, and with
-/// the peaks that are kept. The words in use, of both spaces, are taken from a count of them where there
-/// is one.
+/// Answers a line that asks no step: a report with the totals as they are, in so much detail, and
+/// with the peaks that are kept. The words in use, of both spaces, are taken from a count of them
+/// where there is one.
 pub fn answer_between(
     run: &Metered,
     used: Option<u64>,
@@ -62,7 +63,8 @@ fn report_for(
     requires kept { AreKept detail run.now.peaks }
     ensures reports { IfOk result (λ report. (course : Course) → HasTaken course run.now
         → Reports command course report) }
-    ensures detailed { IfOk result (λ report. IfSome report (λ totals. HasDetail detail totals.value)) }
+    ensures detailed { IfOk result (λ report.
+        IfSome report (λ totals. HasDetail detail totals.value)) }
 {
     match command {
         Command::Report => Ok(Some(Box::new(alloc, totals_of(run, used, detail)?)?)),
@@ -70,8 +72,8 @@ fn report_for(
     }
 }
 
-/// Gathers the totals, with the words in use from a count where there is one, the peaks where they are
-/// kept, and their details where they are asked for.
+/// Gathers the totals, with the words in use from a count where there is one, the peaks where they
+/// are kept, and their details where they are asked for.
 fn totals_of(run: &Metered, used: Option<u64>, detail: Detail) -> Result<Totals, AllocError>
     requires used { IfSome used (λ words. words ≡ used_words_of run.now.system) }
     requires kept { AreKept detail run.now.peaks }
@@ -112,8 +114,8 @@ fn counted(system: &System, used: Option<u64>) -> Result<Totals, AllocError>
     }
 }
 
-/// Puts the words in use as the meter counted them into totals: those of the class space are the sum of
-/// its tops, and the others are what is left.
+/// Puts the words in use as the meter counted them into totals: those of the class space are the
+/// sum of its tops, and the others are what is left.
 fn with_used(totals: Totals, used: u64) -> Totals
     requires { used ≡ totals.space.used + totals.class_space.used }
     ensures { sums_in result ≡ sums_in totals }

@@ -4,11 +4,13 @@
 //!     share 0: 3  1     3       share 0: 1 2 3   5 6 7       2, 5, 6 and 7 stand by
 //!     share 1:       4          share 1:       4
 //!
-//! Kept true: lines and loader of one name are in one share, whose seat serves the loader. The first
-//! share's seat serves all at first, and hands on what the others' lines name, so a loader that stands
-//! by stays there. Each share has a seat of the phase's meter, with nothing counted yet. Takes memory
-//! for seats, lists of tasks and of replies, and places of loaders; nothing waits.
-ghost use Rattle.std.specs.Prelude.{◌≡◌, ◌+◌, ◌++◌, ◌∷◌, [], ◌≤◌, map, IfOk, IfErr, OnOk, vec_len, vec_capacity, ◌<◌};
+//! Kept true: lines and loader of one name are in one share, whose seat serves the loader. The
+//! first share's seat serves all at first, and hands on what the others' lines name, so a loader
+//! that stands by stays there. Each share has a seat of the phase's meter, with nothing counted
+//! yet. Takes memory for seats, lists of tasks and of replies, and places of loaders; nothing
+//! waits.
+ghost use Rattle.std.specs.Prelude.{◌≡◌, ◌+◌, ◌++◌, ◌∷◌, [], ◌≤◌, map, IfOk, IfErr, OnOk, vec_len};
+ghost use Rattle.std.specs.Prelude.{vec_capacity, ◌<◌};
 ghost use Rattle.std.specs.Prelude.{◌≢◌, ℕ, Some, slice_get};
 ghost use Rattle.ms_base.specs.declared.kind.Space.TheVariants.{NonClass, Class};
 ghost use Rattle.ms_base.specs.Names.{AreNamed};
@@ -16,10 +18,12 @@ ghost use Rattle.ms_base.specs.Request.{loader_of};
 ghost use Rattle.ms_run.specs.Turn.{shares_in, place_in};
 ghost use Rattle.ms_loaders.specs.Loader.{account_in};
 ghost use Rattle.ms_loaders.specs.Used.{used_in};
-ghost use Rattle.ms_shared.specs.SeatView.{ServesBy, new_seats, opened_by, with_account, without_account};
+ghost use Rattle.ms_shared.specs.SeatView.{ServesBy, new_seats, opened_by, with_account};
+ghost use Rattle.ms_shared.specs.SeatView.{without_account};
 ghost use Rattle.ms_run.specs.Metering.{used_over, meter_of};
 ghost use Rattle.ms_run.specs.Shares.{AreDealt, AreSteps, tasks_of, names_in, name_with, place_for};
-ghost use Rattle.ms_run.specs.Dealing.{AreCrews, AreListed, AreEmpty, AreAdded, IsHanded, AreHanded, AreSeats};
+ghost use Rattle.ms_run.specs.Dealing.{AreCrews, AreListed, AreEmpty, AreAdded, IsHanded};
+ghost use Rattle.ms_run.specs.Dealing.{AreHanded, AreSeats};
 ghost use Rattle.ms_run.specs.Dealing.{AreDealtTo, HaveMeters, MayBeDealt, IsSameSeat};
 
 use crate::fault::RunFault;
@@ -84,8 +88,8 @@ fn lock(alloc: Global, pool: Pool, count: usize) -> Result<(SharedPool, Vec<Pool
     }
 }
 
-/// Deals lines and loaders to a share for each seat, of which the first serves all loaders, and gives
-/// each a seat of the meter.
+/// Deals lines and loaders to a share for each seat, of which the first serves all loaders, and
+/// gives each a seat of the meter.
 fn deal_to(
     alloc: Global,
     turn: &Turn,
@@ -100,7 +104,8 @@ fn deal_to(
     requires meters { vec_len meters ≡ vec_len seats }
     requires names { AreNamed loaders }
     ensures dealt { IfOk result (λ shares.
-        AreDealtTo (place_for (place_in turn.now) lines.now) shared.now (vec_len seats) lines.now loaders
+        AreDealtTo (place_for (place_in turn.now) lines.now) shared.now (vec_len seats) lines.now
+        loaders
         shares.items) }
     ensures meters { IfOk result (λ shares. map meter_of shares.items ≡ meters.items) }
     ensures used { IfOk result (λ shares. used_over shares.items ≡ used_in loaders) }
@@ -134,8 +139,8 @@ fn put_first(mut shares: Vec<Share>, share: Share) -> Result<Vec<Share>, RunFaul
     }
 }
 
-/// Makes the share of a seat that serves nothing: the first crew hands on all loaders that the tasks
-/// name.
+/// Makes the share of a seat that serves nothing: the first crew hands on all loaders that the
+/// tasks name.
 fn share_beside(
     alloc: Global,
     turn: &Turn,

@@ -8,7 +8,8 @@ pub enum RunFault {
     OutOfMemory,
     /// A thread could not be started.
     NoThread,
-    /// At a phase's end more accounts were open than the loaders have, both counted. It never comes.
+    /// At a phase's end more accounts were open than the loaders have, both counted. It never
+    /// comes.
     Unsettled { opened: u64, gathered: u64 },
 }
 

@@ -7,12 +7,12 @@ pub trait Gate {
     fn before(&self, worker: usize, line: u32);
 
     /// Is called after it, with the words in use as the worker reads them, without the lock: those
-    /// before the phase, and what all workers got in use since less what they gave back, modulo 2^64.
-    /// With one worker they are the system's.
+    /// before the phase, and what all workers got in use since less what they gave back, modulo
+    /// 2^64. With one worker they are the system's.
     fn after(&self, worker: usize, line: u32, used: u64);
 
-    /// Tells whether `after` looks at the words in use. Where it doesn't, one worker needn't count them
-    /// and tells 0.
+    /// Tells whether `after` looks at the words in use. Where it doesn't, one worker needn't count
+    /// them and tells 0.
     fn looks(&self) -> bool {
         true
     }

@@ -13,7 +13,8 @@ ghost use Rattle.ms_loaders.specs.Loaders.{InsertRefused};
 ghost use Rattle.ms_loaders.specs.Settles.{MaySettle, open_accounts, accounts_in};
 ghost use Rattle.ms_loaders.specs.System.{machine_of};
 ghost use Rattle.ms_shared.specs.SeatView.{SeatState, Gathers, IsHistory};
-ghost use Rattle.ms_run.specs.Joined.{HaveOtherNames, IsJoined, AreJoined, IsWantOrUnsettled, IsMadeFrom};
+ghost use Rattle.ms_run.specs.Joined.{HaveOtherNames, IsJoined, AreJoined, IsWantOrUnsettled};
+ghost use Rattle.ms_run.specs.Joined.{IsMadeFrom};
 ghost use Rattle.ms_run.specs.Joined.{seat_of};
 ghost use Rattle.ms_run.specs.Metering.{used_words_of, used_over, meter_of};
 ghost use Rattle.ms_run.specs.Shares.{Place, AreApart, IsGathered, StandOver};
@@ -26,8 +27,8 @@ use ms_pool::Pool;
 use ms_shared::{MeterSeat, PoolSeat, SharedPool};
 use std::alloc::Global;
 
-/// Gathers the shares that stand over the lock, and gives their seats of the meter out. An error means
-/// that memory was wanting.
+/// Gathers the shares that stand over the lock, and gives their seats of the meter out. An error
+/// means that memory was wanting.
 pub fn gather(
     alloc: Global,
     shared: SharedPool,

@@ -6,9 +6,9 @@
 //!     worker 1: 2 ──┘            └── worker 1: 1
 //!
 //! Kept true: each loader gets its own replies, whatever the number of workers and their order, and
-//! at each phase's end all is one good system. Apart because nothing else starts a thread. Stands on
-//! `ms_loaders`, `ms_shared` and `ms_trace`. Takes memory; a phase of two workers or more waits for
-//! the lock and for its threads. The phases are this project's choice.
+//! at each phase's end all is one good system. Apart because nothing else starts a thread. Stands
+//! on `ms_loaders`, `ms_shared` and `ms_trace`. Takes memory; a phase of two workers or more waits
+//! for the lock and for its threads. The phases are this project's choice.
 #![tactic(auto)]
 
 mod alone;

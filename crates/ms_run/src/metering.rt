@@ -1,7 +1,8 @@
 //! A step by a worker that keeps the meter: its seat's amount moves as the words in use do.
 //!
-//! Kept true: what a loader gets in use is added once it has it, and what an unloaded one had is taken
-//! off before it is closed. One atomic step a line at most, and no lock beside that of the line itself.
+//! Kept true: what a loader gets in use is added once it has it, and what an unloaded one had is
+//! taken off before it is closed. One atomic step a line at most, and no lock beside that of the
+//! line itself.
 ghost use Rattle.std.specs.Prelude.{◌≡◌, ◌≢◌, ◌+◌, ℕ, Bool, Some};
 ghost use Rattle.ms_base.specs.Run.Alone.{OwnReply};
 ghost use Rattle.ms_base.specs.Names.{AreNamed, named};
@@ -125,7 +126,8 @@ fn answer_still<R: Wait>(
     reply
 }
 
-/// Answers a step over the lock. The replies to a loader's steps are its own; the other loaders stay.
+/// Answers a step over the lock. The replies to a loader's steps are its own; the other loaders
+/// stay.
 fn answer<R: Wait>(
     alloc: Global,
     pool: &mut LockedPool<'_, R>,

@@ -1,7 +1,8 @@
-//! The peaks of a run, kept beside it for full reports: how much of each thing it had at once at most.
+//! The peaks of a run, kept beside it for full reports: how much of each thing it had at once at
+//! most.
 //!
-//! Kept true: each number is what some state so far had, and none had more. Reads counters alone, and
-//! looks at no chunk and no loader. Takes no memory; nothing waits.
+//! Kept true: each number is what some state so far had, and none had more. Reads counters alone,
+//! and looks at no chunk and no loader. Takes no memory; nothing waits.
 ghost use Rattle.std.specs.Prelude.{◌≡◌, [], ◌∷◌, List, max, true};
 ghost use Rattle.std.specs.Option.{is_some};
 ghost use Rattle.ms_base.specs.State.{Machine};

@@ -1,5 +1,5 @@
-//! One phase of two workers or more: dealt, worked, merged and gathered. A phase of which one worker has
-//! all lines is answered by the caller, over the system as it is.
+//! One phase of two workers or more: dealt, worked, merged and gathered. A phase of which one
+//! worker has all lines is answered by the caller, over the system as it is.
 //!
 //!     System ── deal ──> shares ── work_all ──> shares ── gather ──> System
 //!                                                   └──── merge ───> answers

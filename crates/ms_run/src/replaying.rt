@@ -5,7 +5,8 @@
 //!
 //! Kept true: between two phases all is one good system, and each line so far has its answer. Takes
 //! memory; waits as its phases do.
-ghost use Rattle.std.specs.Prelude.{◌≡◌, ◌≤◌, ℕ, IfOk, IfErr, OnOk, Some, None, [], length, take, slice_get};
+ghost use Rattle.std.specs.Prelude.{◌≡◌, ◌≤◌, ℕ, IfOk, IfErr, OnOk, Some, None, [], length, take};
+ghost use Rattle.std.specs.Prelude.{slice_get};
 ghost use Rattle.ms_base.specs.State.{empty_machine, limits_of};
 ghost use Rattle.ms_trace.specs.declared.trace.Line.{Line as LineOf};
 ghost use Rattle.ms_trace.specs.Steps.{step_of};
@@ -27,16 +28,16 @@ use std::alloc::Global;
 use std::sync::Wait;
 use std::thread::Threads;
 
-/// Replays a trace with as many workers as the settings say, and answers each of its lines, reports in
-/// so much detail.
+/// Replays a trace with as many workers as the settings say, and answers each of its lines, reports
+/// in so much detail.
 ///
-/// One worker is the caller itself, and runs all lines in their order. With two or more, a phase ends
-/// at each `sync`, at each `report` and at the end of the trace; loader number j, from 0 on by first
-/// appearance, is worked by worker (j + k) mod W in phase k, from 0 on, and a `purge` by worker 0.
-/// Workers are threads, but for a phase in which only one has lines. `OutOfMemory` comes where a
-/// growth of the run itself is refused, `NoThread` where a thread can't be started; a line that is
-/// refused for want of memory is answered so. Takes memory; with two workers or more it waits for the
-/// lock of the pool and for threads to end. This project's choice.
+/// One worker is the caller itself, and runs all lines in their order. With two or more, a phase
+/// ends at each `sync`, at each `report` and at the end of the trace; loader number j, from 0 on by
+/// first appearance, is worked by worker (j + k) mod W in phase k, from 0 on, and a `purge` by
+/// worker 0. Workers are threads, but for a phase in which only one has lines. `OutOfMemory` comes
+/// where a growth of the run itself is refused, `NoThread` where a thread can't be started; a line
+/// that is refused for want of memory is answered so. Takes memory; with two workers or more it
+/// waits for the lock of the pool and for threads to end. This project's choice.
 pub fn replay<R: Threads + Wait + Sync, G: Gate + Sync>(
     rt: &R,
     alloc: Global,

@@ -13,8 +13,8 @@ pub struct Task {
 }
 
 /// A worker's share of a phase: its loaders with a seat that serves them, its tasks in the trace's
-/// order, and the replies to them so far. Its seat of the meter has counted what its loaders got and
-/// gave back.
+/// order, and the replies to them so far. Its seat of the meter has counted what its loaders got
+/// and gave back.
 #[derive(Drop)]
 pub struct Share {
     /// The worker's number, from 0 on.

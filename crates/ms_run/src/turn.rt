@@ -2,13 +2,14 @@
 //!
 //!     loader number j, phase k:  worker (j + k) mod W
 //!
-//! A loader's number is its place by first appearance in the trace, from 0 on. A `purge` is worked by
-//! worker 0. Only workers with lines have a share. Takes memory once, for a place for each name.
+//! A loader's number is its place by first appearance in the trace, from 0 on. A `purge` is worked
+//! by worker 0. Only workers with lines have a share. Takes memory once, for a place for each name.
 ghost use Rattle.std.specs.Prelude.{◌≡◌, ◌+◌, ◌%◌, ◌<◌, ◌≤◌, ◌++◌, ◌∷◌, [], List, IfOk, length};
 ghost use Rattle.std.specs.Prelude.{vec_len, vec_capacity, slice_index_or};
 ghost use Rattle.ms_base.specs.Request.{loader_of};
 ghost use Rattle.ms_trace.specs.declared.trace.Line.{Line as LineOf};
-ghost use Rattle.ms_run.specs.Turn.{IsTurn, shares_in, place_in, worker_by, AreFirst, IsNumbered, Assigns};
+ghost use Rattle.ms_run.specs.Turn.{IsTurn, shares_in, place_in, worker_by, AreFirst, IsNumbered};
+ghost use Rattle.ms_run.specs.Turn.{Assigns};
 ghost use Rattle.ms_run.specs.Shares.{AreWithin};
 
 use ms_base::{Settings, Step};

@@ -1,8 +1,9 @@
 //! The work on the shares of a phase, each in a thread of its own.
 //!
-//! Kept true: a share is worked by one thread, in the order of its tasks, and there is room for each
-//! reply before its thread starts; the share's seat of the meter counts what its loaders get and give
-//! back. Takes memory for the threads and their results; waits for the lock, and for the threads to end.
+//! Kept true: a share is worked by one thread, in the order of its tasks, and there is room for
+//! each reply before its thread starts; the share's seat of the meter counts what its loaders get
+//! and give back. Takes memory for the threads and their results; waits for the lock, and for the
+//! threads to end.
 ghost use Rattle.std.specs.Prelude.{IfOk, IfErr};
 ghost use Rattle.std.specs.List.{All};
 ghost use Rattle.ms_run.specs.Replay.{IsWanting};
@@ -29,8 +30,9 @@ impl Promise<Share> for WorkOf {
     ghost kept_by = { λ work done. IsWorked work.0.value done };
 }
 
-/// Works all shares, each by a thread. An error means that memory or a thread was wanting; then what
-/// was worked is lost. So many words were in use before, of which the gate is told. Takes memory.
+/// Works all shares, each by a thread. An error means that memory or a thread was wanting; then
+/// what was worked is lost. So many words were in use before, of which the gate is told. Takes
+/// memory.
 pub fn work_all<R: Threads + Wait + Sync, G: Gate + Sync>(
     rt: &R,
     alloc: Global,

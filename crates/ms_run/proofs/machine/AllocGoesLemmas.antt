@@ -1,6 +1,7 @@
 -- A worker's allocation is a transition of the machine of the pool and all loaders. For the run of the
 -- machine that an order of steps is.
 use Rattle.std.proofs.Common.{◌≡◌, ℕ, Option, Some, None, Result, Ok, Err, List, refl, sym, ap, ◌∙◌, subst}
+use Rattle.std.proofs.lemmas.Option.{same_Some}
 use Rattle.ms_base.specs.declared.kind.Space.{Space}
 use Rattle.ms_base.specs.declared.span.Block.{Block}
 use Rattle.ms_base.specs.declared.step.Reply.TheVariants.{At, Refused}
@@ -57,7 +58,7 @@ module _ (space : Space) (old new : Ledger)
       → GoesTo old all (alloc_in space name block words) (At start) new later
   alloc_at start was is sound_one found left one one_sound its =
       let made = answered start its.made its.answer_is in
-      let is_sound = subst IsSoundView (same_one sound_one is (sym one ∙ left)) one_sound in
+      let is_sound = subst IsSoundView (same_Some sound_one is (sym one ∙ left)) one_sound in
       let both = alloc_serves space old new all name block words was is (same ∙ found) sound whole made.0
       (subst (λ (a : Result Block Refusal). AllocatesBlock GrewSeen Took old.limits.policy space was block words old a
       is new) made.1 its.allocates) is_sound in
@@ -66,9 +67,6 @@ module _ (space : Space) (old new : Ledger)
       (machine_of new (with_changed all name is))) (sym made.2) both.1)
       (named_changed_same all name was is (same ∙ found) ∙ sym left)
       (λ other differ. named_changed_other all name is other differ)
-    where
-      same_one : (a b : LoaderView) → Some a ≡ Some b → a ≡ b
-      same_one a b e = cc
 
   pub alloc_refused : (refusal : Refusal) (was is : LoaderView) → later ≡ team → named team name ≡ Some was
       → IsAllocation space was is block words (Err refusal) old new

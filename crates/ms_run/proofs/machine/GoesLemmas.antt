@@ -1,7 +1,7 @@
 -- A worker's step, over its own loaders and what is seen of the pool, is a transition of the machine of
 -- the pool and all loaders. For the run of the machine that an order of steps is.
-use Rattle.std.proofs.Common.{◌≡◌, ◌≢◌, ℕ, Bool, Option, Some, None, List, length}
-use Rattle.std.proofs.Common.{refl, sym, ap, ◌∙◌, subst}
+use Rattle.std.proofs.Common.{◌≡◌, ◌≢◌, ℕ, Bool, Option, Some, None, List, length, refl, sym, ap, ◌∙◌, subst}
+use Rattle.std.proofs.lemmas.Option.{same_Some}
 use Rattle.ms_base.specs.declared.kind.Kind.{Kind}
 use Rattle.ms_base.specs.declared.step.Step.{Step}
 use Rattle.ms_base.specs.declared.step.Step.TheVariants.{New, Write, Read, Free, Unload}
@@ -15,22 +15,18 @@ use Rattle.ms_base.specs.Run.Alone.{OwnLoader, OwnReply}
 use Rattle.ms_base.specs.Transition.{Transition, WordCause, BlockCause}
 use Rattle.ms_base.proofs.entries.LookupLemmas.{named_changed_same, named_changed_other}
 use Rattle.ms_pool.specs.Ledger.{Ledger}
-use Rattle.ms_loaders.specs.Loader.{LoaderView, WritesWord}
-use Rattle.ms_loaders.specs.Loader.{FreesBlock}
-use Rattle.ms_loaders.specs.System.{AreTogether}
-use Rattle.ms_loaders.specs.System.{states_of, machine_of}
+use Rattle.ms_loaders.specs.Loader.{LoaderView, WritesWord, FreesBlock}
+use Rattle.ms_loaders.specs.System.{AreTogether, states_of, machine_of}
 use Rattle.ms_loaders.proofs.sums.FitLemmas.{machine_is_good}
 use Rattle.ms_loaders.proofs.steps.ServedLemmas.{length_changed}
 use Rattle.ms_loaders.proofs.steps.StepLemmas.{has_loader, lacks_loader}
-use Rattle.ms_loaders.proofs.steps.CallLemmas.{read_is_served, word_is_refused, free_is_refused, together_written, is_written}
-use Rattle.ms_loaders.proofs.steps.CallLemmas.{together_freed, is_freed}
+use Rattle.ms_loaders.proofs.steps.CallLemmas.{read_is_served, word_is_refused, free_is_refused, together_written}
+use Rattle.ms_loaders.proofs.steps.CallLemmas.{is_written, together_freed, is_freed}
 use Rattle.ms_run.specs.Own.{own_in}
 use Rattle.ms_run.specs.Acts.{ChangesLoader, IsOwnStep}
 use Rattle.ms_run.proofs.machine.FilledLemmas.{filled, AreWhole}
-use Rattle.ms_run.proofs.machine.OwnViewLemmas.{own_view, own_view_is, LacksWordIn, LacksNameIn, write_lacks, read_lacks}
-use Rattle.ms_run.proofs.machine.OwnViewLemmas.{free_lacks, reads_word}
-use Rattle.ms_run.proofs.machine.OwnViewLemmas.{unload_lacks}
-use Rattle.ms_run.proofs.machine.OwnViewLemmas.{new_there}
+use Rattle.ms_run.proofs.machine.OwnViewLemmas.{own_view, own_view_is, LacksWordIn, LacksNameIn, write_lacks}
+use Rattle.ms_run.proofs.machine.OwnViewLemmas.{read_lacks, free_lacks, reads_word, unload_lacks, new_there}
 
 -- The machine makes the step, and all loaders are what the worker's are.
 pub record GoesTo (view : Ledger) (all : List (ℕ × LoaderView)) (step : Step) (reply : Reply) (after : Ledger)
@@ -42,7 +38,7 @@ pub record GoesTo (view : Ledger) (all : List (ℕ × LoaderView)) (step : Step)
   pub others : (name : ℕ) → loader_of step ≢ Some name → named now name ≡ named all name
 
 one_name : (step : Step) (name other : ℕ) → loader_of step ≡ Some name → loader_of step ≡ Some other → name ≡ other
-one_name step name other its same = let e : Some name ≡ Some other = sym its ∙ same in cc
+one_name step name other its same = same_Some name other (sym its ∙ same)
 
 -- A step of one loader.
 pub goes_to : (view : Ledger) (all : List (ℕ × LoaderView)) (step : Step) (reply : Reply) (after : Ledger)

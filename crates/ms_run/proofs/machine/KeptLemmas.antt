@@ -1,10 +1,10 @@
 -- An order that keeps the elements of each place keeps those of each worker, where all of a worker's are
 -- at one place. Used for the order of a phase's lines.
-use Rattle.std.proofs.Common.{◌≡◌, ◌≤◌, ◌<◌, ◌==◌, ◌||◌, ℕ, Bool, true, false, not, cond, List, [], ◌∷◌, refl, sym, ap, ◌∙◌}
-use Rattle.std.proofs.Common.{arith, eq-eqb}
+use Rattle.std.proofs.Common.{◌≡◌, ◌≤◌, ◌<◌, ◌==◌, ◌||◌, ℕ, Bool, true, false, not, cond, List, [], ◌∷◌, refl, sym, ap}
+use Rattle.std.proofs.Common.{◌∙◌, arith, eq-eqb}
 use Rattle.std.specs.List.{AllByRecursion, filter, list_any}
 use Rattle.std.specs.List.Sorted.{IsPermutation}
-use Rattle.std.proofs.lemmas.Bool.{eqb-true}
+use Rattle.std.proofs.lemmas.Bool.{eqb-true, or_parts}
 use Rattle.std.proofs.lemmas.Bool.Decides.{nat_tests}
 use Rattle.std.proofs.lemmas.List.Sorted.{list_any-IsPermutation}
 use native.Mathlib.Decide.{dec_lt}
@@ -43,16 +43,9 @@ module _ {X : Type 0} (place worker : X → ℕ) (share : ℕ → ℕ) where
           → (list_any strays xs ≡ false → filter (λ (x : X). worker x == one) there ≡ mine)
           → (not g || list_any strays xs) ≡ false
           → filter (λ (x : X). worker x == one) (cond p (x ∷ there) there) ≡ cond w (x ∷ mine) mine
-      by_test true true g at is its rest none = rw is (ap (λ (l : List X). x ∷ l) (rest (later g none)))
-        where
-          later : (g : Bool) → (not g || list_any strays xs) ≡ false → list_any strays xs ≡ false
-          later true e = e
-          later false e = absurd (cc)
-      by_test true false g at is its rest none = rw is (rest (later g none))
-        where
-          later : (g : Bool) → (not g || list_any strays xs) ≡ false → list_any strays xs ≡ false
-          later true e = e
-          later false e = absurd (cc)
+      by_test true true g at is its rest none =
+          rw is (ap (λ (l : List X). x ∷ l) (rest (or_parts (not g) (list_any strays xs) none).1))
+      by_test true false g at is its rest none = rw is (rest (or_parts (not g) (list_any strays xs) none).1)
       by_test false true true at is its rest none =
           absurd (let e = eq-eqb (place x) (share one) (all_there (worker x) (place x) (share one) is its) in cc)
       by_test false false true at is its rest none = rest none

@@ -8,14 +8,11 @@ use Rattle.ms_base.specs.declared.refusal.Refusal.{Refusal}
 use Rattle.ms_base.specs.declared.refusal.Refusal.TheVariants.{NoLoader, NoBlock, OutOfRange, LoaderExists}
 use Rattle.ms_base.specs.Names.{named}
 use Rattle.ms_base.specs.Run.Alone.{OwnLoader, OwnReply}
-use Rattle.ms_base.specs.State.{LoaderState}
 use Rattle.ms_loaders.specs.Loader.{LoaderView, HasWord, LacksWord, LacksName}
 use Rattle.ms_loaders.specs.System.{states_of}
 use Rattle.ms_loaders.proofs.MappedLemmas.{named-mapped}
+use Rattle.ms_loaders.proofs.steps.UnloadLemmas.{state_of}
 use Rattle.ms_run.specs.Own.{own_of, own_in}
-
-abbrev state_of : LoaderView → LoaderState
-state_of loader = loader.state
 
 -- What a loader's own requests can know of it.
 abbrev pub own_view : Option LoaderView → Option OwnLoader

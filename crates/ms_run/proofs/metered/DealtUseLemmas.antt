@@ -4,7 +4,7 @@ use Rattle.std.proofs.Common.{◌≡◌, ◌+◌, ◌<◌, ℕ, Some, None, List
 use Rattle.std.proofs.Common.{get_or, drop}
 use Rattle.std.specs.List.{sum_by}
 use Rattle.std.specs.Map.{values_of}
-use Rattle.std.proofs.lemmas.List.{append_assoc, append-nil, map-append}
+use Rattle.std.proofs.lemmas.List.{append_assoc, append-nil, map-append, nil_from_length}
 use Rattle.std.proofs.lemmas.List.Sums.{sum_by-append, sum_by-cons, sum_by_push}
 use Rattle.ms_base.specs.Names.{named, with_new, without}
 use Rattle.ms_base.proofs.entries.EntryLemmas.{split_at, gap_at, values_split, values_joined}
@@ -16,7 +16,6 @@ use Rattle.ms_shared.specs.SeatView.{SeatState}
 use Rattle.ms_run.specs.declared.share.Share.{Share}
 use Rattle.ms_run.specs.Dealing.{Loaded}
 use Rattle.ms_run.specs.Metering.{meter_of, used_over}
-use Rattle.ms_run.proofs.sharing.DealLemmas.{none_left}
 
 abbrev uses : LoaderView → ℕ
 uses loader = used_by loader.state
@@ -136,4 +135,4 @@ meters_end loaders left all meters first seats shares shares' share its nothing 
     rest : map meter_of shares ≡ drop 1 all
     rest = sym (append-nil (map meter_of shares))
         ∙ ap (λ (l : List MeterSeatState). map meter_of shares ++ l)
-        (sym (none_left meters (its.count ∙ ap length nothing))) ∙ its.meters_are
+        (sym (nil_from_length meters (its.count ∙ ap length nothing))) ∙ its.meters_are

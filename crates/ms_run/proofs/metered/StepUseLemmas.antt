@@ -6,8 +6,7 @@ use Rattle.std.specs.List.{sum_by}
 use Rattle.std.specs.Map.{values_of}
 use Rattle.std.specs.Option.{is_some}
 use Rattle.std.proofs.lemmas.List.Sums.{sum_by-cons}
-use Rattle.ms_base.specs.declared.kind.Space.{Space}
-use Rattle.ms_base.specs.declared.kind.Space.TheVariants.{NonClass, Class}
+use Rattle.std.proofs.lemmas.Option.{same_Some}
 use Rattle.ms_base.specs.declared.step.Step.{Step}
 use Rattle.ms_base.specs.declared.step.Step.TheVariants.{New, Alloc, Calloc, Write, Read, Free, Unload, Purge}
 use Rattle.ms_base.specs.declared.step.Reply.{Reply}
@@ -17,7 +16,7 @@ use Rattle.ms_base.specs.Spaces.{space_at}
 use Rattle.ms_base.specs.State.{LoaderState, Machine, empty_loader}
 use Rattle.ms_base.specs.Good.{IsGood}
 use Rattle.ms_base.specs.Totals.{used_of}
-use Rattle.ms_base.specs.Transition.{Transition, ServesStep, with_freed}
+use Rattle.ms_base.specs.Transition.{Transition, ServesStep}
 use Rattle.ms_base.proofs.entries.LookupLemmas.{named_changed_same, named_new_same}
 use Rattle.ms_loaders.specs.Used.{used_by, used_if}
 use Rattle.ms_loaders.specs.declared.details.Detail.{Detail}
@@ -25,7 +24,8 @@ use Rattle.ms_loaders.proofs.sums.UsedLemmas.{used_fits}
 use Rattle.ms_run.specs.declared.alone.Metered.{Metered}
 use Rattle.ms_run.specs.Counting.{IsCounted, used_around}
 use Rattle.ms_run.specs.Metering.{used_words_of}
-use Rattle.ms_run.proofs.OwnStepLemmas.{refused_leaves, served_others}
+use Rattle.ms_run.proofs.own.OwnStepLemmas.{refused_leaves, served_others}
+use Rattle.ms_run.proofs.TouchLemmas.{freed_used}
 use Rattle.ms_run.proofs.metered.UseLemmas.{amounts_moved}
 
 -- The sums over both spaces are one over loaders.
@@ -43,12 +43,9 @@ sums_are (e ∷ es) = omega (
 )
 
 -- The words in use go from one state to another as those of the loader that the step names do.
-abbrev Moves : Machine → Step → Machine → Type 0
-Moves old step new =
+abbrev UseMoves : Machine → Step → Machine → Type 0
+UseMoves old step new =
     used_words_of new + used_around step old.loaders ≡ used_words_of old + used_around step new.loaders
-
-some_same : {a b : ℕ} → Some a ≡ Some b → a ≡ b
-some_same e = cc
 
 -- One loader changes, comes or goes.
 one_moves : (old new : Machine) (mine : ℕ) → IsGood old → IsGood new
@@ -59,23 +56,18 @@ one_moves old new mine was good others = omega (
   sums_are old.loaders,
   sums_are new.loaders,
   amounts_moved used_if old.loaders new.loaders mine refl was.names good.names
-      (λ name differs. others name (λ e. differs (some_same e))),
+      (λ name differs. others name (λ e. differs (same_Some mine name e))),
 )
 
 -- No loader changes.
-none_moves : (old new : Machine) (step : Step) → new.loaders ≡ old.loaders → Moves old step new
+none_moves : (old new : Machine) (step : Step) → new.loaders ≡ old.loaders → UseMoves old step new
 none_moves old new step same =
     subst (λ (l : List (ℕ × LoaderState)). sum_by (λ (loader : LoaderState). used_of loader.arena) (values_of l)
     + sum_by (λ (loader : LoaderState). used_of loader.class_arena) (values_of l) + used_around step old.loaders
     ≡ used_words_of old + used_around step l) (sym same) refl
 
-freed_uses : (space : Space) (loader : LoaderState) (block : ℕ) (kept : List (ℕ × ℕ))
-    → used_by (with_freed space loader block kept) ≡ used_by loader
-freed_uses NonClass loader block kept = refl
-freed_uses Class loader block kept = refl
-
 served_moves : (old new : Machine) (step : Step) (reply : Reply) → ServesStep old step reply new → IsGood old → IsGood new
-    → Moves old step new
+    → UseMoves old step new
 served_moves old new (New mine kind) Done made was good = omega (
   arith,
   one_moves old new mine was good (served_others old new (New mine kind) Done made),
@@ -101,7 +93,7 @@ served_moves old new (Free mine block) Done made was good = omega (
   one_moves old new mine was good (served_others old new (Free mine block) Done made),
   ap (λ (m : Machine). used_if (named m.loaders mine)) made.after
       ∙ ap used_if (named_changed_same old.loaders mine made.loader _ made.has.loader_is)
-      ∙ freed_uses (space_at made.found.start) made.loader block made.kept
+      ∙ freed_used (space_at made.found.start) made.loader block made.kept
       ∙ ap used_if (sym made.has.loader_is),
 )
 served_moves old new (Unload mine) Done made was good =
@@ -110,7 +102,7 @@ served_moves old new Purge Done made was good = none_moves old new Purge (ap (λ
 served_moves old new _ _ made was good = absurd made
 
 step_moves : (old new : Machine) (step : Step) (reply : Reply) → Transition old step reply new → IsGood old
-    → IsGood new → Moves old step new
+    → IsGood new → UseMoves old step new
 step_moves old new step (Refused refusal) told was good =
     none_moves old new step (refused_leaves old new step refusal told.1)
 step_moves old new step Done told was good = served_moves old new step Done told.0 was good

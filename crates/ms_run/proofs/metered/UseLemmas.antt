@@ -8,6 +8,7 @@ use Rattle.std.specs.List.{sum_by}
 use Rattle.std.specs.Map.{values_of}
 use Rattle.std.proofs.lemmas.Bool.{cases_eq}
 use Rattle.std.proofs.lemmas.List.Sums.{sum_by-cons}
+use Rattle.std.proofs.lemmas.Option.{same_Some}
 use Rattle.ms_base.specs.declared.step.Step.TheVariants.{Unload}
 use Rattle.ms_base.specs.declared.step.Reply.{Reply}
 use Rattle.ms_base.specs.declared.step.Reply.TheVariants.{Ok as Done, At, Value, Refused}
@@ -23,9 +24,6 @@ use Rattle.ms_loaders.specs.Used.{used_at, used_in}
 use Rattle.ms_run.specs.Own.{own_of, own_in}
 use Rattle.ms_run.proofs.TouchLemmas.{named_states}
 use Rattle.ms_loaders.proofs.steps.UnloadLemmas.{state_of}
-
-some_same : {a b : ℕ} → Some a ≡ Some b → a ≡ b
-some_same e = cc
 
 -- The sum of the entries' amounts without one.
 amounts_apart : {X : Type 0} (amount : Option X → ℕ) (es : List (ℕ × X)) (name : ℕ) → amount None ≡ 0
@@ -79,7 +77,7 @@ pub used_moved : (old new : List (ℕ × LoaderView)) (at : Option ℕ) (name : 
     → used_in new + used_at (named old name) ≡ used_in old + used_at (named new name)
 used_moved old new at name names rises rises_too others =
     amounts_moved used_at old new name refl rises rises_too
-    (λ other differs. others other (λ e. differs (some_same (sym names ∙ e))))
+    (λ other differs. others other (λ e. differs (same_Some name other (sym names ∙ e))))
 
 -- The loader that a step names, if it names one, has in use what it had.
 pub used_stays : (old new : List (ℕ × LoaderView)) (at : Option ℕ) → AreNamed old → AreNamed new

@@ -1,28 +1,25 @@
 -- Loaders put together: one by one, and a share's after another's. For `insert_all`, `join` and
 -- `take_apart`.
-use Rattle.std.proofs.Common.{◌≡◌, ℕ, ◌+◌, ◌<◌, true, zero, suc, Some, None, List, [], ◌∷◌, ◌++◌, refl, sym, ap, ◌∙◌}
+use Rattle.std.proofs.Common.{◌≡◌, ℕ, ◌+◌, ◌<◌, zero, suc, Some, None, List, [], ◌∷◌, ◌++◌, refl, sym, ap, ◌∙◌}
 use Rattle.std.proofs.Common.{subst, append-nil, inl, inr, ◌⊎◌, option_map, arith}
 use Rattle.std.specs.Prelude.{slice_get}
 use Rattle.std.specs.Ordering.{nat_cmp}
-use Rattle.std.specs.declared.cmp.Ordering.TheVariants.{Less}
 use Rattle.std.specs.List.{All, AllByRecursion, sum_by}
-use Rattle.std.specs.List.Sorted.{IsPermutation, IsStrictlySortedBy}
-use Rattle.std.specs.Map.{keys_of}
+use Rattle.std.specs.List.Sorted.{IsPermutation}
 use Rattle.std.specs.BTreeMap.{is_at}
 use Rattle.std.proofs.lemmas.Bool.{cases_eq, false_from_ne_true}
-use Rattle.std.proofs.lemmas.Bool.Decides.{nat_tests}
 use Rattle.std.proofs.lemmas.List.Sums.{sum_by-cons, sum_by-append}
 use Rattle.std.proofs.lemmas.List.Elements.{All-append}
 use Rattle.std.proofs.lemmas.List.Sorted.{IsPermutation-refl, IsPermutation-sym, IsPermutation-trans}
 use Rattle.std.proofs.lemmas.List.Sorted.{IsPermutation-append_left, IsPermutation-append_comm, IsPermutation-middle}
 use Rattle.std.proofs.lemmas.List.Sorted.{All-permutation, sum_by-IsPermutation}
-use Rattle.std.proofs.lemmas.Map.Made.{lookup-map_values}
-use Rattle.std.proofs.lemmas.Map.Keys.{sorted_from_strictly_increasing, IsStrictlyIncreasing-from_sorted}
+use Rattle.std.proofs.lemmas.Option.{same_Some}
 use Rattle.ms_base.specs.declared.refusal.Refusal.{Refusal}
 use Rattle.ms_base.specs.declared.refusal.Refusal.TheVariants.{OutOfMemory, LoaderExists}
-use Rattle.ms_base.specs.Names.{AreNamed, named, with_new}
-use Rattle.ms_base.proofs.entries.EntryLemmas.{gap_at, same_name}
-use Rattle.ms_base.proofs.entries.LookupLemmas.{named_new_same, named_new_other}
+use Rattle.ms_base.specs.Names.{AreNamed, named, with_new, without}
+use Rattle.ms_base.proofs.entries.EntryLemmas.{gap_at, rises_without, same_name}
+use Rattle.ms_base.proofs.entries.LookupLemmas.{at_itself, named_new_same, named_new_other}
+use Rattle.ms_base.proofs.events.SeenEntryLemmas.{named_without_same}
 use Rattle.ms_loaders.specs.Loader.{LoaderView}
 use Rattle.ms_loaders.specs.Loaders.{InsertRefused}
 use Rattle.ms_loaders.specs.System.{states_of}
@@ -30,6 +27,7 @@ use Rattle.ms_run.specs.declared.share.Share.{Share}
 use Rattle.ms_run.specs.Shares.{Place, AreApart, IsGathered}
 use Rattle.ms_run.specs.Joined.{HaveOtherNames, IsJoined, AreJoined, IsWantOrUnsettled}
 use Rattle.ms_loaders.proofs.steps.UnloadLemmas.{state_of}
+use Rattle.ms_run.proofs.TouchLemmas.{named_states}
 
 abbrev pub Loaders : Type 0
 Loaders = List (ℕ × LoaderView)
@@ -50,22 +48,18 @@ joined_swapped whole part new joined = record {
 }
 
 -- Names rise: what follows the first has other names.
-above_all : (low : ℕ) (es : Loaders) → AllByRecursion (λ k. nat_cmp low k ≡ Less) (keys_of es) → named es low ≡ None
-above_all low [] all = refl
-above_all low (e ∷ es) all = rw all.0 (above_all low es all.1)
-
 record FirstNamed (name : ℕ) (es : Loaders) : Type 0 where
   none : named es name ≡ None
   rest : AreNamed es
 
-first_named : (name : ℕ) (loader : LoaderView) (es : Loaders)
-    → IsStrictlySortedBy nat_cmp (keys_of ((name, loader) ∷ es)) → FirstNamed name es
-unfolding IsStrictlySortedBy
-first_named name loader es h = record { none = above_all name es h.0; rest = IsStrictlyIncreasing-from_sorted _ h.1 }
-
 first_is : (name : ℕ) (loader : LoaderView) (es : Loaders) → AreNamed ((name, loader) ∷ es) → FirstNamed name es
-first_is name loader es h =
-    first_named name loader es (sorted_from_strictly_increasing (keys_of ((name, loader) ∷ es)) h)
+first_is name loader es h = record {
+  none = subst (λ (l : Loaders). named l name ≡ None) gone (named_without_same ((name, loader) ∷ es) name h);
+  rest = subst AreNamed gone (rises_without ((name, loader) ∷ es) name h);
+}
+  where
+    gone : without ((name, loader) ∷ es) name ≡ es
+    gone = rw (at_itself name) refl
 
 pub rest_named : (part rest : Loaders) (name : ℕ) (loader : LoaderView) → part ≡ (name, loader) ∷ rest → AreNamed part
     → AreNamed rest
@@ -80,11 +74,8 @@ with_it whole name loader unused =
     (subst (λ (l : Loaders). IsPermutation (gap.before ++ (name, loader) ∷ gap.after) ((name, loader) ∷ l)) (sym gap.is)
     (IsPermutation-middle gap.before (name, loader) gap.after))
 
-at_itself : (name : ℕ) (loader : LoaderView) (rest : Loaders) → named ((name, loader) ∷ rest) name ≡ Some loader
-at_itself name loader rest = rw (is_itself name) refl
-  where
-    is_itself : (n : ℕ) → is_at (nat_cmp n) n ≡ true
-    is_itself n = grind (arith, nat_tests)
+found_first : (name : ℕ) (loader : LoaderView) (rest : Loaders) → named ((name, loader) ∷ rest) name ≡ Some loader
+found_first name loader rest = rw (at_itself name) refl
 
 past_first : (name : ℕ) (loader : LoaderView) (rest : Loaders) (other : ℕ) → (name ≡ other → ⊥)
     → named ((name, loader) ∷ rest) other ≡ named rest other
@@ -104,7 +95,7 @@ joined_first whole rest mid new name loader first unused made joined = record {
       (IsPermutation-middle whole (name, loader) rest)));
   others = λ other none. elim (at_or_past other) [
     | inl here ↦
-        absurd (let found = at_itself name loader rest in
+        absurd (let found = found_first name loader rest in
         let none' = subst (λ (n : ℕ). named ((name, loader) ∷ rest) n ≡ None) (sym here) none in cc)
     | inr past ↦ joined.others other (sym (past_it other past) ∙ none) ∙ ap (λ (l : Loaders). named l other) made
         ∙ named_new_other whole name loader other past
@@ -112,7 +103,7 @@ joined_first whole rest mid new name loader first unused made joined = record {
   own = λ other none. elim (at_or_past other) [
     | inl here ↦ subst (λ (n : ℕ). named new n ≡ named ((name, loader) ∷ rest) n) here
         (joined.others name first.none ∙ ap (λ (l : Loaders). named l name) made ∙ named_new_same whole name loader
-        ∙ sym (at_itself name loader rest))
+        ∙ sym (found_first name loader rest))
     | inr past ↦
         joined.own other
         (ap (λ (l : Loaders). named l other) made ∙ named_new_other whole name loader other past ∙ none)
@@ -157,7 +148,7 @@ pub only_want : (whole part rest : Loaders) (name : ℕ) (loader : LoaderView) (
     → InsertRefused whole name refusal → refusal ≡ OutOfMemory
 only_want whole part rest name loader refusal is differ refused = elim (differ name) [
   | inl none ↦ unused refusal none refused
-  | inr none ↦ absurd (let found = ap (λ (l : Loaders). named l name) is ∙ at_itself name loader rest in cc)
+  | inr none ↦ absurd (let found = ap (λ (l : Loaders). named l name) is ∙ found_first name loader rest in cc)
 ]
   where
     unused : (r : Refusal) → named whole name ≡ None → InsertRefused whole name r → r ≡ OutOfMemory
@@ -210,17 +201,11 @@ pub joined_named : (name : ℕ) (old : Loaders) (shares : List Share) (new : Loa
 joined_named name old [] new at own joined there apart none = absurd (cc)
 joined_named name old (share ∷ shares) new zero own joined there apart none =
     joined_none_named name joined.0 shares new joined.2 (λ at one here. apart (suc at) one here (λ e. omega (arith, e)))
-    ∙ joined.1.own name none ∙ ap (λ (s : Share). named s.loaders name) (same_share share own there)
-  where
-    same_share : (a b : Share) → Some a ≡ Some b → a ≡ b
-    same_share a b e = cc
+    ∙ joined.1.own name none ∙ ap (λ (s : Share). named s.loaders name) (same_Some share own there)
 joined_named name old (share ∷ shares) new (suc at) own joined there apart none =
     joined_named name joined.0 shares new at own joined.2 there
     (λ other one here differ. apart (suc other) one here (λ e. differ (omega (arith, e))))
     (joined.1.others name (apart 0 share refl (λ e. omega (arith, e))) ∙ none)
-
-named_state : (loaders : Loaders) (name : ℕ) → named (states_of loaders) name ≡ option_map state_of (named loaders name)
-named_state loaders name = lookup-map_values state_of (is_at (nat_cmp name)) loaders
 
 pub views_gathered : (place : Place) (shares : List Share) (loaders : Loaders) → AreJoined [] shares loaders
     → AreApart place shares → (at : ℕ) (share : Share) (name : ℕ) → slice_get shares at ≡ Some share
@@ -233,9 +218,9 @@ pub all_gathered : (place : Place) (shares : List Share) (loaders : Loaders) →
     → AreApart place shares
     → IsGathered place shares (states_of loaders)
 all_gathered place shares loaders joined apart at share name there goes =
-    named_state loaders name
+    named_states loaders name
     ∙ ap (option_map state_of) (views_gathered place shares loaders joined apart at share name there goes)
-    ∙ sym (named_state share.loaders name)
+    ∙ sym (named_states share.loaders name)
 
 -- No name is in two of the shares that are left, nor in one of these and the loaders so far.
 abbrev pub DifferFrom : Loaders → List Share → Type 0

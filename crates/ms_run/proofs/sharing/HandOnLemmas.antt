@@ -1,34 +1,26 @@
 -- A loader handed on from seat to seat by its two accounts: each seat serves its own loaders before and
 -- after, and no owner is of both. For `hand_on`.
-use Rattle.std.proofs.Common.{◌≡◌, ◌≢◌, ◌≤◌, ◌+◌, ℕ, Bool, true, false, cond, not, ◌||◌, Some, None, List, [], ◌∷◌}
-use Rattle.std.proofs.Common.{◌++◌, map, length, refl, sym, ap, ◌∙◌, subst, ◌⊎◌, inl, inr, ⊎_elim, arith, eq-eqb}
-use Rattle.std.proofs.Common.{ne_eqb, ◌<◌}
-use Rattle.std.specs.Prelude.{◌==◌, IsTrue}
-use Rattle.std.specs.Ordering.{nat_cmp}
-use Rattle.std.specs.declared.cmp.Ordering.TheVariants.{Less}
+use Rattle.std.proofs.Common.{◌≡◌, ◌≢◌, ◌≤◌, ◌+◌, ℕ, true, Some, None, List, [], ◌∷◌, ◌++◌, map, length, refl, sym, ap}
+use Rattle.std.proofs.Common.{◌∙◌, subst, ◌⊎◌, inl, inr, ⊎_elim, arith, ◌<◌, IsTrue}
 use Rattle.std.specs.List.{AllByRecursion}
-use Rattle.std.specs.List.Sorted.{IsStrictlySortedBy}
-use Rattle.std.specs.Map.{keys_of}
-use Rattle.std.specs.BTreeMap.{is_at}
-use Rattle.std.proofs.lemmas.Bool.{eqb-true}
 use Rattle.std.proofs.lemmas.List.{length-append, map-append}
 use Rattle.std.proofs.lemmas.List.Sums.{sum_by-append}
 use Rattle.std.proofs.lemmas.List.Elements.{recursion_from_All, All-from_recursion}
-use Rattle.std.proofs.lemmas.Map.Keys.{sorted_from_strictly_increasing}
+use Rattle.std.proofs.lemmas.Option.{none-some}
 use Rattle.ms_base.specs.declared.kind.Space.{Space}
 use Rattle.ms_base.specs.declared.kind.Space.TheVariants.{NonClass, Class}
 use Rattle.ms_base.specs.declared.span.Chunk.{Chunk}
 use Rattle.ms_base.specs.Committed.{is_among}
 use Rattle.ms_base.specs.Names.{AreNamed, named, with_new, without}
-use Rattle.ms_base.proofs.entries.EntryLemmas.{Split, split_at, Gap, gap_at, same_name, rises_without}
+use Rattle.ms_base.proofs.entries.EntryLemmas.{Split, split_at, Gap, gap_at, rises_without}
 use Rattle.ms_base.proofs.entries.LookupLemmas.{named_new_same, named_new_other, named_without_other}
-use Rattle.ms_base.proofs.runs.ApartLemmas.{list_any-with}
+use Rattle.ms_base.proofs.events.SeenEntryLemmas.{named_without_same}
 use Rattle.ms_pool.specs.Account.{AccountState}
 use Rattle.ms_loaders.specs.Loader.{LoaderView, account_in}
 use Rattle.ms_loaders.specs.System.{accounts_of, owners_of}
 use Rattle.ms_loaders.proofs.MappedLemmas.{without_missing}
 use Rattle.ms_shared.specs.declared.lock_rule.SeatView.{SeatView}
-use Rattle.ms_shared.specs.Entries.{Entry, Has, only, all_but}
+use Rattle.ms_shared.specs.Entries.{Has, only, all_but}
 use Rattle.ms_shared.specs.SeatView.{SeatState, ServesBy, opened_by, without_account, with_account}
 use Rattle.ms_shared.proofs.HandLemmas.{handed_serves, left_serves, taker_serves}
 use Rattle.ms_run.specs.Dealing.{Loaded, AreBeside, IsHanded}
@@ -37,79 +29,8 @@ use Rattle.ms_loaders.proofs.steps.ServedLemmas.{accounts_split, all_joined, all
 use Rattle.ms_loaders.proofs.steps.ServedLemmas.{served_still, times, times_split}
 use Rattle.ms_loaders.proofs.sums.FitLemmas.{owner_of}
 use Rattle.ms_loaders.proofs.steps.UnloadLemmas.{both_all}
-
--- Accounts that a seat serves still.
-each_by : (old new : SeatView) → ((other : AccountState) → ServesBy old other → ServesBy new other)
-    → (accounts : List AccountState) → AllByRecursion (ServesBy old) accounts → AllByRecursion (ServesBy new) accounts
-each_by old new each [] all = tt
-each_by old new each (account ∷ accounts) all = (each account all.0, each_by old new each accounts all.1)
-
-halves : (P : AccountState → Type 0) (b a : List AccountState) → AllByRecursion P (b ++ a)
-    → AllByRecursion P b × AllByRecursion P a
-halves P [] a all = (tt, all)
-halves P (x ∷ b) a all = let rest = halves P b a all.1 in ((all.0, rest.0), rest.1)
-
--- Entries of others, of one owner, and of two lists.
-others_step : (who : ℕ) (x : Entry) (xs : List Entry) (owner : ℕ) (chunks : List Chunk)
-    → (Has (all_but who xs) owner chunks → Has xs owner chunks × (owner ≢ who))
-    → (b : Bool) → (x.0 == who) ≡ b → Has (cond (not b) (x ∷ all_but who xs) (all_but who xs)) owner chunks
-    → Has (x ∷ xs) owner chunks × (owner ≢ who)
-others_step who x xs owner chunks later true same there = (inr (later there).0, (later there).1)
-others_step who x xs owner chunks later false past (inl is) =
-    (inl is, λ same. apart_of (sym past ∙ eq-eqb x.0 who (ap (λ (entry : Entry). entry.0) is ∙ same)))
-  where
-    apart_of : false ≡ true → ⊥
-    apart_of wrong = absurd (cc)
-others_step who x xs owner chunks later false past (inr there) = (inr (later there).0, (later there).1)
-
-of_others : (who : ℕ) (xs : List Entry) (owner : ℕ) (chunks : List Chunk) → Has (all_but who xs) owner chunks
-    → Has xs owner chunks × (owner ≢ who)
-of_others who [] owner chunks here = absurd here
-of_others who (x ∷ xs) owner chunks here =
-    others_step who x xs owner chunks (λ there. of_others who xs owner chunks there) (x.0 == who) refl here
-
-one_step : (who : ℕ) (x : Entry) (xs : List Entry) (owner : ℕ) (chunks : List Chunk)
-    → (Has (only who xs) owner chunks → owner ≡ who)
-    → (b : Bool) → (x.0 == who) ≡ b → Has (cond b (x ∷ only who xs) (only who xs)) owner chunks → owner ≡ who
-one_step who x xs owner chunks later true same (inl is) =
-    sym (ap (λ (entry : Entry). entry.0) is) ∙ eqb-true x.0 who same
-one_step who x xs owner chunks later true same (inr there) = later there
-one_step who x xs owner chunks later false past there = later there
-
-of_one : (who : ℕ) (xs : List Entry) (owner : ℕ) (chunks : List Chunk) → Has (only who xs) owner chunks → owner ≡ who
-of_one who [] owner chunks here = absurd here
-of_one who (x ∷ xs) owner chunks here =
-    one_step who x xs owner chunks (λ there. of_one who xs owner chunks there) (x.0 == who) refl here
-
-of_either : (xs ys : List Entry) (owner : ℕ) (chunks : List Chunk) → Has (xs ++ ys) owner chunks
-    → Has xs owner chunks ⊎ Has ys owner chunks
-of_either [] ys owner chunks here = inr here
-of_either (x ∷ xs) ys owner chunks (inl is) = inl (inl is)
-of_either (x ∷ xs) ys owner chunks (inr there) =
-    ⊎_elim (λ h. inl (inr h)) (λ h. inr h) (of_either xs ys owner chunks there)
-
--- A number among others, with one more of them and with one less.
-or_false : (b c : Bool) → (b || c) ≡ true → b ≡ false → c ≡ true
-or_false true c either none = absurd (cc)
-or_false false c either none = either
-
-or_right : (b : Bool) {c : Bool} → c ≡ true → (b || c) ≡ true
-or_right true e = refl
-or_right false e = e
-
-without_it : (b a : List ℕ) (gone number : ℕ) → number ≢ gone → is_among (b ++ gone ∷ a) number ≡ true
-    → is_among (b ++ a) number ≡ true
-without_it b a gone number differs there =
-    or_false (gone == number) (is_among (b ++ a) number)
-    (sym (list_any-with (λ other. other == number) b gone a) ∙ there)
-    (ne_eqb gone number (λ same. differs (sym same)))
-
-with_it : (b a : List ℕ) (more number : ℕ) → is_among (b ++ a) number ≡ true → is_among (b ++ more ∷ a) number ≡ true
-with_it b a more number there = list_any-with (λ other. other == number) b more a ∙ or_right (more == number) there
-
-it_itself : (b a : List ℕ) (number : ℕ) → is_among (b ++ number ∷ a) number ≡ true
-it_itself b a number = list_any-with (λ other. other == number) b number a
-    ∙ ap (λ t. t || is_among (b ++ a) number) (eq-eqb number number refl)
+use Rattle.ms_run.proofs.lifetimes.LifetimeLemmas.{all_served, has_either, without_one}
+use Rattle.ms_run.proofs.sharing.HandedEntryLemmas.{halves, it_itself, of_one, of_others, with_it}
 
 module _ (name : ℕ) (v : LoaderView) (loaders others : Loaded) (from to : SeatView)
     (found : named loaders name ≡ Some v) (its : AreBeside from loaders to others) where
@@ -201,8 +122,8 @@ module _ (name : ℕ) (v : LoaderView) (loaders others : Loaded) (from to : Seat
       let one = of_others v.owner from.served owner chunks second.0 in
       ⊎_elim (λ none. inl none)
       (λ among. inr (ap (λ (l : List ℕ). is_among l owner) left_owners
-      ∙ without_it (owners_of split.before) (owners_of split.after) v.class_owner owner second.1
-      (without_it (owners_of split.before) (v.class_owner ∷ owners_of split.after) v.owner owner one.1
+      ∙ without_one (owners_of split.before) (owners_of split.after) v.class_owner owner second.1
+      (without_one (owners_of split.before) (v.class_owner ∷ owners_of split.after) v.owner owner one.1
       (ap (λ (l : List ℕ). is_among l owner) (sym owners_are) ∙ among))))
       (its.manned.no_other owner chunks one.0)
 
@@ -269,13 +190,13 @@ module _ (name : ℕ) (v : LoaderView) (loaders others : Loaded) (from to : Seat
         (recursion_from_All (ServesBy to) (accounts_of others) its.to_manned.served)) in
         all_joined (ServesBy most) (accounts_of gap.before) (accounts_of gap.after) (account_in NonClass v)
         (account_in Class v)
-        (each_by to most kept (accounts_of gap.before) both.0)
+        (all_served to most kept (accounts_of gap.before) both.0)
         (taker_serves (without_account v.owner NonClass from) (with_account v.owner NonClass from to) v.class_owner
         Class (account_in NonClass v)
         (handed_serves from to (account_in NonClass v) serves_first))
         (handed_serves (without_account v.owner NonClass from) (with_account v.owner NonClass from to)
         (account_in Class v) serves_second)
-        (each_by to most kept (accounts_of gap.after) both.1)
+        (all_served to most kept (accounts_of gap.after) both.1)
 
     made_no_other : (owner : ℕ) (chunks : List Chunk)
         → Has ((to.served ++ only v.owner from.served) ++ only v.class_owner (all_but v.owner from.served)) owner chunks
@@ -293,13 +214,13 @@ module _ (name : ℕ) (v : LoaderView) (loaders others : Loaded) (from to : Seat
         ∙ subst (λ (n : ℕ). is_among (owners_of gap.before ++ v.owner ∷ v.class_owner ∷ owners_of gap.after) n ≡ true)
         (sym (of_one v.owner from.served owner chunks one))
         (it_itself (owners_of gap.before) (v.class_owner ∷ owners_of gap.after) v.owner)))
-        (of_either to.served (only v.owner from.served) owner chunks front))
+        (has_either to.served (only v.owner from.served) owner chunks front))
         (λ one. inr (ap (λ (l : List ℕ). is_among l owner) made_owners
         ∙ subst (λ (n : ℕ). is_among (owners_of gap.before ++ v.owner ∷ v.class_owner ∷ owners_of gap.after) n ≡ true)
         (sym (of_one v.class_owner (all_but v.owner from.served) owner chunks one))
         (with_it (owners_of gap.before) (v.class_owner ∷ owners_of gap.after) v.owner v.class_owner
         (it_itself (owners_of gap.before) (owners_of gap.after) v.class_owner))))
-        (of_either (to.served ++ only v.owner from.served) (only v.class_owner (all_but v.owner from.served)) owner
+        (has_either (to.served ++ only v.owner from.served) (only v.class_owner (all_but v.owner from.served)) owner
         chunks here)
 
     made_opened : (space : Space) → opened_by most space ≡ length (with_new others name v)
@@ -354,36 +275,13 @@ beside_after name v loaders others after others_after from to from_end to_end fo
     (handed name v loaders others from.knows to.knows found its none)
 
 -- What has a name then.
-none_above : {X : Type 0} (low : ℕ) (es : List (ℕ × X)) → AllByRecursion (λ k. nat_cmp low k ≡ Less) (keys_of es)
-    → named es low ≡ None
-none_above low [] all = refl
-none_above low (e ∷ es) all = rw all.0 (none_above low es all.1)
-
-sorted_gone : {X : Type 0} (es : List (ℕ × X)) (name : ℕ) → IsStrictlySortedBy nat_cmp (keys_of es)
-    → named (without es name) name ≡ None
-unfolding IsStrictlySortedBy
-sorted_gone [] name h = refl
-sorted_gone {X} (e ∷ es) name h =
-    elim (is_at (nat_cmp name) e.0) as (λ b. is_at (nat_cmp name) e.0 ≡ b
-    → named (cond b es (e ∷ without es name)) name ≡ None) [
-      | true ↦ λ here. none_above name es
-          (subst (λ (n : ℕ). AllByRecursion (λ k. nat_cmp n k ≡ Less) (keys_of es)) (same_name name e.0 here) h.0)
-      | false ↦ λ past. rw past (sorted_gone es name h.1)
-    ] refl
-
-pub named_gone : {X : Type 0} (es : List (ℕ × X)) (name : ℕ) → AreNamed es → named (without es name) name ≡ None
-named_gone es name h = sorted_gone es name (sorted_from_strictly_increasing (keys_of es) h)
-
-some_is : {X : Type 0} {x : X} → Some x ≡ None → ⊥
-some_is wrong = absurd (cc)
-
 pub handed_names : (name : ℕ) (v : LoaderView) (loaders others after others_after : Loaded) → AreNamed loaders
     → named loaders name ≡ Some v
     → after ≡ without loaders name → others_after ≡ with_new others name v
     → IsHanded name loaders others after others_after
 handed_names name v loaders others after others_after names found left made = rw (left, made) (record {
-  gone = named_gone loaders name names;
-  there = inl ((λ none. some_is (sym found ∙ none)), named_new_same others name v ∙ sym found);
+  gone = named_without_same loaders name names;
+  there = inl ((λ none. none-some v (sym none ∙ found)), named_new_same others name v ∙ sym found);
   stay = λ other differ. (named_without_other loaders name other differ, named_new_other others name v other differ);
 })
 

@@ -1,11 +1,10 @@
 -- Loaders that stand by: which names a share's tasks have, and that places which differ only for other
 -- names deal and merge alike. For dealing.rt and phase.rt.
-use Rattle.std.proofs.Common.{◌≡◌, ◌≢◌, ◌≤◌, ◌<◌, ◌+◌, ℕ, Bool, true, false, cond, ◌||◌, ◌&&◌, Option, Some}
-use Rattle.std.proofs.Common.{None, List, [], ◌∷◌, ◌++◌, length, refl, sym, ap, ◌∙◌, subst, arith, eq-eqb, ne_eqb}
-use Rattle.std.proofs.Common.{take, get_or}
+use Rattle.std.proofs.Common.{◌≡◌, ◌≢◌, ◌≤◌, ◌<◌, ◌+◌, ℕ, Bool, true, false, cond, ◌||◌, ◌&&◌, Option, Some, None, List}
+use Rattle.std.proofs.Common.{[], ◌∷◌, ◌++◌, length, refl, sym, ap, ◌∙◌, subst, arith, eq-eqb, ne_eqb, take, get_or}
 use Rattle.std.specs.Prelude.{◌==◌}
 use Rattle.std.specs.List.{AllByRecursion, filter}
-use Rattle.std.proofs.lemmas.Bool.{eqb-true}
+use Rattle.std.proofs.lemmas.Bool.{eqb-true, or_right}
 use Rattle.std.proofs.lemmas.List.{take_more}
 use Rattle.ms_base.specs.declared.step.Step.{Step}
 use Rattle.ms_base.specs.Committed.{is_among}
@@ -74,21 +73,12 @@ among_at place at (x ∷ xs) name =
         (λ e. ap (λ (k : ℕ). place (Some k) == at) (sym (eqb-true n name e)) ∙ (rw is at stays)))
 
 -- What went over by the names of a share's tasks went over by its place.
-both : (c p : Bool) → c ≡ true → p ≡ true → (c && p) ≡ true
-both true true is goes = refl
-both true false is goes = absurd (cc)
-both false p is goes = absurd (cc)
-
-not_both : (c p : Bool) → (c ≡ true → p ≡ false) → (c && p) ≡ false
-not_both true p not = not refl
-not_both false p not = refl
-
 goes_there : (c : Bool) (p at : ℕ) → 1 ≤ at → cond c p 0 ≡ at → (c && (p == at)) ≡ true
-goes_there true p at some is = both true (p == at) refl (eq-eqb p at is)
+goes_there true p at some is = eq-eqb p at is
 goes_there false p at some is = absurd (omega (arith, some, is))
 
 stays_away : (c : Bool) (p at : ℕ) → cond c p 0 ≢ at → (c && (p == at)) ≡ false
-stays_away true p at differs = not_both true (p == at) (λ e. ne_eqb p at differs)
+stays_away true p at differs = ne_eqb p at differs
 stays_away false p at differs = refl
 
 pub handed_at : (place : Place) (lines : List Line) (at : ℕ) (tasks : List Task) (left left' others : Loaded) → 1 ≤ at
@@ -119,11 +109,7 @@ IsIn names all = (name : ℕ) → is_among names name ≡ true → is_among all 
 
 first_in : (o : Option ℕ) (names all : List ℕ) → IsIn (name_with o names) all → IsIn names all
 first_in None names all sub = sub
-first_in (Some n) names all sub = λ name e. sub name (later (n == name) (is_among names name) e)
-  where
-    later : (b c : Bool) → c ≡ true → (b || c) ≡ true
-    later true c e = refl
-    later false c e = e
+first_in (Some n) names all sub = λ name e. sub name (or_right (n == name) (is_among names name) e)
 
 kept_place : (place : Place) (o : Option ℕ) (names all : List ℕ) → IsIn (name_with o names) all
     → placed_by place all o ≡ place o

@@ -1,6 +1,6 @@
 -- The work on a share, task by task: for working.rt.
 use Rattle.std.proofs.Common.{◌≡◌, ◌≢◌, ℕ, ◌+◌, ◌<◌, ◌≤◌, ◌⊎◌, inl, inr, Bool, true, false, Option, Some, None, List}
-use Rattle.std.proofs.Common.{[], ◌∷◌, ◌++◌, map, length, get_or, Vec, Global, vec_len, vec_capacity, option_map, refl}
+use Rattle.std.proofs.Common.{[], ◌∷◌, ◌++◌, map, length, get_or, Vec, Global, vec_len, vec_capacity, refl}
 use Rattle.std.proofs.Common.{sym, ap, ◌∙◌, subst, arith}
 use Rattle.std.proofs.lemmas.Bool.{eq-eqb, ne_eqb}
 use Rattle.std.proofs.lemmas.List.{map-append, append-nil}
@@ -18,8 +18,7 @@ use Rattle.ms_loaders.specs.Loader.{LoaderView}
 use Rattle.ms_loaders.specs.System.{states_of}
 use Rattle.ms_loaders.specs.Used.{used_in}
 use Rattle.ms_run.proofs.metered.MeterMoveLemmas.{moved_none, moved_then}
-use Rattle.ms_run.proofs.TouchLemmas.{named_states}
-use Rattle.ms_loaders.proofs.steps.UnloadLemmas.{state_of}
+use Rattle.ms_run.proofs.TouchLemmas.{same_own}
 use Rattle.ms_shared.specs.MeterRule.{MeterSeatState}
 use Rattle.ms_shared.specs.SeatView.{SeatState}
 use Rattle.ms_run.specs.Acts.{HasMade, Makes, Touches, HasActed}
@@ -27,7 +26,7 @@ use Rattle.ms_run.proofs.ActLemmas.{acted_none, acted_more}
 use Rattle.ms_run.specs.Answering.{IsAnswered}
 use Rattle.ms_run.specs.Manned.{IsManned}
 use Rattle.ms_run.specs.Moved.{IsMoved}
-use Rattle.ms_run.specs.Own.{Said, own_said, own_of, own_in, OwnRun, ArePurged}
+use Rattle.ms_run.specs.Own.{Said, own_said, own_in, OwnRun, ArePurged}
 use Rattle.ms_run.specs.Shares.{said_in, IsWorked}
 use Rattle.ms_run.specs.declared.share.Task.{Task}
 use Rattle.ms_run.specs.declared.share.Share.{Share}
@@ -83,27 +82,20 @@ abbrev TellsOwn : List (ℕ × LoaderView) → Step → Reply → List (ℕ × L
 TellsOwn mid step reply end = (name : ℕ) → loader_of step ≡ Some name
     → (refused : Bool) × OwnReply (own_in (states_of mid) name) step refused reply (own_in (states_of end) name)
 
-abbrev LeavesOthers : List (ℕ × LoaderView) → Step → List (ℕ × LoaderView) → Type 0
-LeavesOthers mid step end = (name : ℕ) → loader_of step ≢ Some name → named end name ≡ named mid name
-
-same_own : (mid end : List (ℕ × LoaderView)) (name : ℕ) → named end name ≡ named mid name
-    → own_in (states_of end) name ≡ own_in (states_of mid) name
-same_own mid end name same =
-    ap own_of (named_states end name ∙ ap (option_map state_of) same ∙ sym (named_states mid name))
-
-abbrev is_of : ℕ → Said → Bool
-is_of name s = is_name name (loader_of s.0)
+abbrev is_said_of : ℕ → Said → Bool
+is_said_of name s = is_name name (loader_of s.0)
 
 own_more : (start mid end : List (ℕ × LoaderView)) (said : List Said) (step : Step) (reply : Reply)
-    → AreOwn start said mid → TellsOwn mid step reply end → LeavesOthers mid step end
+    → AreOwn start said mid → TellsOwn mid step reply end
+    → ((name : ℕ) → loader_of step ≢ Some name → named end name ≡ named mid name)
     → AreOwn start (said ++ (step, reply) ∷ []) end
 own_more start mid end said step reply run own others name =
-    rw (filter-append (is_of name) said ((step, reply) ∷ [])) (elim (by_name name (loader_of step)) [
+    rw (filter-append (is_said_of name) said ((step, reply) ∷ [])) (elim (by_name name (loader_of step)) [
       | inl its ↦
           rw its.1 (run_more (own_in (states_of start) name) (own_said name said) (own_in (states_of mid) name)
           (step, reply) (own_in (states_of end) name) (run name) (own name its.0))
       | inr other ↦
-          rw other.1 (rw (append-nil (own_said name said), same_own mid end name (others name other.0)) (run name))
+          rw other.1 (rw (append-nil (own_said name said), same_own end mid name (others name other.0)) (run name))
     ])
 
 -- One task more.

@@ -1,5 +1,5 @@
 -- Seven places are two spaces and the name's column.
-use Rattle.std.proofs.Common.{◌≡◌, ℕ, List, ◌++◌, ◌∙◌, ap, codes, decimal}
+use Rattle.std.proofs.Common.{ℕ, List, ◌++◌, ◌∙◌, ap, codes, decimal}
 use Rattle.ms_report.specs.Layout.{right_in}
 use Rattle.ms_report.proofs.ColumnLemmas.{two_more_places}
 use Rattle.ms_report.proofs.sections.put_name.Goals as goal

@@ -2,7 +2,8 @@ use Rattle.std.proofs.Common.{sym, subst, arith}
 use Rattle.ms_base.specs.State.{empty_machine, limits_of}
 use Rattle.ms_base.specs.Good.{IsGood}
 use Rattle.ms_run.proofs.AloneLemmas.{begins}
-use Rattle.ms_run.proofs.ReplayLemmas.{good_when_empty, used_none}
+use Rattle.ms_run.proofs.replays.EmptyMachineLemmas.{good_when_empty}
+use Rattle.ms_run.proofs.replays.ReplayLemmas.{used_none}
 use Rattle.ms_run.proofs.alone.begin_run.Goals as goal
 
 pub begin-peaks-requires : goal.begin-peaks-requires

@@ -2,7 +2,7 @@ use Rattle.std.proofs.Common.{◌∙◌, ap, refl, Some, sym, arith, Vec, Global
 use Rattle.std.proofs.lemmas.Option.{slice_get-get_or}
 use Rattle.ms_run.specs.declared.share.Task.{Task}
 use Rattle.ms_run.specs.Turn.{place_in}
-use Rattle.ms_run.proofs.sharing.DealLemmas.{one_added, none_added}
+use Rattle.ms_run.proofs.sharing.ListingLemmas.{one_added, none_added}
 use Rattle.ms_run.proofs.dealing.add_task.Goals as goal
 
 pub returns-in_default : goal.returns-in_default

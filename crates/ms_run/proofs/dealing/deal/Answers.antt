@@ -5,7 +5,8 @@ use Rattle.ms_run.specs.Metering.{unmoved}
 use Rattle.ms_run.specs.Turn.{place_in}
 use Rattle.ms_run.specs.Shares.{AreWithin, place_for}
 use Rattle.ms_run.proofs.sharing.StandByLemmas.{within_still}
-use Rattle.ms_run.proofs.sharing.DealLemmas.{seats_are, seats_count, are_dealt}
+use Rattle.ms_run.proofs.sharing.SeatsLemmas.{seats_are, seats_count}
+use Rattle.ms_run.proofs.sharing.DealLemmas.{are_dealt}
 use Rattle.ms_run.proofs.dealing.deal.Goals as goal
 
 pub deal_to-requires-clause-seats : goal.deal_to-requires-clause-seats

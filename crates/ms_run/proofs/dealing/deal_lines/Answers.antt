@@ -3,7 +3,7 @@ use Rattle.std.proofs.Math.Seq.{take-length}
 use Rattle.ms_trace.specs.declared.trace.Line.{Line}
 use Rattle.ms_run.specs.Turn.{place_in}
 use Rattle.ms_run.specs.Dealing.{AreListed}
-use Rattle.ms_run.proofs.sharing.DealLemmas.{listed_none, listed_more}
+use Rattle.ms_run.proofs.sharing.ListingLemmas.{listed_none, listed_more}
 use Rattle.ms_run.proofs.dealing.deal_lines.Goals as goal
 
 pub loop-line-init : goal.loop-line-init

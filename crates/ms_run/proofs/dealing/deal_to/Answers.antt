@@ -1,11 +1,13 @@
 use Rattle.std.proofs.Common.{◌+◌, ◌∙◌, sym, ap, arith, vec_len, length, List, inl, inr, refl}
 use Rattle.std.proofs.lemmas.Result.{IfOk-weaker}
+use Rattle.std.proofs.lemmas.List.{nil_from_length}
 use Rattle.ms_shared.specs.SeatView.{SeatState}
 use Rattle.ms_run.specs.Turn.{place_in}
 use Rattle.ms_run.specs.Shares.{place_for}
 use Rattle.ms_run.proofs.sharing.StandByLemmas.{handed_at, same_tasks}
-use Rattle.ms_run.proofs.sharing.DealLemmas.{dealing_starts, dealing_on, dealing_ends, next_free, beside_none, none_left}
-use Rattle.ms_run.proofs.sharing.DealLemmas.{left_starts, left_more}
+use Rattle.ms_run.proofs.sharing.DealLemmas.{dealing_starts, dealing_on, dealing_ends, next_free}
+use Rattle.ms_run.proofs.sharing.SeatsLemmas.{beside_none}
+use Rattle.ms_run.proofs.sharing.ListingLemmas.{left_starts, left_more}
 use Rattle.ms_run.proofs.metered.DealtUseLemmas.{shared_starts, shared_on, used_ends, meters_end}
 use Rattle.ms_run.proofs.dealing.deal_to.Goals as goal
 
@@ -97,7 +99,7 @@ returns-clause-dealt c = IfOk-weaker c.put_first.result _ _ (λ all is.
     (vec_len c.args.seats) c.args.lines.now c.args.loaders
     c.loop-seat.first.seat c.loop-seat.first.loaders
     c.loop-seat.seat-iterator.rest.items c.loop-seat.shares.items _ c.in_ok-share-2.share
-    (none_left c.loop-seat.seat-iterator.rest.items
+    (nil_from_length c.loop-seat.seat-iterator.rest.items
     (sym c.loop-seat.seat-iterator.rest.ok.0 ∙ c.in-None.ensures.steps.0))
     c.loop-seat.invariant.0
     (record {
@@ -141,7 +143,7 @@ returns-clause-meters c = IfOk-weaker c.put_first.result _ _ (λ all is.
     meters_end c.args.loaders c.loop-seat.first.loaders c.args.meters.items _ c.remove-first_meter.result
     c.loop-seat.seat-iterator.rest.items c.loop-seat.shares.items _ c.in_ok-share-2.share
     c.loop-seat.invariant.4
-    (none_left c.loop-seat.seat-iterator.rest.items
+    (nil_from_length c.loop-seat.seat-iterator.rest.items
     (sym c.loop-seat.seat-iterator.rest.ok.0 ∙ c.in-None.ensures.steps.0))
     (omega (
       arith,

@@ -1,7 +1,8 @@
 use Rattle.std.proofs.Common.{◌≡◌, ◌≤◌, drop, vec_len, vec_capacity}
 use Rattle.ms_run.specs.Turn.{place_in}
 use Rattle.ms_run.specs.Shares.{place_for}
-use Rattle.ms_run.proofs.sharing.DealLemmas.{IsDealing, AreLeft}
+use Rattle.ms_run.proofs.sharing.DealLemmas.{IsDealing}
+use Rattle.ms_run.proofs.sharing.ListingLemmas.{AreLeft}
 use Rattle.ms_run.proofs.metered.DealtUseLemmas.{IsShared}
 use Rattle.ms_run.proofs.dealing.deal_to.Given as goal
 

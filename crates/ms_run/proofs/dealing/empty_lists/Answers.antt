@@ -1,5 +1,5 @@
 use Rattle.std.proofs.Common.{arith}
-use Rattle.ms_run.proofs.sharing.DealLemmas.{empty_first, empty_more}
+use Rattle.ms_run.proofs.sharing.ListingLemmas.{empty_first, empty_more}
 use Rattle.ms_run.proofs.dealing.empty_lists.Goals as goal
 
 pub loop-init : goal.loop-init

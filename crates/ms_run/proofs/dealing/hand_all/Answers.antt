@@ -1,6 +1,8 @@
 use Rattle.std.proofs.Common.{◌∙◌, sym, subst, refl}
+use Rattle.std.proofs.lemmas.List.{nil_from_length}
 use Rattle.ms_run.specs.Shares.{names_in}
-use Rattle.ms_run.proofs.sharing.DealLemmas.{IsHanding, handing_starts, handing_on, handing_ends, none_left, same_then}
+use Rattle.ms_run.proofs.sharing.HandingLemmas.{IsHanding, handing_starts, handing_on, handing_ends}
+use Rattle.ms_run.proofs.sharing.DealLemmas.{same_then}
 use Rattle.ms_run.proofs.dealing.hand_all.Goals as goal
 
 pub loop-name-init : goal.loop-name-init
@@ -39,7 +41,7 @@ returns-clause-handed c =
     c.loop-name.to.loaders
     (subst (IsHanding (names_in c.args.tasks.now) c.args.from.now.loaders c.loop-name.from.loaders
     c.loop-name.to.loaders)
-    (none_left c.loop-name.name-iterator.rest.items
+    (nil_from_length c.loop-name.name-iterator.rest.items
     (sym c.loop-name.name-iterator.rest.ok.0 ∙ c.in-None.ensures.steps.0)) c.loop-name.invariant.1)
 
 pub returns-clause-used : goal.returns-clause-used

@@ -2,7 +2,7 @@ use Rattle.std.proofs.Common.{◌≡◌, ◌+◌}
 use Rattle.ms_loaders.specs.Used.{used_in}
 use Rattle.ms_run.specs.Dealing.{AreCrews, IsSameSeat}
 use Rattle.ms_run.specs.Shares.{names_in}
-use Rattle.ms_run.proofs.sharing.DealLemmas.{IsHanding}
+use Rattle.ms_run.proofs.sharing.HandingLemmas.{IsHanding}
 use Rattle.ms_run.proofs.dealing.hand_all.Given as goal
 
 abbrev pub invariant-loop-name : goal.invariant-loop-name

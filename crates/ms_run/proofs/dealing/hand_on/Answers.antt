@@ -19,11 +19,13 @@ returns-in_default-clause-handed c =
 
 pub hand_accounts-requires-clause-served : goal.hand_accounts-requires-clause-served
 hand_accounts-requires-clause-served c =
-    serves_first c.args.name c.in-Some.loader _ c.args.to.now.loaders _ c.args.to.now.seat.knows (sym c.remove.ensures.found ∙ c.in-Some.is) c.requires.crews.beside
+    serves_first c.args.name c.in-Some.loader _ c.args.to.now.loaders _ c.args.to.now.seat.knows
+    (sym c.remove.ensures.found ∙ c.in-Some.is) c.requires.crews.beside
 
 pub hand_accounts-requires-clause-counted : goal.hand_accounts-requires-clause-counted
 hand_accounts-requires-clause-counted c =
-    counts_first c.args.name c.in-Some.loader _ c.args.to.now.loaders _ c.args.to.now.seat.knows (sym c.remove.ensures.found ∙ c.in-Some.is) c.requires.crews.beside
+    counts_first c.args.name c.in-Some.loader _ c.args.to.now.loaders _ c.args.to.now.seat.knows
+    (sym c.remove.ensures.found ∙ c.in-Some.is) c.requires.crews.beside
 
 pub hand_accounts-requires-clause-class_served : goal.hand_accounts-requires-clause-class_served
 hand_accounts-requires-clause-class_served c =

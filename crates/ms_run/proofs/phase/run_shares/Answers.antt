@@ -7,8 +7,8 @@ use Rattle.ms_loaders.specs.System.{machine_of, AreTogether}
 use Rattle.ms_run.specs.Turn.{place_in, worker_in}
 use Rattle.ms_run.specs.Shares.{place_for}
 use Rattle.ms_run.proofs.sharing.StandByLemmas.{same_tasks}
-use Rattle.ms_run.proofs.PhaseLemmas.{own_seats, all_manned, same_count, all_answered, still_apart, ended}
-use Rattle.ms_run.proofs.PhaseLemmas.{phase_added}
+use Rattle.ms_run.proofs.WorkedLemmas.{own_seats, all_manned, same_count, all_answered, still_apart}
+use Rattle.ms_run.proofs.PhaseLemmas.{ended, phase_added}
 use Rattle.ms_run.proofs.DetailLemmas.{said_detailed}
 use Rattle.ms_run.proofs.metered.MeterSumLemmas.{ready_for, own_meters, used_machine, used_after}
 use Rattle.ms_run.proofs.phase.run_shares.Goals as goal

@@ -1,6 +1,7 @@
 use Rattle.std.proofs.Common.{arith, subst, sym}
 use Rattle.ms_base.specs.Good.{IsGood}
-use Rattle.ms_run.proofs.ReplayLemmas.{phases_start, steps_there, stops_next, phases_more, phases_next, phases_end}
+use Rattle.ms_run.proofs.replays.ReplayLemmas.{phases_start, steps_there, stops_next, phases_more, phases_next}
+use Rattle.ms_run.proofs.replays.ReplayLemmas.{phases_end}
 use Rattle.ms_run.proofs.DetailLemmas.{none_detailed}
 use Rattle.ms_run.proofs.replaying.answer_phases.Goals as goal
 

@@ -3,7 +3,7 @@ use Rattle.std.specs.List.{All}
 use Rattle.ms_base.specs.State.{empty_machine, limits_of}
 use Rattle.ms_run.specs.Metering.{used_words_of}
 use Rattle.ms_run.specs.Replay.{AreKept, IsDetailed}
-use Rattle.ms_run.proofs.ReplayLemmas.{PhasesFirst}
+use Rattle.ms_run.proofs.replays.ReplayLemmas.{PhasesFirst}
 use Rattle.ms_run.proofs.replaying.answer_phases.Given as goal
 
 -- the first lines are answered phase by phase, by turns, the running amount is the words in use, peaks are kept for

@@ -1,5 +1,5 @@
 use Rattle.std.proofs.Common.{arith}
-use Rattle.ms_run.proofs.ReplayLemmas.{alone_replays}
+use Rattle.ms_run.proofs.replays.ReplayLemmas.{alone_replays}
 use Rattle.ms_run.proofs.replaying.replay.Goals as goal
 
 pub returns-clause-own : goal.returns-clause-own

@@ -1,6 +1,6 @@
 use Rattle.std.proofs.Common.{◌≡◌, ℕ, length, subst, take, arith}
 use Rattle.ms_run.specs.Shares.{AreSteps}
-use Rattle.ms_run.proofs.ReplayLemmas.{steps_more, stops_there, stops_past}
+use Rattle.ms_run.proofs.replays.ReplayLemmas.{steps_more, stops_there, stops_past}
 use Rattle.ms_run.proofs.replaying.steps_first.Goals as goal
 
 pub loop-count-init : goal.loop-count-init

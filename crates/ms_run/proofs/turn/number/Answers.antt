@@ -1,5 +1,5 @@
 use Rattle.std.proofs.Common.{arith, refl, true, false}
-use Rattle.ms_run.proofs.ReplayLemmas.{none_asked}
+use Rattle.ms_run.proofs.replays.ReplayLemmas.{none_asked}
 use Rattle.ms_run.proofs.TurnLemmas.{step_numbered, end_numbered}
 use Rattle.ms_run.proofs.turn.number.Goals as goal
 

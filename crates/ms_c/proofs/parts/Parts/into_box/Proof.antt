@@ -1,5 +1,13 @@
 -- The parts own what the box owned, so `from_raw` may have them.
-use Rattle.ms_c.proofs.Walking.{◌≡◌, List, [], ◌∷◌, ◌++◌, refl, sym, ap, subst, proved_at, Goes-blank, Bx, D, R, P, B, word, box_ty, box_typed, box_out, box_in, id⊢, ftrue, flft, ◌⊑◌, fact, tables, inst_fn, a_type, dcons, dnil, Val, vptr, has_ty, WT, WpFn, Item, ‵, raw, ◌⊛◌, some, later, prop, at_ret, ◌$◌, ◌∵◌, !, qed, done, move, drop, use1, split, split3, join, fsplit, fjoin, fjoin3, feq_i, pick, await, rewrite, regoal, suffices, group, whole, sub, enter, of_opd, stop, fld, no_more, and_then, first, blocks, exec, returns, alloc_all, pass_all, free_all, look_at, get, get_in, sets, lands_last, env, no, bounded, owns, block_ptr, plain, types_at, nothing, only, heard, calls_at_last, Lasts, lasts, triple_of, framed, Stays, walk_of, says, stay_dropped, ends_at}
+use Rattle.ms_c.proofs.Walking.{◌≡◌, List, [], ◌∷◌, ◌++◌, refl, sym, ap, subst, proved_at, Goes-blank, Bx, D, R, P, B}
+use Rattle.ms_c.proofs.Walking.{word, box_ty, box_typed, box_out, box_in, id⊢, ftrue, flft, ◌⊑◌, fact, tables, inst_fn}
+use Rattle.ms_c.proofs.Walking.{a_type, dcons, dnil, Val, vptr, has_ty, WT, WpFn, Item, ‵, raw, ◌⊛◌, some, later, prop}
+use Rattle.ms_c.proofs.Walking.{at_ret, ◌$◌, ◌∵◌, !, qed, done, move, drop, use1, split, split3, join, fsplit, fjoin}
+use Rattle.ms_c.proofs.Walking.{fjoin3, feq_i, pick, await, rewrite, regoal, suffices, group, whole, sub, enter, of_opd}
+use Rattle.ms_c.proofs.Walking.{stop, fld, no_more, and_then, first, blocks, exec, returns, alloc_all, pass_all}
+use Rattle.ms_c.proofs.Walking.{free_all, look_at, get, get_in, sets, lands_last, env, no, bounded, owns, block_ptr}
+use Rattle.ms_c.proofs.Walking.{plain, types_at, nothing, only, heard, calls_at_last, Lasts, lasts, triple_of, framed}
+use Rattle.ms_c.proofs.Walking.{Stays, walk_of, says, stay_dropped, ends_at}
 use lib.Dec.{T}
 use Rattle.std_alloc.proofs.VecSteps.Shapes.{after}
 use Rattle.std_alloc.specs.contracts.boxed.Box.from_raw as made

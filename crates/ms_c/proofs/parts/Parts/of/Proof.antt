@@ -1,5 +1,14 @@
 -- What `into_raw_with_allocator` hands out is what the parts own.
-use Rattle.ms_c.proofs.Walking.{◌≡◌, List, [], ◌∷◌, ◌++◌, refl, ap, ◌∙◌, proved_at, Goes-blank, handle_tells, token, box_owns, Bx, D, τ, R, P, B, word, box_typed, box_out, box_in, id⊢, fst∗, never, ftrue, flft, ◌⊑◌, fact, tables, inst_fn, bare, a_type, dcons, dnil, Val, vstruct, of_list, WpFn, sem, Item, ‵, raw, ◌⊛◌, some, later, prop, ◌$◌, ◌∵◌, !, qed, done, move, drop, use1, split, split3, join, fsplit, fjoin, fpick, feq_l, pick, await, rewrite, regoal, suffices, whole, sub, agg, enter, of_opd, stop, fld, no_more, and_then, returns, alloc_all, pass_all, free_all, look_at, get, get_in, sets, lands_as, no, bounded, owns, Ptr, RawPtr, block_ptr, null_ptr, ptr_val, in_a_block, plain, types_at, nothing, heard, only, Tuple, calls_at, Lasts, lasts, triple_of, framed, Stays, walk_of, says, stay_dropped, ends_at}
+use Rattle.ms_c.proofs.Walking.{◌≡◌, List, [], ◌∷◌, ◌++◌, refl, ap, ◌∙◌, proved_at, Goes-blank, handle_tells, token}
+use Rattle.ms_c.proofs.Walking.{box_owns, Bx, D, τ, R, P, B, word, box_typed, box_out, box_in, id⊢, fst∗, never, ftrue}
+use Rattle.ms_c.proofs.Walking.{flft, ◌⊑◌, fact, tables, inst_fn, bare, a_type, dcons, dnil, Val, vstruct, of_list}
+use Rattle.ms_c.proofs.Walking.{WpFn, sem, Item, ‵, raw, ◌⊛◌, some, later, prop, ◌$◌, ◌∵◌, !, qed, done, move, drop}
+use Rattle.ms_c.proofs.Walking.{use1, split, split3, join, fsplit, fjoin, fpick, feq_l, pick, await, rewrite, regoal}
+use Rattle.ms_c.proofs.Walking.{suffices, whole, sub, agg, enter, of_opd, stop, fld, no_more, and_then, returns}
+use Rattle.ms_c.proofs.Walking.{alloc_all, pass_all, free_all, look_at, get, get_in, sets, lands_as, no, bounded, owns}
+use Rattle.ms_c.proofs.Walking.{Ptr, RawPtr, block_ptr, null_ptr, ptr_val, in_a_block, plain, types_at, nothing, heard}
+use Rattle.ms_c.proofs.Walking.{only, Tuple, calls_at, Lasts, lasts, triple_of, framed, Stays, walk_of, says}
+use Rattle.ms_c.proofs.Walking.{stay_dropped, ends_at}
 use Rattle.std_alloc.specs.contracts.boxed.Box.into_raw_with_allocator as opened
 use Rattle.std_alloc.proofs.boxed.Box.into_raw_with_allocator.Met.{met}
 use Rattle.ms_c.specs.contracts.parts.Parts as parts
@@ -34,20 +43,25 @@ of_spec 𝓤 𝓛 𝓜 𝓡 wired X Z LX LZ g d dx dd allocator glue glued =
     regoal ! (λ (vs : List Val). prop (WpFn 𝓤 𝓛.H 𝓣.C 𝓣.Λ fn vs post)) (λ i. us_are i ++ []) refl $
     enter ! _ _ _ _ _ $ alloc_all ! (λ l. pass_all ! refl (box_typed E h b o fits, tt) $
     sets ! (of_opd ! (get ! refl)) refl (box_typed E h b o fits) $
-    calls_at ! (framed 𝓤 𝓛.H 𝓜 𝓣) G (met 𝓤 𝓛 𝓜 𝓡 (code.calls-std_alloc::boxed::Box::into_raw_with_allocator 𝓡.env wired) X Z LX LZ g d dd dx allocator glued glue) z
+    calls_at ! (framed 𝓤 𝓛.H 𝓜 𝓣) G
+    (met 𝓤 𝓛 𝓜 𝓡 (code.calls-std_alloc::boxed::Box::into_raw_with_allocator 𝓡.env wired) X Z LX LZ g d dd dx allocator
+    glued glue) z
     (and_then ! (get ! refl) (no_more !)) (λ v.
     use1 𝓛 (later (some (λ (r : Ptr × Z.Denot). (tokens ⊛ ‵ ((Tuple (RawPtr ∷ P E ∷ [])).own_val r (v ∷ []))) ⊛
     some (λ (ws : Lasts (opened.ended X Z g d dd dx) κs z.0.3). ‵ (lasts (opened.ended X Z g d dd dx) κs z.0.3 ws) ⊛
     (raw (fact 𝓤 (r.1 ≡ box.alloc)) ⊛ ‵ (box_owns (token E.al box.alloc) (R E) r.0 box.value)))))) (id⊢ 𝓤 _) $
     await ! tt $ pick ! (λ r. split ! $ move ! (1 ∷ []) $ pick ! (λ ws. split3 ! $ drop ! $ heard ! _ (λ same.
-    in_a_block ! r.0 (λ p. box_owns (token E.al box.alloc) (R E) p box.value) (fst∗ 𝓤 (never 𝓤) (sem 𝓛 (token E.al box.alloc (bare (τ E)) null_ptr))) (λ b' o' at_b'.
+    in_a_block ! r.0 (λ p. box_owns (token E.al box.alloc) (R E) p box.value)
+    (fst∗ 𝓤 (never 𝓤) (sem 𝓛 (token E.al box.alloc (bare (τ E)) null_ptr))) (λ b' o' at_b'.
     -- [what the box owned; the tokens with the pair; the locals]
     move ! (1 ∷ []) $ split ! $ move ! (1 ∷ []) $
     fpick ! (λ words. fsplit ! $ feq_l ! (λ v_is. fsplit ! $ feq_l ! (λ first_is. fsplit ! $
     rewrite ! 0 (λ (a : Z.Denot). ‵ (Z.own_val a words.1.0)) same refl $
     handle_tells E.al ! box.alloc words.1.0 (λ h' second_is fits'.
     let typed = box_typed E h' b' o' fits' in
-    lands_as ! (ap only (v_is ∙ (λ i. vstruct (of_list ((first_is ∙ ap (λ (p : Ptr). ptr_val p ∷ []) at_b') i ++ (second_is i ++ []))) ∷ []))) refl typed $
+    lands_as ! (ap only (v_is
+    ∙ (λ i. vstruct (of_list ((first_is ∙ ap (λ (p : Ptr). ptr_val p ∷ []) at_b') i ++ (second_is i ++ []))) ∷ []))) refl
+    typed $
     sets ! (of_opd ! (get_in ! (fld ! refl (stop !)) (sub ! 0 refl (whole !)))) refl (tt, tt) $
     sets ! (of_opd ! (get_in ! (fld ! refl (stop !)) (sub ! 1 refl (whole !)))) refl fits' $
     sets ! (of_opd ! (get ! refl)) refl fits' $

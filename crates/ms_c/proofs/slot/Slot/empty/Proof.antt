@@ -1,5 +1,10 @@
 -- An empty slot is a null pointer beside the allocator, and owns no more than that.
-use Rattle.ms_c.proofs.Walking.{List, [], ◌∷◌, ◌++◌, refl, proved_at, handle_tells, id⊢, emp, ftrue, tables, Val, vint, vstruct, vcons, vnil, WpFn, ‵, raw, ◌⊛◌, prop, ◌$◌, ◌∵◌, !, qed, done, move, drop, use1, split, join, fsplit, fjoin, fpack, feq_i, regoal, suffices, agg, enter, lit, no_more, and_then, returns, alloc_all, pass_all, free_all, look_at, get, sets, yes, Valss, owns, null_ptr, ptr_val, types_at, nothing, shape, within, Stays, walk_of, says, stay_dropped, ends_at}
+use Rattle.ms_c.proofs.Walking.{List, [], ◌∷◌, ◌++◌, refl, proved_at, handle_tells, id⊢, emp, ftrue, tables, Val, vint}
+use Rattle.ms_c.proofs.Walking.{vstruct, vcons, vnil, WpFn, ‵, raw, ◌⊛◌, prop, ◌$◌, ◌∵◌, !, qed, done, move, drop, use1}
+use Rattle.ms_c.proofs.Walking.{split, join, fsplit, fjoin, fpack, feq_i, regoal, suffices, agg, enter, lit, no_more}
+use Rattle.ms_c.proofs.Walking.{and_then, returns, alloc_all, pass_all, free_all, look_at, get, sets, yes, Valss, owns}
+use Rattle.ms_c.proofs.Walking.{null_ptr, ptr_val, types_at, nothing, shape, within, Stays, walk_of, says, stay_dropped}
+use Rattle.ms_c.proofs.Walking.{ends_at}
 use mir.Syntax.{w64}
 use lib.Dec.{lit<}
 use denote.Struct.Owning.{to}

@@ -1,5 +1,10 @@
 -- Pointer and allocator go from a slot that holds a system into the parts, and what they own goes with them.
-use Rattle.ms_c.proofs.Walking.{List, [], ◌∷◌, ◌++◌, refl, proved_at, D, word, box_typed, box_out, box_in, id⊢, fact, ftrue, tables, Val, WpFn, ‵, raw, ◌⊛◌, prop, ◌$◌, ◌∵◌, !, qed, done, move, drop, use1, split, join, fsplit, fjoin, rewrite, regoal, suffices, whole, sub, agg, enter, of_opd, stop, fld, no_more, and_then, returns, alloc_all, pass_all, free_all, look_at, get, get_in, sets, yes, owns, types_at, type_at, nothing, heard, Stays, walk_of, says, stay_dropped, ends_at}
+use Rattle.ms_c.proofs.Walking.{List, [], ◌∷◌, ◌++◌, refl, proved_at, D, word, box_typed, box_out, box_in, id⊢, fact}
+use Rattle.ms_c.proofs.Walking.{ftrue, tables, Val, WpFn, ‵, raw, ◌⊛◌, prop, ◌$◌, ◌∵◌, !, qed, done, move, drop, use1}
+use Rattle.ms_c.proofs.Walking.{split, join, fsplit, fjoin, rewrite, regoal, suffices, whole, sub, agg, enter, of_opd}
+use Rattle.ms_c.proofs.Walking.{stop, fld, no_more, and_then, returns, alloc_all, pass_all, free_all, look_at, get}
+use Rattle.ms_c.proofs.Walking.{get_in, sets, yes, owns, types_at, type_at, nothing, heard, Stays, walk_of, says}
+use Rattle.ms_c.proofs.Walking.{stay_dropped, ends_at}
 use denote.Triple.Walked.{Goes-dropped}
 use Rattle.std.proofs.Common.{IsSome}
 use Rattle.ms_c.proofs.AsBox.{E, FromSlot, opened}

@@ -1,5 +1,9 @@
 -- Pointer and allocator go from the parts into the slot, and what they own goes with them.
-use Rattle.ms_c.proofs.Walking.{List, [], ◌∷◌, ◌++◌, refl, proved_at, D, word, box_typed, box_out, box_in, id⊢, emp, ftrue, tables, Val, WpFn, ‵, raw, ◌⊛◌, prop, ◌$◌, ◌∵◌, !, qed, done, move, drop, use1, split, join, fsplit, fjoin, regoal, suffices, whole, sub, agg, enter, of_opd, stop, fld, no_more, and_then, returns, alloc_all, pass_all, free_all, look_at, get, get_in, sets, yes, owns, types_at, nothing, Stays, walk_of, says, stay_dropped, ends_at}
+use Rattle.ms_c.proofs.Walking.{List, [], ◌∷◌, ◌++◌, refl, proved_at, D, word, box_typed, box_out, box_in, id⊢, emp}
+use Rattle.ms_c.proofs.Walking.{ftrue, tables, Val, WpFn, ‵, raw, ◌⊛◌, prop, ◌$◌, ◌∵◌, !, qed, done, move, drop, use1}
+use Rattle.ms_c.proofs.Walking.{split, join, fsplit, fjoin, regoal, suffices, whole, sub, agg, enter, of_opd, stop, fld}
+use Rattle.ms_c.proofs.Walking.{no_more, and_then, returns, alloc_all, pass_all, free_all, look_at, get, get_in, sets}
+use Rattle.ms_c.proofs.Walking.{yes, owns, types_at, nothing, Stays, walk_of, says, stay_dropped, ends_at}
 use denote.Triple.Walked.{Goes-dropped}
 use Rattle.std.proofs.Common.{Some}
 use Rattle.ms_c.proofs.AsBox.{E, FromParts}

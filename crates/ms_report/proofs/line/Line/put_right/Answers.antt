@@ -23,30 +23,23 @@ invariant_of-self c =
     c.self.invariant.within c.requires.room) digits.start digits.before digits.written c.min-self-inside.ensures in
     put.is_line
 
-pub returns-clause-written : goal.returns-clause-written
-returns-clause-written c =
+pub returns : goal.returns
+returns c =
     let digits = c.write_digits-start.ensures in
     let put =
     number_put c.self.inside.bytes c.write_digits-start.new.buf c.args.places c.args.number c.self.inside.from
     c.write_digits-start.result c.min-self-inside.result c.self.invariant c.ranges.number.fits c.requires.places
     (room_before c.args.self.now c.self.inside.bytes c.self.inside.from 20 (sym c.self.view_is) c.self.told
     c.self.invariant.within c.requires.room) digits.start digits.before digits.written c.min-self-inside.ensures in
-    put.written ∙ ap (λ later. right_in c.args.places (decimal c.args.number) ++ later) c.self.view_is
-
-pub returns-clause-near : goal.returns-clause-near
-returns-clause-near c =
-    let digits = c.write_digits-start.ensures in
-    let put =
-    number_put c.self.inside.bytes c.write_digits-start.new.buf c.args.places c.args.number c.self.inside.from
-    c.write_digits-start.result c.min-self-inside.result c.self.invariant c.ranges.number.fits c.requires.places
-    (room_before c.args.self.now c.self.inside.bytes c.self.inside.from 20 (sym c.self.view_is) c.self.told
-    c.self.invariant.within c.requires.room) digits.start digits.before digits.written c.min-self-inside.ensures in
-    omega (
-      arith,
-      put.near,
-      ap length c.self.view_is,
-      length-drop c.self.inside.from c.self.inside.bytes,
-      length-drop c.min-self-inside.result c.write_digits-start.new.buf,
-      c.self.told,
-      c.write_digits-start.auto.buf,
-    )
+    record {
+      written = put.written ∙ ap (λ later. right_in c.args.places (decimal c.args.number) ++ later) c.self.view_is;
+      near = omega (
+        arith,
+        put.near,
+        ap length c.self.view_is,
+        length-drop c.self.inside.from c.self.inside.bytes,
+        length-drop c.min-self-inside.result c.write_digits-start.new.buf,
+        c.self.told,
+        c.write_digits-start.auto.buf,
+      );
+    }

@@ -2,11 +2,9 @@
 -- where memory for the loader is refused.
 use Rattle.std.proofs.Common.{◌≡◌, ◌≢◌, ◌+◌, ◌<◌, ℕ, true, cond, Some, None, List, refl, [], ◌∷◌, ◌++◌, map, length}
 use Rattle.std.proofs.Common.{sym, ap, ◌∙◌, subst, ◌⊎◌, inl, inr, ⊎_elim, IsTrue, arith}
-use Rattle.std.specs.BTreeMap.{is_at}
 use Rattle.std.specs.List.{AllByRecursion}
 use Rattle.std.specs.Ordering.{nat_cmp, match_ordering, is_eq}
 use Rattle.std.specs.declared.cmp.Ordering.TheVariants.{Less, Equal, Greater}
-use Rattle.std.proofs.lemmas.Bool.Decides.{nat_tests}
 use Rattle.std.proofs.lemmas.Bool.{cases_eq}
 use Rattle.std.proofs.lemmas.List.{length-append, map-append}
 use Rattle.std.proofs.lemmas.List.Sums.{sum_by-append}
@@ -16,6 +14,7 @@ use Rattle.ms_base.specs.declared.kind.Space.TheVariants.{NonClass, Class}
 use Rattle.ms_base.specs.Committed.{is_among}
 use Rattle.ms_base.specs.Names.{named, with_new, without}
 use Rattle.ms_base.proofs.entries.EntryLemmas.{Split, split_at}
+use Rattle.ms_base.proofs.entries.LookupLemmas.{at_itself}
 use Rattle.ms_pool.specs.Account.{AccountState}
 use Rattle.ms_pool.specs.Ledger.{Ledger, chunks_of, others_than}
 use Rattle.ms_pool.specs.Calls.{ClosedBoth}
@@ -30,7 +29,7 @@ use Rattle.ms_loaders.proofs.steps.UnloadLemmas.{both_all}
 use Rattle.ms_shared.specs.declared.lock_rule.SeatView.{SeatView}
 use Rattle.ms_shared.specs.SeatView.{SeatState, ServesBy, OverLock, opened_by, view_after}
 use Rattle.ms_run.specs.Manned.{IsManned}
-use Rattle.ms_run.proofs.LifetimeLemmas.{NoOther, no_other_then, served_apart, without_one}
+use Rattle.ms_run.proofs.lifetimes.LifetimeLemmas.{NoOther, no_other_then, served_apart, without_one}
 
 -- Two accounts are closed over the lock.
 pub record Closes (old new : SeatState) (account class_account : AccountState) : Type 0 where
@@ -142,9 +141,6 @@ module _ (loaders : List (ℕ × LoaderView)) (name : ℕ) (v : LoaderView) (fou
       no_other = none_now;
       opened = λ space. omega (arith, closes.counted space, its.opened space, long);
     }
-
-at_itself : (name : ℕ) → is_at (nat_cmp name) name ≡ true
-at_itself name = grind (arith, nat_tests)
 
 -- A name that was just made and is taken out again leaves what was.
 pub new_then_without : {X : Type 0} (entries : List (ℕ × X)) (name : ℕ) (x : X) → named entries name ≡ None

@@ -1,5 +1,5 @@
--- What a seat serves after a call over the lock, and what stays of its loaders. For `new_loader` and
--- `unload`.
+-- What a seat serves after a call over the lock, and what stays of its loaders. For `new_loader`,
+-- `unload` and `hand_on`.
 use Rattle.std.proofs.Common.{◌≡◌, ◌≢◌, ◌+◌, ◌-◌, ◌<◌, ◌≤◌, ℕ, zero, suc, Bool, true, false, ◌||◌, List, [], ◌∷◌, ◌++◌}
 use Rattle.std.proofs.Common.{map, refl, sym, ap, ◌∙◌, ◌⊎◌, inl, inr, ⊎_elim, IsTrue, arith}
 use Rattle.std.specs.Prelude.{◌==◌}
@@ -20,7 +20,7 @@ use Rattle.ms_shared.proofs.RecordLemmas.{has_record}
 use Rattle.ms_shared.proofs.LockCallLemmas.{served_by_pool}
 
 -- What stands in two lists together stands in one of them.
-has_either : (xs ys : List Entry) (owner : ℕ) (chunks : List Chunk) → Has (xs ++ ys) owner chunks
+pub has_either : (xs ys : List Entry) (owner : ℕ) (chunks : List Chunk) → Has (xs ++ ys) owner chunks
     → Has xs owner chunks ⊎ Has ys owner chunks
 has_either [] ys owner chunks here = inr here
 has_either (x ∷ xs) ys owner chunks here =

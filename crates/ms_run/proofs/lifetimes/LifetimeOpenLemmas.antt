@@ -25,7 +25,7 @@ use Rattle.ms_loaders.proofs.steps.ServedLemmas.{accounts_split, times, is_it, o
 use Rattle.ms_loaders.proofs.steps.CloseLemmas.{accounts_joined, few}
 use Rattle.ms_shared.specs.SeatView.{SeatState, ServesBy, OverLock, opened_by, view_after}
 use Rattle.ms_run.specs.Manned.{IsManned}
-use Rattle.ms_run.proofs.LifetimeLemmas.{IsNew, NoOther, no_other_then, all_served, below_given, among_new}
+use Rattle.ms_run.proofs.lifetimes.LifetimeLemmas.{IsNew, NoOther, no_other_then, all_served, below_given, among_new}
 use Rattle.ms_loaders.proofs.steps.CloseLemmas.{among_more}
 
 -- Both accounts refused: all stays.

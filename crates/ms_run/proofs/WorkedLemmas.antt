@@ -1,0 +1,215 @@
+-- Shares that were worked: what of each is as it was, and what was said in each of a loader. For
+-- `run_phase`.
+use Rattle.std.proofs.Common.{◌≡◌, ◌≢◌, ◌<◌, ◌==◌, ℕ, zero, suc, Bool, true, false, cond, Some, None, Option, List, []}
+use Rattle.std.proofs.Common.{◌∷◌, map, length, refl, sym, ap, ◌∙◌, subst, arith, slice_get, get_or, option_map}
+use Rattle.std.specs.List.{All, AllByRecursion, filter}
+use Rattle.std.proofs.lemmas.Bool.{eq-eqb, eqb-true, false_from_ne_true}
+use Rattle.std.proofs.lemmas.Option.{slice_get-get_or, slice_get_within, get_or_from_slice_get}
+use Rattle.ms_base.specs.declared.step.Step.TheVariants.{Purge}
+use Rattle.ms_base.specs.declared.step.Reply.{Reply}
+use Rattle.ms_base.specs.declared.step.Reply.TheVariants.{Ok as Done}
+use Rattle.ms_base.specs.Names.{named}
+use Rattle.ms_base.specs.Request.{loader_of, is_name}
+use Rattle.ms_base.specs.Run.Alone.{OwnLoader, OwnReplies}
+use Rattle.ms_trace.specs.declared.trace.Line.{Line}
+use Rattle.ms_loaders.specs.Loader.{LoaderView}
+use Rattle.ms_loaders.specs.System.{states_of}
+use Rattle.ms_shared.specs.SeatView.{LockState, SeatState}
+use Rattle.ms_run.specs.Joined.{seat_of}
+use Rattle.ms_run.specs.Own.{Said, own_said, own_of, own_in, OwnRun}
+use Rattle.ms_run.specs.Manned.{IsManned}
+use Rattle.ms_run.proofs.TouchLemmas.{named_states, own_missing}
+use Rattle.ms_loaders.proofs.steps.UnloadLemmas.{state_of}
+use Rattle.std.specs.Prelude.{slice_index_or}
+use Rattle.ms_run.specs.declared.share.Task.{Task}
+use Rattle.ms_run.specs.declared.share.Share.{Share}
+use Rattle.ms_run.specs.Shares.{said_in, IsReady, IsWorked, AllWorked, Place, tasks_of, AreApart, HaveTasks}
+use Rattle.ms_run.specs.Shares.{AreAnswered}
+
+-- The share that became one that is worked.
+pub record WorkedFrom (shares : List Share) (at : ℕ) (done : Share) : Type 0 where
+  pub share : Share
+  pub is : slice_get shares at ≡ Some share
+  pub worked : IsWorked share done
+
+pub worked_from : (shares others : List Share) (at : ℕ) (done : Share) → AllWorked shares others
+    → slice_get others at ≡ Some done
+    → WorkedFrom shares at done
+worked_from [] [] at done all found = absurd (cc)
+worked_from [] (other ∷ others) at done all found = absurd all
+worked_from (share ∷ shares) [] at done all found = absurd all
+worked_from (share ∷ shares) (other ∷ others) zero done all found =
+    let same : other ≡ done =
+    cc in record { share = share; is = refl; worked = subst (λ (d : Share). IsWorked share d) same all.0 }
+worked_from (share ∷ shares) (other ∷ others) (suc at) done all found =
+    let rest = worked_from shares others at done all.1 found in
+    record { share = rest.share; is = rest.is; worked = rest.worked }
+
+pub same_count : (shares others : List Share) → AllWorked shares others → length others ≡ length shares
+same_count [] [] all = refl
+same_count [] (other ∷ others) all = absurd all
+same_count (share ∷ shares) [] all = absurd all
+same_count (share ∷ shares) (other ∷ others) all = ap (λ (n : ℕ). suc n) (same_count shares others all.1)
+
+-- What holds of each place's share holds of each.
+each_place : (P : Share → Type 0) (shares : List Share)
+    → ((at : ℕ) (share : Share) → slice_get shares at ≡ Some share → P share) → All P shares
+each_place P shares holds = λ k d within. holds k (get_or shares k d) (slice_get-get_or shares k d within)
+
+pub at_place : (P : Share → Type 0) (shares : List Share) (at : ℕ) (share : Share) → All P shares
+    → slice_get shares at ≡ Some share → P share
+at_place P shares at share all found =
+    subst P (get_or_from_slice_get shares at share share found) (all at share (slice_get_within shares at share found))
+
+-- Worked shares stand over the lock that they stood over, and serve their loaders.
+pub own_seats : (shared : LockState) (shares others : List Share) → All (IsReady shared) shares
+    → AllWorked shares others
+    → All (λ (share : Share). share.seat.id ≡ shared.id) others
+own_seats shared shares others ready all =
+    each_place (λ (share : Share). share.seat.id ≡ shared.id) others
+    (λ at done found. let from = worked_from shares others at done all found in
+    from.worked.id ∙ (at_place (IsReady shared) shares at from.share ready from.is).own)
+
+pub all_manned : (shares others : List Share) → AllWorked shares others
+    → All (λ (share : Share). IsManned share.seat.knows share.loaders) others
+all_manned shares others all =
+    each_place (λ (share : Share). IsManned share.seat.knows share.loaders) others
+    (λ at done found. (worked_from shares others at done all found).worked.manned)
+
+-- Each has its tasks still, and a reply to each.
+pub all_answered : (place : Place) (shares others : List Share) (lines : List Line) → HaveTasks place shares lines
+    → AllWorked shares others
+    → AreAnswered place others lines
+all_answered place shares others lines tasks all = λ at done found.
+    let from = worked_from shares others at done all found in (
+      from.worked.tasks ∙ tasks at from.share from.is,
+      from.worked.replies ∙ from.share.tasks.ok.0 ∙ ap length (sym from.worked.tasks) ∙ sym done.tasks.ok.0,
+    )
+
+-- A test after one that lets all through that it lets through.
+after_wider : {X : Type 0} (test wider : X → Bool) → ((x : X) → test x ≡ true → wider x ≡ true) → (xs : List X)
+    → filter test (filter wider xs) ≡ filter test xs
+after_wider test wider lets [] = refl
+after_wider {X} test wider lets (x ∷ xs) =
+    elim (wider x) as (λ b. wider x ≡ b → filter test (cond b (x ∷ filter wider xs) (filter wider xs))
+    ≡ filter test (x ∷ xs)) [
+      | true ↦ λ passes. ap (λ (l : List X). cond (test x) (x ∷ l) l) (after_wider test wider lets xs)
+      | false ↦ λ stops. let none : test x ≡ false = false_from_ne_true (test x) (λ e. let yes = lets x e in cc) in
+          rw none (after_wider test wider lets xs)
+    ] refl
+
+-- A step that names a loader goes to the loader's share.
+goes_there : (place : Place) (name : ℕ) (wanted : Option ℕ) → is_name name wanted ≡ true
+    → (place wanted == place (Some name)) ≡ true
+goes_there place name None e = absurd (cc)
+goes_there place name (Some other) e = let same = eqb-true other name e in
+    eq-eqb _ _ (ap (λ (n : ℕ). place (Some n)) same)
+
+-- Of what a loader's share said it is said what all said of it.
+pub own_of_merged : (place : Place) (name : ℕ) (said : List Said)
+    → own_said name (filter (λ (s : Said). place (loader_of s.0) == place (Some name)) said) ≡ own_said name said
+own_of_merged place name said =
+    after_wider (λ (s : Said). is_name name (loader_of s.0)) (λ (s : Said). place (loader_of s.0) == place (Some name))
+    (λ s e. goes_there place name (loader_of s.0) e) said
+
+-- In another share nothing is said of it.
+other_name : (place : Place) (at name : ℕ) → place (Some name) ≢ at → (wanted : Option ℕ) → (place wanted == at) ≡ true
+    → is_name name wanted ≡ false
+other_name place at name away None here = refl
+other_name place at name away (Some other) here = false_from_ne_true (other == name)
+    (λ e. away (ap (λ (n : ℕ). place (Some n)) (sym (eqb-true other name e)) ∙ eqb-true (place (Some other)) at here))
+
+first_unsaid : (name : ℕ) (task : Task) (tasks : List Task) → is_name name (loader_of task.step) ≡ false
+    → ((replies : List Reply) → own_said name (said_in tasks replies) ≡ []) → (replies : List Reply)
+    → own_said name (said_in (task ∷ tasks) replies) ≡ []
+first_unsaid name task tasks other rest [] = refl
+first_unsaid name task tasks other rest (reply ∷ replies) = rw other (rest replies)
+
+nothing_said : (place : Place) (at name : ℕ) → place (Some name) ≢ at → (tasks : List Task) (replies : List Reply)
+    → own_said name (said_in (filter (λ (task : Task). place (loader_of task.step) == at) tasks) replies) ≡ []
+nothing_said place at name away [] replies = refl
+nothing_said place at name away (task ∷ tasks) replies =
+    elim (place (loader_of task.step) == at) as (λ b. (place (loader_of task.step) == at) ≡ b
+    → own_said name
+    (said_in (cond b (task ∷ filter (λ (t : Task). place (loader_of t.step) == at) tasks)
+    (filter (λ (t : Task). place (loader_of t.step) == at) tasks)) replies) ≡ []) [
+      | true ↦ λ here. first_unsaid name task _ (other_name place at name away (loader_of task.step) here)
+          (nothing_said place at name away tasks) replies
+      | false ↦ λ past. nothing_said place at name away tasks replies
+    ] refl
+
+-- A run without steps changes nothing.
+no_run : (before after : Option OwnLoader) (said : List Said) → said ≡ [] → OwnRun before said after → after ≡ before
+no_run before after said none run =
+    with_flags run.0
+    (subst (λ (l : List Said). OwnReplies before (map (λ (s : Said). s.0) l) run.0 (map (λ (s : Said). s.1) l)
+    after) none run.1)
+  where
+    with_flags : (flags : List Bool) → OwnReplies before [] flags [] after → after ≡ before
+    with_flags [] told = told
+    with_flags (flag ∷ flags) told = absurd told
+
+-- A loader of which nothing is known isn't there.
+named_none : (entries : List (ℕ × LoaderView)) (name : ℕ) → own_in (states_of entries) name ≡ None
+    → named entries name ≡ None
+named_none entries name none = back (named entries name) (sym (ap own_of (named_states entries name)) ∙ none)
+  where
+    back : (found : Option LoaderView) → own_of (option_map state_of found) ≡ None → found ≡ None
+    back None e = refl
+    back (Some loader) e = absurd (cc)
+
+-- A loader isn't begun in a share that its lines don't go to.
+pub still_apart : (place : Place) (shares others : List Share) (lines : List Line) → AreApart place shares
+    → HaveTasks place shares lines
+    → AllWorked shares others → AreApart place others
+still_apart place shares others lines apart tasks all = λ at done name found away.
+    let from = worked_from shares others at done all found in
+    let nothing =
+    subst (λ (l : List Task). own_said name (said_in l done.replies.items) ≡ []) (sym (tasks at from.share from.is))
+    (nothing_said place at name away (tasks_of lines) done.replies.items) in
+    let stays = no_run _ _ _ nothing (from.worked.own name) in
+    named_none done.loaders name (stays ∙ own_missing from.share.loaders name (apart at from.share name from.is away))
+
+-- The same run, of the same told in other words.
+pub same_run : (before began after ended : Option OwnLoader) (said told : List Said) → before ≡ began → said ≡ told
+    → after ≡ ended
+    → OwnRun began told ended → OwnRun before said after
+same_run before began after ended said told begins says ends run = rw (begins, says, ends) run
+
+-- There is a share at a place within.
+pub share_at : (shares : List Share) (at : ℕ) → at < length shares → (share : Share) × (slice_get shares at ≡ Some share)
+share_at [] at within = absurd (omega (arith, within))
+share_at (share ∷ shares) zero within = (share, refl)
+share_at (share ∷ shares) (suc at) within = share_at shares at (omega (arith, within))
+
+-- Purges that are done where they went are done.
+abbrev pub IsDoneIfPurge : Said → Type 0
+IsDoneIfPurge s = s.0 ≡ Purge → s.1 ≡ Done
+
+pub purged_all : (wider : Said → Bool) → ((s : Said) → s.0 ≡ Purge → wider s ≡ true) → (said : List Said)
+    → AllByRecursion IsDoneIfPurge (filter wider said) → AllByRecursion IsDoneIfPurge said
+purged_all wider lets [] all = tt
+purged_all wider lets (s ∷ said) all =
+    elim (wider s) as (λ b. wider s ≡ b
+    → AllByRecursion IsDoneIfPurge (cond b (s ∷ filter wider said) (filter wider said))
+    → AllByRecursion IsDoneIfPurge (s ∷ said)) [
+      | true ↦ λ goes all. (all.0, purged_all wider lets said all.1)
+      | false ↦ λ stays all. ((λ e. let yes = lets s e in absurd (cc)), purged_all wider lets said all)
+    ] refl all
+
+-- What holds of all seats holds of the one at a place.
+pub seat_at : (P : SeatState → Type 0) (shares : List Share) (at : ℕ) (share : Share)
+    → AllByRecursion P (map seat_of shares) → slice_get shares at ≡ Some share → P share.seat
+seat_at P [] at share all found = absurd (cc)
+seat_at P (x ∷ shares) zero share all found = let same : x ≡ share = cc in
+    subst (λ (s : Share). P s.seat) same all.0
+seat_at P (x ∷ shares) (suc at) share all found = seat_at P shares at share all.1 found
+
+abbrev pub team_of : Share → List (ℕ × LoaderView)
+team_of share = share.loaders
+
+pub loaders_at : (shares : List Share) (at : ℕ) (share : Share) → slice_get shares at ≡ Some share
+    → slice_index_or (map team_of shares) at [] ≡ share.loaders
+loaders_at [] at share found = absurd (cc)
+loaders_at (x ∷ shares) zero share found = let same : x ≡ share = cc in ap team_of same
+loaders_at (x ∷ shares) (suc at) share found = loaders_at shares at share found
