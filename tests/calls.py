@@ -1,8 +1,10 @@
 """The library's own calls while growths are refused: rows of small programs, under the same allocator.
 
 A row of refusals makes its preparation, tells the state, makes a call, tells its answer and the state after it, and
-where the answer is a refusal makes the call once more. Its row of replays replays a trace, and once more where memory or
-a thread was wanted. A row of quiet makes calls that take no memory after a mark, and tells what it finds.
+where the answer is a refusal makes the call once more. Where a state keeps what no call tells, it makes calls last that
+use that up, and tells what they find: where free blocks lie, and how far current chunks are used. Its row of replays
+replays a trace, and once more where memory or a thread was wanted. A row of quiet makes calls that take no
+memory after a mark, and tells what it finds.
 """
 import os
 import re
@@ -13,8 +15,9 @@ from growths import MAY_WANT, MOST_GROWTHS, TRACES, Told, text_of
 from program import Program
 from workbench import ROOT
 
-TAKING = ("carve", "reserve", "pool", "take", "place", "alloc", "insert", "new_loader", "step", "run", "totals", "shared",
-          "meter", "parse", "print", "text", "lines")
+TAKING = ("carve", "reserve", "pool", "take", "pool_maps", "place", "alloc", "insert", "new_loader", "step", "run",
+          "totals", "details", "system_maps", "shared", "meter", "parse", "print", "text", "full_text", "lines", "map_text")
+PROBED = ("reserve", "place", "alloc", "insert", "new_loader", "step", "run", "totals", "details", "system_maps")
 QUIET = ("sizes", "nodes", "tree", "blocks", "accounts", "counter", "arena", "loaders", "system", "report", "lock")
 
 
@@ -100,8 +103,9 @@ def refuses_each_growth(bench, row):
     """The first, the second, .. growth is refused: the call says so, changes nothing, and is served the next time."""
     calls = Calls(bench, "refusals", row)
     output = calls.calm()
-    (_, before), (_, answer), (_, after) = calm = calls.facts_of(output)
-    expect([word for word, _ in calm] == [b"before", b"answer", b"after"] and answer.startswith(b"ok"), output)
+    (_, before), (_, answer), (_, after), *probed = calm = calls.facts_of(output)
+    words = [b"before", b"answer", b"after"] + [b"probed"] * (row in PROBED)
+    expect([word for word, _ in calm] == words and answer.startswith(b"ok") and all(fact for _, fact in calm), output)
     refused_calls = 0
     for number in range(1, MOST_GROWTHS):
         ended, counts = calls.run(REFUSE_AT=number)
@@ -112,11 +116,10 @@ def refuses_each_growth(bench, row):
             continue
         expect_ended(ended, 0)
         facts = calls.facts_of(ended.output)
-        is_told = len(facts) == 5 and facts[1][1].split(b" ")[0] == b"refused"
+        is_told = len(facts) == 5 + len(probed) and facts[1][1].split(b" ")[0] == b"refused"
         expect(is_told, "a refused growth shows nowhere", ended.output)
-        facts[1] = (b"answer", b"refused")
         wanted = [(b"before", before), (b"answer", b"refused"), (b"after", before)]
-        wanted += [(b"again", answer), (b"last", after)]
+        wanted += [(b"again", answer), (b"last", after), *probed]
         expect(facts == wanted, "growth", number, facts, "and not", wanted)
         refused_calls += 1
     expect_ended(ended, 0, b"", output)

@@ -1,6 +1,7 @@
-//! The rows of an arena over a pool: it places a block, and allocates one.
+//! The rows of an arena over a pool: it places a block, or allocates one.
 use crate::pools::{SETTINGS, tell_account, tell_pool};
-use crate::row::{Answer, Row, tell, told, unprepared};
+use crate::probing::{Places, tell_places};
+use crate::row::{Answer, Probed, Row, tell, told, unprepared};
 use ms_arena::Arena;
 use ms_base::{Block, Kind, Refusal, Space};
 use ms_pool::Pool;
@@ -13,7 +14,7 @@ fn tell_both(rt: &HostRuntime, pool: &Pool, arena: &Arena) {
     tell_pool(rt, pool);
     tell(rt, &(arena.kind(), arena.used(), arena.totals()));
     tell_account(rt, arena.account());
-    for words in [2, 100, 500, 509] {
+    for words in [2, 60, 100, 250, 300, 500] {
         tell_live(rt, arena, words);
     }
 }
@@ -28,11 +29,21 @@ fn tell_live(rt: &HostRuntime, arena: &Arena, words: u64) {
     }
 }
 
-/// An arena over a pool, in which a block is to be allocated.
+/// How an arena is asked for a block.
+#[derive(Clone, Copy)]
+pub enum Asked {
+    /// Where it needs no chunk.
+    Place,
+    /// Wherever it may be.
+    Alloc,
+}
+
+/// An arena over a pool, and how it is asked for a block.
 #[derive(Drop)]
 pub struct Allocating {
     pool: Pool,
     arena: Arena,
+    asked: Asked,
 }
 
 impl Model for Allocating {
@@ -47,9 +58,10 @@ impl Model for Allocating {
 }
 
 impl Allocating {
-    /// Prepares an arena of two chunks, with a live block and two free ones.
-    pub fn prepared(alloc: Global) -> io::Result<Allocating> {
-        let mut row = Allocating::new(alloc)?;
+    /// Prepares an arena of two chunks, a retired one and the current one, with a live block and free
+    /// ones in each.
+    pub fn prepared(alloc: Global, asked: Asked) -> io::Result<Allocating> {
+        let mut row = Allocating::new(alloc, asked)?;
         match row.fill() {
             Ok(()) => Ok(row),
             Err(_) => Err(unprepared()),
@@ -57,22 +69,40 @@ impl Allocating {
     }
 
     /// Makes an arena with no chunk.
-    fn new(alloc: Global) -> io::Result<Allocating> {
+    fn new(alloc: Global, asked: Asked) -> io::Result<Allocating> {
         let mut pool = Pool::new(alloc, SETTINGS)?;
         match pool.open(Space::NonClass) {
             Ok(account) => {
                 let arena = Arena::new(alloc, account, Kind::Reflection);
-                Ok(Allocating { pool, arena })
+                Ok(Allocating { pool, arena, asked })
             }
             Err(_) => Err(unprepared()),
         }
     }
 
-    /// Allocates two blocks, of which the first is freed.
+    /// Allocates two blocks in each of two chunks, and frees one in each.
     fn fill(&mut self) -> Result<(), Refusal> {
-        let first = self.arena.alloc(&mut self.pool, 2)?;
-        self.arena.alloc(&mut self.pool, 509)?;
-        self.arena.free(first)
+        let first = self.alloc(2)?;
+        self.alloc(250)?;
+        self.alloc(300)?;
+        let last = self.alloc(100)?;
+        self.free(first)?;
+        self.free(last)
+    }
+
+    /// Allocates a block of so many words.
+    fn alloc(&mut self, words: u64) -> Result<Block, Refusal> {
+        self.arena.alloc(&mut self.pool, words)
+    }
+
+    /// Places a block of so many words where it needs no chunk.
+    fn place(&mut self, words: u64) -> Result<Option<Block>, Refusal> {
+        self.arena.place(words)
+    }
+
+    /// Frees a block.
+    fn free(&mut self, block: Block) -> Result<(), Refusal> {
+        self.arena.free(block)
     }
 }
 
@@ -83,32 +113,24 @@ impl Row for Allocating {
     }
 
     fn call(&mut self, rt: &HostRuntime) -> Answer {
-        told(rt, self.arena.alloc(&mut self.pool, 500))
+        match self.asked {
+            Asked::Place => told(rt, self.place(60)),
+            Asked::Alloc => told(rt, self.alloc(500)),
+        }
     }
 }
 
-/// An arena over a pool, in which a block is to be placed.
-#[derive(Drop)]
-pub struct Placing {
-    pool: Pool,
-    arena: Arena,
-}
-
-impl Placing {
-    /// Prepares an arena whose current chunk has room.
-    pub fn prepared(alloc: Global) -> io::Result<Placing> {
-        let Allocating { pool, arena } = Allocating::prepared(alloc)?;
-        Ok(Placing { pool, arena })
+impl Places for Allocating {
+    fn have(&mut self, words: u64) -> io::Result<Option<Block>> {
+        match self.place(words) {
+            Ok(found) => Ok(found),
+            Err(_) => Err(unprepared()),
+        }
     }
 }
 
-impl Row for Placing {
-    fn tell_state(&mut self, rt: &HostRuntime) -> io::Result<()> {
-        tell_both(rt, &self.pool, &self.arena);
-        Ok(())
-    }
-
-    fn call(&mut self, rt: &HostRuntime) -> Answer {
-        told(rt, self.arena.place(100))
+impl Probed for Allocating {
+    fn probe(mut self, rt: &HostRuntime) -> io::Result<()> {
+        tell_places(rt, &mut self)
     }
 }

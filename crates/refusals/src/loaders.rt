@@ -1,6 +1,7 @@
 //! The row of loaders by name: one is put among them.
+use crate::held::tell_all_places;
 use crate::pools::tell_account;
-use crate::row::{Answer, Row, say, served, tell, told};
+use crate::row::{Answer, Probed, Row, say, served, tell, told};
 use crate::systems::filled;
 use ms_loaders::{Loader, Loaders};
 use std::alloc::Global;
@@ -70,5 +71,11 @@ impl Row for Inserting {
                 Answer::Served
             }
         }
+    }
+}
+
+impl Probed for Inserting {
+    fn probe(mut self, rt: &HostRuntime) -> io::Result<()> {
+        tell_all_places(rt, &mut self.loaders)
     }
 }

@@ -6,6 +6,7 @@
 //!     carve after .. free Span { .. }    the state after it
 //!     carve again ok ()                  where that was a refusal: the same call once more,
 //!     carve last .. free Span { .. }     and the state after that
+//!     place probed Block { .. } ..       last, what calls find in a state of which no call tells all
 //!
 //! The row `replay` replays the trace of standard input, by as many workers as the next word says,
 //! and tells what each line is answered, or why none is:
@@ -20,8 +21,11 @@
 
 mod arenas;
 mod blocks;
+mod held;
 mod loaders;
+mod maps;
 mod pools;
+mod probing;
 mod reports;
 mod row;
 mod runs;
@@ -30,12 +34,13 @@ mod systems;
 mod texts;
 mod tree;
 
-use crate::arenas::{Allocating, Placing};
+use crate::arenas::Allocating;
 use crate::blocks::Reserving;
 use crate::loaders::Inserting;
+use crate::maps::Mapping;
 use crate::pools::{Making, Taking};
-use crate::reports::{Replying, Reporting};
-use crate::row::tell_row;
+use crate::reports::{Replying, Reporting, Written};
+use crate::row::{tell_probed_row, tell_row};
 use crate::shared::{Metering, Sharing};
 use crate::systems::Asking;
 use crate::texts::{Parsing, Printing};
@@ -72,24 +77,27 @@ fn tell_asked<R: Threads + Wait + Sync>(rt: &HostRuntime, waits: &R) -> io::Resu
 fn tell_named<R: Threads + Wait + Sync>(rt: &HostRuntime, waits: &R, name: &str) -> io::Result<()> {
     match name {
         "carve" => tell_row(rt, "carve", Carving::prepared(rt.alloc())),
-        "reserve" => tell_row(rt, "reserve", Reserving::prepared(rt.alloc())),
+        "reserve" => tell_probed_row(rt, "reserve", Reserving::prepared(rt.alloc())),
         "pool" => tell_row(rt, "pool", Making::prepared(rt.alloc())),
         "take" => tell_row(rt, "take", Taking::prepared(rt.alloc())),
+        "pool_maps" => tell_row(rt, "pool_maps", Mapping::prepared(rt.alloc())),
         "replay" => runs::tell_calls(rt, waits),
         _ => tell_upper(rt, name),
     }
 }
 
-/// Tells a row of arenas or systems.
+/// Tells a row of arenas, or of loaders.
 fn tell_upper(rt: &HostRuntime, name: &str) -> io::Result<()> {
     match name {
-        "place" => tell_row(rt, "place", Placing::prepared(rt.alloc())),
-        "alloc" => tell_row(rt, "alloc", Allocating::prepared(rt.alloc())),
-        "insert" => tell_row(rt, "insert", Inserting::prepared(rt.alloc())),
-        "new_loader" => tell_row(rt, "new_loader", Asking::new_loader(rt.alloc())),
-        "step" => tell_row(rt, "step", Asking::step(rt.alloc())),
-        "run" => tell_row(rt, "run", Asking::run(rt.alloc())),
-        "totals" => tell_row(rt, "totals", Asking::totals(rt.alloc())),
+        "place" => tell_arena(rt, "place", arenas::Asked::Place),
+        "alloc" => tell_arena(rt, "alloc", arenas::Asked::Alloc),
+        "insert" => tell_probed_row(rt, "insert", Inserting::prepared(rt.alloc())),
+        "new_loader" => tell_probed_row(rt, "new_loader", Asking::new_loader(rt.alloc())),
+        "step" => tell_system(rt, "step", systems::Asked::Step),
+        "run" => tell_system(rt, "run", systems::Asked::Run),
+        "totals" => tell_system(rt, "totals", systems::Asked::Totals),
+        "details" => tell_system(rt, "details", systems::Asked::Details),
+        "system_maps" => tell_system(rt, "system_maps", systems::Asked::Maps),
         _ => tell_other(rt, name),
     }
 }
@@ -101,8 +109,25 @@ fn tell_other(rt: &HostRuntime, name: &str) -> io::Result<()> {
         "meter" => tell_row(rt, "meter", Metering::prepared(rt.alloc())),
         "parse" => tell_row(rt, "parse", Parsing::prepared(rt.alloc())),
         "print" => tell_row(rt, "print", Printing::prepared(rt.alloc())),
-        "text" => tell_row(rt, "text", Reporting::prepared(rt.alloc())),
+        "text" => tell_report(rt, "text", Written::Text),
+        "full_text" => tell_report(rt, "full_text", Written::FullText),
+        "map_text" => tell_report(rt, "map_text", Written::Maps),
         "lines" => tell_row(rt, "lines", Replying::prepared(rt.alloc())),
         _ => Err(ErrorKind::InvalidInput.into()),
     }
+}
+
+/// Tells a row of an arena.
+fn tell_arena(rt: &HostRuntime, name: &str, asked: arenas::Asked) -> io::Result<()> {
+    tell_probed_row(rt, name, Allocating::prepared(rt.alloc(), asked))
+}
+
+/// Tells a row of a system with loaders.
+fn tell_system(rt: &HostRuntime, name: &str, asked: systems::Asked) -> io::Result<()> {
+    tell_probed_row(rt, name, Asking::filled(rt.alloc(), asked))
+}
+
+/// Tells a row of what is written of sums.
+fn tell_report(rt: &HostRuntime, name: &str, written: Written) -> io::Result<()> {
+    tell_row(rt, name, Reporting::prepared(rt.alloc(), written))
 }

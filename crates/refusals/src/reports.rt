@@ -1,24 +1,75 @@
-//! The rows of reports: the sums of a system are written as a text, and so are replies.
+//! The rows of reports: the sums of a system and its maps are written as texts, and so are replies.
 use crate::row::{Answer, Row, gave, tell};
 use crate::systems::{filled_totals, tell_totals};
 use ms_base::{Refusal, Reply, Settings};
 use ms_loaders::{Answer as Answered, Replies, Totals};
-use ms_report::{Detail, lines, text};
+use ms_pool::RootMap;
+use ms_report::{Detail, Refusals, full_text, lines, map_text, text};
 use std::alloc::{AllocError, Global};
 use std::io;
 
-/// Sums of which a report is to be written.
+/// How many lines were refused, by name.
+const REFUSALS: Refusals = Refusals {
+    loader_exists: 0,
+    ids_used_up: 0,
+    no_loader: 2,
+    block_exists: 0,
+    zero_words: 0,
+    too_large: 0,
+    out_of_memory: 0,
+    reserve_limit: 0,
+    commit_limit: 0,
+    no_block: 1,
+    out_of_range: 0,
+};
+
+/// What is to be written.
+#[derive(Clone, Copy)]
+pub enum Written {
+    /// A report.
+    Text,
+    /// A full report.
+    FullText,
+    /// The maps of roots.
+    Maps,
+}
+
+/// Sums of which something is to be written.
 #[derive(Drop)]
 pub struct Reporting {
     alloc: Global,
     totals: Totals,
+    written: Written,
 }
 
 impl Reporting {
     /// Prepares the sums of a system with loaders and blocks.
-    pub fn prepared(alloc: Global) -> io::Result<Reporting> {
+    pub fn prepared(alloc: Global, written: Written) -> io::Result<Reporting> {
         let totals = filled_totals(alloc)?;
-        Ok(Reporting { alloc, totals })
+        Ok(Reporting {
+            alloc,
+            totals,
+            written,
+        })
+    }
+
+    /// Writes what is to be written.
+    fn write(&self) -> Result<String, AllocError> {
+        match self.written {
+            Written::Text => text(self.alloc, &self.totals),
+            Written::FullText => {
+                full_text(self.alloc, &self.totals, &Settings::DEFAULT, &REFUSALS)
+            }
+            Written::Maps => map_text(self.alloc, roots_of(&self.totals)),
+        }
+    }
+}
+
+/// Lends the maps of roots among sums, where there are some.
+fn roots_of(totals: &Totals) -> &[RootMap] {
+    match &totals.details {
+        Some(details) => details.roots.as_slice(),
+        None => &[],
     }
 }
 
@@ -29,7 +80,7 @@ impl Row for Reporting {
     }
 
     fn call(&mut self, rt: &HostRuntime) -> Answer {
-        tell_text(rt, text(self.alloc, &self.totals))
+        tell_text(rt, self.write())
     }
 }
 

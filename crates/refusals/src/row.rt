@@ -21,6 +21,13 @@ pub trait Row {
     fn call(&mut self, rt: &HostRuntime) -> Answer;
 }
 
+/// A row whose state keeps what no call tells.
+pub trait Probed: Row + Drop + Sized {
+    /// Makes calls that use up what the state keeps, and tells what they give: the rest of a line. It
+    /// fails where it lacks memory of its own.
+    fn probe(self, rt: &HostRuntime) -> io::Result<()>;
+}
+
 /// Tells a row, once it is prepared.
 pub fn tell_row<R: Row + Drop>(
     rt: &HostRuntime,
@@ -29,6 +36,17 @@ pub fn tell_row<R: Row + Drop>(
 ) -> io::Result<()> {
     let mut row = prepared?;
     tell_lines(rt, name, &mut row)
+}
+
+/// Tells a row, once it is prepared, and then what calls find in its state.
+pub fn tell_probed_row<R: Probed>(
+    rt: &HostRuntime,
+    name: &str,
+    prepared: io::Result<R>,
+) -> io::Result<()> {
+    let mut row = prepared?;
+    tell_lines(rt, name, &mut row)?;
+    tell_probed(rt, name, row)
 }
 
 /// Tells the state, the call's answer and the state after it; where it is a refusal, the same for
@@ -52,6 +70,14 @@ fn tell_state<R: Row>(rt: &HostRuntime, name: &str, word: &str, row: &mut R) -> 
     row.tell_state(rt)?;
     let _ = println!(rt; "");
     Ok(())
+}
+
+/// Tells on a line of its own what calls find in the state.
+fn tell_probed<R: Probed>(rt: &HostRuntime, name: &str, row: R) -> io::Result<()> {
+    let _ = print!(rt; "{name} probed");
+    let probed = row.probe(rt);
+    let _ = println!(rt; "");
+    probed
 }
 
 /// Makes the call, and tells its answer on a line of its own.
@@ -100,7 +126,7 @@ pub fn told<T: Debug + Drop>(rt: &HostRuntime, answer: Result<T, Refusal>) -> An
     }
 }
 
-/// The error that says that the preparation of a row was refused a growth.
+/// The error that says that a row was refused a growth outside its call.
 pub fn unprepared() -> io::Error {
     ErrorKind::OutOfMemory.into()
 }

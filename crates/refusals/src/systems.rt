@@ -1,14 +1,16 @@
 //! The rows of a system: a loader is made, steps are run, sums are told.
+use crate::held::tell_all_places;
 use crate::pools::{GRANULES, SETTINGS, SMALLEST};
-use crate::row::{Answer, Row, gave, say, tell, told, unprepared};
+use crate::row::{Answer, Probed, Row, gave, say, tell, told, unprepared};
 use ms_base::{Kind, Refusal, Reply, Step};
-use ms_loaders::{System, Totals};
+use ms_loaders::{Details, Peaks, System, Totals};
+use ms_pool::RootMap;
 use std::alloc::{AllocError, Global};
 use std::io;
 
-/// Steps of which one system is made: two loaders with blocks in both spaces, a free block and a
-/// word that is written.
-const STEPS: [Step; 8] = [
+/// Steps of which one system is made: two loaders with blocks in both spaces, a free block of each
+/// and a word that is written.
+const STEPS: [Step; 10] = [
     Step::New {
         loader: 1,
         kind: Kind::Standard,
@@ -32,9 +34,18 @@ const STEPS: [Step; 8] = [
         block: 1,
         words: 20,
     },
+    Step::Alloc {
+        loader: 2,
+        block: 2,
+        words: 30,
+    },
     Step::Free {
         loader: 1,
         block: 1,
+    },
+    Step::Free {
+        loader: 2,
+        block: 2,
     },
     Step::Write {
         loader: 2,
@@ -68,6 +79,14 @@ const ALLOC: Step = Step::Alloc {
     words: 9000,
 };
 
+/// The peaks of a report.
+const PEAKS: Peaks = Peaks {
+    granules: 3,
+    nodes: 2,
+    used: 5000,
+    loaders: 2,
+};
+
 /// Makes a system with loaders and blocks.
 pub fn filled(alloc: Global) -> io::Result<System> {
     let mut system = System::new(alloc, SETTINGS)?;
@@ -79,16 +98,25 @@ pub fn filled(alloc: Global) -> io::Result<System> {
     Ok(system)
 }
 
-/// Tells the sums of a system with loaders and blocks.
+/// Tells the sums of a system with loaders and blocks, with details and peaks.
 pub fn filled_totals(alloc: Global) -> io::Result<Totals> {
     let system = filled(alloc)?;
-    match system.totals() {
+    match detailed_totals(&system) {
         Ok(totals) => Ok(totals),
         Err(_) => Err(unprepared()),
     }
 }
 
-/// Tells sums: those over each space, and the row of each loader.
+/// Tells the sums of a system, with its details and with peaks.
+fn detailed_totals(system: &System) -> Result<Totals, AllocError> {
+    let mut totals = system.totals()?;
+    totals.peaks = Some(PEAKS);
+    totals.details = Some(system.details()?);
+    Ok(totals)
+}
+
+/// Tells sums: those over each space, the row of each loader, the peaks and the details where there are
+/// some.
 pub fn tell_totals(rt: &HostRuntime, totals: &Totals) {
     tell(rt, &totals.loaders);
     tell(rt, &totals.space);
@@ -96,11 +124,21 @@ pub fn tell_totals(rt: &HostRuntime, totals: &Totals) {
     for row in &totals.rows {
         tell(rt, row);
     }
+    tell(rt, &totals.peaks);
+    if let Some(details) = &totals.details {
+        tell_details(rt, details);
+    }
+}
+
+/// Tells the sums of each loader in each space, and the maps of roots.
+fn tell_details(rt: &HostRuntime, details: &Details) {
+    tell(rt, &details.loaders);
+    tell(rt, &details.roots);
 }
 
 /// What a system is asked.
 #[derive(Clone, Copy)]
-enum Asked {
+pub enum Asked {
     /// A loader is to be made.
     NewLoader,
     /// A block is to be allocated, by a step.
@@ -109,6 +147,10 @@ enum Asked {
     Run,
     /// Sums are to be told.
     Totals,
+    /// The sums of each loader in each space are to be told.
+    Details,
+    /// Maps of the roots are to be told.
+    Maps,
 }
 
 /// A system, and what it is asked.
@@ -126,24 +168,9 @@ impl Asking {
         Ok(Asking { system, asked })
     }
 
-    /// Prepares a system with loaders and blocks, which is to take a step.
-    pub fn step(alloc: Global) -> io::Result<Asking> {
+    /// Prepares a system with loaders and blocks, which is asked so.
+    pub fn filled(alloc: Global, asked: Asked) -> io::Result<Asking> {
         let system = filled(alloc)?;
-        let asked = Asked::Step;
-        Ok(Asking { system, asked })
-    }
-
-    /// Prepares a system with loaders and blocks, which is to run steps.
-    pub fn run(alloc: Global) -> io::Result<Asking> {
-        let system = filled(alloc)?;
-        let asked = Asked::Run;
-        Ok(Asking { system, asked })
-    }
-
-    /// Prepares a system with loaders and blocks, whose sums are to be told.
-    pub fn totals(alloc: Global) -> io::Result<Asking> {
-        let system = filled(alloc)?;
-        let asked = Asked::Totals;
         Ok(Asking { system, asked })
     }
 }
@@ -165,7 +192,16 @@ impl Row for Asking {
             Asked::Step => step_told(rt, self.system.step(ALLOC)),
             Asked::Run => run_told(rt, self.system.run(QUIET_STEPS.as_slice())),
             Asked::Totals => totals_told(rt, self.system.totals()),
+            Asked::Details => details_told(rt, self.system.details()),
+            Asked::Maps => maps_told(rt, self.system.maps()),
         }
+    }
+}
+
+impl Probed for Asking {
+    fn probe(self, rt: &HostRuntime) -> io::Result<()> {
+        let (_, mut loaders) = self.system.into_parts();
+        tell_all_places(rt, &mut loaders)
     }
 }
 
@@ -235,6 +271,26 @@ fn totals_told(rt: &HostRuntime, answer: Result<Totals, AllocError>) -> Answer {
             tell_totals(rt, &totals);
             Answer::Served
         }
+        Err(_) => Answer::Refused,
+    }
+}
+
+/// Tells the details that were to be told.
+fn details_told(rt: &HostRuntime, answer: Result<Details, AllocError>) -> Answer {
+    match answer {
+        Ok(details) => {
+            say(rt, "ok");
+            tell_details(rt, &details);
+            Answer::Served
+        }
+        Err(_) => Answer::Refused,
+    }
+}
+
+/// Tells the maps that were to be told.
+pub fn maps_told(rt: &HostRuntime, answer: Result<Vec<RootMap>, AllocError>) -> Answer {
+    match answer {
+        Ok(maps) => gave(rt, &maps),
         Err(_) => Answer::Refused,
     }
 }
