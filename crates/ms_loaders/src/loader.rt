@@ -272,6 +272,7 @@ impl Loader {
 
     /// Tells the sums over each arena, the class space's last. Takes no memory, and looks at each
     /// chunk once.
+    #[inline(always)]
     pub fn totals(&self) -> (ArenaTotals, ArenaTotals)
         ensures sums { AreSumsIn NonClass result.0 self.now.state }
         ensures class_sums { AreSumsIn Class result.1 self.now.state }
