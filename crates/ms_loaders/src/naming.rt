@@ -121,6 +121,15 @@ fn find(last: &Option<FoundName>, blocks: &HashMap<u32, Block>, name: u32) -> Op
     {
         return Some(found.block);
     }
+    look_up(blocks, name)
+}
+
+/// Finds the block of a name in the map. A function by itself in the program too, so that callers that
+/// find the name at once stay small.
+#[inline(never)]
+fn look_up(blocks: &HashMap<u32, Block>, name: u32) -> Option<Block>
+    ensures { result ≡ lookup (nat_eq name) blocks.now.entries }
+{
     blocks.get(&name).copied()
 }
 

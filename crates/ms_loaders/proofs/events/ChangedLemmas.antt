@@ -1,6 +1,6 @@
 -- Pool and loaders after a call for one account that changes its chunks: they belong together, and
 -- their machine's granules follow. For TakeCallLemmas and GrowCallLemmas.
-use Rattle.std.proofs.Common.{◌≡◌, ℕ, Some, List, refl, sym, ap, ◌∙◌, subst}
+use Rattle.std.proofs.Common.{◌≡◌, ℕ, Some, List, refl, sym, ap, subst}
 use Rattle.std.specs.List.{All}
 use Rattle.std.specs.List.Sorted.{IsPermutation}
 use Rattle.ms_base.specs.declared.kind.Space.{Space}
