@@ -15,17 +15,21 @@ const MOST_LOADERS: u32 = 4;
 /// The name before that of the first block: no row has one that is higher.
 const LAST_NAME: u32 = 1000;
 
-/// A source without chunks.
+/// A source without chunks, which counts the accounts that are open in each space.
 #[derive(Drop)]
-struct NoChunks;
+struct NoChunks {
+    opened: u64,
+    class_opened: u64,
+}
 
 impl ChunkSource for NoChunks {
     ghost use Rattle.ms_base.specs.State.{Limits};
+    ghost use Rattle.ms_base.specs.Spaces.{by_space};
     ghost use Rattle.ms_base.specs.declared.policy.Policy.TheVariants.{Balanced};
 
     ghost serves = { λ _ _. Unit {0} };
 
-    ghost opened = { λ _ _. 0 };
+    ghost opened = { λ source space. by_space space source.opened source.class_opened };
 
     ghost limits = { λ _. record { nodes = 0; granules = 0; policy = Balanced; class_nodes = 0 } };
 
@@ -57,7 +61,12 @@ impl ChunkSource for NoChunks {
         Err(Refusal::ReserveLimit { nodes: 0, limit: 0 })
     }
 
-    fn close(&mut self, _account: Account) {}
+    fn close(&mut self, account: Account) {
+        match account.space() {
+            Space::NonClass => self.opened -= 1,
+            Space::Class => self.class_opened -= 1,
+        }
+    }
 
     fn totals(&mut self, _account: &Account) -> PoolTotals {
         PoolTotals {
@@ -83,7 +92,10 @@ struct Held {
 impl Places for Held {
     fn have(&mut self, words: u64) -> io::Result<Option<Block>> {
         self.name = self.name.wrapping_add(1);
-        let mut source = NoChunks;
+        let mut source = NoChunks {
+            opened: 1,
+            class_opened: 1,
+        };
         match self
             .loader
             .allocate(&mut source, self.space, self.name, words)
