@@ -16,7 +16,7 @@ use Rattle.ms_base.specs.declared.kind.Space.TheVariants.{NonClass, Class}
 use Rattle.ms_base.specs.declared.policy.Policy.{Policy}
 use Rattle.ms_base.specs.declared.span.Chunk.{Chunk}
 use Rattle.ms_base.specs.Interval.{meet, meets_any, are_apart, lies_in}
-use Rattle.ms_base.specs.Level.{size_of}
+use Rattle.ms_base.specs.Level.{size_of, highest_level}
 use Rattle.ms_base.specs.Part.{IsPart, slot_of}
 use Rattle.ms_base.specs.Spaces.{IsSlotOf}
 use Rattle.ms_base.specs.Held.{words_of}
@@ -35,7 +35,7 @@ all_at P (y ∷ xs) (suc place) x all found = all_at P xs place x all.1 found
 
 -- The bounds of a chunk.
 pub record IsBounded (chunk : Chunk) : Type 0 where
-  pub level : chunk.level ≤ 12
+  pub level : chunk.level ≤ highest_level
   pub some : 1 ≤ chunk.front
   pub front : chunk.front ≤ size_of chunk.level
   pub size : size_of chunk.level ≤ 2 ^ 19
@@ -159,10 +159,10 @@ reaches_by policy chunk total may bounds enlarged false false e f =
     (omega (arith, parent.fits, doubled chunk.level parent.no_root bounds.level)) in
     record { start = refl; higher = omega (arith, not-le total chunk.front e, far); reaches = far }
   where
-    doubled : (level : ℕ) → 0 < level → level ≤ 12 → size_of (level - 1) ≡ 2 * size_of level
+    doubled : (level : ℕ) → 0 < level → level ≤ highest_level → size_of (level - 1) ≡ 2 * size_of level
     doubled level some small = ap (λ (n : ℕ). 2 ^ n) (exponent level some small) ∙ pow-add 2 1 (19 - level)
       where
-        exponent : (level : ℕ) → 0 < level → level ≤ 12 → 19 - (level - 1) ≡ 1 + (19 - level)
+        exponent : (level : ℕ) → 0 < level → level ≤ highest_level → 19 - (level - 1) ≡ 1 + (19 - level)
         exponent level some small = omega arith
 
 pub reaches : (policy : Policy) (chunk : Chunk) (total : ℕ) (may : Bool) → IsBounded chunk

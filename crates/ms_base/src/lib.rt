@@ -26,7 +26,7 @@ pub use level::{Level, level_for};
 pub use policy::{Policy, granule};
 pub use refusal::Refusal;
 pub use settings::Settings;
-pub use sizes::{CLASS_SLOTS, NODE_WORDS, ROOT_WORDS, SLOTS};
+pub use sizes::{CLASS_SLOTS, MOST_GRANULES, NODE_WORDS, ROOT_WORDS, SLOTS};
 pub use span::{Block, Chunk, Span};
 pub use step::{Reply, Step};
 pub use words::{LiveBlock, Words};

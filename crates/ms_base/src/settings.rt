@@ -1,6 +1,6 @@
 //! What a run is set up with.
 ghost use Rattle.std.specs.Prelude.{◌≤◌};
-ghost use Rattle.ms_base.specs.declared.sizes.TheConstants.{SLOTS, CLASS_SLOTS};
+ghost use Rattle.ms_base.specs.declared.sizes.TheConstants.{SLOTS, CLASS_SLOTS, MOST_GRANULES};
 
 use crate::policy::Policy;
 use crate::sizes::{CLASS_SLOTS, SLOTS};
@@ -14,7 +14,7 @@ pub struct Settings {
     pub workers: u32,
     /// The limit of reserved nodes, 1 to 64.
     pub nodes: u32,
-    /// The limit of committed granules, 1 to 40960.
+    /// The limit of committed granules, 1 to [`MOST_GRANULES`](crate::sizes::MOST_GRANULES).
     pub max_granules: u64,
     /// Whether memory that is given back stays committed.
     pub policy: Policy,
@@ -25,7 +25,7 @@ pub struct Settings {
     pub ghost nodes_some: { 1 ≤ nodes },
     pub ghost nodes_few: { nodes ≤ SLOTS },
     pub ghost granules_some: { 1 ≤ max_granules },
-    pub ghost granules_few: { max_granules ≤ 40960 },
+    pub ghost granules_few: { max_granules ≤ MOST_GRANULES },
     pub ghost class_nodes_few: { class_nodes ≤ CLASS_SLOTS },
 }
 

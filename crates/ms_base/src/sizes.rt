@@ -21,3 +21,6 @@ pub const SLOTS: u32 = 64;
 
 /// How many the class space has at most: from slot 64 on.
 pub const CLASS_SLOTS: u32 = 16;
+
+/// The most granules that a run may be allowed to commit: as many as 80 nodes have of 2048 words.
+pub const MOST_GRANULES: u64 = 40960;

@@ -10,7 +10,7 @@ use Rattle.ms_base.specs.declared.span.Span.{Span}
 use Rattle.ms_base.specs.declared.refusal.Refusal.{Refusal}
 use Rattle.ms_base.specs.declared.refusal.Refusal.TheVariants.{NoRoom, OutOfMemory}
 use Rattle.ms_base.specs.Interval.{meet, lies_in}
-use Rattle.ms_base.specs.Level.{size_of}
+use Rattle.ms_base.specs.Level.{size_of, highest_level}
 use Rattle.ms_base.specs.Part.{IsPart}
 use Rattle.ms_base.proofs.free.PartLemmas.{parts_are_nested_or_apart}
 use Rattle.ms_buddy.specs.declared.node.Node.{Node}
@@ -51,7 +51,7 @@ lower_inside part level start half place h is_part inside size below = record {
     half_place : IsPlace (level + 1) start
     half_place = lower_place level start place (omega (arith, is_part.0))
 
-upper_inside : (part : Span) (level start half : ℕ) → level < part.level → part.level ≤ 12
+upper_inside : (part : Span) (level start half : ℕ) → level < part.level → part.level ≤ highest_level
     → IsInside level start part
     → half ≡ size_of (level + 1) → start + half ≤ part.start → IsInside (level + 1) (start + half) part
 upper_inside part level start half h k inside size above = record {
@@ -123,7 +123,7 @@ or_false false y e = e
 
 -- The whole of two halves lies in no free leaf of theirs.
 pub whole_fits_not : {A : Type 0} (part : Span) (level start half : ℕ) (lower upper : Node A)
-    → AtHalves level start half lower upper → level < 12 → IsInside level start part
+    → AtHalves level start half lower upper → level < highest_level → IsInside level start part
     → part.level ≡ level → fits_in part (free_in_halves level start lower upper) ≡ false
 whole_fits_not part level start half lower upper s low inside e =
     list_any-append (λ (other : Span). lies_in (words_of part) (words_of other))

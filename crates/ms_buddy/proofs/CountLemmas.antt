@@ -7,7 +7,7 @@ use Rattle.std.specs.List.{find}
 use Rattle.std.proofs.lemmas.List.Sums.{sum_by-append}
 use Rattle.std.proofs.lemmas.Bool.Decides.{nat_tests}
 use Rattle.ms_base.specs.declared.span.Span.{Span}
-use Rattle.ms_base.specs.Level.{size_of}
+use Rattle.ms_base.specs.Level.{size_of, highest_level}
 use Rattle.ms_buddy.specs.declared.node.Node.{Node}
 use Rattle.ms_buddy.specs.declared.node.Node.TheVariants.{Free, Lent, Split'}
 use Rattle.ms_buddy.specs.Counts.{IsParted, count_at_level, freed_level, one_at, one_between}
@@ -77,7 +77,7 @@ upper_parted_at level start half lower was is free lent size parted =
 none_between : (level other : ℕ) → one_between level (level + 1) other ≡ 0
 none_between level other = grind (arith, nat_tests)
 
-pub whole_parted : (part : Span) (lent : ℕ) → part.level ≤ 12 → lent ≡ part.level
+pub whole_parted : (part : Span) (lent : ℕ) → part.level ≤ highest_level → lent ≡ part.level
     → IsParted (part ∷ []) part.level lent []
 whole_parted part lent low e = record {
   low = omega (arith, low);
@@ -93,7 +93,7 @@ whole_parted part lent low e = record {
 
 -- A lent leaf becomes free.
 pub leaf_parted : {A : Type 0} (part : Span) (level start owner front : ℕ) (node : Node A) → node ≡ Lent owner front
-    → level ≤ 12 → IsTrue (is_lent (lent_in level start node) part)
+    → level ≤ highest_level → IsTrue (is_lent (lent_in level start node) part)
     → IsParted (record { start = start; level = level } ∷ []) level part.level (free_in level start node)
 leaf_parted part level start owner front node e low lent =
     subst (λ (x : Node _). IsParted (record { start = start; level = level } ∷ []) level part.level (free_in level start x))
@@ -111,7 +111,7 @@ nothing_lent part level start node e lent =
     absurd (cc (subst (λ (x : Node _). is_lent (lent_in level start x) part ≡ true) e lent))
 
 -- A leader becomes its parent, and the free upper half is gone.
-pub leader_parted : {A : Type 0} (level start lent owner front : ℕ) (lower upper : Node A) → level < 12
+pub leader_parted : {A : Type 0} (level start lent owner front : ℕ) (lower upper : Node A) → level < highest_level
     → lower ≡ Lent owner front → upper ≡ Free → lent ≡ level + 1
     → IsParted (free_in_halves level start lower upper) lent lent []
 leader_parted level start lent owner front lower upper low e f child =

@@ -8,7 +8,7 @@ use Rattle.std.specs.Prelude.{◌==◌, nat_lt, IsTrue, IsFalse, Option, Some, N
 use Rattle.std.specs.List.{AllByRecursion, list_any}
 use Rattle.std.proofs.lemmas.Bool.Decides.{nat_tests}
 use Rattle.ms_base.specs.declared.span.Span.{Span}
-use Rattle.ms_base.specs.Level.{size_of}
+use Rattle.ms_base.specs.Level.{size_of, highest_level}
 use Rattle.ms_base.specs.Part.{IsPart, is_leader, buddy_start}
 use Rattle.ms_buddy.specs.declared.node.Node.{Node}
 use Rattle.ms_buddy.specs.declared.node.Node.TheVariants.{Free, Lent, Split'}
@@ -33,7 +33,7 @@ buddy_of_leader part e =
     ends a s r e = omega (arith, e)
 
 -- A leader's parent is a part that starts where it does.
-leader_parent : (part : Span) → part.level ≤ 12 → is_leader part.start part.level ≡ true
+leader_parent : (part : Span) → part.level ≤ highest_level → is_leader part.start part.level ≡ true
     → IsPart part.start (part.level - 1)
 leader_parent part h e = (omega arith, zero_test (part.start % size_of (part.level - 1)) e)
 
@@ -53,7 +53,7 @@ alike part free other e = by_leader (nat_lt 0 part.level) (is_leader part.start 
     by_leader false b x y e = refl
 
 deep_lower_can : {A : Type 0} (part : Span) (level start half : ℕ) (lower upper : Node A)
-    → AtHalves level start half lower upper → IsPlace level start → level + 1 < part.level → part.level ≤ 12
+    → AtHalves level start half lower upper → IsPlace level start → level + 1 < part.level → part.level ≤ highest_level
     → start ≤ part.start → part.start < start + half
     → can_enlarge part (free_in_halves level start lower upper) ≡ can_enlarge part (free_in (level + 1) start lower)
 deep_lower_can part level start half lower upper s place h k from below =
@@ -102,7 +102,8 @@ lent_part_level part level start node e = of_list (lent_in level start node) (le
 
 pub lower_can : {A : Type 0} (part : Span) (level start half : ℕ) (lower upper : Node A)
     → AtHalves level start half lower upper → IsPlace level start
-    → IsTrue (is_lent (lent_in_halves level start lower upper) part) → (part.level ≡ level + 1 → ⊥) → part.level ≤ 12
+    → IsTrue (is_lent (lent_in_halves level start lower upper) part) → (part.level ≡ level + 1 → ⊥)
+    → part.level ≤ highest_level
     → part.start < start + half
     → can_enlarge part (free_in_halves level start lower upper) ≡ can_enlarge part (free_in (level + 1) start lower)
 lower_can part level start half lower upper s place lent deeper k below =
@@ -179,7 +180,7 @@ split_not_lent part level start node levels p lower q upper e f =
 
 -- The upper half can't become its parent.
 pub follower_cannot : {A : Type 0} (part : Span) (level start half : ℕ) (lower upper : Node A) (free : List Span)
-    → AtHalves level start half lower upper → IsPlace level start → level < 12
+    → AtHalves level start half lower upper → IsPlace level start → level < highest_level
     → IsTrue (is_lent (lent_in_halves level start lower upper) part) → part.level ≡ level + 1 → start < part.start
     → can_enlarge part free ≡ false
 follower_cannot part level start half lower upper free s place low lent child above =

@@ -10,7 +10,7 @@ use Rattle.std.proofs.lemmas.Bool.Decides.{nat_tests}
 use Rattle.ms_base.specs.declared.span.Chunk.{Chunk}
 use Rattle.ms_base.specs.declared.span.Span.{Span}
 use Rattle.ms_base.specs.Interval.{meet}
-use Rattle.ms_base.specs.Level.{size_of}
+use Rattle.ms_base.specs.Level.{size_of, highest_level}
 use Rattle.ms_base.specs.FreeParts.{free_within}
 use Rattle.ms_buddy.specs.declared.node.Node.{Node}
 use Rattle.ms_buddy.specs.declared.node.Node.TheVariants.{Free, Lent, Split'}
@@ -27,30 +27,33 @@ meets_run held a n = list_any (λ chunk. meet chunk.start (size_of chunk.level) 
 abbrev Agree : List Chunk → List Chunk → ℕ → ℕ → Type 0
 Agree held others low high = (a n : ℕ) → low ≤ a → a + n ≤ high → meets_run held a n ≡ meets_run others a n
 
-next_level : (below : ℕ) → below < 12 → 12 - suc below + 1 ≡ 12 - below
+next_level : (below : ℕ) → below < highest_level → highest_level - suc below + 1 ≡ highest_level - below
 next_level below h = omega arith
 
-halves_below : (below : ℕ) → below < 12 → size_of (12 - below) + size_of (12 - below) ≡ size_of (12 - suc below)
+halves_below : (below : ℕ) → below < highest_level
+    → size_of (highest_level - below) + size_of (highest_level - below) ≡ size_of (highest_level - suc below)
 halves_below below h =
-    subst (λ (x : ℕ). size_of x + size_of x ≡ size_of (12 - suc below)) (next_level below h)
-    (size_of-halves (12 - suc below) (omega arith))
+    subst (λ (x : ℕ). size_of x + size_of x ≡ size_of (highest_level - suc below)) (next_level below h)
+    (size_of-halves (highest_level - suc below) (omega arith))
 
 -- The free parts within a part depend only on which runs in it the list meets.
-free_within-agree : (held others : List Chunk) (below start : ℕ) → below ≤ 12
-    → Agree held others start (start + size_of (12 - below))
+free_within-agree : (held others : List Chunk) (below start : ℕ) → below ≤ highest_level
+    → Agree held others start (start + size_of (highest_level - below))
     → free_within held below start ≡ free_within others below start
 free_within-agree held others zero start h agree =
-    ap (λ (b : Bool). cond b [] (record { start = start; level = 12 } ∷ []))
-    (agree start (size_of 12) (omega arith) (omega arith))
+    ap (λ (b : Bool). cond b [] (record { start = start; level = highest_level } ∷ []))
+    (agree start (size_of highest_level) (omega arith) (omega arith))
 free_within-agree held others (suc below) start h agree =
-    joined (meets_run held start (size_of (12 - suc below))) (meets_run others start (size_of (12 - suc below)))
+    joined (meets_run held start (size_of (highest_level - suc below)))
+    (meets_run others start (size_of (highest_level - suc below)))
     (free_within held below start) (free_within others below start)
-    (free_within held below (start + size_of (12 - below))) (free_within others below (start + size_of (12 - below)))
-    (record { start = start; level = 12 - suc below } ∷ [])
-    (agree start (size_of (12 - suc below)) (omega arith) (omega arith))
+    (free_within held below (start + size_of (highest_level - below)))
+    (free_within others below (start + size_of (highest_level - below)))
+    (record { start = start; level = highest_level - suc below } ∷ [])
+    (agree start (size_of (highest_level - suc below)) (omega arith) (omega arith))
     (free_within-agree held others below start (omega arith)
     (λ a n k l. agree a n k (omega (arith, halves_below below (omega arith)))))
-    (free_within-agree held others below (start + size_of (12 - below)) (omega arith)
+    (free_within-agree held others below (start + size_of (highest_level - below)) (omega arith)
     (λ a n k l. agree a n (omega arith) (omega (arith, halves_below below (omega arith)))))
   where
     joined : (a b : Bool) (x y u v z : List Span) → a ≡ b → x ≡ y → u ≡ v → cond a (x ++ u) z ≡ cond b (y ++ v) z
@@ -60,15 +63,17 @@ meets : (a m b n : ℕ) → a ≤ b → b + n ≤ a + m → 0 < n → meet a m b
 meets a m b n h k l = grind (arith, nat_tests)
 
 -- A part that a chunk covers has no free part.
-covered : (chunk : Chunk) (below start : ℕ) → below ≤ 12 → chunk.start ≤ start
-    → start + size_of (12 - below) ≤ chunk.start + size_of chunk.level
+covered : (chunk : Chunk) (below start : ℕ) → below ≤ highest_level → chunk.start ≤ start
+    → start + size_of (highest_level - below) ≤ chunk.start + size_of chunk.level
     → free_within (chunk ∷ []) below start ≡ []
-covered chunk zero start h k l = rw (meets chunk.start (size_of chunk.level) start (size_of 12) k l (omega arith)) refl
+covered chunk zero start h k l =
+    rw (meets chunk.start (size_of chunk.level) start (size_of highest_level) k l (omega arith)) refl
 covered chunk (suc below) start h k l =
-    rw (meets chunk.start (size_of chunk.level) start (size_of (12 - suc below)) k l (size_of-some (12 - suc below)))
+    rw (meets chunk.start (size_of chunk.level) start (size_of (highest_level - suc below)) k l
+    (size_of-some (highest_level - suc below)))
     (rw (
       covered chunk below start (omega arith) k (omega (arith, halves_below below (omega arith))),
-      covered chunk below (start + size_of (12 - below)) (omega arith) (omega arith)
+      covered chunk below (start + size_of (highest_level - below)) (omega arith) (omega arith)
           (omega (arith, halves_below below (omega arith))),
     ) refl)
 
@@ -146,10 +151,11 @@ node_meets level start (Split' levels p lower q upper) a n tree e h k =
     one_of false g x y n h k = rw (h refl) refl
 
 -- One step of the walk: at a split with a lent leaf.
-split_walk : {A : Type 0} (below level start : ℕ) (lower upper : Node A) → below < 12 → level ≡ 12 - below
+split_walk : {A : Type 0} (below level start : ℕ) (lower upper : Node A) → below < highest_level
+    → level ≡ highest_level - below
     → IsTree level lower → IsTree level upper
     → meets_run (map chunk_of (lent_in level start lower ++ lent_in level (start + size_of level) upper)) start
-    (size_of (12 - suc below)) ≡ true
+    (size_of (highest_level - suc below)) ≡ true
     → free_within (map chunk_of (lent_in level start lower)) below start ≡ free_in level start lower
     → free_within (map chunk_of (lent_in level (start + size_of level) upper)) below (start + size_of level)
     ≡ free_in level (start + size_of level) upper
@@ -157,10 +163,10 @@ split_walk : {A : Type 0} (below level start : ℕ) (lower upper : Node A) → b
     (suc below) start
     ≡ free_in level start lower ++ free_in level (start + size_of level) upper
 split_walk below level start lower upper h e low_tree high_tree met low high =
-    joined (meets_run held start (size_of (12 - suc below)))
-    (free_within held below start) (free_within held below (start + size_of (12 - below)))
+    joined (meets_run held start (size_of (highest_level - suc below)))
+    (free_within held below start) (free_within held below (start + size_of (highest_level - below)))
     (free_in level start lower) (free_in level (start + size_of level) upper)
-    (record { start = start; level = 12 - suc below } ∷ []) met
+    (record { start = start; level = highest_level - suc below } ∷ []) met
     (free_within-agree held (map chunk_of (lent_in level start lower)) below start (omega arith)
     (subst (λ (x : ℕ). Agree held (map chunk_of (lent_in level start lower)) start (start + size_of x)) e
     (upper_agrees level start (start + size_of level) (lent_in level start lower) upper high_tree))
@@ -168,7 +174,7 @@ split_walk below level start lower upper h e low_tree high_tree met low high =
     (ap (λ (x : ℕ). free_within held below (start + size_of x)) (sym e)
     ∙ free_within-agree held (map chunk_of (lent_in level (start + size_of level) upper)) below (start + size_of level)
     (omega arith)
-    (lower_agrees level start (start + size_of level + size_of (12 - below)) lower
+    (lower_agrees level start (start + size_of level + size_of (highest_level - below)) lower
     (lent_in level (start + size_of level) upper) low_tree)
     ∙ high)
   where
@@ -179,31 +185,37 @@ split_walk below level start lower upper h e low_tree high_tree met low high =
     joined b x y u v z e f g = rw (e, f, g) refl
 
 -- The free leaves of a node are the free parts within it that its lent leaves leave over.
-free_walk : {A : Type 0} (below start : ℕ) (node : Node A) → below ≤ 12 → IsTree (12 - below) node
-    → free_within (map chunk_of (lent_in (12 - below) start node)) below start ≡ free_in (12 - below) start node
+free_walk : {A : Type 0} (below start : ℕ) (node : Node A) → below ≤ highest_level → IsTree (highest_level - below) node
+    → free_within (map chunk_of (lent_in (highest_level - below) start node)) below start
+    ≡ free_in (highest_level - below) start node
 free_walk zero start Free h tree = refl
 free_walk (suc below) start Free h tree = refl
 free_walk below start (Lent owner front) h tree =
-    covered (record { start = start; level = 12 - below; front = front }) below start h (omega arith) (omega arith)
+    covered (record { start = start; level = highest_level - below; front = front }) below start h
+    (omega arith) (omega arith)
 free_walk zero start (Split' levels p lower q upper) h tree = absurd (omega (arith, tree.0))
 free_walk (suc below) start (Split' levels p lower q upper) h tree =
-    split_walk below (12 - suc below + 1) start lower upper (omega arith) (next_level below (omega arith)) tree.2 tree.3
-    (node_meets (12 - suc below) start (Split' levels p lower q upper) start (size_of (12 - suc below)) tree refl
+    split_walk below (highest_level - suc below + 1) start lower upper (omega arith)
+    (next_level below (omega arith)) tree.2 tree.3
+    (node_meets (highest_level - suc below) start (Split' levels p lower q upper) start
+    (size_of (highest_level - suc below)) tree refl
     (omega arith) (omega arith))
     (subst (λ (x : ℕ). free_within (map chunk_of (lent_in x start lower)) below start ≡ free_in x start lower)
     (sym (next_level below (omega arith)))
     (free_walk below start lower (omega arith)
     (subst (λ (x : ℕ). IsTree x lower) (next_level below (omega arith)) tree.2)))
-    (subst (λ (x : ℕ). free_within (map chunk_of (lent_in x (start + size_of (12 - suc below + 1)) upper)) below
-    (start + size_of (12 - suc below + 1)) ≡ free_in x (start + size_of (12 - suc below + 1)) upper)
+    (subst (λ (x : ℕ). free_within
+    (map chunk_of (lent_in x (start + size_of (highest_level - suc below + 1)) upper)) below
+    (start + size_of (highest_level - suc below + 1))
+    ≡ free_in x (start + size_of (highest_level - suc below + 1)) upper)
     (sym (next_level below (omega arith)))
-    (free_walk below (start + size_of (12 - suc below + 1)) upper (omega arith)
+    (free_walk below (start + size_of (highest_level - suc below + 1)) upper (omega arith)
     (subst (λ (x : ℕ). IsTree x upper) (next_level below (omega arith)) tree.3)))
 
 -- The free leaves of the whole tree are the free parts of the root.
 pub free_of-tree : {A : Type 0} (node : Node A) → IsTree 0 node → free_of (lent_in 0 0 node) ≡ free_in 0 0 node
 unfolding free_of
-free_of-tree node tree = free_walk 12 0 node (omega arith) tree
+free_of-tree node tree = free_walk highest_level 0 node (omega arith) tree
 
 -- A tree with no lent leaf is one free leaf, and no other is.
 pub whole_tree : {A : Type 0} (node : Node A) → IsTree 0 node → lent_in 0 0 node ≡ [] → is_free node ≡ true

@@ -9,7 +9,7 @@ use Rattle.std.proofs.lemmas.List.Folds.{list_any-append, find-append}
 use Rattle.std.proofs.lemmas.List.Elements.{filter-append}
 use Rattle.std.proofs.lemmas.Bool.Decides.{nat_tests}
 use Rattle.ms_base.specs.declared.span.Span.{Span}
-use Rattle.ms_base.specs.Level.{size_of}
+use Rattle.ms_base.specs.Level.{size_of, highest_level}
 use Rattle.ms_buddy.specs.declared.node.Node.{Node}
 use Rattle.ms_buddy.specs.declared.node.Node.TheVariants.{Split'}
 use Rattle.ms_buddy.specs.declared.node.Leaf.{Leaf}
@@ -30,7 +30,7 @@ pub record AtHalves {A : Type 0} (level start half : ℕ) (lower upper : Node A)
 
 -- What is known at a split.
 pub record AtSplit {A : Type 0} (level start half : ℕ) (node lower upper : Node A) : Type 0 where
-  pub low : level < 12
+  pub low : level < highest_level
   pub one : IsFalse (is_free lower && is_free upper)
   pub halves : AtHalves level start half lower upper
   pub lent : lent_in level start node ≡ lent_in_halves level start lower upper
@@ -126,7 +126,7 @@ upper_lent part level start half lower upper s h e =
 
 -- A leaf that may have a front may have it in the half where it is.
 pub lower_front : {A : Type 0} (part : Span) (level start half front most : ℕ) (lower upper : Node A)
-    → AtHalves level start half lower upper → level < 12 → part.start < start + half
+    → AtHalves level start half lower upper → level < highest_level → part.start < start + half
     → MayHaveFront level start (lent_in_halves level start lower upper) part front most
     → MayHaveFront (level + 1) start (lent_in (level + 1) start lower) part front most
 lower_front part level start half front most lower upper s low h may = record {
@@ -137,7 +137,7 @@ lower_front part level start half front most lower upper s low h may = record {
 }
 
 pub upper_front : {A : Type 0} (part : Span) (level start half front most : ℕ) (lower upper : Node A)
-    → AtHalves level start half lower upper → level < 12 → start + half ≤ part.start
+    → AtHalves level start half lower upper → level < highest_level → start + half ≤ part.start
     → MayHaveFront level start (lent_in_halves level start lower upper) part front most
     → MayHaveFront (level + 1) (start + half) (lent_in (level + 1) (start + half) upper) part front most
 upper_front part level start half front most lower upper s low h may = record {

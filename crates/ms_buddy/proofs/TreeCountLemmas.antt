@@ -7,7 +7,7 @@ use Rattle.std.proofs.lemmas.List.{length-append}
 use Rattle.std.proofs.lemmas.List.Sums.{count_by-le-length}
 use Rattle.std.proofs.lemmas.Bool.Decides.{nat_tests}
 use Rattle.ms_base.specs.declared.span.Span.{Span}
-use Rattle.ms_base.specs.Level.{size_of}
+use Rattle.ms_base.specs.Level.{size_of, highest_level, level_count}
 use Rattle.ms_base.proofs.free.HalvesLemmas.{size_falls}
 use Rattle.ms_buddy.specs.declared.node.Node.{Node}
 use Rattle.ms_buddy.specs.declared.node.Node.TheVariants.{Free, Lent, Split'}
@@ -17,9 +17,9 @@ use Rattle.ms_buddy.proofs.TreeHalvesLemmas.{size_of-halves}
 use Rattle.ms_buddy.proofs.CountLemmas.{count-one}
 
 -- A tree has at most 4096 free leaves, since each has 128 words or more.
-few_free : {A : Type 0} (level start : ℕ) (node : Node A) → level ≤ 12 → IsTree level node
+few_free : {A : Type 0} (level start : ℕ) (node : Node A) → level ≤ highest_level → IsTree level node
     → length (free_in level start node) * 128 ≤ size_of level
-few_free level start Free h tree = omega (arith, size_falls level 12 h (omega arith))
+few_free level start Free h tree = omega (arith, size_falls level highest_level h (omega arith))
 few_free level start (Lent owner front) h tree = omega arith
 few_free level start (Split' levels p lower q upper) h tree =
     omega (
@@ -41,7 +41,7 @@ few_of node level tree =
 
 -- There is room in the counts for a part, and for a merge.
 pub room_to_part : {A : Type 0} (counts : List ℕ) (node : Node A) → IsTree 0 node → AreCounts counts (free_in 0 0 node)
-    → (level : ℕ) → level < 13 → get_or counts level 0 + 1 < 2 ^ 16
+    → (level : ℕ) → level < level_count → get_or counts level 0 + 1 < 2 ^ 16
 room_to_part counts node tree are level h = omega (arith, are.same level h, few_of node level tree)
 
 own_level : (level : ℕ) → one_at level level ≡ 1
@@ -125,4 +125,4 @@ whole_is_counted = record {
 
     at_level : (level : ℕ) → get_or (1 ∷ replicate 12 0) level 0 ≡ one_at 0 level
     at_level zero = refl
-    at_level (suc level) = no_count 12 level ∙ sym (past level)
+    at_level (suc level) = no_count highest_level level ∙ sym (past level)

@@ -2,7 +2,7 @@
 use Rattle.std.proofs.Common.{◌≡◌, ◌<◌, ℕ, ◌+◌, ◌-◌, ◌*◌, ◌/◌, ◌%◌, ◌^◌, sym, ap, subst, ◌∙◌, arith}
 use Rattle.std.proofs.lemmas.Nat.{pow-add, div-add-mod', pow_pos, shl-shr}
 use Rattle.std.proofs.Math.Nat.{mul-mod_left, add-mod_right}
-use Rattle.ms_base.specs.Level.{size_of}
+use Rattle.ms_base.specs.Level.{size_of, highest_level}
 use Rattle.ms_buddy.specs.Tree.{IsPlace}
 
 -- A part has a word.
@@ -10,18 +10,18 @@ pub size_of-some : (level : ℕ) → 0 < size_of level
 size_of-some level = pow_pos (19 - level)
 
 -- A part is twice its half.
-pub size_of-halves : (level : ℕ) → level < 12 → size_of (level + 1) + size_of (level + 1) ≡ size_of level
+pub size_of-halves : (level : ℕ) → level < highest_level → size_of (level + 1) + size_of (level + 1) ≡ size_of level
 size_of-halves level h =
     sym (ap (λ (n : ℕ). 2 ^ n) (exponent level h) ∙ pow-add 2 1 (19 - (level + 1)) ∙ twice (2 ^ (19 - (level + 1))))
   where
-    exponent : (level : ℕ) → level < 12 → 19 - level ≡ 1 + (19 - (level + 1))
+    exponent : (level : ℕ) → level < highest_level → 19 - level ≡ 1 + (19 - (level + 1))
     exponent level h = omega arith
 
     twice : (n : ℕ) → 2 ^ 1 * n ≡ n + n
     twice n = omega arith
 
 -- The words of a root, shifted by a level, are those of the level.
-pub root_shifted : (level : ℕ) → level < 12 → 524288 / 2 ^ (level + 1) ≡ size_of (level + 1)
+pub root_shifted : (level : ℕ) → level < highest_level → 524288 / 2 ^ (level + 1) ≡ size_of (level + 1)
 root_shifted level h = ap (λ (n : ℕ). n / 2 ^ (level + 1)) whole ∙ shl-shr (2 ^ (19 - (level + 1))) (level + 1)
   where
     parts : 19 ≡ (19 - (level + 1)) + (level + 1)
@@ -40,7 +40,7 @@ halves_divide a h e =
     by_number q e d = omega arith
 
 -- The lower half of a place is one.
-pub lower_place : (level start : ℕ) → IsPlace level start → level < 12 → IsPlace (level + 1) start
+pub lower_place : (level start : ℕ) → IsPlace level start → level < highest_level → IsPlace (level + 1) start
 lower_place level start place h = record {
   level_fits = omega arith;
   aligned =
@@ -50,7 +50,8 @@ lower_place level start place h = record {
 }
 
 -- So is the upper half.
-pub upper_place : (level start middle : ℕ) → IsPlace level start → level < 12 → middle ≡ start + size_of (level + 1)
+pub upper_place : (level start middle : ℕ) → IsPlace level start → level < highest_level
+    → middle ≡ start + size_of (level + 1)
     → IsPlace (level + 1) middle
 upper_place level start middle place h e = record {
   level_fits = omega arith;

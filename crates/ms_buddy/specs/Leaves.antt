@@ -12,7 +12,7 @@ use Rattle.ms_base.specs.declared.refusal.Refusal.TheVariants.{NoRoom, OutOfMemo
 use Rattle.ms_buddy.specs.declared.node.Leaf.{Leaf}
 use Rattle.ms_buddy.specs.declared.node.Leaf.TheVariants.{Free, Lent}
 use Rattle.ms_base.specs.Interval.{lies_in}
-use Rattle.ms_base.specs.Level.{root_words, size_of}
+use Rattle.ms_base.specs.Level.{root_words, size_of, highest_level}
 use Rattle.ms_base.specs.Part.{IsPart, is_leader, buddy_start}
 use Rattle.ms_base.specs.FreeParts.{free_within}
 
@@ -33,7 +33,7 @@ span_of leaf = record { start = leaf.start; level = leaf.level }
 
 -- The free leaves: the free parts of the root, in order of address.
 unfoldable pub free_of : List LentLeaf → List Span
-free_of lent = free_within (map chunk_of lent) 12 0
+free_of lent = free_within (map chunk_of lent) highest_level 0
 
 -- The part of that level at an offset.
 abbrev pub span_at : ℕ → ℕ → Span

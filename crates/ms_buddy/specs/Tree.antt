@@ -2,7 +2,7 @@
 use Rattle.std.specs.Prelude.{◌≡◌, ℕ, ◌+◌, ◌^◌, ◌<◌, ◌≤◌, ◌%◌, bit_or, Bool, true, false, ◌&&◌, List, [], ◌∷◌, ◌++◌}
 use Rattle.std.specs.Prelude.{Option, Some, None, IsTrue, IsFalse}
 use Rattle.ms_base.specs.declared.span.Span.{Span}
-use Rattle.ms_base.specs.Level.{root_words, size_of}
+use Rattle.ms_base.specs.Level.{root_words, size_of, highest_level}
 use Rattle.ms_base.specs.Part.{IsPart}
 use Rattle.ms_buddy.specs.Leaves.{LentLeaf, is_lent}
 use Rattle.ms_buddy.specs.declared.node.Node.{Node}
@@ -10,7 +10,7 @@ use Rattle.ms_buddy.specs.declared.node.Node.TheVariants.{Free, Lent, Split'}
 
 -- A node's place: a part of the root.
 pub record IsPlace (level start : ℕ) : Type 0 where
-  pub level_fits : level ≤ 12
+  pub level_fits : level ≤ highest_level
   pub aligned : start % size_of level ≡ 0
   pub in_root : start + size_of level ≤ root_words
 
@@ -32,7 +32,8 @@ abbrev pub IsTree : {A : Type 0} → ℕ → Node A → Type 0
 IsTree level Free = Unit {0}
 IsTree level (Lent owner front) = (0 < front) × (front ≤ size_of level)
 IsTree level (Split' levels p lower q upper) =
-    (level < 12) × IsFalse (is_free lower && is_free upper) × IsTree (level + 1) lower × IsTree (level + 1) upper
+    (level < highest_level) × IsFalse (is_free lower && is_free upper) × IsTree (level + 1) lower
+    × IsTree (level + 1) upper
     × (levels ≡ bit_or (levels_of (level + 1) lower) (levels_of (level + 1) upper))
 
 -- The lent leaves of the node, in order of address.
@@ -60,7 +61,7 @@ free_in_halves level start lower upper =
 
 -- Two trees are the halves of a part of that level, and these bits the levels of both.
 pub record AreHalves {A : Type 0} (level levels : ℕ) (lower upper : Node A) : Type 0 where
-  pub low : level < 12
+  pub low : level < highest_level
   pub lower_tree : IsTree (level + 1) lower
   pub upper_tree : IsTree (level + 1) upper
   pub levels_are : levels ≡ bit_or (levels_of (level + 1) lower) (levels_of (level + 1) upper)

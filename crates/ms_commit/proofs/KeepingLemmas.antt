@@ -4,6 +4,7 @@ use Rattle.std.proofs.Common.{◌≡◌, ◌≤◌, ◌<◌, ℕ, ◌+◌, ◌-�
 use Rattle.std.proofs.Common.{arith}
 use Rattle.std.specs.Prelude.{IsTrue}
 use Rattle.std.specs.List.Sorted.{IsStrictlyIncreasing}
+use Rattle.ms_base.specs.declared.sizes.TheConstants.{MOST_GRANULES}
 use Rattle.ms_base.specs.Part.{is_reserved}
 use Rattle.ms_base.specs.Spaces.{first_class_slot}
 use Rattle.ms_base.specs.Committed.{is_among}
@@ -42,7 +43,7 @@ reserved_past kept now slot seen missing =
 -- Granules of reserved slots have bits in the mask, and their range ends at a number of 64 bits.
 pub range_is_kept : (kept : Inside) (now : NodesState) (first count : ℕ) → AreKept kept → state_of kept ≡ now
     → AreInReserved now first count → first < 2 ^ 64
-    → ((k : ℕ) → first ≤ k → k < first + count → k < 40960) × (first + count < 2 ^ 64)
+    → ((k : ℕ) → first ≤ k → k < first + count → k < MOST_GRANULES) × (first + count < 2 ^ 64)
 range_is_kept kept now first count holds seen asked fits = (
   λ k low high. omega (arith, granule_below (state_of kept) k holds.sound some (reserved k low high), few),
   range_fits (state_of kept) first count holds.sound some few reserved fits,

@@ -13,7 +13,7 @@ use Rattle.ms_base.specs.declared.span.Chunk.{Chunk}
 use Rattle.ms_base.specs.Policy.{granule_of, keeps}
 use Rattle.ms_base.specs.Front.{HasFront}
 use Rattle.ms_base.specs.Interval.{meet}
-use Rattle.ms_base.specs.Level.{size_of}
+use Rattle.ms_base.specs.Level.{size_of, highest_level}
 use Rattle.ms_base.specs.Part.{IsPart}
 use Rattle.ms_base.specs.Committed.{is_among, granules_meeting}
 use Rattle.ms_base.specs.State.{PoolState}
@@ -151,7 +151,8 @@ module _ (pool : PoolState) (held : List Chunk) (slots committed : List ℕ) (el
       (past_low granule front k mid is (granule_some pool.limits.policy) over parts.1) parts.2)
 
 -- A part and a granule that meet: one lies in the other.
-module _ (granule j k : ℕ) (is : Chunk) (e : granule ≡ size_of j) (below : j ≤ 12) (part : IsPart is.start is.level)
+module _ (granule j k : ℕ) (is : Chunk) (e : granule ≡ size_of j) (below : j ≤ highest_level)
+    (part : IsPart is.start is.level)
     (meets : meet is.start (size_of is.level) (k * granule) granule ≡ true) where
   large_around : is.level ≤ j → (is.start ≤ k * granule) × (k * granule + granule ≤ is.start + size_of is.level)
   large_around h = subst

@@ -1,5 +1,6 @@
 -- The calls of the pool as events: what a call makes of a pool's ledger, and of the loaders whose
 -- accounts it serves, is an event at the machine that both are (this project's choice).
+use Rattle.ms_base.specs.Level.{highest_level}
 use Rattle.std.specs.Prelude.{◌≡◌, ℕ, ◌<◌, ◌≤◌, ◌^◌, Bool, List, [], Some, None, Result, Ok, Err, IfOk, OnErr}
 use Rattle.ms_base.specs.declared.kind.Kind.{Kind}
 use Rattle.ms_base.specs.declared.kind.Space.{Space}
@@ -112,7 +113,7 @@ pub record IsTakeCall (space : Space) (old : Ledger) (loaders : List (ℕ × Loa
     (wanted most words : ℕ) (result : Result Span Refusal) (account : AccountState) (new : Ledger) : Type 0 where
   pub there : IsThere old loaders name loader
   pub asks : MayTake wanted most words
-  pub least : most ≤ 12
+  pub least : most ≤ highest_level
   pub took : Took old (account_in space loader) wanted most words result new
   pub added : IfOk result (λ span. Adds old.limits.policy wanted most words (account_in space loader) span account)
   pub unchanged : OnErr result (account ≡ account_in space loader)

@@ -10,7 +10,7 @@ use Rattle.ms_base.specs.declared.kind.Space.TheVariants.{NonClass}
 use Rattle.ms_base.specs.Level.{size_of, root_words}
 use Rattle.ms_base.specs.Part.{slot_of}
 use Rattle.ms_base.specs.Held.{has_chunk_in}
-use Rattle.ms_base.specs.Spaces.{is_in}
+use Rattle.ms_base.specs.Spaces.{is_in, first_class_word}
 use Rattle.ms_buddy.specs.Leaves.{LentLeaf, AreLeaves}
 use Rattle.ms_buddy.proofs.TreeHalvesLemmas.{size_of-some}
 use Rattle.ms_pool.specs.Ledger.{Loan}
@@ -29,7 +29,7 @@ same_there slot (loan ∷ loans) low =
     step (is_in NonClass loan.chunk.start) (lies_in_slot slot loan) refl refl (same_there slot loans low)
   where
     below : (start : ℕ) → (slot_of start == slot) ≡ true → is_in NonClass start ≡ true
-    below start e = lt-ltb start 67108864 (omega (arith, low, eqb-true (slot_of start) slot e))
+    below start e = lt-ltb start first_class_word (omega (arith, low, eqb-true (slot_of start) slot e))
 
     step : (here lies : Bool) → is_in NonClass loan.chunk.start ≡ here → lies_in_slot slot loan ≡ lies
         → has_chunk_in (chunks_there NonClass loans) slot ≡ list_any (lies_in_slot slot) loans

@@ -2,7 +2,7 @@
 use Rattle.std.specs.Prelude.{◌≡◌, ℕ, ◌+◌, ◌<◌, ◌≤◌, ◌^◌, ◌==◌, cond, List, get_or, length}
 use Rattle.std.specs.List.{sum_by}
 use Rattle.ms_base.specs.declared.span.Chunk.{Chunk}
-use Rattle.ms_base.specs.Level.{size_of}
+use Rattle.ms_base.specs.Level.{size_of, level_count}
 use Rattle.ms_base.specs.declared.kind.Space.{Space}
 use Rattle.ms_base.specs.Spaces.{by_space, other_space}
 use Rattle.ms_pool.specs.declared.lent.Counted.{Counted}
@@ -24,12 +24,12 @@ front_in chunk = chunk.front
 
 -- The count of each level can be raised by what is still to be counted.
 abbrev pub HasRoom : List ℕ → (ℕ → ℕ) → Type 0
-HasRoom counts more = (level : ℕ) → level < 13 → get_or counts level 0 + more level < 2 ^ 32
+HasRoom counts more = (level : ℕ) → level < level_count → get_or counts level 0 + more level < 2 ^ 32
 
 -- What is counted of chunks: how many of each level, their words, and those of their fronts.
 pub record AreCounted (chunks : List Chunk) (counted : Counted) : Type 0 where
-  pub full : length counted.lent ≡ 13
-  pub lent : (level : ℕ) → level < 13 → get_or counted.lent level 0 ≡ total (one_of level) chunks
+  pub full : length counted.lent ≡ level_count
+  pub lent : (level : ℕ) → level < level_count → get_or counted.lent level 0 ≡ total (one_of level) chunks
   pub capacity : counted.capacity ≡ total words_in chunks
   pub fronts : counted.fronts ≡ total front_in chunks
 
@@ -45,14 +45,14 @@ pub record HasLeast (counted : Counted) (chunk : Chunk) : Type 0 where
   pub fronts : chunk.front ≤ counted.fronts
 
 pub record HaveLeast (counted : Counted) (chunks : List Chunk) : Type 0 where
-  pub lent : (level : ℕ) → level < 13 → total (one_of level) chunks ≤ get_or counted.lent level 0
+  pub lent : (level : ℕ) → level < level_count → total (one_of level) chunks ≤ get_or counted.lent level 0
   pub capacity : total words_in chunks ≤ counted.capacity
   pub fronts : total front_in chunks ≤ counted.fronts
 
 -- Chunks that were counted go, and others come.
 pub record Moves (old : Counted) (gone come : List Chunk) (new : Counted) : Type 0 where
   pub full : length new.lent ≡ length old.lent
-  pub lent : (level : ℕ) → level < 13
+  pub lent : (level : ℕ) → level < level_count
       → get_or new.lent level 0 + total (one_of level) gone ≡ get_or old.lent level 0 + total (one_of level) come
   pub capacity : new.capacity + total words_in gone ≡ old.capacity + total words_in come
   pub fronts : new.fronts + total front_in gone ≡ old.fronts + total front_in come

@@ -5,7 +5,7 @@ use Rattle.std.specs.List.{list_any, flat_map, range_with_len}
 use Rattle.ms_base.specs.declared.span.Chunk.{Chunk}
 use Rattle.ms_base.specs.declared.span.Span.{Span}
 use Rattle.ms_base.specs.Interval.{lies_in, meet}
-use Rattle.ms_base.specs.Level.{root_words, size_of}
+use Rattle.ms_base.specs.Level.{root_words, size_of, highest_level}
 use Rattle.ms_base.specs.FreeParts.{free_within}
 use Rattle.ms_base.specs.Policy.{granule_of}
 use Rattle.ms_base.specs.Committed.{granules_meeting, is_among}
@@ -51,7 +51,7 @@ is_committed_in pool start =
 abbrev pub place_in : PoolState → ℕ → ℕ → Place
 place_in pool root number =
     place_by (meets_lent pool.held (place_start root number) place_words)
-    (meets_free (free_within pool.held 12 (root * root_words)) (place_start root number) place_words)
+    (meets_free (free_within pool.held highest_level (root * root_words)) (place_start root number) place_words)
     (is_committed_in pool (place_start root number))
 
 -- A root's number and its places in order of address.

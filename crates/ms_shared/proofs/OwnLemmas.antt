@@ -4,7 +4,7 @@ use Rattle.std.proofs.Common.{◌≡◌, ℕ, ◌==◌, cond, get_or, ap, ◌∙
 use Rattle.std.specs.List.{count_by, sum_by}
 use Rattle.std.proofs.lemmas.List.FromFn.{get_or-map-range_with_len}
 use Rattle.ms_base.specs.declared.span.Chunk.{Chunk}
-use Rattle.ms_base.specs.Level.{size_of}
+use Rattle.ms_base.specs.Level.{size_of, level_count}
 use Rattle.ms_base.specs.Totals.{PoolSums, pool_sums}
 use Rattle.ms_pool.specs.Account.{AccountState, AreChunks}
 use Rattle.ms_pool.specs.Ledger.{Ledger, state_in, held_in, opened_in}
@@ -30,7 +30,7 @@ counts_own pool seat account totals known serves chunks sums =
       lent = λ level below.
           let counted = λ (n : ℕ). count_by (λ (chunk : Chunk). chunk.level == n) (held_in account.space pool) in
           let all = ap (λ (s : PoolSums). get_or s.lent level 0) sums
-          ∙ get_or-map-range_with_len counted 0 13 level level 0 below (omega arith) in
+          ∙ get_or-map-range_with_len counted 0 level_count level level 0 below (omega arith) in
           let own = within (λ chunk. one_if_level level chunk) in omega arith;
       capacity =
           let all : totals.capacity ≡ sum_by (λ (chunk : Chunk). size_of chunk.level) (held_in account.space pool) =

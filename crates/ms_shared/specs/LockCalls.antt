@@ -11,7 +11,7 @@ use Rattle.ms_base.specs.declared.span.Chunk.{Chunk}
 use Rattle.ms_base.specs.declared.span.Span.{Span}
 use Rattle.ms_base.specs.declared.refusal.Refusal.{Refusal}
 use Rattle.ms_base.specs.declared.refusal.Refusal.TheVariants.{CommitLimit, ReserveLimit, OutOfMemory, NoRoom}
-use Rattle.ms_base.specs.Level.{size_of}
+use Rattle.ms_base.specs.Level.{size_of, level_count}
 use Rattle.ms_base.specs.Policy.{granule_of, keeps}
 use Rattle.ms_base.specs.Front.{granules_for}
 use Rattle.ms_base.specs.Spaces.{by_space}
@@ -96,7 +96,7 @@ ClosedOver old account new = OverLock (λ before after. Closed before account af
 -- The sums tell at least the account's own chunks, by level, in words and in words of fronts, and the
 -- open accounts that the seat counts.
 pub record CountsOwn (seat : SeatState) (account : AccountState) (totals : PoolTotals) : Type 0 where
-  pub lent : (level : ℕ) → level < 13
+  pub lent : (level : ℕ) → level < level_count
       → count_by (λ chunk. chunk.level == level) account.chunks ≤ slice_index totals.lent level
   pub capacity : capacity_of account.chunks ≤ totals.capacity
   pub fronts : fronts_of account.chunks ≤ totals.fronts

@@ -12,7 +12,7 @@ use Rattle.std.proofs.lemmas.List.Folds.{list_all-append}
 use Rattle.std.proofs.lemmas.List.Elements.{recursion_from_All}
 use Rattle.ms_base.specs.declared.span.Chunk.{Chunk}
 use Rattle.ms_base.specs.Interval.{meet, meets_any, lies_in}
-use Rattle.ms_base.specs.Level.{size_of}
+use Rattle.ms_base.specs.Level.{size_of, highest_level}
 use Rattle.ms_base.specs.Part.{IsPart, slot_of, is_reserved}
 use Rattle.ms_base.specs.Front.{HasFront}
 use Rattle.ms_base.specs.Held.{AreHeld, words_of, meets_chunk}
@@ -141,7 +141,8 @@ parent_clear (c ∷ others) start level parent whole h k =
     (omega (arith, pow_pos (19 - c.level))) whole low.0 high.0)
     (parent_clear others start level parent whole low.1 high.1)
 
-pub parent_size : (level parent : ℕ) → level ≤ 12 → level ≡ parent + 1 → size_of parent ≡ size_of level + size_of level
+pub parent_size : (level parent : ℕ) → level ≤ highest_level → level ≡ parent + 1
+    → size_of parent ≡ size_of level + size_of level
 parent_size level parent low is = ap (λ (n : ℕ). 2 ^ n) exponent ∙ pow-add 2 1 (19 - level) ∙ double (size_of level)
   where
     exponent : 19 - parent ≡ 1 + (19 - level)
@@ -241,6 +242,6 @@ good_with_grown space m name before other place was is found at chunks elsewhere
           (was ∷ []) a (rw old at parent.1))
     ])
       where
-        low : was.level ≤ 12
+        low : was.level ≤ highest_level
         low = (recursion_from_All IsPlaced (was ∷ [])
             (All-middle_of IsPlaced b (was ∷ []) a (rw old at (good.pools space).held.parts))).0.0

@@ -9,7 +9,7 @@ use Rattle.ms_base.specs.declared.policy.Policy.{Policy}
 use Rattle.ms_base.specs.declared.span.Chunk.{Chunk}
 use Rattle.ms_base.specs.Policy.{granule_of, keeps}
 use Rattle.ms_base.specs.Interval.{meet}
-use Rattle.ms_base.specs.Level.{size_of}
+use Rattle.ms_base.specs.Level.{size_of, highest_level}
 use Rattle.ms_base.specs.Part.{node_words}
 use Rattle.ms_base.specs.FreeParts.{free_within, free_in_slot, free_parts}
 use Rattle.ms_base.specs.Committed.{is_among, is_committed_now, granules_of}
@@ -43,10 +43,10 @@ free_alike held other alike (suc below) start =
 slot_alike : (held other : List Chunk) → AreAlike held other → (slot : ℕ)
     → free_in_slot held slot ≡ free_in_slot other slot
 slot_alike held other alike slot =
-    ap (λ lower. lower ++ free_within held 12 (slot * node_words + size_of 0))
-    (free_alike held other alike 12 (slot * node_words))
-    ∙ ap (λ upper. free_within other 12 (slot * node_words) ++ upper)
-    (free_alike held other alike 12 (slot * node_words + size_of 0))
+    ap (λ lower. lower ++ free_within held highest_level (slot * node_words + size_of 0))
+    (free_alike held other alike highest_level (slot * node_words))
+    ∙ ap (λ upper. free_within other highest_level (slot * node_words) ++ upper)
+    (free_alike held other alike highest_level (slot * node_words + size_of 0))
 
 slots_alike : (held other : List Chunk) → AreAlike held other → (slots : List ℕ)
     → free_parts held slots ≡ free_parts other slots

@@ -11,7 +11,7 @@ use Rattle.std.proofs.lemmas.List.Folds.{list_any-append}
 use Rattle.ms_base.specs.declared.span.Chunk.{Chunk}
 use Rattle.ms_base.specs.declared.span.Span.{Span}
 use Rattle.ms_base.specs.Interval.{lies_in}
-use Rattle.ms_base.specs.Level.{size_of}
+use Rattle.ms_base.specs.Level.{size_of, highest_level}
 use Rattle.ms_base.specs.Part.{IsPart, parent_start}
 use Rattle.ms_base.specs.Held.{meets_chunk}
 use Rattle.ms_base.specs.FreeParts.{free_within}
@@ -20,26 +20,26 @@ use Rattle.ms_base.proofs.free.HalvesLemmas.{start_is_whole, middle_is_whole, pa
 
 -- The part with so many levels below it.
 abbrev pub part_over : ℕ → ℕ → Span
-part_over below start = record { start = start; level = 12 - below }
+part_over below start = record { start = start; level = highest_level - below }
 
 -- The part with so many levels below it meets a chunk.
 abbrev pub meets_over : List Chunk → ℕ → ℕ → Bool
-meets_over held below start = meets_chunk held start (12 - below)
+meets_over held below start = meets_chunk held start (highest_level - below)
 
 -- What has to be shown of the free parts of a part: where it has none, where it is one itself, and
 -- where they are those of its two halves.
 pub record HoldsByHalves (held : List Chunk) (P : ℕ → ℕ → List Span → Type 0) : Type 0 where
   pub none : (start : ℕ) → IsStart 0 start → meets_over held 0 start ≡ true → P 0 start []
   pub itself :
-      (below start : ℕ) → below ≤ 12 → IsStart below start → meets_over held below start ≡ false
+      (below start : ℕ) → below ≤ highest_level → IsStart below start → meets_over held below start ≡ false
       → P below start (part_over below start ∷ [])
   pub halves :
-      (below start : ℕ) (lower upper : List Span) → below < 12 → IsStart (suc below) start
+      (below start : ℕ) (lower upper : List Span) → below < highest_level → IsStart (suc below) start
       → meets_over held (suc below) start ≡ true
       → P below start lower → P below (start + words_over below) upper → P (suc below) start (lower ++ upper)
 
 pub by_halves : (held : List Chunk) (P : ℕ → ℕ → List Span → Type 0) → HoldsByHalves held P
-    → (below start : ℕ) → below ≤ 12 → IsStart below start → P below start (free_within held below start)
+    → (below start : ℕ) → below ≤ highest_level → IsStart below start → P below start (free_within held below start)
 by_halves held P steps zero start h whole =
     elim (meets_over held 0 start) as (λ b. meets_over held 0 start ≡ b
     → P 0 start (cond b [] (part_over 0 start ∷ []))) [
@@ -71,21 +71,22 @@ has_part part around =
 
 -- A part lies within the one that starts there with so many levels below it.
 pub record IsInside (part : Span) (below start : ℕ) : Type 0 where
-  pub wide : 12 - below ≤ part.level
+  pub wide : highest_level - below ≤ part.level
   pub from : start ≤ part.start
   pub upto : part.start + size_of part.level ≤ start + words_over below
 
 inside_passes : (part : Span) (below start : ℕ) → IsInside part below start
     → has_part part (part_over below start) ≡ true
 inside_passes part below start h =
-    passes part.level part.start (size_of part.level) (12 - below) start (words_over below) h.wide h.from h.upto
+    passes part.level part.start (size_of part.level) (highest_level - below) start
+    (words_over below) h.wide h.from h.upto
   where
     passes : (l a t k b s : ℕ) → k ≤ l → b ≤ a → a + t ≤ b + s → (nat_le k l && lies_in (a, t) (b, s)) ≡ true
     passes l a t k b s h m n = grind (arith, nat_tests)
 
 -- A clear part isn't of the level of one that it lies in and that meets a chunk.
 not_itself : (held : List Chunk) (part : Span) (below start : ℕ) → IsFalse (meets_chunk held part.start part.level)
-    → IsInside part below start → meets_over held below start ≡ true → part.level ≡ 12 - below → ⊥
+    → IsInside part below start → meets_over held below start ≡ true → part.level ≡ highest_level - below → ⊥
 not_itself held part below start empty inside meets level = false≢true
     (sym empty ∙ ap (λ (l : ℕ). meets_chunk held part.start l) level ∙ ap (λ (s : ℕ). meets_over held below s) same
     ∙ meets)
@@ -94,8 +95,10 @@ not_itself held part below start empty inside meets level = false≢true
     same = omega (arith, ap size_of level, inside.from, inside.upto)
 
 -- A part that is inside one, and not that one, is inside one of the two halves.
-in_lower : (part : Span) (below start : ℕ) → below < 12 → IsPart part.start part.level → IsStart (suc below) start
-    → IsInside part (suc below) start → (part.level ≡ 12 - suc below → ⊥) → part.start < start + words_over below
+in_lower : (part : Span) (below start : ℕ) → below < highest_level → IsPart part.start part.level
+    → IsStart (suc below) start
+    → IsInside part (suc below) start → (part.level ≡ highest_level - suc below → ⊥)
+    → part.start < start + words_over below
     → IsInside part below start
 in_lower part below start h placed whole inside other low = record {
   wide = omega (arith, inside.wide, other);
@@ -104,12 +107,13 @@ in_lower part below start h placed whole inside other low = record {
 }
   where
     middle : (start + words_over below) % size_of part.level ≡ 0
-    middle = multiple_of_smaller (start + words_over below) (12 - below) part.level (omega (arith, inside.wide, other))
+    middle = multiple_of_smaller (start + words_over below) (highest_level - below) part.level
+        (omega (arith, inside.wide, other))
         placed.0
         (middle_is_whole below start h whole)
 
-in_upper : (part : Span) (below start : ℕ) → below < 12 → IsInside part (suc below) start
-    → (part.level ≡ 12 - suc below → ⊥) → start + words_over below ≤ part.start
+in_upper : (part : Span) (below start : ℕ) → below < highest_level → IsInside part (suc below) start
+    → (part.level ≡ highest_level - suc below → ⊥) → start + words_over below ≤ part.start
     → IsInside part below (start + words_over below)
 in_upper part below start h inside other high =
     record {
@@ -120,7 +124,7 @@ in_upper part below start h inside other high =
 
 -- Among the free parts of a part is one that has each clear part within it.
 pub clear_is_in_free : (held : List Chunk) (part : Span) → IsPart part.start part.level
-    → IsFalse (meets_chunk held part.start part.level) → (below start : ℕ) → below ≤ 12 → IsStart below start
+    → IsFalse (meets_chunk held part.start part.level) → (below start : ℕ) → below ≤ highest_level → IsStart below start
     → IsInside part below start → list_any (has_part part) (free_within held below start) ≡ true
 clear_is_in_free held part placed empty =
     by_halves held (λ below start parts. IsInside part below start → list_any (has_part part) parts ≡ true) (record {
@@ -163,14 +167,18 @@ widened held low high a b parts h k all =
 -- The part is a root, or its parent meets a chunk.
 abbrev IsLargest : List Chunk → ℕ → ℕ → Type 0
 IsLargest held below start =
-    IsTrue ((12 - below) == 0 || meets_chunk held (parent_start start (12 - below)) (12 - below - 1))
+    IsTrue ((highest_level - below) == 0 || meets_chunk held
+    (parent_start start (highest_level - below)) (highest_level - below - 1))
 
 -- A half of a part that meets a chunk is as large as it can be.
-half_is_largest : (held : List Chunk) (below start half : ℕ) → below < 12 → parent_start half (12 - below) ≡ start
+half_is_largest : (held : List Chunk) (below start half : ℕ) → below < highest_level
+    → parent_start half (highest_level - below) ≡ start
     → meets_over held (suc below) start ≡ true → IsLargest held below half
 half_is_largest held below start half h parent meets =
-    or_right ((12 - below) == 0) (meets_chunk held (parent_start half (12 - below)) (12 - below - 1))
-    (ap (λ (s : ℕ). meets_chunk held s (12 - below - 1)) parent ∙ ap (λ (l : ℕ). meets_chunk held start l) (omega arith)
+    or_right ((highest_level - below) == 0)
+    (meets_chunk held (parent_start half (highest_level - below)) (highest_level - below - 1))
+    (ap (λ (s : ℕ). meets_chunk held s (highest_level - below - 1)) parent
+    ∙ ap (λ (l : ℕ). meets_chunk held start l) (omega arith)
     ∙ meets)
 
 -- The parts are free ones of the part, if it is as large as it can be.
@@ -179,7 +187,7 @@ AreFreeOver held below start parts = IsLargest held below start
     → All (IsFreeWithin held start (start + words_over below)) parts
 
 -- All that stands among the free parts of a part is free and within it.
-pub listed_are_free : (held : List Chunk) (below start : ℕ) → below ≤ 12 → IsStart below start
+pub listed_are_free : (held : List Chunk) (below start : ℕ) → below ≤ highest_level → IsStart below start
     → AreFreeOver held below start (free_within held below start)
 listed_are_free held = by_halves held (AreFreeOver held) (record {
   none = λ start whole meets largest. All-nil (IsFreeWithin held start (start + words_over 0));

@@ -12,7 +12,7 @@ use Rattle.std.proofs.Math.Nat.{mul-mod_left, add-mod_right}
 use Rattle.ms_base.specs.declared.span.Chunk.{Chunk}
 use Rattle.ms_base.specs.declared.span.Span.{Span}
 use Rattle.ms_base.specs.Interval.{meet, lies_in}
-use Rattle.ms_base.specs.Level.{size_of}
+use Rattle.ms_base.specs.Level.{size_of, highest_level}
 use Rattle.ms_base.specs.Part.{IsPart, parent_start}
 use Rattle.ms_base.specs.Held.{meets_chunk}
 use Rattle.ms_base.specs.FreeParts.{IsFreePart, free_parts}
@@ -52,7 +52,7 @@ ends_in_parent start level placed =
     (parent_around start level).1
 
 -- The parent of a part lies in each larger part that the part lies in.
-parent_inside : (start level a k : ℕ) → k < level → level ≤ 12 → a % size_of k ≡ 0 → a ≤ start
+parent_inside : (start level a k : ℕ) → k < level → level ≤ highest_level → a % size_of k ≡ 0 → a ≤ start
     → start + size_of level ≤ a + size_of k
     → (a ≤ parent_start start level) × (parent_start start level + size_of (level - 1) ≤ a + size_of k)
 parent_inside start level a k h m whole from upto = (
@@ -146,7 +146,7 @@ halves_clear (chunk ∷ held) start level half twice lower upper =
     apart c t a h s some e l u = grind (arith, nat_tests)
 
 -- A part starts where its parent does, or in the middle of it.
-leads_or_follows : (start level : ℕ) → size_of (level - 1) ≡ size_of level + size_of level → level ≤ 12
+leads_or_follows : (start level : ℕ) → size_of (level - 1) ≡ size_of level + size_of level → level ≤ highest_level
     → start % size_of level ≡ 0
     → (start ≡ parent_start start level) ⊎ (start ≡ parent_start start level + size_of level)
 leads_or_follows start level twice small whole = elim (cases_lt parent start) [
@@ -173,8 +173,9 @@ leads_or_follows start level twice small whole = elim (cases_lt parent start) [
     multiple = multiple_of_smaller parent (level - 1) level (omega arith) small (parent_is_whole start level)
 
 -- A parent has the words of two parts.
-pub parent_is_twice : (level : ℕ) → 1 ≤ level → level ≤ 12 → size_of (level - 1) ≡ size_of level + size_of level
-parent_is_twice level h k = ap size_of (omega arith) ∙ size_of_halves (12 - level) (omega arith)
+pub parent_is_twice : (level : ℕ) → 1 ≤ level → level ≤ highest_level
+    → size_of (level - 1) ≡ size_of level + size_of level
+parent_is_twice level h k = ap size_of (omega arith) ∙ size_of_halves (highest_level - level) (omega arith)
     ∙ ap (λ (l : ℕ). size_of l + size_of l) (omega arith)
 
 -- No two free parts are buddies.

@@ -6,7 +6,7 @@ use Rattle.std.specs.List.{count_by, range_with_len}
 use Rattle.std.proofs.lemmas.Bool.{cases_eq, cases_Bool, both_ways, leb-true, le-leb, false_from_ne_true}
 use Rattle.std.proofs.lemmas.List.Sums.{sum_by-cons, count_by-le-length}
 use Rattle.std.proofs.Math.Nat.{pow-le-pow_right}
-use Rattle.ms_base.specs.Level.{size_of, level_that_holds}
+use Rattle.ms_base.specs.Level.{size_of, level_that_holds, highest_level}
 use Rattle.ms_base.specs.Laws.Level.{IsGreatest}
 use Rattle.ms_base.proofs.runs.PermutedLemmas.{one_if}
 
@@ -71,27 +71,27 @@ holds_down words k e = le-leb words (size_of k) (omega (arith, leb-true words (s
 -- Of the levels 0 to 12 exactly those up to the one that holds so many words do.
 pub level_is_greatest : (words : ℕ) → words ≤ size_of 0 → IsGreatest words
 level_is_greatest words small = record {
-  below = count_by-le-length holds (range_with_len 1 12);
+  below = count_by-le-length holds (range_with_len 1 highest_level);
   holds = λ level h. (up_to level h, held level h);
 }
   where
     holds : ℕ → Bool
     holds level = nat_le words (size_of level)
 
-    up_to : (level : ℕ) → level ≤ 12 → words ≤ size_of level → level ≤ level_that_holds words
+    up_to : (level : ℕ) → level ≤ highest_level → words ≤ size_of level → level ≤ level_that_holds words
     up_to level h fits = elim (cases_eq level 0) [
       | inl root ↦ omega (arith, root)
       | inr other ↦
           omega (
             arith,
-            passes_below holds (holds_down words) 1 12 level (omega (arith, other)) (omega arith)
+            passes_below holds (holds_down words) 1 highest_level level (omega (arith, other)) (omega arith)
                 (le-leb words (size_of level) fits),
           )
     ]
 
-    held : (level : ℕ) → level ≤ 12 → level ≤ level_that_holds words → words ≤ size_of level
+    held : (level : ℕ) → level ≤ highest_level → level ≤ level_that_holds words → words ≤ size_of level
     held level h k = elim (cases_eq level 0) [
       | inl root ↦ omega (arith, small, ap size_of root)
       | inr other ↦ leb-true words (size_of level)
-          (below_passes holds (holds_down words) 1 12 level (omega arith) (omega (arith, other)))
+          (below_passes holds (holds_down words) 1 highest_level level (omega arith) (omega (arith, other)))
     ]

@@ -10,7 +10,7 @@ use Rattle.std.proofs.lemmas.List.Folds.{list_any-append}
 use Rattle.ms_base.specs.declared.span.Chunk.{Chunk}
 use Rattle.ms_base.specs.declared.span.Span.{Span}
 use Rattle.ms_base.specs.Interval.{meet}
-use Rattle.ms_base.specs.Level.{size_of}
+use Rattle.ms_base.specs.Level.{size_of, highest_level}
 use Rattle.ms_base.specs.Held.{meets_chunk}
 use Rattle.ms_base.specs.FreeParts.{free_within}
 use Rattle.ms_base.proofs.free.HalvesLemmas.{words_over, size_of_halves}
@@ -35,16 +35,17 @@ map_either : (root : ℕ) (b : Bool) (xs ys : List Span)
 map_either root true xs ys = refl
 map_either root false xs ys = refl
 
-moved_within : (held own : List Chunk) (root : ℕ) → AgreeInRoot held own root → (below start : ℕ) → below ≤ 12
+moved_within : (held own : List Chunk) (root : ℕ) → AgreeInRoot held own root → (below start : ℕ)
+    → below ≤ highest_level
     → start + words_over below ≤ size_of 0
     → free_within held below (start + root) ≡ map (raised_part root) (free_within own below start)
 moved_within held own root agree zero start h fits =
-    ap (λ b. cond b [] (raised_part root (part_over 0 start) ∷ [])) (agree start 12 fits)
+    ap (λ b. cond b [] (raised_part root (part_over 0 start) ∷ [])) (agree start highest_level fits)
     ∙ map_either root (meets_over own 0 start) [] (part_over 0 start ∷ [])
 moved_within held own root agree (suc below) start h fits =
     ap (λ b. cond b (free_within held below (start + root) ++ free_within held below (start + root + words_over below))
     (raised_part root (part_over (suc below) start) ∷ []))
-    (agree start (12 - suc below) fits)
+    (agree start (highest_level - suc below) fits)
     ∙ ap (λ (middle : ℕ). cond meets (free_within held below (start + root) ++ free_within held below middle) itself)
     turned
     ∙ ap (λ lower. cond meets (lower ++ free_within held below (start + words_over below + root)) itself)
@@ -69,10 +70,10 @@ moved_within held own root agree (suc below) start h fits =
 
 -- So the root's free parts are those of the other chunks, moved up.
 pub free_where_agree : (held own : List Chunk) (root : ℕ) → AgreeInRoot held own root
-    → free_within held 12 root ≡ map (raised_part root) (free_within own 12 0)
+    → free_within held highest_level root ≡ map (raised_part root) (free_within own highest_level 0)
 free_where_agree held own root agree =
-    ap (λ (start : ℕ). free_within held 12 start) from_none
-    ∙ moved_within held own root agree 12 0 (omega arith) (omega arith)
+    ap (λ (start : ℕ). free_within held highest_level start) from_none
+    ∙ moved_within held own root agree highest_level 0 (omega arith) (omega arith)
   where
     from_none : root ≡ 0 + root
     from_none = omega arith

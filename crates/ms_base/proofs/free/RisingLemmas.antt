@@ -9,7 +9,7 @@ use Rattle.std.proofs.lemmas.Bool.Decides.{nat_tests}
 use Rattle.std.proofs.lemmas.Map.Keys.{sorted_from_strictly_increasing, IsStrictlyIncreasing-from_sorted}
 use Rattle.ms_base.specs.declared.span.Chunk.{Chunk}
 use Rattle.ms_base.specs.declared.span.Span.{Span}
-use Rattle.ms_base.specs.Level.{size_of}
+use Rattle.ms_base.specs.Level.{size_of, highest_level}
 use Rattle.ms_base.specs.Part.{node_words}
 use Rattle.ms_base.specs.FreeParts.{free_within, free_in_slot, free_parts}
 use Rattle.ms_base.specs.Laws.Free.{start_of}
@@ -33,7 +33,7 @@ rises_joined low middle high (part ∷ xs) ys first second =
     (first.0, rises_joined (part.start + size_of part.level) middle high xs ys first.1 second)
 
 -- The free parts of a part rise from its start to its end.
-pub within_rises : (held : List Chunk) (below start : ℕ) → below ≤ 12 → IsStart below start
+pub within_rises : (held : List Chunk) (below start : ℕ) → below ≤ highest_level → IsStart below start
     → Rises start (start + words_over below) (free_within held below start)
 within_rises held = by_halves held (λ below start parts. Rises start (start + words_over below) parts) (record {
   none = λ start whole meets. omega arith;
@@ -50,9 +50,10 @@ within_rises held = by_halves held (λ below start parts. Rises start (start + w
 slot_rises : (held : List Chunk) (slot : ℕ)
     → Rises (slot * node_words) ((slot + 1) * node_words) (free_in_slot held slot)
 slot_rises held slot = subst (λ (high : ℕ). Rises root high (free_in_slot held slot)) (omega arith)
-    (rises_joined root middle (middle + size_of 0) (free_within held 12 root) (free_within held 12 middle)
-    (within_rises held 12 root (omega arith) (roots_are_whole slot).0)
-    (within_rises held 12 middle (omega arith) (roots_are_whole slot).1))
+    (rises_joined root middle (middle + size_of 0) (free_within held highest_level root)
+    (free_within held highest_level middle)
+    (within_rises held highest_level root (omega arith) (roots_are_whole slot).0)
+    (within_rises held highest_level middle (omega arith) (roots_are_whole slot).1))
   where
     root : ℕ
     root = root_of slot

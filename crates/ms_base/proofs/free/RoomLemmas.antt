@@ -12,7 +12,7 @@ use Rattle.std.proofs.lemmas.List.Folds.{list_any-append, list_any_at, Any-from_
 use Rattle.ms_base.specs.declared.span.Chunk.{Chunk}
 use Rattle.ms_base.specs.declared.span.Span.{Span}
 use Rattle.ms_base.specs.Interval.{meet, lies_in}
-use Rattle.ms_base.specs.Level.{size_of}
+use Rattle.ms_base.specs.Level.{size_of, highest_level}
 use Rattle.ms_base.specs.Part.{IsPart, slot_of, is_reserved, node_words}
 use Rattle.ms_base.specs.Held.{meets_chunk}
 use Rattle.ms_base.specs.FreeParts.{IsFreePart, free_within, free_in_slot, free_parts}
@@ -30,7 +30,7 @@ pub roots_are_whole : (slot : ℕ) → (root_of slot % size_of 0 ≡ 0) × ((roo
 roots_are_whole slot = (omega arith, omega arith)
 
 in_lower_root : (part : Span) (slot : ℕ) → IsPart part.start part.level → root_of slot ≤ part.start
-    → part.start < root_of slot + size_of 0 → IsInside part 12 (root_of slot)
+    → part.start < root_of slot + size_of 0 → IsInside part highest_level (root_of slot)
 in_lower_root part slot placed low high = record {
   wide = omega arith;
   from = low;
@@ -43,7 +43,7 @@ next_root_is_whole : (slot : ℕ) → (root_of slot + node_words) % size_of 0 �
 next_root_is_whole slot = omega arith
 
 in_upper_root : (part : Span) (slot : ℕ) → IsPart part.start part.level → root_of slot + size_of 0 ≤ part.start
-    → part.start < root_of slot + node_words → IsInside part 12 (root_of slot + size_of 0)
+    → part.start < root_of slot + node_words → IsInside part highest_level (root_of slot + size_of 0)
 in_upper_root part slot placed low high = record {
   wide = omega arith;
   from = low;
@@ -60,16 +60,17 @@ clear_is_in_slot : (held : List Chunk) (part : Span) → IsPart part.start part.
     → IsFalse (meets_chunk held part.start part.level)
     → list_any (has_part part) (free_in_slot held (slot_of part.start)) ≡ true
 clear_is_in_slot held part placed empty =
-    list_any-append (has_part part) (free_within held 12 (root_of slot))
-    (free_within held 12 (root_of slot + size_of 0))
+    list_any-append (has_part part) (free_within held highest_level (root_of slot))
+    (free_within held highest_level (root_of slot + size_of 0))
     ∙ elim (cases_lt part.start (root_of slot + size_of 0)) [
-      | inl low ↦ or_left (list_any (has_part part) (free_within held 12 (root_of slot)))
-          (list_any (has_part part) (free_within held 12 (root_of slot + size_of 0)))
-          (clear_is_in_free held part placed empty 12 (root_of slot) (omega arith) (roots_are_whole slot).0
+      | inl low ↦ or_left (list_any (has_part part) (free_within held highest_level (root_of slot)))
+          (list_any (has_part part) (free_within held highest_level (root_of slot + size_of 0)))
+          (clear_is_in_free held part placed empty highest_level (root_of slot) (omega arith) (roots_are_whole slot).0
           (in_lower_root part slot placed (omega arith) low))
-      | inr high ↦ or_right (list_any (has_part part) (free_within held 12 (root_of slot)))
-          (list_any (has_part part) (free_within held 12 (root_of slot + size_of 0)))
-          (clear_is_in_free held part placed empty 12 (root_of slot + size_of 0) (omega arith) (roots_are_whole slot).1
+      | inr high ↦ or_right (list_any (has_part part) (free_within held highest_level (root_of slot)))
+          (list_any (has_part part) (free_within held highest_level (root_of slot + size_of 0)))
+          (clear_is_in_free held part placed empty highest_level (root_of slot + size_of 0)
+          (omega arith) (roots_are_whole slot).1
           (in_upper_root part slot placed high (omega arith)))
     ]
   where
@@ -114,16 +115,16 @@ free_in_node : (held : List Chunk) (slot : ℕ)
 free_in_node held slot = All-append (IsFreeWithin held (root_of slot) (root_of slot + node_words)) lower upper
     (widened held (root_of slot) (root_of slot + size_of 0) (root_of slot) (root_of slot + node_words) lower
     (omega arith) (omega arith)
-    (listed_are_free held 12 (root_of slot) (omega arith) (roots_are_whole slot).0 refl))
+    (listed_are_free held highest_level (root_of slot) (omega arith) (roots_are_whole slot).0 refl))
     (widened held (root_of slot + size_of 0) (root_of slot + size_of 0 + size_of 0) (root_of slot)
     (root_of slot + node_words) upper (omega arith) (omega arith)
-    (listed_are_free held 12 (root_of slot + size_of 0) (omega arith) (roots_are_whole slot).1 refl))
+    (listed_are_free held highest_level (root_of slot + size_of 0) (omega arith) (roots_are_whole slot).1 refl))
   where
     lower : List Span
-    lower = free_within held 12 (root_of slot)
+    lower = free_within held highest_level (root_of slot)
 
     upper : List Span
-    upper = free_within held 12 (root_of slot + size_of 0)
+    upper = free_within held highest_level (root_of slot + size_of 0)
 
 -- What lies in a reserved slot's node and is free there is a free part.
 free_from_node : (held : List Chunk) (slots : List ℕ) (slot : ℕ) → is_reserved slots slot ≡ true → (part : Span)
@@ -179,7 +180,8 @@ clear_within (chunk ∷ held) a l b k from upto clear =
 
 -- The lowest part of a level in a free part is clear.
 pub lowest_is_clear : (held : List Chunk) (slots : List ℕ) (part : Span) (m : ℕ)
-    → Contains (free_parts held slots) part → part.level ≤ m → m ≤ 12 → IsClear held slots (part_at part.start m)
+    → Contains (free_parts held slots) part → part.level ≤ m → m ≤ highest_level
+    → IsClear held slots (part_at part.start m)
 lowest_is_clear held slots part m listed h k = let free =
     All-contains (IsFreePart held slots) (free_parts held slots) part (listed_is_free held slots) listed in record {
       placed = (k, multiple_of_smaller part.start part.level m h k free.placed.1);
@@ -189,7 +191,7 @@ lowest_is_clear held slots part m listed h k = let free =
     }
 
 -- There is room for a level exactly where a part of it is clear.
-pub room_is_clear : (pool : PoolState) (m : ℕ) → m ≤ 12 → HasRoomWhereClear pool m
+pub room_is_clear : (pool : PoolState) (m : ℕ) → m ≤ highest_level → HasRoomWhereClear pool m
 room_is_clear pool m h = record {
   room = λ start clear. let found = clear_lies_in_free pool.held pool.slots (part_at start m) clear in
       list_any_at (λ part. nat_le part.level m) (free_parts pool.held pool.slots) found.free.0 found.around found.free.1

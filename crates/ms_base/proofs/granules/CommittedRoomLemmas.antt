@@ -12,7 +12,7 @@ use Rattle.std.proofs.lemmas.List.Folds.{list_any_at, Any-from_list_any}
 use Rattle.ms_base.specs.Policy.{keeps}
 use Rattle.ms_base.specs.declared.span.Span.{Span}
 use Rattle.ms_base.specs.Interval.{meet}
-use Rattle.ms_base.specs.Level.{size_of}
+use Rattle.ms_base.specs.Level.{size_of, highest_level}
 use Rattle.ms_base.specs.FreeParts.{IsFreePart, free_parts}
 use Rattle.ms_base.specs.Committed.{is_committed, granules_meeting}
 use Rattle.ms_base.specs.State.{PoolState}
@@ -161,7 +161,7 @@ around_is_enough pool part around words sound reclaims free within some few enou
         (sym (granules_from_first granule part.start words (granule_some pool.limits.policy) some)) ∙ enough)).0
 
 -- There is committed room where a clear part is committed enough, and the other way round.
-pub committed_room_is_clear : (pool : PoolState) (m words : ℕ) → m ≤ 12 → 1 ≤ words → words ≤ size_of m
+pub committed_room_is_clear : (pool : PoolState) (m words : ℕ) → m ≤ highest_level → 1 ≤ words → words ≤ size_of m
     → IsSoundPool pool → HasCommittedRoomWhereClear pool m words
 committed_room_is_clear pool m words h some few sound = record {
   room = room;

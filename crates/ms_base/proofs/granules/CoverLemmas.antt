@@ -18,7 +18,7 @@ use Rattle.ms_base.specs.declared.policy.Policy.{Policy}
 use Rattle.ms_base.specs.declared.span.Chunk.{Chunk}
 use Rattle.ms_base.specs.declared.span.Span.{Span}
 use Rattle.ms_base.specs.Interval.{meet, meets_any, are_apart, lies_in}
-use Rattle.ms_base.specs.Level.{size_of}
+use Rattle.ms_base.specs.Level.{size_of, highest_level}
 use Rattle.ms_base.specs.Part.{IsPart, slot_of, is_reserved, node_words}
 use Rattle.ms_base.specs.Held.{AreHeld, words_of, meets_chunk}
 use Rattle.ms_base.specs.FreeParts.{free_within, free_in_slot, free_parts}
@@ -93,13 +93,16 @@ AreParts held = All (λ chunk. IsPart chunk.start chunk.level) held
 
 -- A word of the smallest part lies in a chunk that meets it.
 meeting_has_word : (held : List Chunk) (word start : ℕ) → AreParts held → IsStart 0 start
-    → meets_chunk held start 12 ≡ true → has_word word (start, size_of 12) ≡ true → is_held word held ≡ true
+    → meets_chunk held start highest_level ≡ true
+    → has_word word (start, size_of highest_level) ≡ true → is_held word held ≡ true
 meeting_has_word [] word start parts whole meets here = absurd (cc)
 meeting_has_word (chunk ∷ held) word start parts whole meets here =
-    elim (or_cases (meet chunk.start (size_of chunk.level) start (size_of 12)) (meets_chunk held start 12) meets) [
+    elim (or_cases (meet chunk.start (size_of chunk.level) start (size_of highest_level))
+    (meets_chunk held start highest_level) meets) [
       | inl one ↦ or_left (has_word word (words_of chunk)) (is_held word held)
-          (let around = meeting_lies_in chunk.start chunk.level start 12 placed (omega arith, whole) placed.0 one in
-          still_in word chunk.start (size_of chunk.level) start (size_of 12) around.0 around.1 here)
+          (let around =
+          meeting_lies_in chunk.start chunk.level start highest_level placed (omega arith, whole) placed.0 one in
+          still_in word chunk.start (size_of chunk.level) start (size_of highest_level) around.0 around.1 here)
       | inr later ↦ or_right (has_word word (words_of chunk)) (is_held word held)
           (meeting_has_word held word start (All-tail (λ chunk. IsPart chunk.start chunk.level) chunk held parts) whole
           later here)
@@ -138,7 +141,8 @@ itself_covers : (held : List Chunk) (word below start : ℕ) → meets_over held
     → CoverOver held word below start (part_over below start ∷ [])
 itself_covers held word below start clear =
     elim (has_word word run) as (λ b. has_word word run ≡ b → 0 + one_if b ≡ one_if (b && not (is_held word held))) [
-      | true ↦ λ here. ap (λ b. one_if (not b)) (sym (clear_has_no_word held word start (12 - below) clear here))
+      | true ↦ λ here. ap (λ b. one_if (not b))
+          (sym (clear_has_no_word held word start (highest_level - below) clear here))
       | false ↦ λ past. refl
     ] refl
   where
@@ -158,7 +162,8 @@ smallest_is_held held word start parts whole meets =
     run = (start, words_over 0)
 
 -- The free parts of a part cover each of its words that lies in no held chunk.
-covered_within : (held : List Chunk) (word : ℕ) → AreParts held → (below start : ℕ) → below ≤ 12 → IsStart below start
+covered_within : (held : List Chunk) (word : ℕ) → AreParts held → (below start : ℕ)
+    → below ≤ highest_level → IsStart below start
     → CoverOver held word below start (free_within held below start)
 covered_within held word parts = by_halves held (CoverOver held word) (record {
   none = λ start whole meets. ap one_if (sym (smallest_is_held held word start parts whole meets));
@@ -193,11 +198,12 @@ covered_in_slot : (held : List Chunk) (word slot : ℕ) → AreParts held
     → times word (map words_of_part (free_in_slot held slot))
     ≡ one_if ((slot == slot_of word) && not (is_held word held))
 covered_in_slot held word slot parts =
-    times_joined word (free_within held 12 (root_of slot)) (free_within held 12 (root_of slot + size_of 0))
+    times_joined word (free_within held highest_level (root_of slot))
+    (free_within held highest_level (root_of slot + size_of 0))
     ∙ omega (
       arith,
-      covered_within held word parts 12 (root_of slot) (omega arith) (roots_are_whole slot).0,
-      covered_within held word parts 12 (root_of slot + size_of 0) (omega arith) (roots_are_whole slot).1,
+      covered_within held word parts highest_level (root_of slot) (omega arith) (roots_are_whole slot).0,
+      covered_within held word parts highest_level (root_of slot + size_of 0) (omega arith) (roots_are_whole slot).1,
       free_in_halves word (root_of slot) (size_of 0) node_words (not (is_held word held)) refl,
     )
     ∙ ap (λ b. one_if (b && not (is_held word held))) (in_node word slot)

@@ -15,7 +15,7 @@ use Rattle.ms_base.specs.Policy.{granule_of}
 use Rattle.ms_base.specs.declared.span.Chunk.{Chunk}
 use Rattle.ms_base.specs.declared.span.Span.{Span}
 use Rattle.ms_base.specs.Interval.{meet}
-use Rattle.ms_base.specs.Level.{size_of}
+use Rattle.ms_base.specs.Level.{size_of, highest_level}
 use Rattle.ms_base.specs.Part.{IsPart, parent_start}
 use Rattle.ms_base.specs.Front.{HasFront}
 use Rattle.ms_base.specs.Held.{AreHeld, meets_chunk}
@@ -68,7 +68,7 @@ clear_is_uncommitted policy held number k e fronts clear =
 
 -- A granule that meets a free part of its size or more is not committed.
 pub large_is_uncommitted : (policy : Policy) (held : List Chunk) (slots : List ℕ) (part : Span) (number k : ℕ)
-    → granule_of policy ≡ size_of k → k ≤ 12 → AreHeld policy slots held → IsFreePart held slots part
+    → granule_of policy ≡ size_of k → k ≤ highest_level → AreHeld policy slots held → IsFreePart held slots part
     → meet part.start (size_of part.level) (number * granule_of policy) (granule_of policy) ≡ true → part.level ≤ k
     → is_committed (granule_of policy) held number ≡ false
 large_is_uncommitted policy held slots part number k e small good free meets large =
@@ -112,7 +112,7 @@ keeper_in_parent part chunk placed below held meets apart = elim (cases_lt (part
 
 -- A granule that meets a free part smaller than it is committed.
 pub small_is_committed : (policy : Policy) (held : List Chunk) (slots : List ℕ) (part : Span) (number k : ℕ)
-    → granule_of policy ≡ size_of k → k ≤ 12 → AreHeld policy slots held → IsFreePart held slots part
+    → granule_of policy ≡ size_of k → k ≤ highest_level → AreHeld policy slots held → IsFreePart held slots part
     → meet part.start (size_of part.level) (number * granule_of policy) (granule_of policy) ≡ true → k < part.level
     → is_committed (granule_of policy) held number ≡ true
 small_is_committed policy held slots part number k e small good free meets less =

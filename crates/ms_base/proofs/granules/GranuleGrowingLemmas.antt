@@ -12,7 +12,7 @@ use Rattle.std.proofs.lemmas.List.Folds.{list_any_at, Any-from_list_any}
 use Rattle.ms_base.specs.declared.span.Chunk.{Chunk}
 use Rattle.ms_base.specs.declared.span.Span.{Span}
 use Rattle.ms_base.specs.declared.refusal.Refusal.TheVariants.{CommitLimit, NoRoom}
-use Rattle.ms_base.specs.Level.{size_of}
+use Rattle.ms_base.specs.Level.{size_of, highest_level}
 use Rattle.ms_base.specs.Part.{IsPart, slot_of, is_reserved, is_leader, buddy_start}
 use Rattle.ms_base.specs.Front.{front_for, HasFront}
 use Rattle.ms_base.specs.Held.{meets_chunk}
@@ -133,14 +133,14 @@ from_limit pool chunk answered is = go (nat_le total pool.limits.granules) refl 
     go false e is = absurd (cc)
 
 -- A parent has twice the words.
-parent_words : (level : ℕ) → 1 ≤ level → level ≤ 12 → size_of (level - 1) ≡ 2 * size_of level
-parent_words level some low = ap size_of above ∙ size_of_halves (12 - level) (omega arith)
-    ∙ twice (size_of (12 - (12 - level))) (size_of level) (ap size_of same)
+parent_words : (level : ℕ) → 1 ≤ level → level ≤ highest_level → size_of (level - 1) ≡ 2 * size_of level
+parent_words level some low = ap size_of above ∙ size_of_halves (highest_level - level) (omega arith)
+    ∙ twice (size_of (highest_level - (highest_level - level))) (size_of level) (ap size_of same)
   where
-    above : level - 1 ≡ 12 - suc (12 - level)
+    above : level - 1 ≡ highest_level - suc (highest_level - level)
     above = omega arith
 
-    same : 12 - (12 - level) ≡ level
+    same : highest_level - (highest_level - level) ≡ level
     same = omega arith
 
     twice : (a b : ℕ) → a ≡ b → a + a ≡ 2 * b

@@ -16,7 +16,7 @@ use Rattle.ms_base.specs.declared.policy.Policy.{Policy}
 use Rattle.ms_base.specs.Policy.{granule_of, keeps}
 use Rattle.ms_base.specs.declared.span.Chunk.{Chunk}
 use Rattle.ms_base.specs.Interval.{meet}
-use Rattle.ms_base.specs.Level.{size_of}
+use Rattle.ms_base.specs.Level.{size_of, highest_level}
 use Rattle.ms_base.specs.Part.{IsPart, slot_of, is_reserved, node_words}
 use Rattle.ms_base.specs.Front.{HasFront}
 use Rattle.ms_base.specs.Held.{AreHeld}
@@ -37,10 +37,10 @@ below_from_product a b t h = elim (cases_lt a b) [
 ]
 
 -- A node in terms of a level's size.
-pub node_by_level : (level : ℕ) → level ≤ 12 → node_words ≡ 2 ^ (level + 1) * size_of level
+pub node_by_level : (level : ℕ) → level ≤ highest_level → node_words ≡ 2 ^ (level + 1) * size_of level
 node_by_level level h = ap (λ (n : ℕ). 2 ^ n) (exponent level h) ∙ pow-add 2 (level + 1) (19 - level)
   where
-    exponent : (level : ℕ) → level ≤ 12 → 20 ≡ (level + 1) + (19 - level)
+    exponent : (level : ℕ) → level ≤ highest_level → 20 ≡ (level + 1) + (19 - level)
     exponent level h = omega arith
 
 -- A part that starts in a node ends in it.

@@ -17,7 +17,7 @@ use Rattle.ms_base.specs.declared.span.Span.{Span}
 use Rattle.ms_base.specs.declared.span.Chunk.{Chunk}
 use Rattle.ms_base.specs.Policy.{keeps}
 use Rattle.ms_base.specs.Interval.{meet}
-use Rattle.ms_base.specs.Level.{size_of}
+use Rattle.ms_base.specs.Level.{size_of, highest_level}
 use Rattle.ms_base.specs.Part.{IsPart, node_words, slot_of, is_reserved}
 use Rattle.ms_base.specs.Front.{granules_for, HasFront}
 use Rattle.ms_base.specs.FreeParts.{IsFreePart, free_parts}
@@ -137,7 +137,8 @@ not_enough pool m words part none listed serves = false_from_ne_true (is_committ
 
 in_free_part : (pool : PoolState) (m words : ℕ) (part : Span) (start front : ℕ) → IsSoundPool pool
     → keeps pool.limits.policy ≡ false → has_committed_room pool m words ≡ false
-    → Contains (free_parts pool.held pool.slots) part → part.level ≤ m → m ≤ 12 → 1 ≤ words → words ≤ size_of m
+    → Contains (free_parts pool.held pool.slots) part → part.level ≤ m → m ≤ highest_level
+    → 1 ≤ words → words ≤ size_of m
     → start ≡ part.start → front ≤ size_of part.level
     → (k : ℕ) → meet start front (k * granule_in pool) (granule_in pool) ≡ true → has_committed pool k ≡ false
 in_free_part pool m words part start front sound reclaims none listed serves h some fits same within k meets =
@@ -158,7 +159,7 @@ in_free_part pool m words part start front sound reclaims none listed serves h s
         bounds_meet part.start (size_of part.level) (k * granule_in pool) (granule_in pool)
         (omega (arith, bounds.0, same)) (omega (arith, bounds.1, same, within))
 
-front_of_picked : (pool : PoolState) (p m words : ℕ) → p ≤ m → m ≤ 12 → 1 ≤ words → words ≤ size_of m
+front_of_picked : (pool : PoolState) (p m words : ℕ) → p ≤ m → m ≤ highest_level → 1 ≤ words → words ≤ size_of m
     → HasFront pool.limits.policy (chunk_picked pool p m words)
 front_of_picked pool p m words h k some fits =
     has_front_for pool.limits.policy (picked pool p m words).start (picked pool p m words).level words some
@@ -166,7 +167,7 @@ front_of_picked pool p m words h k some fits =
 
 pub all_missing : (pool : PoolState) (p m words : ℕ) → IsSoundPool pool → keeps pool.limits.policy ≡ false
     → has_committed_room pool m words ≡ false
-    → p ≤ m → m ≤ 12 → 1 ≤ words → words ≤ size_of m
+    → p ≤ m → m ≤ highest_level → 1 ≤ words → words ≤ size_of m
     → (k : ℕ)
     → meet (chunk_picked pool p m words).start (chunk_picked pool p m words).front (k * granule_in pool)
     (granule_in pool) ≡ true → has_committed pool k ≡ false
@@ -217,7 +218,7 @@ all_kept p a (suc n) none =
 
 pub need_is_missing : (pool : PoolState) (p m words : ℕ) → IsSoundPool pool → keeps pool.limits.policy ≡ false
     → has_committed_room pool m words ≡ false
-    → p ≤ m → m ≤ 12 → 1 ≤ words → words ≤ size_of m
+    → p ≤ m → m ≤ highest_level → 1 ≤ words → words ≤ size_of m
     → granules_missing pool (chunk_picked pool p m words) ≡ granules_for (granule_in pool) words
 need_is_missing pool p m words sound reclaims none h k some fits =
     all_kept (has_committed pool) first (last + 1 - first) (λ number low high.
@@ -246,7 +247,7 @@ need_is_missing pool p m words sound reclaims none h k some fits =
 
 -- One rule for all policies: where the reserve limit is not met, the commit limit is met exactly
 -- where the missing granules would pass it.
-pub limit_by_missing : (pool : PoolState) (p m words : ℕ) → IsSoundPool pool → p ≤ m → m ≤ 12 → 1 ≤ words
+pub limit_by_missing : (pool : PoolState) (p m words : ℕ) → IsSoundPool pool → p ≤ m → m ≤ highest_level → 1 ≤ words
     → words ≤ size_of m → meets_reserve_limit pool m ≡ false
     → meets_commit_limit pool p m words
     ≡ nat_lt pool.limits.granules (committed_count pool + granules_missing pool (chunk_picked pool p m words))
@@ -284,7 +285,7 @@ limit_by_missing pool p m words sound h k some fits room = by_policy (keeps pool
         ∙ ap (λ b. not (not b && has_committed_room pool m words) && nat_lt limit (count + needs b)) e
         ∙ by_room e (has_committed_room pool m words) refl
 
-pub need_by_missing : (pool : PoolState) (p m words : ℕ) → IsSoundPool pool → p ≤ m → m ≤ 12 → 1 ≤ words
+pub need_by_missing : (pool : PoolState) (p m words : ℕ) → IsSoundPool pool → p ≤ m → m ≤ highest_level → 1 ≤ words
     → words ≤ size_of m
     → meets_commit_limit pool p m words ≡ true
     → granules_needed pool p m words ≡ granules_missing pool (chunk_picked pool p m words)

@@ -17,7 +17,7 @@ use Rattle.ms_base.specs.declared.policy.Policy.{Policy}
 use Rattle.ms_base.specs.declared.span.Span.{Span}
 use Rattle.ms_base.specs.declared.span.Chunk.{Chunk}
 use Rattle.ms_base.specs.Policy.{granule_of, keeps}
-use Rattle.ms_base.specs.Level.{size_of}
+use Rattle.ms_base.specs.Level.{size_of, highest_level}
 use Rattle.ms_base.specs.Part.{IsPart, node_words}
 use Rattle.ms_base.specs.Front.{granules_for, front_for}
 use Rattle.ms_base.specs.FreeParts.{free_parts}
@@ -322,7 +322,7 @@ found_is_enough pool p m words h room =
         alike n = grind arith
 
 -- The part that is picked is one, and large enough for the words.
-new_root_is_part : (n p : ℕ) → p ≤ 12 → IsPart (n * node_words) p
+new_root_is_part : (n p : ℕ) → p ≤ highest_level → IsPart (n * node_words) p
 new_root_is_part n p h = (
   h,
   ap (λ (k : ℕ). k % size_of p)
@@ -330,7 +330,7 @@ new_root_is_part n p h = (
       ∙ mul-mod_left (n * 2 ^ (p + 1)) (size_of p),
 )
 
-pub picked_is_part : (pool : PoolState) (p m words : ℕ) → p ≤ m → m ≤ 12
+pub picked_is_part : (pool : PoolState) (p m words : ℕ) → p ≤ m → m ≤ highest_level
     → IsPart (picked pool p m words).start (picked pool p m words).level
 picked_is_part pool p m words h k = elim (found_is_free_or_new pool p m words h) [
   | inl found ↦
@@ -364,7 +364,8 @@ none_missing p (x ∷ xs) all =
 
 -- Under the policies balanced and aggressive, no more is missing than the words need, and nothing
 -- where there is committed room.
-pub chunk_covers : (pool : PoolState) (p m words : ℕ) → keeps pool.limits.policy ≡ false → p ≤ m → m ≤ 12 → 1 ≤ words
+pub chunk_covers : (pool : PoolState) (p m words : ℕ) → keeps pool.limits.policy ≡ false → p ≤ m
+    → m ≤ highest_level → 1 ≤ words
     → words ≤ size_of m
     → Covers (granule_in pool) (chunk_picked pool p m words).start (chunk_picked pool p m words).front words
 chunk_covers pool p m words reclaims h k some fits =
@@ -372,7 +373,8 @@ chunk_covers pool p m words reclaims h k some fits =
     (picked_is_part pool p m words h k) some
     (omega (arith, fits, size_falls (picked pool p m words).level m (picked_serves pool p m words h).1 k))
 
-pub missing_within : (pool : PoolState) (p m words : ℕ) → keeps pool.limits.policy ≡ false → p ≤ m → m ≤ 12 → 1 ≤ words
+pub missing_within : (pool : PoolState) (p m words : ℕ) → keeps pool.limits.policy ≡ false → p ≤ m
+    → m ≤ highest_level → 1 ≤ words
     → words ≤ size_of m
     → granules_missing pool (chunk_picked pool p m words) ≤ granules_for (granule_in pool) words
 missing_within pool p m words reclaims h k some fits =
@@ -388,7 +390,8 @@ missing_within pool p m words reclaims h k some fits =
       covers.count,
     )
 
-pub nothing_missing : (pool : PoolState) (p m words : ℕ) → keeps pool.limits.policy ≡ false → p ≤ m → m ≤ 12 → 1 ≤ words
+pub nothing_missing : (pool : PoolState) (p m words : ℕ) → keeps pool.limits.policy ≡ false → p ≤ m
+    → m ≤ highest_level → 1 ≤ words
     → words ≤ size_of m
     → has_committed_room pool m words ≡ true → granules_missing pool (chunk_picked pool p m words) ≡ 0
 nothing_missing pool p m words reclaims h k some fits room =
@@ -437,7 +440,8 @@ taken_is pool p m words chunk is =
         (chunk_picked pool p m words)
 
 -- A request that is answered by a chunk keeps the limit of granules.
-pub taking_keeps_the_limit : (pool : PoolState) (p m words : ℕ) (chunk : Chunk) → IsSoundPool pool → p ≤ m → m ≤ 12
+pub taking_keeps_the_limit : (pool : PoolState) (p m words : ℕ) (chunk : Chunk) → IsSoundPool pool
+    → p ≤ m → m ≤ highest_level
     → 1 ≤ words → words ≤ size_of m
     → taken pool p m words ≡ Ok chunk → committed_count pool + granules_missing pool chunk ≤ pool.limits.granules
 taking_keeps_the_limit pool p m words chunk sound h k some fits is =

@@ -377,12 +377,14 @@ pub spaces_are_apart : (space other : Space) (run runs : ℕ × ℕ) → (space 
 spaces_are_apart NonClass NonClass run runs differ h k = absurd (differ refl)
 spaces_are_apart NonClass Class run runs differ h k = below run.0 run.1 runs.0 runs.1 h k
   where
-    below : (a m b n : ℕ) → lies_in (a, m) (0, 67108864) ≡ true → lies_in (b, n) (67108864, 16777216) ≡ true
+    below : (a m b n : ℕ) → lies_in (a, m) (0, first_class_word) ≡ true
+        → lies_in (b, n) (first_class_word, 16777216) ≡ true
         → meet a m b n ≡ false
     below a m b n h k = grind (arith, nat_tests)
 spaces_are_apart Class NonClass run runs differ h k = above run.0 run.1 runs.0 runs.1 h k
   where
-    above : (a m b n : ℕ) → lies_in (a, m) (67108864, 16777216) ≡ true → lies_in (b, n) (0, 67108864) ≡ true
+    above : (a m b n : ℕ) → lies_in (a, m) (first_class_word, 16777216) ≡ true
+        → lies_in (b, n) (0, first_class_word) ≡ true
         → meet a m b n ≡ false
     above a m b n h k = grind (arith, nat_tests)
 spaces_are_apart Class Class run runs differ h k = absurd (differ refl)

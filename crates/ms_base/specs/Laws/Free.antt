@@ -7,7 +7,7 @@ use Rattle.ms_base.specs.declared.span.Span.{Span}
 use Rattle.ms_base.specs.declared.policy.Policy.{Policy}
 use Rattle.ms_base.specs.Policy.{keeps}
 use Rattle.ms_base.specs.Interval.{meet, lies_in}
-use Rattle.ms_base.specs.Level.{size_of}
+use Rattle.ms_base.specs.Level.{size_of, highest_level}
 use Rattle.ms_base.specs.Part.{IsPart, buddy_start, slot_of, is_reserved}
 use Rattle.ms_base.specs.Held.{AreHeld, words_of, meets_chunk}
 use Rattle.ms_base.specs.FreeParts.{IsFreePart, free_parts}
@@ -44,7 +44,7 @@ pub record LiesInFree (held : List Chunk) (slots : List ℕ) (part : Span) : Typ
 pub record ClearIsFree (held : List Chunk) (slots : List ℕ) : Type 0 where
   pub inside : (part : Span) → IsClear held slots part → LiesInFree held slots part
   pub lowest :
-      (part : Span) (m : ℕ) → Contains (free_parts held slots) part → part.level ≤ m → m ≤ 12
+      (part : Span) (m : ℕ) → Contains (free_parts held slots) part → part.level ≤ m → m ≤ highest_level
       → IsClear held slots (part_at part.start m)
 
 abbrev pub ClearPartsAreFree : Type 0
@@ -64,7 +64,7 @@ pub record HasRoomWhereClear (pool : PoolState) (m : ℕ) : Type 0 where
       → IsFalse (has_room pool m)
 
 abbrev pub RoomIsClear : Type 0
-RoomIsClear = (pool : PoolState) (m : ℕ) → m ≤ 12 → HasRoomWhereClear pool m
+RoomIsClear = (pool : PoolState) (m : ℕ) → m ≤ highest_level → HasRoomWhereClear pool m
 
 -- Where a part starts.
 abbrev pub start_of : Span → ℕ
@@ -134,7 +134,7 @@ pub record HasCommittedRoomWhereClear (pool : PoolState) (m words : ℕ) : Type 
 
 abbrev pub CommittedRoomIsClear : Type 0
 CommittedRoomIsClear =
-    (pool : PoolState) (m words : ℕ) → m ≤ 12 → 1 ≤ words → words ≤ size_of m → IsSoundPool pool
+    (pool : PoolState) (m words : ℕ) → m ≤ highest_level → 1 ≤ words → words ≤ size_of m → IsSoundPool pool
     → HasCommittedRoomWhereClear pool m words
 
 -- The words of a part.

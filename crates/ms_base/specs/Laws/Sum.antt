@@ -8,7 +8,7 @@ use Rattle.ms_base.specs.FreeParts.{free_parts}
 use Rattle.ms_base.specs.Laws.{roots_of}
 use Rattle.ms_base.specs.declared.kind.Space.{Space}
 use Rattle.ms_base.specs.declared.span.Chunk.{Chunk}
-use Rattle.ms_base.specs.Level.{size_of}
+use Rattle.ms_base.specs.Level.{size_of, highest_level}
 use Rattle.ms_base.specs.PoolSteps.Causes.{committed_count, granules_missing, granules_needed, meets_reserve_limit}
 use Rattle.ms_base.specs.PoolSteps.Causes.{meets_commit_limit}
 use Rattle.ms_base.specs.PoolSteps.Pick.{chunk_picked}
@@ -118,7 +118,7 @@ GrowingKeepsTheLimit =
 -- A request that is answered by a chunk keeps the limit of granules, whatever the policy.
 abbrev pub TakingKeepsTheLimit : Type 0
 TakingKeepsTheLimit =
-    (pool : PoolState) (p m words : ℕ) (chunk : Chunk) → IsSoundPool pool → p ≤ m → m ≤ 12 → 1 ≤ words
+    (pool : PoolState) (p m words : ℕ) (chunk : Chunk) → IsSoundPool pool → p ≤ m → m ≤ highest_level → 1 ≤ words
     → words ≤ size_of m
     → taken pool p m words ≡ Ok chunk → committed_count pool + granules_missing pool chunk ≤ pool.limits.granules
 
@@ -133,5 +133,5 @@ pub record IsByMissing (pool : PoolState) (p m words : ℕ) : Type 0 where
 
 abbrev pub CommitLimitIsByMissing : Type 0
 CommitLimitIsByMissing =
-    (pool : PoolState) (p m words : ℕ) → IsSoundPool pool → p ≤ m → m ≤ 12 → 1 ≤ words → words ≤ size_of m
+    (pool : PoolState) (p m words : ℕ) → IsSoundPool pool → p ≤ m → m ≤ highest_level → 1 ≤ words → words ≤ size_of m
     → IsFalse (meets_reserve_limit pool m) → IsByMissing pool p m words

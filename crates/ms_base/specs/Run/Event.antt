@@ -12,7 +12,7 @@ use Rattle.ms_base.specs.declared.step.Reply.{Reply}
 use Rattle.ms_base.specs.declared.step.Reply.TheVariants.{Ok as Done, At, Value, Refused}
 use Rattle.ms_base.specs.declared.refusal.Refusal.{Refusal}
 use Rattle.ms_base.specs.declared.refusal.Refusal.TheVariants.{CommitLimit, ReserveLimit, OutOfMemory, IdsUsedUp}
-use Rattle.ms_base.specs.Level.{root_words, size_of}
+use Rattle.ms_base.specs.Level.{root_words, size_of, highest_level}
 use Rattle.ms_base.specs.Spaces.{is_in}
 use Rattle.ms_base.specs.Names.{named, without}
 use Rattle.ms_base.specs.State.{ArenaState, LoaderState, Machine, PoolState, empty_loader, arena_of, with_arena}
@@ -56,7 +56,7 @@ pub record Opens (old : Machine) (name : ℕ) (kind : Kind) (new : Machine) : Ty
 -- What a chunk is asked for: a level between p and m, and words that a chunk of level m holds.
 pub record IsAskable (p m words : ℕ) : Type 0 where
   pub order : p ≤ m
-  pub least : m ≤ 12
+  pub least : m ≤ highest_level
   pub some : 1 ≤ words
   pub fits : words ≤ size_of m
 

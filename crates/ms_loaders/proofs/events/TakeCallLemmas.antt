@@ -23,6 +23,7 @@ use Rattle.ms_base.proofs.free.OrderLemmas.{taken_alike}
 use Rattle.ms_base.proofs.entries.LookupLemmas.{named_changed_same}
 use Rattle.ms_base.proofs.machine.GoodLemmas.{loader_is_sound}
 use Rattle.ms_base.proofs.events.KeptEventLemmas.{good_with_taken}
+use Rattle.ms_base.specs.Level.{highest_level}
 use Rattle.ms_pool.specs.Account.{AccountState}
 use Rattle.ms_pool.specs.Lending.{MayTake, chunk_at, span_of}
 use Rattle.ms_pool.specs.Ledger.{Loan, Ledger, held_in, state_in, with_lent, with_loan}
@@ -54,7 +55,7 @@ taken_there space old loaders its p m words =
 
 module _ (space : Space) (old : Ledger) (loaders : List (ℕ × LoaderView)) (name : ℕ) (loader : LoaderView)
     (wanted most words : ℕ) (there : IsThere old loaders name loader) (may : MayTake wanted most words)
-    (real : most ≤ 12) where
+    (real : most ≤ highest_level) where
   abbrev m : Machine
   m = machine_of old loaders
 

@@ -8,7 +8,7 @@ use Rattle.std.proofs.lemmas.Map.Keys.{sorted_from_strictly_increasing}
 use Rattle.ms_base.specs.declared.kind.Space.{Space}
 use Rattle.ms_base.specs.declared.kind.Space.TheVariants.{NonClass, Class}
 use Rattle.ms_base.specs.Part.{slot_of}
-use Rattle.ms_base.specs.Spaces.{is_in}
+use Rattle.ms_base.specs.Spaces.{is_in, first_class_word}
 use Rattle.ms_base.specs.State.{Machine, pool_of}
 use Rattle.ms_base.specs.Good.{IsGood}
 use Rattle.ms_base.proofs.machine.SlotLemmas.{length_with}
@@ -20,7 +20,7 @@ use Rattle.ms_pool.proofs.ledger.LedgerSlotLemmas.{same_with}
 -- The slot of a chunk of a space may be reserved there.
 may_reserve : (space : Space) (m : Machine) (start : ℕ) → IsGood m → is_in space start ≡ true
     → HasSlot (pool_of space m) (slot_of start) → MayReserve space m (slot_of start)
-may_reserve NonClass m start good here has = (omega (arith, ltb-true start 67108864 here), within has)
+may_reserve NonClass m start good here has = (omega (arith, ltb-true start first_class_word here), within has)
   where
     within : HasSlot (pool_of NonClass m) (slot_of start)
         → length (insert_key nat_cmp m.slots (slot_of start)) ≤ m.limits.nodes

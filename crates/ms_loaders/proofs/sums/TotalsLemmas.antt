@@ -9,7 +9,7 @@ use Rattle.std.proofs.lemmas.List.Sums.{sum_by-cons}
 use Rattle.ms_base.specs.declared.kind.Space.{Space}
 use Rattle.ms_base.specs.declared.kind.Space.TheVariants.{NonClass, Class}
 use Rattle.ms_base.specs.declared.span.Chunk.{Chunk}
-use Rattle.ms_base.specs.Level.{size_of}
+use Rattle.ms_base.specs.Level.{size_of, highest_level}
 use Rattle.ms_base.specs.Part.{IsPart, node_words}
 use Rattle.ms_base.specs.Policy.{granule_of}
 use Rattle.ms_base.specs.Spaces.{most_slots}
@@ -52,7 +52,7 @@ sized (c ∷ held) parts =
       arith,
       sized held parts.1,
       sum_by-cons (λ (chunk : Chunk). size_of chunk.level) c held,
-      size_falls c.level 12 parts.0.0 (omega arith),
+      size_falls c.level highest_level parts.0.0 (omega arith),
     )
 
 few_slots : (space : Space) → most_slots space ≤ 64

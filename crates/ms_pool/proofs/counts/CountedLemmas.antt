@@ -11,10 +11,10 @@ use Rattle.std.proofs.lemmas.List.Sorted.{sum_by-IsPermutation}
 use Rattle.ms_base.specs.declared.kind.Space.{Space}
 use Rattle.ms_base.specs.declared.kind.Space.TheVariants.{NonClass, Class}
 use Rattle.ms_base.specs.declared.span.Chunk.{Chunk}
-use Rattle.ms_base.specs.Level.{size_of}
+use Rattle.ms_base.specs.Level.{size_of, level_count}
 use Rattle.ms_base.specs.Part.{IsPart}
 use Rattle.ms_base.specs.Front.{HasFront}
-use Rattle.ms_base.specs.Spaces.{is_in, other_space}
+use Rattle.ms_base.specs.Spaces.{is_in, other_space, first_class_word}
 use Rattle.ms_base.specs.Totals.{all_levels, capacity_of, fronts_of}
 use Rattle.ms_base.proofs.arena.BlockLemmas.{not_in_other}
 use Rattle.ms_base.proofs.free.HalvesLemmas.{size_falls}
@@ -69,7 +69,7 @@ counted_then space gone come old new was now counted moves same elsewhere =
 
 -- What is held fits.
 total_words : (space : Space) (lender : Lender) → IsKept lender
-    → total words_in (held_in space (ledger_of lender)) ≤ 67108864
+    → total words_in (held_in space (ledger_of lender)) ≤ first_class_word
 unfolding total
 total_words space lender kept = omega (
   arith,
@@ -79,7 +79,7 @@ total_words space lender kept = omega (
 )
 
 total_fronts : (space : Space) (lender : Lender) → IsKept lender
-    → total front_in (held_in space (ledger_of lender)) ≤ 67108864
+    → total front_in (held_in space (ledger_of lender)) ≤ first_class_word
 unfolding total
 total_fronts space lender kept = omega (
   arith,
@@ -100,8 +100,8 @@ room_there space lender chunk kept counted placed within =
 -- A run of a space starts there.
 pub run_starts_in : (space : Space) (start words : ℕ) → 1 ≤ words → IsRunOf space start words
     → is_in space start ≡ true
-run_starts_in NonClass start words some inside = lt-ltb start 67108864 (omega (arith, some, inside))
-run_starts_in Class start words some inside = le-leb 67108864 start inside
+run_starts_in NonClass start words some inside = lt-ltb start first_class_word (omega (arith, some, inside))
+run_starts_in Class start words some inside = le-leb first_class_word start inside
 
 -- A chunk is lent.
 total_lent : (amount : Chunk → ℕ) (space : Space) (loan : Loan) (loans : List Loan)
@@ -155,7 +155,7 @@ grown_is_counted account chunk greater old new was now counted moves is at_ =
     (ap (held_in (other_space account.space)) is ∙ at_.elsewhere)
 
 pub least_there : (account : AccountState) (chunk greater : Chunk) (lent : Lent) (was : Ledger)
-    → ((one : Space) → AreCounted (held_in one was) (counted_in one lent)) → chunk.level < 13
+    → ((one : Space) → AreCounted (held_in one was) (counted_in one lent)) → chunk.level < level_count
     → GrownThere was account chunk greater → HasLeast (counted_in account.space lent) chunk
 least_there account chunk greater lent was counted low at_ =
     least_one (counted_in account.space lent) chunk low
@@ -247,7 +247,8 @@ pub lent_are_by_level : (chunks : List Chunk) (counted : Counted) → AreCounted
     → counted.lent ≡ map (λ level. count_by (λ (chunk : Chunk). chunk.level == level) chunks) all_levels
 unfolding total
 lent_are_by_level chunks counted are =
-    fill_by_all (λ level. count_by (λ (chunk : Chunk). chunk.level == level) chunks) counted.lent 13 0 are.full are.lent
+    fill_by_all (λ level. count_by (λ (chunk : Chunk). chunk.level == level) chunks) counted.lent
+    level_count 0 are.full are.lent
 
 pub capacity_is : (chunks : List Chunk) (counted : Counted) → AreCounted chunks counted
     → counted.capacity ≡ capacity_of chunks

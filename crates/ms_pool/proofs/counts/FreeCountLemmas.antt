@@ -12,7 +12,7 @@ use Rattle.ms_base.specs.declared.kind.Space.{Space}
 use Rattle.ms_base.specs.declared.kind.Space.TheVariants.{NonClass, Class}
 use Rattle.ms_base.specs.declared.span.Chunk.{Chunk}
 use Rattle.ms_base.specs.declared.span.Span.{Span}
-use Rattle.ms_base.specs.Level.{size_of, root_words}
+use Rattle.ms_base.specs.Level.{size_of, root_words, highest_level, level_count}
 use Rattle.ms_base.specs.Part.{node_words}
 use Rattle.ms_base.specs.Held.{meets_chunk}
 use Rattle.ms_base.specs.FreeParts.{free_in_slot, free_parts, free_within}
@@ -32,7 +32,8 @@ use Rattle.ms_pool.proofs.searches.SlotLoopLemmas.{end_slot, first_slot, root_in
 -- The free parts of a slot, from the trees of its two roots.
 root_parts : (space : Space) (lender : Lender) (slot half level : ℕ) → IsKept lender → half ≤ 1
     → first_slot space ≤ slot → slot < end_slot space lender.nodes
-    → count_at_level level (free_within (held_in space (ledger_of lender)) 12 ((2 * slot + half) * root_words))
+    → count_at_level level
+    (free_within (held_in space (ledger_of lender)) highest_level ((2 * slot + half) * root_words))
     ≡ count_at_level level (free_of (get_or lender.trees.items (2 * slot + half) []))
 root_parts space lender slot half level kept h low high =
     ap (count_at_level level) (free_in_root space lender.trees.items (2 * slot + half)
@@ -46,14 +47,14 @@ pub slot_parts : (space : Space) (lender : Lender) (slot level : ℕ) → IsKept
     ≡ count_at_level level (free_of (get_or lender.trees.items (2 * slot) [])) + count_at_level level
     (free_of (get_or lender.trees.items (2 * slot + 1) []))
 slot_parts space lender slot level kept low high =
-    parts_of-append level (free_within held 12 (slot * node_words))
-    (free_within held 12 (slot * node_words + size_of 0))
+    parts_of-append level (free_within held highest_level (slot * node_words))
+    (free_within held highest_level (slot * node_words + size_of 0))
     ∙ omega (
       arith,
-      ap (λ (at_ : ℕ). count_at_level level (free_within held 12 at_)) lower
+      ap (λ (at_ : ℕ). count_at_level level (free_within held highest_level at_)) lower
           ∙ root_parts space lender slot 0 level kept (omega arith) low high
           ∙ ap (λ (root : ℕ). count_at_level level (free_of (get_or lender.trees.items root []))) plain,
-      ap (λ (at_ : ℕ). count_at_level level (free_within held 12 at_)) upper
+      ap (λ (at_ : ℕ). count_at_level level (free_within held highest_level at_)) upper
           ∙ root_parts space lender slot 1 level kept (omega arith) low high,
     )
   where
@@ -105,32 +106,35 @@ parts_end level f n end h = ap (λ (count : ℕ). count_at_level level (flat_map
     none = omega arith
 
 -- A root has at most 4096 free parts, since each has 128 words or more.
-least : (below : ℕ) → below ≤ 12 → 128 ≤ words_over below
+least : (below : ℕ) → below ≤ highest_level → 128 ≤ words_over below
 least zero h = omega arith
 least (suc below) h = omega (arith, least below (omega arith), size_of_halves below (omega arith))
 
-few_within : (held : List Chunk) (below start : ℕ) → below ≤ 12
+few_within : (held : List Chunk) (below start : ℕ) → below ≤ highest_level
     → length (free_within held below start) * 128 ≤ words_over below
-few_within held zero start h = go (meets_chunk held start 12) (record { start = start; level = 12 })
+few_within held zero start h =
+    go (meets_chunk held start highest_level) (record { start = start; level = highest_level })
   where
     go : (b : Bool) (part : Span) → length (cond b [] (part ∷ [])) * 128 ≤ words_over 0
     go true part = omega arith
     go false part = omega arith
 few_within held (suc below) start h =
-    go (meets_chunk held start (12 - suc below)) (few_within held below start (omega arith))
-    (few_within held below (start + size_of (12 - below)) (omega arith))
+    go (meets_chunk held start (highest_level - suc below)) (few_within held below start (omega arith))
+    (few_within held below (start + size_of (highest_level - below)) (omega arith))
   where
     go : (b : Bool) → length (free_within held below start) * 128 ≤ words_over below
-        → length (free_within held below (start + size_of (12 - below))) * 128 ≤ words_over below
-        → length (cond b (free_within held below start ++ free_within held below (start + size_of (12 - below)))
-        (record { start = start; level = 12 - suc below } ∷ [])) * 128 ≤ words_over (suc below)
+        → length (free_within held below (start + size_of (highest_level - below))) * 128 ≤ words_over below
+        → length (cond b
+        (free_within held below start ++ free_within held below (start + size_of (highest_level - below)))
+        (record { start = start; level = highest_level - suc below } ∷ [])) * 128 ≤ words_over (suc below)
     go true lower upper =
         omega (
           arith,
           lower,
           upper,
           size_of_halves below (omega arith),
-          length-append (free_within held below start) (free_within held below (start + size_of (12 - below))),
+          length-append (free_within held below start)
+              (free_within held below (start + size_of (highest_level - below))),
         )
     go false lower upper = omega (arith, least (suc below) h)
 
@@ -141,9 +145,10 @@ few_in held (slot ∷ slots) =
       arith,
       few_in held slots,
       length-append (free_in_slot held slot) (free_parts held slots),
-      length-append (free_within held 12 (slot * node_words)) (free_within held 12 (slot * node_words + size_of 0)),
-      few_within held 12 (slot * node_words) (omega arith),
-      few_within held 12 (slot * node_words + size_of 0) (omega arith),
+      length-append (free_within held highest_level (slot * node_words))
+          (free_within held highest_level (slot * node_words + size_of 0)),
+      few_within held highest_level (slot * node_words) (omega arith),
+      few_within held highest_level (slot * node_words + size_of 0) (omega arith),
     )
 
 pub few_slots : (space : Space) (lender : Lender) → IsKept lender → length (slots_of space lender.nodes) ≤ 64
@@ -163,12 +168,12 @@ few_parts space lender level kept =
     )
 
 -- Counts that are each those of the parts are the parts by level.
-pub parts_by_level : (counts : List ℕ) (parts : List Span) → length counts ≡ 13
-    → ((level : ℕ) → level < 13 → get_or counts level 0 ≡ count_at_level level parts)
+pub parts_by_level : (counts : List ℕ) (parts : List Span) → length counts ≡ level_count
+    → ((level : ℕ) → level < level_count → get_or counts level 0 ≡ count_at_level level parts)
     → counts ≡ map (λ level. count_by (λ (part : Span). part.level == level) parts) all_levels
 unfolding count_at_level
 parts_by_level counts parts all same =
-    fill_by_all (λ level. count_by (λ (part : Span). part.level == level) parts) counts 13 0 all same
+    fill_by_all (λ level. count_by (λ (part : Span). part.level == level) parts) counts level_count 0 all same
 
 -- The room that a slot has.
 pub slot_room : (now level : ℕ) (f : ℕ → List Span) (n end : ℕ) (whole : List Span) → n < end
@@ -193,12 +198,12 @@ parts_at space lender slot level = count_at_level level (given_by lender.nodes (
 -- What was counted and the parts of the slots that are left make the whole.
 pub record IsCountedTo (space : Space) (lender : Lender) (free : List ℕ) (slot : ℕ) : Type 0 where
   pub low : first_slot space ≤ slot
-  pub full : length free ≡ 13
-  pub counted : (level : ℕ) → level < 13
+  pub full : length free ≡ level_count
+  pub counted : (level : ℕ) → level < level_count
       → get_or free level 0 + parts_from space lender slot level ≡ parts_in space lender level
 
 pub counted_to_first : (space : Space) (lender : Lender) (free : List ℕ) (slot : ℕ) → IsKept lender
-    → slot ≡ first_slot space → length free ≡ 13
+    → slot ≡ first_slot space → length free ≡ level_count
     → ((level : ℕ) → get_or free level 0 ≡ 0) → IsCountedTo space lender free slot
 counted_to_first space lender free slot kept start full none = record {
   low = omega (arith, start);

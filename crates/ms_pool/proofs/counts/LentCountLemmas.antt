@@ -7,7 +7,8 @@ use Rattle.std.proofs.lemmas.Bool.{eq-eqb}
 use Rattle.ms_base.specs.declared.kind.Space.{Space}
 use Rattle.ms_base.specs.declared.kind.Space.TheVariants.{NonClass, Class}
 use Rattle.ms_base.specs.declared.span.Chunk.{Chunk}
-use Rattle.ms_base.specs.Level.{size_of}
+use Rattle.ms_base.specs.Level.{size_of, level_count}
+use Rattle.ms_base.specs.Spaces.{first_class_word}
 use Rattle.ms_buddy.proofs.TreeHalvesLemmas.{size_of-some}
 use Rattle.ms_pool.specs.declared.lent.Counted.{Counted}
 use Rattle.ms_buddy.specs.Counts.{AreRaised}
@@ -31,7 +32,7 @@ none_counted = record { lent = replicate 13 0; capacity = 0; fronts = 0 }
 none_are_counted : AreCounted [] none_counted
 none_are_counted = record {
   full = refl;
-  lent = λ level h. no_count 13 level (total (one_of level) []) (total-none (one_of level));
+  lent = λ level h. no_count level_count level (total (one_of level) []) (total-none (one_of level));
   capacity = sym (total-none words_in);
   fronts = sym (total-none front_in);
 }
@@ -78,7 +79,8 @@ goes_one old new chunk raised words fronts = record {
 }
 
 -- With a chunk less there is room for another still.
-pub room_without : (old mid : Counted) (gone : List Chunk) (chunk : Chunk) → chunk.level < 13 → Moves old gone [] mid
+pub room_without : (old mid : Counted) (gone : List Chunk) (chunk : Chunk)
+    → chunk.level < level_count → Moves old gone [] mid
     → HasRoomFor old chunk → HasRoomFor mid chunk
 room_without old mid gone chunk low goes room = record {
   lent = omega (arith, goes.lent chunk.level low, total-none (one_of chunk.level), room.lent);
@@ -140,7 +142,7 @@ goes_next old mid new chunks place chunk found before goes = record {
 }
 
 pub least_next : (old mid : Counted) (chunks : List Chunk) (place : ℕ) (chunk : Chunk)
-    → slice_get chunks place ≡ Some chunk → chunk.level < 13 → HaveLeast old chunks
+    → slice_get chunks place ≡ Some chunk → chunk.level < level_count → HaveLeast old chunks
     → Moves old (take place chunks) [] mid → HasLeast mid chunk
 least_next old mid chunks place chunk found low least before = record {
   lent = omega (
@@ -198,8 +200,9 @@ ones_within level (c ∷ chunks) =
     at_most true = omega arith
     at_most false = omega arith
 
-pub room_for : (counted : Counted) (held : List Chunk) (chunk : Chunk) → AreCounted held counted → chunk.level < 13
-    → total words_in held ≤ 67108864 → total front_in held ≤ 67108864 → size_of chunk.level ≤ 524288
+pub room_for : (counted : Counted) (held : List Chunk) (chunk : Chunk) → AreCounted held counted
+    → chunk.level < level_count
+    → total words_in held ≤ first_class_word → total front_in held ≤ first_class_word → size_of chunk.level ≤ 524288
     → chunk.front ≤ size_of chunk.level → HasRoomFor counted chunk
 room_for counted held chunk are low words fronts size front = record {
   lent = omega (arith, are.lent chunk.level low, ones_within chunk.level held, words);
@@ -216,7 +219,7 @@ least_of counted held some others are same = record {
   fronts = omega (arith, are.fronts, same front_in);
 }
 
-pub least_one : (counted : Counted) (chunk : Chunk) → chunk.level < 13 → HaveLeast counted (chunk ∷ [])
+pub least_one : (counted : Counted) (chunk : Chunk) → chunk.level < level_count → HaveLeast counted (chunk ∷ [])
     → HasLeast counted chunk
 least_one counted chunk low least = record {
   lent = omega (

@@ -8,6 +8,7 @@ use Rattle.std.proofs.lemmas.List.Sums.{sum_by-append, sum_by-cons}
 use Rattle.ms_base.specs.declared.span.Chunk.{Chunk}
 use Rattle.ms_base.specs.declared.span.Span.{Span}
 use Rattle.ms_base.proofs.free.MovedLemmas.{raised_part}
+use Rattle.ms_base.specs.Level.{level_count}
 use Rattle.ms_buddy.specs.Counts.{AreRaised, count_at_level}
 use Rattle.ms_pool.specs.Counting.{total}
 
@@ -97,17 +98,18 @@ raised_to_next old now new more level so_far raised = record {
         → cond (nat_lt other (level + 1)) more 0 ≡ cond (nat_lt other level) more 0 + cond (level == other) more 0
     one_more level other more = grind (arith, nat_tests)
 
-pub raised_to_last : (old new : List ℕ) (more : ℕ → ℕ) (level : ℕ) → 13 ≤ level
+pub raised_to_last : (old new : List ℕ) (more : ℕ → ℕ) (level : ℕ) → level_count ≤ level
     → AreRaised old (λ other. cond (nat_lt other level) (more other) 0) new → AreRaised old more new
 raised_to_last old new more level past raised = record {
   full = raised.full;
   counts = λ other h. omega (arith, raised.counts other h, all_below other level (more other) h past);
 }
   where
-    all_below : (other level more : ℕ) → other < 13 → 13 ≤ level → cond (nat_lt other level) more 0 ≡ more
+    all_below : (other level more : ℕ) → other < level_count → level_count ≤ level
+        → cond (nat_lt other level) more 0 ≡ more
     all_below other level more h k = grind (arith, nat_tests)
 
-pub room_at : (old now : List ℕ) (more : ℕ → ℕ) (level : ℕ) → level < 13
+pub room_at : (old now : List ℕ) (more : ℕ → ℕ) (level : ℕ) → level < level_count
     → AreRaised old (λ other. cond (nat_lt other level) (more other) 0) now
     → get_or old level 0 + more level < 2 ^ 32 → get_or now level 0 + more level < 2 ^ 32
 room_at old now more level h raised room =

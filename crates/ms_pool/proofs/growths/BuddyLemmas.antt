@@ -10,7 +10,7 @@ use Rattle.std.proofs.lemmas.Bool.Decides.{nat_tests}
 use Rattle.std.proofs.lemmas.List.Elements.{recursion_from_All}
 use Rattle.ms_base.specs.declared.span.Span.{Span}
 use Rattle.ms_base.specs.Interval.{meet}
-use Rattle.ms_base.specs.Level.{size_of}
+use Rattle.ms_base.specs.Level.{size_of, highest_level}
 use Rattle.ms_base.specs.Part.{IsPart, buddy_start, is_leader}
 use Rattle.ms_base.specs.Held.{meets_chunk}
 use Rattle.ms_base.specs.FreeParts.{free_within}
@@ -130,15 +130,15 @@ buddy_by_free tree start level part placed found = elim (cases_eq part.level lev
     buddy = record { start = start; level = level }
 
     free : List Span
-    free = free_within (map chunk_of tree) 12 0
+    free = free_within (map chunk_of tree) highest_level 0
 
     rises : Rises 0 (0 + size_of 0) free
-    rises = within_rises (map chunk_of tree) 12 0 (omega arith) refl
+    rises = within_rises (map chunk_of tree) highest_level 0 (omega arith) refl
 
     part_is : IsFreeWithin (map chunk_of tree) 0 (0 + size_of 0) part
     part_is = found_is_part (covers start) (IsFreeWithin (map chunk_of tree) 0 (0 + size_of 0)) free part found
         (recursion_from_All (IsFreeWithin (map chunk_of tree) 0 (0 + size_of 0)) free
-        (listed_are_free (map chunk_of tree) 12 0 (omega arith) refl refl))
+        (listed_are_free (map chunk_of tree) highest_level 0 (omega arith) refl refl))
 
     covering : find (covers start) free ≡ Some part → covers start part ≡ true
     covering e = passes free e
@@ -210,13 +210,16 @@ none_where_lent : (tree : List LentLeaf) (start level : ℕ) (leaf : LentLeaf)
 unfolding free_of
 none_where_lent tree start level leaf found =
     false_from_ne_true
-    (list_any (is_same (record { start = start; level = level })) (free_within (map chunk_of tree) 12 0)) (λ there.
+    (list_any (is_same (record { start = start; level = level }))
+    (free_within (map chunk_of tree) highest_level 0)) (λ there.
     let its =
     listed_is_found 0 (0 + size_of 0) (record { start = start; level = level })
-    (free_within (map chunk_of tree) 12 0) (within_rises (map chunk_of tree) 12 0 (omega arith) refl) there in
+    (free_within (map chunk_of tree) highest_level 0)
+    (within_rises (map chunk_of tree) highest_level 0 (omega arith) refl) there in
     let clear = free_is_clear tree start its.0 its.1 in
     let meets =
-    lent_meets start its.0 tree leaf found (found_covers start (free_within (map chunk_of tree) 12 0) its.0 its.1)
+    lent_meets start its.0 tree leaf found
+    (found_covers start (free_within (map chunk_of tree) highest_level 0) its.0 its.1)
     in
     cc (clear, meets))
 
@@ -255,7 +258,7 @@ lent_place part (leaf ∷ leaves) parts inside there =
 pub root_cannot : (start level : ℕ) (free : List Span) → level ≡ 0 → can_enlarge (span_at start level) free ≡ false
 root_cannot start level free e = ap (λ (l : ℕ). can_enlarge (span_at start l) free) e
 
-pub parent_size : (level : ℕ) → 0 < level → level ≤ 12 → 2 * size_of level ≡ size_of (level - 1)
+pub parent_size : (level : ℕ) → 0 < level → level ≤ highest_level → 2 * size_of level ≡ size_of (level - 1)
 parent_size level some low =
     let next : level - 1 + 1 ≡ level = omega (arith, some) in
     omega (arith, size_of-halves (level - 1) (omega (arith, low, some)), ap size_of next)
@@ -281,7 +284,7 @@ leader_can start level free some leads =
     (eq-eqb (start % size_of (level - 1)) 0 leads)
     ∙ ap (λ (s : ℕ). list_any (is_same (record { start = s; level = level })) free) (omega (arith, leads))
 
-pub buddy_within : (start level : ℕ) → 0 < level → level ≤ 12 → start % size_of (level - 1) ≡ 0
+pub buddy_within : (start level : ℕ) → 0 < level → level ≤ highest_level → start % size_of (level - 1) ≡ 0
     → start + size_of level ≤ 524288 → start + size_of level < 524288
 buddy_within start level some low leads fits =
     omega (
@@ -304,7 +307,7 @@ no_root_can part free can =
     ltb-true 0 part.level (and_parts (nat_lt 0 part.level) (is_leader part.start part.level) leads.0).0
 
 -- A lent leader of a level that is not 0: its buddy begins in the root, and the leaf there decides.
-pub leads : (start level size : ℕ) → size ≡ size_of level → 0 < level → level ≤ 12 → start % (2 * size) ≡ 0
+pub leads : (start level size : ℕ) → size ≡ size_of level → 0 < level → level ≤ highest_level → start % (2 * size) ≡ 0
     → start % size_of (level - 1) ≡ 0
 leads start level size is some low whole =
     ap (λ (n : ℕ). start % n) (sym (ap (λ (n : ℕ). 2 * n) is ∙ parent_size level some low)) ∙ whole
@@ -316,7 +319,7 @@ pub record IsLeaderThere (tree : List LentLeaf) (start level size : ℕ) : Type 
   pub within : start + size < 524288
 
 pub leader_there : (tree : List LentLeaf) (start level number size : ℕ) → AreLeaves tree
-    → is_lent tree (span_at start level) ≡ true → number ≡ level → number ≤ 12
+    → is_lent tree (span_at start level) ≡ true → number ≡ level → number ≤ highest_level
     → (number ≡ 0 → ⊥) → size ≡ size_of level → start % (2 * size) ≡ 0 → IsLeaderThere tree start level size
 leader_there tree start level number size leaves lent same low other is whole = record {
   some = some;

@@ -14,7 +14,7 @@ use Rattle.ms_base.specs.declared.kind.Space.{Space}
 use Rattle.ms_base.specs.declared.kind.Space.TheVariants.{NonClass, Class}
 use Rattle.ms_base.specs.declared.span.Chunk.{Chunk}
 use Rattle.ms_base.specs.declared.span.Span.{Span}
-use Rattle.ms_base.specs.Level.{size_of, root_words}
+use Rattle.ms_base.specs.Level.{size_of, root_words, highest_level}
 use Rattle.ms_base.specs.Part.{IsPart, buddy_start, is_leader, is_reserved, node_words, slot_of}
 use Rattle.ms_base.specs.FreeParts.{free_in_slot, free_parts, free_within}
 use Rattle.ms_base.specs.PoolSteps.{is_free, may_become_parent}
@@ -67,11 +67,11 @@ none_of held start level low high (part ∷ parts) all out =
 
 none_in_root : (held : List Chunk) (start level root : ℕ) → root % size_of 0 ≡ 0
     → (start < root) ⊎ (root + size_of 0 ≤ start)
-    → list_any (at_place start level) (free_within held 12 root) ≡ false
+    → list_any (at_place start level) (free_within held highest_level root) ≡ false
 none_in_root held start level root whole out =
-    none_of held start level root (root + size_of 0) (free_within held 12 root)
-    (recursion_from_All (IsFreeWithin held root (root + size_of 0)) (free_within held 12 root)
-    (listed_are_free held 12 root (omega arith) whole refl)) out
+    none_of held start level root (root + size_of 0) (free_within held highest_level root)
+    (recursion_from_All (IsFreeWithin held root (root + size_of 0)) (free_within held highest_level root)
+    (listed_are_free held highest_level root (omega arith) whole refl)) out
 
 -- A root's own parts, moved down.
 shifted : (a b c w : ℕ) → c ≡ b + w → (a + w == c) ≡ (a == b)
@@ -141,9 +141,9 @@ one_of_slots test f (k ∷ slots) slot there out =
 none_in_slot : (held : List Chunk) (start level slot : ℕ) → (slot ≡ slot_of start → ⊥)
     → list_any (at_place start level) (free_in_slot held slot) ≡ false
 none_in_slot held start level slot other =
-    list_any-append (at_place start level) (free_within held 12 (slot * node_words))
-    (free_within held 12 (slot * node_words + size_of 0))
-    ∙ ap (λ b. b || list_any (at_place start level) (free_within held 12 (slot * node_words + size_of 0)))
+    list_any-append (at_place start level) (free_within held highest_level (slot * node_words))
+    (free_within held highest_level (slot * node_words + size_of 0))
+    ∙ ap (λ b. b || list_any (at_place start level) (free_within held highest_level (slot * node_words + size_of 0)))
     (none_in_root held start level (slot * node_words) (omega arith)
     (side (slot * node_words) (omega arith) (omega arith)))
     ∙ none_in_root held start level (slot * node_words + size_of 0) (omega arith)
@@ -172,17 +172,18 @@ pub free_by_root : (space : Space) (lender : Lender) (root own level : ℕ) → 
 free_by_root space lender root own level kept fits low high there =
     one_of_slots test (free_in_slot held) (slots_of space lender.nodes) (root / 2) there
     (λ k other. none_in_slot held start level k (λ e. other (e ∙ in_slot)))
-    ∙ list_any-append test (free_within held 12 (root / 2 * node_words))
-    (free_within held 12 (root / 2 * node_words + size_of 0))
+    ∙ list_any-append test (free_within held highest_level (root / 2 * node_words))
+    (free_within held highest_level (root / 2 * node_words + size_of 0))
     ∙ elim (cases_eq (root % 2) 0) [
       | inl even ↦
-          ap₂ (λ a b. a || b) (ap (λ (s : ℕ). list_any test (free_within held 12 s)) (is_lower even) ∙ own_parts)
+          ap₂ (λ a b. a || b)
+          (ap (λ (s : ℕ). list_any test (free_within held highest_level s)) (is_lower even) ∙ own_parts)
           (none_in_root held start level (root / 2 * node_words + size_of 0) (omega arith)
           (inl (omega (arith, fits, even)))) ∙ or_none _
       | inr odd ↦
           ap₂ (λ a b. a || b)
           (none_in_root held start level (root / 2 * node_words) (omega arith) (inr (omega (arith, odd))))
-          (ap (λ (s : ℕ). list_any test (free_within held 12 s)) (is_upper odd) ∙ own_parts)
+          (ap (λ (s : ℕ). list_any test (free_within held highest_level s)) (is_upper odd) ∙ own_parts)
     ]
   where
     held : List Chunk
@@ -207,7 +208,7 @@ free_by_root space lender root own level kept fits low high there =
     or_none true = refl
     or_none false = refl
 
-    own_parts : list_any test (free_within held 12 (root * root_words))
+    own_parts : list_any test (free_within held highest_level (root * root_words))
         ≡ list_any (is_same (record { start = own; level = level })) (free_of (get_or lender.trees.items root []))
     own_parts =
         ap (list_any test) (free_in_root space lender.trees.items root (root_within space lender root kept high)
@@ -215,7 +216,7 @@ free_by_root space lender root own level kept fits low high there =
         ∙ moved_down start level own (root * root_words) (free_of (get_or lender.trees.items root [])) refl
 
 -- An offset leaves the same over a size as the word.
-offset_mod : (start level : ℕ) → level ≤ 12 → start % root_words % size_of level ≡ start % size_of level
+offset_mod : (start level : ℕ) → level ≤ highest_level → start % root_words % size_of level ≡ start % size_of level
 offset_mod start level low =
     sym (add-mul-mod_self_right (start % root_words) (start / root_words * 2 ^ (level - 0)) (size_of level))
     ∙ ap (λ n. n % size_of level)

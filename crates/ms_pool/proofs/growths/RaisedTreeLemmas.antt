@@ -8,7 +8,7 @@ use Rattle.std.proofs.lemmas.Bool.Decides.{nat_tests}
 use Rattle.std.proofs.lemmas.List.{map-append}
 use Rattle.ms_base.specs.declared.span.Chunk.{Chunk}
 use Rattle.ms_base.specs.declared.span.Span.{Span}
-use Rattle.ms_base.specs.Level.{size_of, root_words}
+use Rattle.ms_base.specs.Level.{size_of, root_words, highest_level}
 use Rattle.ms_buddy.specs.Leaves.{LentLeaf, AreInOrder, AreLeaves, is_lent, is_same, span_of, with_front, with_parent}
 use Rattle.ms_buddy.proofs.TreeHalvesLemmas.{size_of-halves, size_of-some}
 use Rattle.ms_pool.specs.Ledger.{Loan}
@@ -183,7 +183,7 @@ loans_with_parent trees root part greater within all e f low lent =
 
 -- What a grown chunk's level says.
 pub grown_size : (level above front : ℕ) (P : Type 0) → front ≤ size_of above
-    → (above ≡ level) ⊎ ((above + 1 ≡ level) × P) → level ≤ 12 → front ≤ 2 * size_of level
+    → (above ≡ level) ⊎ ((above + 1 ≡ level) × P) → level ≤ highest_level → front ≤ 2 * size_of level
 grown_size level above front P within grows low = elim grows [
   | inl same ↦ omega (arith, within, ap size_of same)
   | inr next ↦ omega (arith, within, size_of-halves above (omega (arith, next.0, low)), ap size_of next.0)

@@ -13,7 +13,7 @@ use Rattle.ms_base.specs.declared.kind.Space.{Space}
 use Rattle.ms_base.specs.declared.kind.Space.TheVariants.{NonClass, Class}
 use Rattle.ms_base.specs.declared.span.Chunk.{Chunk}
 use Rattle.ms_base.specs.Interval.{meet}
-use Rattle.ms_base.specs.Level.{size_of}
+use Rattle.ms_base.specs.Level.{size_of, highest_level}
 use Rattle.ms_base.specs.Part.{IsPart, slot_of, node_words}
 use Rattle.ms_base.specs.Spaces.{IsSlotOf, is_in}
 use Rattle.ms_base.specs.Held.{meets_chunk}
@@ -101,7 +101,7 @@ sized (c ∷ held) parts =
       arith,
       sized held parts.1,
       sum_by-cons (λ (chunk : Chunk). size_of chunk.level) c held,
-      size_falls c.level 12 parts.0.0 (omega arith),
+      size_falls c.level highest_level parts.0.0 (omega arith),
     )
 
 held_are_few : (space : Space) (ledger : Ledger) → IsSoundLedger ledger → length (chunks_in space ledger.loans) ≤ 524288

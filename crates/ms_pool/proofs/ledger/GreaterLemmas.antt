@@ -9,7 +9,7 @@ use Rattle.ms_base.specs.declared.span.Chunk.{Chunk}
 use Rattle.ms_base.specs.declared.refusal.Refusal.{Refusal}
 use Rattle.ms_base.specs.declared.refusal.Refusal.TheVariants.{CommitLimit, NoRoom}
 use Rattle.ms_base.specs.Interval.{meet, meets_any, are_apart}
-use Rattle.ms_base.specs.Level.{size_of}
+use Rattle.ms_base.specs.Level.{size_of, highest_level}
 use Rattle.ms_base.specs.Part.{IsPart, is_leader, buddy_start}
 use Rattle.ms_base.specs.Front.{HasFront}
 use Rattle.ms_base.specs.Held.{words_of, meets_chunk}
@@ -131,7 +131,8 @@ runs_from_clear chunk (c ∷ others) h =
     (meet_turned chunk.start (size_of chunk.level) c.start (size_of c.level) ∙ both.0)
     (runs_from_clear chunk others both.1)
 
-pub grown_meets_none : (b : List Chunk) (was is : Chunk) (a : List Chunk) → was.level ≤ 12 → is.start ≡ was.start
+pub grown_meets_none : (b : List Chunk) (was is : Chunk) (a : List Chunk)
+    → was.level ≤ highest_level → is.start ≡ was.start
     → are_apart (map words_of (b ++ was ∷ a)) ≡ true
     → GrowsClear (b ++ was ∷ a) was is → meets_chunk (b ++ a) is.start is.level ≡ false
 grown_meets_none b was is a low same apart grows =
@@ -150,7 +151,8 @@ grown_meets_none b was is a low same apart grows =
         (rw (map-append words_of b a) (middle_is_clear (map words_of b) (words_of was) (map words_of a)
         (rw (map-append words_of b (was ∷ a)) at apart)))
 
-pub grown_is_apart : (b : List Chunk) (was is : Chunk) (a : List Chunk) → was.level ≤ 12 → is.start ≡ was.start
+pub grown_is_apart : (b : List Chunk) (was is : Chunk) (a : List Chunk) → was.level ≤ highest_level
+    → is.start ≡ was.start
     → are_apart (map words_of (b ++ was ∷ a)) ≡ true
     → GrowsClear (b ++ was ∷ a) was is → are_apart (map words_of (b ++ is ∷ a)) ≡ true
 grown_is_apart b was is a low same apart grows =

@@ -11,7 +11,7 @@ use Rattle.std.proofs.lemmas.List.Folds.{list_all-append}
 use Rattle.std.proofs.lemmas.List.Sorted.{Contains-permutation, IsPermutation-map, IsPermutation-sym}
 use Rattle.ms_base.specs.declared.kind.Space.{Space}
 use Rattle.ms_base.specs.declared.span.Chunk.{Chunk}
-use Rattle.ms_base.specs.Level.{size_of}
+use Rattle.ms_base.specs.Level.{size_of, highest_level}
 use Rattle.ms_base.specs.Part.{IsPart, slot_of, is_reserved}
 use Rattle.ms_base.specs.Spaces.{IsSlotOf, is_in, other_space}
 use Rattle.ms_base.specs.Held.{AreHeld}
@@ -186,7 +186,7 @@ grown_is_sound old account was is sound served chunks has greater =
     held : AreHeld old.limits.policy pool.slots (b ++ was ∷ a)
     held = rw old_is at (sound.spaces space).held
 
-    low : was.level ≤ 12
+    low : was.level ≤ highest_level
     low = (All-contains (λ (one : Chunk). IsPart one.start one.level) (b ++ was ∷ a) was held.parts (middle b was a)).0
 
     reserved : is_reserved pool.slots (slot_of is.start) ≡ true
@@ -271,7 +271,7 @@ grown_are_chunks old account place was is served chunks found greater = record {
     parted : Parted account.chunks place was is
     parted = parted_at account.chunks place was is found
 
-    low : was.level ≤ 12
+    low : was.level ≤ highest_level
     low = (All-contains (λ (one : Chunk). IsPart one.start one.level) account.chunks was chunks.parts has).0
 
     own : GrowsClear account.chunks was is

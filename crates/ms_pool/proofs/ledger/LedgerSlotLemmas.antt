@@ -16,7 +16,7 @@ use Rattle.ms_base.specs.declared.kind.Space.{Space}
 use Rattle.ms_base.specs.declared.kind.Space.TheVariants.{NonClass, Class}
 use Rattle.ms_base.specs.declared.span.Chunk.{Chunk}
 use Rattle.ms_base.specs.Part.{slot_of, is_reserved}
-use Rattle.ms_base.specs.Spaces.{IsSlotOf, is_in}
+use Rattle.ms_base.specs.Spaces.{IsSlotOf, is_in, first_class_word}
 use Rattle.ms_base.specs.Committed.{granules_of}
 use Rattle.ms_base.specs.PoolSteps.Pick.{granule_in, has_committed}
 use Rattle.ms_base.specs.PoolSteps.Causes.{node_limit}
@@ -82,8 +82,8 @@ pub starts_in : (space : Space) (start : ℕ) → IsSlotOf space (slot_of start)
 starts_in NonClass start slot = below start slot
   where
     below : (start : ℕ) → IsSlotOf NonClass (slot_of start) → is_in NonClass start ≡ true
-    below start slot = lt-ltb start 67108864 (omega arith)
-starts_in Class start slot = le-leb 67108864 start (omega (arith, slot.0))
+    below start slot = lt-ltb start first_class_word (omega arith)
+starts_in Class start slot = le-leb first_class_word start (omega (arith, slot.0))
 
 -- The slots of the space, with that of a chunk.
 pub record AreWithSlot (space : Space) (old : Ledger) (slots : List ℕ) (slot : ℕ) : Type 0 where

@@ -10,7 +10,7 @@ use Rattle.std.proofs.lemmas.List.Sorted.{IsPermutation-cons, IsPermutation-sym,
 use Rattle.std.proofs.lemmas.List.Sorted.{IsPermutation-trans}
 use Rattle.ms_base.specs.declared.kind.Space.{Space}
 use Rattle.ms_base.specs.declared.span.Chunk.{Chunk}
-use Rattle.ms_base.specs.Level.{size_of}
+use Rattle.ms_base.specs.Level.{size_of, highest_level}
 use Rattle.ms_base.specs.Part.{IsPart, slot_of}
 use Rattle.ms_base.specs.Spaces.{IsSlotOf}
 use Rattle.ms_base.specs.Held.{words_of}
@@ -126,7 +126,7 @@ pub record TakenWell (old : Ledger) (account : AccountState) (wanted most words 
 
 pub taken_well : (old : Ledger) (account : AccountState) (wanted most words : ℕ) (chunk : Chunk) → IsSoundLedger old
     → Serves old account
-    → AreChunks account.space account.chunks → wanted ≤ most → most ≤ 12 → 1 ≤ words → words ≤ size_of most
+    → AreChunks account.space account.chunks → wanted ≤ most → most ≤ highest_level → 1 ≤ words → words ≤ size_of most
     → taken (state_in account.space old) wanted most words ≡ Ok chunk → TakenWell old account wanted most words chunk
 taken_well old account wanted most words chunk sound served chunks serves real some fits is = record {
   sound = lent_is_sound old account chunk sound served lendable;

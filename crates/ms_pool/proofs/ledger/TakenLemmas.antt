@@ -10,7 +10,7 @@ use Rattle.std.proofs.lemmas.List.Folds.{Any-from_list_any}
 use Rattle.std.proofs.lemmas.Map.Keys.{sorted_from_strictly_increasing}
 use Rattle.ms_base.specs.declared.span.Chunk.{Chunk}
 use Rattle.ms_base.specs.declared.span.Span.{Span}
-use Rattle.ms_base.specs.Level.{size_of}
+use Rattle.ms_base.specs.Level.{size_of, highest_level}
 use Rattle.ms_base.specs.Part.{IsPart, slot_of, is_reserved, node_words}
 use Rattle.ms_base.specs.Front.{HasFront}
 use Rattle.ms_base.specs.FreeParts.{free_parts}
@@ -47,7 +47,7 @@ record LiesWell (pool : PoolState) (start level : ℕ) : Type 0 where
   clear : meets_chunk pool.held start level ≡ false
   slot : HasSlot pool (slot_of start)
 
-in_found : (pool : PoolState) (p m words : ℕ) → p ≤ m → m ≤ 12 → IsFound pool m (found_first pool p m words)
+in_found : (pool : PoolState) (p m words : ℕ) → p ≤ m → m ≤ highest_level → IsFound pool m (found_first pool p m words)
     → LiesWell pool (picked pool p m words).start (picked pool p m words).level
 in_found pool p m words h k found =
     let some : Any (λ (other : Span). ((other.start == part.start) && (other.level == part.level)) ≡ true)
@@ -78,7 +78,7 @@ is_room_left false slots limit none unmet h = elim (cases_eq slots limit) [
   | inr other ↦ omega (arith, other)
 ]
 
-in_new_root : (pool : PoolState) (p m words : ℕ) → p ≤ m → m ≤ 12 → IsSoundPool pool
+in_new_root : (pool : PoolState) (p m words : ℕ) → p ≤ m → m ≤ highest_level → IsSoundPool pool
     → meets_reserve_limit pool m ≡ false
     → (candidates pool p m words ≡ []) × (found_first pool p m words ≡ new_root pool)
     → LiesWell pool (picked pool p m words).start (picked pool p m words).level
@@ -103,7 +103,8 @@ in_new_root pool p m words h k sound unmet none = record {
     no_room = false_from_ne_true (has_room pool m) (λ room. room_is_found pool p m words room none.0)
 
 -- So the chunk that a request is lent.
-pub taken_is_lendable : (pool : PoolState) (p m words : ℕ) (chunk : Chunk) → IsSoundPool pool → p ≤ m → m ≤ 12
+pub taken_is_lendable : (pool : PoolState) (p m words : ℕ) (chunk : Chunk) → IsSoundPool pool
+    → p ≤ m → m ≤ highest_level
     → 1 ≤ words
     → words ≤ size_of m
     → taken pool p m words ≡ Ok chunk → IsLendable pool chunk

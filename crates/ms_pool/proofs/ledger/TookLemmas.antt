@@ -1,5 +1,6 @@
 -- A call of take, whatever it answers: all accounts are served still, and nothing changes but the chunks
 -- of the call's account.
+use Rattle.ms_base.specs.Level.{highest_level}
 use Rattle.std.proofs.Common.{◌≡◌, ◌≤◌, ℕ, refl, sym, ap, ◌∙◌, subst}
 use Rattle.std.specs.Prelude.{Result, Ok, Err, IfOk, OnErr}
 use Rattle.ms_base.specs.declared.span.Span.{Span}
@@ -40,7 +41,7 @@ took_keeps old account wanted most words (Err refusal) new refused =
 -- What a request may ask.
 pub record MayAsk (wanted most words : ℕ) : Type 0 where
   pub may : MayTake wanted most words
-  pub real : most ≤ 12
+  pub real : most ≤ highest_level
 
 lends_well : (old : Ledger) (account : AccountState) (wanted most words : ℕ) (span : Span) (new : Ledger)
     → IsSoundLedger old

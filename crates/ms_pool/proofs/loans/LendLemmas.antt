@@ -15,7 +15,7 @@ use Rattle.ms_base.specs.Interval.{meet}
 use Rattle.ms_base.specs.Level.{size_of}
 use Rattle.ms_base.specs.Part.{IsPart, is_reserved, node_words, slot_of}
 use Rattle.ms_base.specs.Policy.{granule_of, keeps, slot_granules}
-use Rattle.ms_base.specs.Spaces.{is_in}
+use Rattle.ms_base.specs.Spaces.{is_in, first_class_word}
 use Rattle.ms_base.specs.Front.{HasFront}
 use Rattle.ms_base.specs.Held.{AreHeld}
 use Rattle.ms_base.specs.Committed.{committed_with, is_among, is_committed, is_committed_now}
@@ -82,17 +82,17 @@ pub of_space_by_slot : (space : Space) (policy : Policy) (k start : ℕ)
     → k / slot_granules (granule_of policy) ≡ slot_of start
     → is_granule_of space (slot_granules (granule_of policy)) k ≡ is_in space start
 of_space_by_slot NonClass Balanced k start e =
-    same_side k 8192 start 67108864 (λ h. omega (arith, h, e)) (λ h. omega (arith, h, e))
+    same_side k 8192 start first_class_word (λ h. omega (arith, h, e)) (λ h. omega (arith, h, e))
 of_space_by_slot NonClass Aggressive k start e =
-    same_side k 32768 start 67108864 (λ h. omega (arith, h, e)) (λ h. omega (arith, h, e))
+    same_side k 32768 start first_class_word (λ h. omega (arith, h, e)) (λ h. omega (arith, h, e))
 of_space_by_slot NonClass Never k start e =
-    same_side k 8192 start 67108864 (λ h. omega (arith, h, e)) (λ h. omega (arith, h, e))
+    same_side k 8192 start first_class_word (λ h. omega (arith, h, e)) (λ h. omega (arith, h, e))
 of_space_by_slot Class Balanced k start e =
-    other_side k 8192 start 67108864 (λ h. omega (arith, h, e)) (λ h. omega (arith, h, e))
+    other_side k 8192 start first_class_word (λ h. omega (arith, h, e)) (λ h. omega (arith, h, e))
 of_space_by_slot Class Aggressive k start e =
-    other_side k 32768 start 67108864 (λ h. omega (arith, h, e)) (λ h. omega (arith, h, e))
+    other_side k 32768 start first_class_word (λ h. omega (arith, h, e)) (λ h. omega (arith, h, e))
 of_space_by_slot Class Never k start e =
-    other_side k 8192 start 67108864 (λ h. omega (arith, h, e)) (λ h. omega (arith, h, e))
+    other_side k 8192 start first_class_word (λ h. omega (arith, h, e)) (λ h. omega (arith, h, e))
 
 -- A test of the chunks of a space with another loan.
 pub any_with : (space : Space) (loan : Loan) (loans : List Loan) (test : Chunk → Bool)

@@ -11,7 +11,7 @@ use Rattle.ms_base.specs.declared.kind.Space.{Space}
 use Rattle.ms_base.specs.declared.kind.Space.TheVariants.{NonClass, Class}
 use Rattle.ms_base.specs.Part.{is_reserved, slot_of}
 use Rattle.ms_base.specs.PoolSteps.Pick.{lowest_unreserved}
-use Rattle.ms_base.specs.Spaces.{by_space, class_slots, is_in}
+use Rattle.ms_base.specs.Spaces.{by_space, class_slots, is_in, first_class_word}
 use Rattle.ms_base.proofs.granules.MissingLemmas.{lowest_is_not_reserved}
 use Rattle.ms_commit.specs.NumberSet.{is_in_range}
 use Rattle.ms_commit.specs.Nodes.{NodesState, AreSound, all_slots, slots_of, with_slot}
@@ -123,7 +123,7 @@ pub own_in_space : (space : Space) (nodes : NodesState) (start : ℕ) → AreSou
     → is_reserved (all_slots nodes) (slot_of start) ≡ true
     → is_in space start ≡ true → is_reserved (slots_of space nodes) (slot_of start) ≡ true
 own_in_space NonClass nodes start sound there here =
-    sym (reserved_low nodes (slot_of start) (omega (arith, ltb-true start 67108864 here))) ∙ there
+    sym (reserved_low nodes (slot_of start) (omega (arith, ltb-true start first_class_word here))) ∙ there
 own_in_space Class nodes start sound there here =
     is_among-range 64 nodes.class_slots (slot_of start)
     ∙ ap (λ b. b || is_in_range 64 nodes.class_slots (slot_of start)) (sym none_below)
@@ -131,8 +131,12 @@ own_in_space Class nodes start sound there here =
   where
     none_below : is_reserved nodes.slots (slot_of start) ≡ false
     none_below = false_from_ne_true (is_reserved nodes.slots (slot_of start))
-        (λ member. omega
-        (arith, member_below 64 nodes.slots (slot_of start) sound.slots.below member, leb-true 67108864 start here))
+        (λ member. omega (
+          arith,
+          member_below 64 nodes.slots (slot_of start) sound.slots.below member,
+          leb-true
+              first_class_word start here,
+        ))
 
 -- An open slot is one of its space.
 abbrev pub IsSlotThere : Space → ℕ → Type 0

@@ -8,7 +8,7 @@ use Rattle.ms_base.specs.declared.refusal.Refusal.{Refusal}
 use Rattle.ms_base.specs.declared.refusal.Refusal.TheVariants.{CommitLimit, ReserveLimit}
 use Rattle.ms_base.specs.declared.span.Chunk.{Chunk}
 use Rattle.ms_base.specs.declared.span.Span.{Span}
-use Rattle.ms_base.specs.Level.{size_of}
+use Rattle.ms_base.specs.Level.{size_of, highest_level}
 use Rattle.ms_base.specs.Part.{IsPart, slot_of}
 use Rattle.ms_base.specs.Front.{HasFront, front_for}
 use Rattle.ms_base.specs.PoolSteps.Pick.{chunk_picked, picked}
@@ -58,7 +58,8 @@ pub run_of_open : (space : Space) (start front : ℕ) → start + front ≤ slot
 run_of_open NonClass start front ends lower there = omega (arith, ends, there)
 run_of_open Class start front ends lower there = omega (arith, there)
 
-pub is_well_picked : (space : Space) (lender : Lender) (p m words : ℕ) (chunk : Chunk) → IsKept lender → p ≤ m → m ≤ 12
+pub is_well_picked : (space : Space) (lender : Lender) (p m words : ℕ) (chunk : Chunk)
+    → IsKept lender → p ≤ m → m ≤ highest_level
     → 1 ≤ words → words ≤ size_of m
     → chunk ≡ chunk_picked (state_in space (ledger_of lender)) p m words
     → IsOpen space lender.nodes (slot_of chunk.start) → IsWellPicked space chunk
@@ -118,7 +119,8 @@ without_reserve pool p m words room = ap answer room
         else Ok (chunk_picked pool p m words)
 
 -- The commit limit is met.
-pub taken_commit : (space : Space) (lender : Lender) (p m words : ℕ) (chunk : Chunk) → IsKept lender → p ≤ m → m ≤ 12
+pub taken_commit : (space : Space) (lender : Lender) (p m words : ℕ) (chunk : Chunk) → IsKept lender
+    → p ≤ m → m ≤ highest_level
     → 1 ≤ words → words ≤ size_of m
     → chunk ≡ chunk_picked (state_in space (ledger_of lender)) p m words
     → is_full (state_in space (ledger_of lender)) m ≡ false
@@ -148,7 +150,8 @@ taken_commit space lender p m words chunk kept h k some fits is room past =
         (omega (arith, past, all_committed space lender kept, ap (granules_missing pool) is))
 
 -- The chunk is lent.
-pub taken_ok : (space : Space) (lender : Lender) (p m words : ℕ) (chunk : Chunk) → IsKept lender → p ≤ m → m ≤ 12
+pub taken_ok : (space : Space) (lender : Lender) (p m words : ℕ) (chunk : Chunk) → IsKept lender
+    → p ≤ m → m ≤ highest_level
     → 1 ≤ words → words ≤ size_of m
     → chunk ≡ chunk_picked (state_in space (ledger_of lender)) p m words
     → is_full (state_in space (ledger_of lender)) m ≡ false

@@ -6,7 +6,7 @@ use Rattle.ms_base.specs.declared.span.Span.{Span}
 use Rattle.ms_base.specs.Laws.Free.{AreAlike, with_held}
 use Rattle.ms_base.specs.FreeParts.{free_within}
 use Rattle.ms_base.specs.Interval.{meet}
-use Rattle.ms_base.specs.Level.{root_words, size_of}
+use Rattle.ms_base.specs.Level.{root_words, size_of, highest_level}
 use Rattle.ms_base.specs.State.{PoolState}
 use Rattle.ms_base.proofs.free.AlikeLemmas.{free_alike}
 use Rattle.ms_pool.specs.declared.mapping.Place.{Place}
@@ -18,12 +18,12 @@ use Rattle.ms_pool.specs.Mapping.{place_in, place_start, place_words, root_place
 place_alike : (pool : PoolState) (other : List Chunk) → AreAlike pool.held other → (root number : ℕ)
     → place_in pool root number ≡ place_in (with_held pool other) root number
 place_alike pool other alike root number =
-    ap (λ b. place_by b (meets_free (free_within pool.held 12 (root * root_words)) start place_words)
+    ap (λ b. place_by b (meets_free (free_within pool.held highest_level (root * root_words)) start place_words)
     (is_committed_in pool start))
     (alike (λ chunk. meet chunk.start (size_of chunk.level) start place_words))
     ∙ ap (λ (parts : List Span). place_by (meets_lent other start place_words) (meets_free parts start place_words)
     (is_committed_in pool start))
-    (free_alike pool.held other alike 12 (root * root_words))
+    (free_alike pool.held other alike highest_level (root * root_words))
   where
     start : ℕ
     start = place_start root number

@@ -14,7 +14,7 @@ use Rattle.ms_base.specs.declared.span.Span.{Span}
 use Rattle.ms_base.specs.FreeParts.{free_within}
 use Rattle.ms_base.specs.Held.{meets_chunk}
 use Rattle.ms_base.specs.Interval.{lies_in, meet}
-use Rattle.ms_base.specs.Level.{root_words, size_of}
+use Rattle.ms_base.specs.Level.{root_words, size_of, highest_level}
 use Rattle.ms_base.specs.Part.{IsPart}
 use Rattle.ms_base.proofs.free.FreeLemmas.{IsFreeWithin, clear_is_in_free, has_part, listed_are_free}
 use Rattle.ms_base.proofs.free.HalvesLemmas.{size_falls_strictly, size_some}
@@ -102,10 +102,10 @@ pub record AreLeft (leaves : List LentLeaf) (left : List Span) (l f : List Bool)
 
 free_are_in_root : (leaves : List LentLeaf) → AllByRecursion IsInRoot (free_of leaves)
 unfolding free_of
-free_are_in_root leaves = recursion_from_All IsInRoot (free_within (map chunk_of leaves) 12 0)
+free_are_in_root leaves = recursion_from_All IsInRoot (free_within (map chunk_of leaves) highest_level 0)
     (All-weaker (IsFreeWithin (map chunk_of leaves) 0 (0 + size_of 0)) IsInRoot
-    (λ part free. (free.placed, free.upto)) (free_within (map chunk_of leaves) 12 0)
-    (listed_are_free (map chunk_of leaves) 12 0 (omega arith) refl refl))
+    (λ part free. (free.placed, free.upto)) (free_within (map chunk_of leaves) highest_level 0)
+    (listed_are_free (map chunk_of leaves) highest_level 0 (omega arith) refl refl))
 
 pub all_left : (leaves : List LentLeaf)
     → AreLeft leaves (free_of leaves) (replicate root_places true) (replicate root_places false)
@@ -184,27 +184,28 @@ pub lent_or_free : (leaves : List LentLeaf) (k : ℕ) → k < root_places
     → not (lies_in_any k (free_of leaves)) ≡ meets_lent (map chunk_of leaves) (k * place_words) place_words
 unfolding free_of
 lent_or_free leaves k h =
-    go (meets_lent chunks (k * place_words) place_words) refl (lies_in_any k (free_within chunks 12 0)) refl
+    go (meets_lent chunks (k * place_words) place_words) refl (lies_in_any k (free_within chunks highest_level 0)) refl
   where
     chunks : List Chunk
     chunks = map chunk_of leaves
 
-    clear : AllByRecursion (IsClearOf chunks) (free_within chunks 12 0)
-    clear = recursion_from_All (IsClearOf chunks) (free_within chunks 12 0)
+    clear : AllByRecursion (IsClearOf chunks) (free_within chunks highest_level 0)
+    clear = recursion_from_All (IsClearOf chunks) (free_within chunks highest_level 0)
         (All-weaker (IsFreeWithin chunks 0 (0 + size_of 0)) (IsClearOf chunks) (λ part free. free.empty)
-        (free_within chunks 12 0) (listed_are_free chunks 12 0 (omega arith) refl refl))
+        (free_within chunks highest_level 0) (listed_are_free chunks highest_level 0 (omega arith) refl refl))
 
     go : (a : Bool) → meets_lent chunks (k * place_words) place_words ≡ a → (b : Bool)
-        → lies_in_any k (free_within chunks 12 0) ≡ b → not b ≡ a
+        → lies_in_any k (free_within chunks highest_level 0) ≡ b → not b ≡ a
     go true lent false lies = refl
     go false lent true lies = refl
     go true lent true lies =
-        absurd (cc (lent, clear_in_any chunks (free_within chunks 12 0) k clear lies))
+        absurd (cc (lent, clear_in_any chunks (free_within chunks highest_level 0) k clear lies))
     go false lent false lies =
         absurd (cc (
           lies,
-          any_lies k (free_within chunks 12 0)
-              (clear_is_in_free chunks (record { start = k * place_words; level = 6 }) (omega arith, omega arith) lent 12 0
+          any_lies k (free_within chunks highest_level 0)
+              (clear_is_in_free chunks (record { start = k * place_words; level = 6 })
+              (omega arith, omega arith) lent highest_level 0
               (omega arith) refl (record { wide = omega arith; from = omega arith; upto = omega (arith, h) })),
         ))
 

@@ -12,9 +12,9 @@ use Rattle.ms_base.specs.declared.span.Span.{Span}
 use Rattle.ms_base.specs.Committed.{is_among}
 use Rattle.ms_base.specs.FreeParts.{free_within}
 use Rattle.ms_base.specs.Interval.{meet}
-use Rattle.ms_base.specs.Level.{root_words, size_of}
+use Rattle.ms_base.specs.Level.{root_words, size_of, highest_level}
 use Rattle.ms_base.specs.Policy.{granule_of, slot_granules}
-use Rattle.ms_base.specs.Spaces.{by_space}
+use Rattle.ms_base.specs.Spaces.{by_space, first_class_word}
 use Rattle.ms_base.proofs.free.MovedLemmas.{raised_part}
 use Rattle.ms_commit.specs.NumberSet.{count_missing}
 use Rattle.ms_commit.specs.Nodes.{NodesState, is_granule_of, node_granules}
@@ -43,8 +43,10 @@ root_there Class nodes root count high e = omega arith
 
 inside_space : (space : Space) (nodes : NodesState) (root : ℕ) → first_root space ≤ root → root < end_root space nodes
     → IsRootIn space root
-inside_space NonClass nodes root low high offset within = lt-ltb (offset + root * root_words) 67108864 (omega arith)
-inside_space Class nodes root low high offset within = le-leb 67108864 (offset + root * root_words) (omega arith)
+inside_space NonClass nodes root low high offset within =
+    lt-ltb (offset + root * root_words) first_class_word (omega arith)
+inside_space Class nodes root low high offset within =
+    le-leb first_class_word (offset + root * root_words) (omega arith)
 
 -- What is lent there.
 pub lent_there : (space : Space) (lender : Lender) (root number : ℕ) → IsKept lender → first_root space ≤ root
@@ -70,7 +72,8 @@ free_raised (part ∷ parts) start words root =
 
 pub free_there : (space : Space) (lender : Lender) (root number : ℕ) → IsKept lender → first_root space ≤ root
     → root < end_root space lender.nodes
-    → meets_free (free_within (held_in space (ledger_of lender)) 12 (root * root_words)) (place_start root number)
+    → meets_free (free_within (held_in space (ledger_of lender)) highest_level (root * root_words))
+    (place_start root number)
     place_words
     ≡ meets_free (free_of (get_or lender.trees.items root [])) (number * place_words) place_words
 free_there space lender root number kept low high =
@@ -153,5 +156,6 @@ place_is space lender root number leaves lent free committed kept low high withi
     (q ∙ ap (λ (l : List LentLeaf). meets_free (free_of l) (number * place_words) place_words) tree
     ∙ sym (free_there space lender root number kept low high))
     ∙ ap (place_by (meets_lent (held_in space (ledger_of lender)) (place_start root number) place_words)
-    (meets_free (free_within (held_in space (ledger_of lender)) 12 (root * root_words)) (place_start root number)
+    (meets_free (free_within (held_in space (ledger_of lender)) highest_level (root * root_words))
+    (place_start root number)
     place_words)) r

@@ -16,7 +16,7 @@ use Rattle.ms_base.specs.Level.{size_of, root_words}
 use Rattle.ms_base.specs.Part.{IsPart, slot_of, is_reserved}
 use Rattle.ms_base.specs.Policy.{granule_of, keeps}
 use Rattle.ms_base.specs.Held.{AreHeld}
-use Rattle.ms_base.specs.Spaces.{is_in, other_space}
+use Rattle.ms_base.specs.Spaces.{is_in, other_space, first_class_word}
 use Rattle.ms_base.specs.Committed.{committed_with}
 use Rattle.ms_base.specs.State.{committed_now}
 use Rattle.ms_base.proofs.machine.GoodLemmas.{each_space}
@@ -77,9 +77,11 @@ pub record IsOfSpace (start : ℕ) : Type 0 where
   pub there : is_in (other_space space) start ≡ false
 
 pub of_space : (start : ℕ) → IsOfSpace start
-of_space start = elim (cases_lt start 67108864) [
-  | inl low ↦ record { space = NonClass; here = lt-ltb start 67108864 low; there = not_past start 67108864 low }
-  | inr high ↦ record { space = Class; here = le-leb 67108864 start high; there = le-ltb start 67108864 high }
+of_space start = elim (cases_lt start first_class_word) [
+  | inl low ↦
+      record { space = NonClass; here = lt-ltb start first_class_word low; there = not_past start first_class_word low }
+  | inr high ↦
+      record { space = Class; here = le-leb first_class_word start high; there = le-ltb start first_class_word high }
 ]
   where
     not_past : (a b : ℕ) → a < b → nat_le b a ≡ false

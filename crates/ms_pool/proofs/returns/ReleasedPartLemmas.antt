@@ -13,10 +13,10 @@ use Rattle.ms_base.specs.declared.kind.Space.TheVariants.{NonClass, Class}
 use Rattle.ms_base.specs.declared.span.Chunk.{Chunk}
 use Rattle.ms_base.specs.declared.span.Span.{Span}
 use Rattle.ms_base.specs.Interval.{lies_in}
-use Rattle.ms_base.specs.Level.{size_of, root_words}
+use Rattle.ms_base.specs.Level.{size_of, root_words, highest_level}
 use Rattle.ms_base.specs.Part.{IsPart, slot_of, is_reserved}
 use Rattle.ms_base.specs.Held.{meets_chunk}
-use Rattle.ms_base.specs.Spaces.{is_in}
+use Rattle.ms_base.specs.Spaces.{is_in, first_class_word}
 use Rattle.ms_base.specs.FreeParts.{IsFreePart, free_parts, free_within}
 use Rattle.ms_base.specs.Laws.Free.{LiesIn, LiesInFree}
 use Rattle.ms_base.proofs.free.FreeLemmas.{IsFreeWithin, listed_are_free}
@@ -56,9 +56,11 @@ lowered_all P base (part ∷ parts) all = (all.0, lowered_all P base parts all.1
 -- A root whose first word lies in a space lies there.
 pub root_lies_in : (space : Space) (start : ℕ) → is_in space start ≡ true → IsRootIn space (start / root_words)
 root_lies_in NonClass start inside offset within =
-    lt-ltb (offset + start / root_words * root_words) 67108864 (omega (arith, ltb-true start 67108864 inside))
+    lt-ltb (offset + start / root_words * root_words) first_class_word
+    (omega (arith, ltb-true start first_class_word inside))
 root_lies_in Class start inside offset within =
-    le-leb 67108864 (offset + start / root_words * root_words) (omega (arith, leb-true 67108864 start inside))
+    le-leb first_class_word (offset + start / root_words * root_words)
+    (omega (arith, leb-true first_class_word start inside))
 
 -- The leaf that was found, moved up, is a free part that holds the word.
 pub record IsFreedAt (held : List Chunk) (slots : List ℕ) (start : ℕ) (part : Span) : Type 0 where
@@ -101,8 +103,8 @@ freed_part space trees slots start part within all inside reserved found = recor
         (lowered_all (IsFreeWithin held base (base + size_of 0)) base (free_of (get_or trees (start / root_words) []))
         (subst (AllByRecursion (IsFreeWithin held base (base + size_of 0)))
         (free_in_root space trees (start / root_words) within all (root_lies_in space start inside))
-        (recursion_from_All (IsFreeWithin held base (base + size_of 0)) (free_within held 12 base)
-        (listed_are_free held 12 base (omega arith) (omega arith) refl))))
+        (recursion_from_All (IsFreeWithin held base (base + size_of 0)) (free_within held highest_level base)
+        (listed_are_free held highest_level base (omega arith) (omega arith) refl))))
         found
 
     parts : (nat_le part.start (start % root_words) ≡ true)

@@ -13,7 +13,7 @@ use Rattle.ms_base.specs.declared.span.Span.{Span}
 use Rattle.ms_base.specs.Level.{size_of, root_words}
 use Rattle.ms_base.specs.Part.{IsPart, slot_of, is_reserved}
 use Rattle.ms_base.specs.Policy.{granule_of, keeps, slot_granules}
-use Rattle.ms_base.specs.Spaces.{is_in, other_space}
+use Rattle.ms_base.specs.Spaces.{is_in, other_space, first_class_word}
 use Rattle.ms_base.proofs.free.HalvesLemmas.{multiple_of_smaller, size_falls_strictly}
 use Rattle.ms_base.proofs.granules.CommittedLemmas.{length_filter}
 use Rattle.ms_base.proofs.granules.PolicyLemmas.{IsGranule, granule_is_level}
@@ -57,13 +57,15 @@ in_slot Balanced start a s k low high e f from under = omega arith
 in_slot Aggressive start a s k low high e f from under = omega arith
 in_slot Never start a s k low high e f from under = omega arith
 
-below_class : (policy : Policy) (start k : ℕ) → k / slot_granules (granule_of policy) ≡ slot_of start → start < 67108864
+below_class : (policy : Policy) (start k : ℕ)
+    → k / slot_granules (granule_of policy) ≡ slot_of start → start < first_class_word
     → k < 64 * slot_granules (granule_of policy)
 below_class Balanced start k e h = omega arith
 below_class Aggressive start k e h = omega arith
 below_class Never start k e h = omega arith
 
-from_class : (policy : Policy) (start k : ℕ) → k / slot_granules (granule_of policy) ≡ slot_of start → 67108864 ≤ start
+from_class : (policy : Policy) (start k : ℕ) → k / slot_granules (granule_of policy) ≡ slot_of start
+    → first_class_word ≤ start
     → 64 * slot_granules (granule_of policy) ≤ k
 from_class Balanced start k e h = omega arith
 from_class Aggressive start k e h = omega arith
@@ -73,9 +75,11 @@ of_space_there : (space : Space) (policy : Policy) (start k : ℕ) → is_in spa
     → k / slot_granules (granule_of policy) ≡ slot_of start
     → is_granule_of space (slot_granules (granule_of policy)) k ≡ true
 of_space_there NonClass policy start k inside e =
-    lt-ltb k (64 * slot_granules (granule_of policy)) (below_class policy start k e (ltb-true start 67108864 inside))
+    lt-ltb k (64 * slot_granules (granule_of policy))
+    (below_class policy start k e (ltb-true start first_class_word inside))
 of_space_there Class policy start k inside e =
-    le-leb (64 * slot_granules (granule_of policy)) k (from_class policy start k e (leb-true 67108864 start inside))
+    le-leb (64 * slot_granules (granule_of policy)) k
+    (from_class policy start k e (leb-true first_class_word start inside))
 
 -- The range that is uncommitted.
 pub record IsRange (lender : Lender) (space : Space) (part : Span) : Type 0 where

@@ -7,7 +7,7 @@ use Rattle.std.specs.List.{AllByRecursion, find}
 use Rattle.std.proofs.lemmas.Bool.{and_parts, leb-true, ltb-true}
 use Rattle.std.proofs.lemmas.List.Elements.{recursion_from_All}
 use Rattle.ms_base.specs.declared.span.Span.{Span}
-use Rattle.ms_base.specs.Level.{size_of}
+use Rattle.ms_base.specs.Level.{size_of, highest_level}
 use Rattle.ms_base.specs.Held.{meets_chunk}
 use Rattle.ms_base.specs.FreeParts.{free_within}
 use Rattle.ms_base.proofs.free.FreeLemmas.{IsFreeWithin, listed_are_free}
@@ -28,9 +28,10 @@ pub free_is_clear : (tree : List LentLeaf) (offset : ℕ) (part : Span) → find
 unfolding free_of
 free_is_clear tree offset part e =
     (found_has (IsFreeWithin (map chunk_of tree) 0 (0 + size_of 0)) (covers offset)
-    (free_within (map chunk_of tree) 12 0) part
-    (recursion_from_All (IsFreeWithin (map chunk_of tree) 0 (0 + size_of 0)) (free_within (map chunk_of tree) 12 0)
-    (listed_are_free (map chunk_of tree) 12 0 (omega arith) refl refl)) e).empty
+    (free_within (map chunk_of tree) highest_level 0) part
+    (recursion_from_All (IsFreeWithin (map chunk_of tree) 0 (0 + size_of 0))
+    (free_within (map chunk_of tree) highest_level 0)
+    (listed_are_free (map chunk_of tree) highest_level 0 (omega arith) refl refl)) e).empty
 
 pub covers_both : (offset : ℕ) (part : Span) → covers offset part ≡ true
     → (part.start ≤ offset) × (offset < part.start + size_of part.level)

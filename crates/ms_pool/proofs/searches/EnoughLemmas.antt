@@ -10,7 +10,7 @@ use Rattle.ms_base.specs.declared.kind.Space.TheVariants.{NonClass, Class}
 use Rattle.ms_base.specs.declared.policy.Policy.{Policy}
 use Rattle.ms_base.specs.declared.policy.Policy.TheVariants.{Balanced, Aggressive, None as Never}
 use Rattle.ms_base.specs.declared.span.Span.{Span}
-use Rattle.ms_base.specs.Level.{size_of, root_words}
+use Rattle.ms_base.specs.Level.{size_of, root_words, highest_level}
 use Rattle.ms_base.specs.Policy.{granule_of, slot_granules}
 use Rattle.ms_base.specs.Committed.{is_among}
 use Rattle.ms_base.specs.FreeParts.{free_within}
@@ -61,10 +61,10 @@ InRootPart part = part.start + size_of part.level ≤ root_words
 
 pub free_lie_in : (tree : List LentLeaf) → AllByRecursion InRootPart (free_of tree)
 unfolding free_of
-free_lie_in tree = recursion_from_All InRootPart (free_within (map chunk_of tree) 12 0)
+free_lie_in tree = recursion_from_All InRootPart (free_within (map chunk_of tree) highest_level 0)
     (All-weaker (IsFreeWithin (map chunk_of tree) 0 (0 + size_of 0)) InRootPart
-    (λ part free. omega (arith, free.upto)) (free_within (map chunk_of tree) 12 0)
-    (listed_are_free (map chunk_of tree) 12 0 (omega arith) refl refl))
+    (λ part free. omega (arith, free.upto)) (free_within (map chunk_of tree) highest_level 0)
+    (listed_are_free (map chunk_of tree) highest_level 0 (omega arith) refl refl))
 
 -- Tests that agree on all parts find the same.
 find_agree : (p q : Span → Bool) (root : ℕ) (parts : List Span) → AllByRecursion InRootPart parts

@@ -8,7 +8,7 @@ use Rattle.std.proofs.lemmas.List.Elements.{filter-append}
 use Rattle.ms_base.specs.declared.kind.Space.{Space}
 use Rattle.ms_base.specs.declared.span.Chunk.{Chunk}
 use Rattle.ms_base.specs.Interval.{meet}
-use Rattle.ms_base.specs.Level.{size_of, root_words}
+use Rattle.ms_base.specs.Level.{size_of, root_words, highest_level}
 use Rattle.ms_base.specs.Held.{meets_chunk}
 use Rattle.ms_base.specs.Spaces.{is_in}
 use Rattle.ms_base.specs.FreeParts.{free_within}
@@ -117,7 +117,7 @@ agree_in_root space trees root within all inside =
 -- And its free parts are the free leaves of its tree, moved up.
 pub free_in_root : (space : Space) (trees : List (List LentLeaf)) (root : ℕ) → root < length trees
     → AllByRecursion AreLeaves trees → IsRootIn space root
-    → free_within (chunks_there space (loans_from 0 trees)) 12 (root * root_words)
+    → free_within (chunks_there space (loans_from 0 trees)) highest_level (root * root_words)
     ≡ map (raised_part (root * root_words)) (free_of (get_or trees root []))
 unfolding free_of
 free_in_root space trees root within all inside =

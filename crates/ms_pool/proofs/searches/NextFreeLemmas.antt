@@ -10,7 +10,7 @@ use Rattle.std.specs.declared.cmp.Ordering.TheVariants.{Less}
 use Rattle.std.proofs.lemmas.Bool.Decides.{nat_tests}
 use Rattle.std.proofs.lemmas.Map.Keys.{sorted_from_strictly_increasing}
 use Rattle.ms_base.specs.declared.span.Span.{Span}
-use Rattle.ms_base.specs.Level.{root_words}
+use Rattle.ms_base.specs.Level.{root_words, highest_level}
 use Rattle.ms_base.specs.Laws.Free.{start_of}
 use Rattle.ms_base.specs.FreeParts.{free_parts, free_within}
 use Rattle.ms_base.proofs.free.RisingLemmas.{free_parts_rise}
@@ -48,8 +48,10 @@ rise_sorted (part ∷ parts) sorted = (above_here part.start parts sorted.0, ris
 -- The free leaves of a root rise.
 pub free_rise : (tree : List LentLeaf) → StartsRise (free_of tree)
 unfolding free_of
-free_rise tree = rise_before (free_within (map chunk_of tree) 12 0) (free_within (map chunk_of tree) 12 root_words)
-    (rise_before (free_within (map chunk_of tree) 12 0 ++ free_within (map chunk_of tree) 12 root_words) []
+free_rise tree =
+    rise_before (free_within (map chunk_of tree) highest_level 0) (free_within (map chunk_of tree) highest_level root_words)
+    (rise_before
+    (free_within (map chunk_of tree) highest_level 0 ++ free_within (map chunk_of tree) highest_level root_words) []
     (rise_sorted (free_parts (map chunk_of tree) (0 ∷ []))
     (sorted_from_strictly_increasing (map start_of (free_parts (map chunk_of tree) (0 ∷ [])))
     (free_parts_rise (map chunk_of tree) (0 ∷ []) one_slot))))

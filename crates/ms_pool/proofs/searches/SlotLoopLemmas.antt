@@ -14,10 +14,10 @@ use Rattle.ms_base.specs.declared.kind.Space.{Space}
 use Rattle.ms_base.specs.declared.kind.Space.TheVariants.{NonClass, Class}
 use Rattle.ms_base.specs.declared.span.Chunk.{Chunk}
 use Rattle.ms_base.specs.declared.span.Span.{Span}
-use Rattle.ms_base.specs.Level.{size_of, root_words}
+use Rattle.ms_base.specs.Level.{size_of, root_words, highest_level}
 use Rattle.ms_base.specs.Part.{node_words, is_reserved}
 use Rattle.ms_base.specs.Policy.{granule_of}
-use Rattle.ms_base.specs.Spaces.{by_space}
+use Rattle.ms_base.specs.Spaces.{by_space, first_class_word}
 use Rattle.ms_base.specs.FreeParts.{free_in_slot, free_parts, free_within}
 use Rattle.ms_commit.specs.NumberSet.{is_in_range}
 use Rattle.ms_commit.specs.Nodes.{NodesState, AreSound, all_slots, granules_in, slots_of}
@@ -117,9 +117,9 @@ parts_by_slots space nodes held sound =
 pub root_in : (space : Space) (nodes : NodesState) (slot half : ℕ) → half ≤ 1 → first_slot space ≤ slot
     → slot < end_slot space nodes → IsRootIn space (2 * slot + half)
 root_in NonClass nodes slot half h low high offset within =
-    lt-ltb (offset + (2 * slot + half) * root_words) 67108864 (omega arith)
+    lt-ltb (offset + (2 * slot + half) * root_words) first_class_word (omega arith)
 root_in Class nodes slot half h low high offset within =
-    le-leb 67108864 (offset + (2 * slot + half) * root_words) (omega arith)
+    le-leb first_class_word (offset + (2 * slot + half) * root_words) (omega arith)
 
 words_in_space : (space : Space) (nodes : NodesState) (slot half words : ℕ) → half ≤ 1 → first_slot space ≤ slot
     → slot < end_slot space nodes
@@ -143,7 +143,7 @@ root_found : (space : Space) (lender : Lender) (words : ℕ) (committed : Bool) 
     → 1 ≤ words → words ≤ size_of level
     → half ≤ 1 → first_slot space ≤ slot → slot < end_slot space lender.nodes
     → find (grants (state_in space (ledger_of lender)) words committed level)
-    (free_within (held_in space (ledger_of lender)) 12 ((2 * slot + half) * root_words))
+    (free_within (held_in space (ledger_of lender)) highest_level ((2 * slot + half) * root_words))
     ≡ first_in lender.nodes.granules (granule_of lender.policy) words committed level (2 * slot + half)
     (get_or lender.trees.items (2 * slot + half) [])
 root_found space lender words committed level slot half kept some fits h low high =
@@ -168,13 +168,14 @@ pub slot_found : (space : Space) (lender : Lender) (words : ℕ) (committed : Bo
     (first_in lender.nodes.granules (granule_of lender.policy) words committed level (2 * slot + 1)
     (get_or lender.trees.items (2 * slot + 1) []))
 slot_found space lender words committed level slot kept some fits low high =
-    find-append test (free_within held 12 (slot * node_words)) (free_within held 12 (slot * node_words + size_of 0))
-    ∙ ap (λ (o : Option Span). option_or o (find test (free_within held 12 (slot * node_words + size_of 0))))
-    (ap (λ (at_ : ℕ). find test (free_within held 12 at_)) lower
+    find-append test (free_within held highest_level (slot * node_words))
+    (free_within held highest_level (slot * node_words + size_of 0))
+    ∙ ap (λ (o : Option Span). option_or o (find test (free_within held highest_level (slot * node_words + size_of 0))))
+    (ap (λ (at_ : ℕ). find test (free_within held highest_level at_)) lower
     ∙ root_found space lender words committed level slot 0 kept some fits (omega arith) low high
     ∙ ap (λ (root : ℕ). in_root root) plain)
     ∙ ap (option_or (in_root (2 * slot)))
-    (ap (λ (at_ : ℕ). find test (free_within held 12 at_)) upper
+    (ap (λ (at_ : ℕ). find test (free_within held highest_level at_)) upper
     ∙ root_found space lender words committed level slot 1 kept some fits (omega arith) low high)
   where
     test : Span → Bool

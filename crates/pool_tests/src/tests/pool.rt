@@ -3,6 +3,7 @@
 //! tables of calls for one account. What several accounts share, close and leave is asked of the
 //! program, by worked rows.
 ghost use Rattle.std.specs.Prelude.{◌<◌, ◌≤◌, IsTrue, length};
+ghost use Rattle.ms_base.specs.declared.sizes.TheConstants.{MOST_GRANULES};
 ghost use Rattle.ms_pool.specs.Account.{has_chunk_at};
 ghost use Rattle.ms_pool.specs.Ledger.{Serves};
 
@@ -28,7 +29,7 @@ fn settings(nodes: u32, max_granules: u64, policy: Policy) -> Settings
     requires nodes_some { 1 ≤ nodes }
     requires nodes_few { nodes ≤ 64 }
     requires granules_some { 1 ≤ max_granules }
-    requires granules_few { max_granules ≤ 40960 }
+    requires granules_few { max_granules ≤ MOST_GRANULES }
 {
     Settings {
         workers: 1,

@@ -4,6 +4,7 @@
 ghost use Rattle.std.specs.Prelude.{◌≡◌, ◌<◌, ◌≤◌, IfOk, IfSome};
 ghost use Rattle.std.specs.List.{All};
 ghost use Rattle.ms_base.specs.Level.{size_of};
+ghost use Rattle.ms_base.specs.declared.sizes.TheConstants.{MOST_GRANULES};
 ghost use Rattle.ms_shared.specs.SeatView.{ServesBy, opened_by};
 
 use ms_base::{Level, Policy, Refusal, Settings, Space, Span};
@@ -19,7 +20,7 @@ use std::thread::Threads;
 /// Settings with a limit of committed granules.
 fn settings(max_granules: u64) -> Settings
     requires some { 1 ≤ max_granules }
-    requires few { max_granules ≤ 40960 }
+    requires few { max_granules ≤ MOST_GRANULES }
 {
     Settings {
         workers: 1,
@@ -169,7 +170,7 @@ fn two_seats(
     max_granules: u64,
 ) -> Result<(SharedPool, PoolSeat, PoolSeat), Fail>
     requires some { 1 ≤ max_granules }
-    requires few { max_granules ≤ 40960 }
+    requires few { max_granules ≤ MOST_GRANULES }
     ensures { IfOk result (λ made. (made.1.id ≡ made.0.id) × (made.2.id ≡ made.0.id)) }
 {
     let Ok((lock, mut seats)) = SharedPool::new(alloc, Pool::new(alloc, settings(max_granules))?, 2)
@@ -227,7 +228,7 @@ fn of_two(
     max_granules: u64,
 ) -> Result<(Result<Span, Refusal>, u32, u32), Fail>
     requires some { 1 ≤ max_granules }
-    requires few { max_granules ≤ 40960 }
+    requires few { max_granules ≤ MOST_GRANULES }
 {
     let (lock, one, other) = two_seats(rt, rt.alloc(), max_granules)?;
     let (answer, totals) = taken_by_two(rt, &lock, one, other);

@@ -1,4 +1,5 @@
 -- Each turn leaves what was left, or answers its first part.
+use Rattle.ms_base.specs.Level.{level_count}
 use Rattle.std.proofs.Common.{◌<◌, length, arith, ap, refl, sym, ◌∙◌}
 use Rattle.ms_buddy.specs.declared.node.Node.{Node}
 use Rattle.ms_buddy.specs.Tree.{free_in, levels_of}
@@ -43,14 +44,14 @@ pub push-requires : goal.push-requires
 push-requires g c =
     let turn = at_turn _ _ _ _ c.in-Some.ensures.items c.in-Some-top.is c.loop-top.invariant.0 in
     let s = at_split _ c.in-Some-top.visit.start _ _ _ _ _ _ _ c.in-Split-2.is turn.top.tree refl in
-    let room : length c.pop.new.self.items < 13 = omega (arith, turn.top.low, s.low) in
+    let room : length c.pop.new.self.items < level_count = omega (arith, turn.top.low, s.low) in
     (omega arith, room)
 
 pub push-requires-in-Split-2 : goal.push-requires-in-Split-2
 push-requires-in-Split-2 g c =
     let turn = at_turn _ _ _ _ c.in-Some.ensures.items c.in-Some-top.is c.loop-top.invariant.0 in
     let s = at_split _ c.in-Some-top.visit.start _ _ _ _ _ _ _ c.in-Split-2.is turn.top.tree refl in
-    let room : length c.push.new.self.items < 13 = omega (arith, turn.top.low, s.low, c.push.ensures.len) in
+    let room : length c.push.new.self.items < level_count = omega (arith, turn.top.low, s.low, c.push.ensures.len) in
     (omega arith, room)
 
 pub loop-top-smaller-in-Lent : goal.loop-top-smaller-in-Lent

@@ -1,3 +1,4 @@
+use Rattle.ms_base.specs.Level.{highest_level}
 use Rattle.std.proofs.Common.{◌≤◌, ℕ, ◌*◌, ◌%◌, Bool, ◌&&◌, ◌==◌, sym, ap, ◌∙◌, arith}
 use Rattle.ms_buddy.specs.Leaves.{free_of, span_at}
 use Rattle.ms_pool.proofs.growths.BuddyLemmas.{decided_by_buddy, follower_cannot, leader_there, lent_place, parent_size}
@@ -12,7 +13,7 @@ returns-then-number-eq0 c = elim c.then-number-eq0.branch [
       sym (root_cannot c.args.start c.args.level (free_of c.args.tree.now)
       (sym c.number.ensures.same ∙ w.if-number-eq0.true))
   | then-number-eq0-via-else-number-eq0+then-start-size-ne0 w ↦
-      let low : c.args.level ≤ 12 = omega (arith, c.number.ensures.same, c.number.ensures.below) in
+      let low : c.args.level ≤ highest_level = omega (arith, c.number.ensures.same, c.number.ensures.below) in
       let twice =
       ap (λ (n : ℕ). 2 * n) c.words-size.ensures.size
       ∙ parent_size c.args.level (omega (arith, c.number.ensures.same, w.if-number-eq0.false)) low in

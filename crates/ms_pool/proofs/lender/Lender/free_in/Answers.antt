@@ -1,3 +1,4 @@
+use Rattle.ms_base.specs.Level.{level_count}
 use Rattle.std.proofs.Common.{refl, arith}
 use Rattle.ms_pool.proofs.counts.FreeCountLemmas.{counted_to_first, counted_to_last, counted_to_next, room_for_next}
 use Rattle.ms_pool.proofs.counts.LentCountLemmas.{no_count}
@@ -6,7 +7,7 @@ use Rattle.ms_pool.proofs.lender.Lender.free_in.Goals as goal
 pub loop-slot-init : goal.loop-slot-init
 loop-slot-init c =
     counted_to_first c.args.space c.args.self.now _ _ c.requires c.slots_of-first.ensures.first refl
-    (λ level. no_count 13 level 0 refl)
+    (λ level. no_count level_count level 0 refl)
 
 pub loop-slot-preserved : goal.loop-slot-preserved
 loop-slot-preserved c =

@@ -1,3 +1,4 @@
+use Rattle.ms_base.specs.Level.{level_count}
 use Rattle.std.proofs.Common.{[], ◌<◌, get_or, arith}
 use Rattle.ms_buddy.specs.Counts.{count_at_level}
 use Rattle.ms_buddy.specs.Leaves.{free_of}
@@ -17,7 +18,7 @@ loop-level-preserved c =
 
 pub count_parts-requires : goal.count_parts-requires
 count_parts-requires c =
-    let low : c.loop-level.level < 13 = c.loop-level-test.true in
+    let low : c.loop-level.level < level_count = c.loop-level-test.true in
     rw (c.new.ensures, c.tree-tree.ensures)
     (room_at c.args.before.free c.loop-level.counted.free
     (λ level. count_at_level level (free_of (get_or c.args.self.now.trees.items c.args.root []))) c.loop-level.level

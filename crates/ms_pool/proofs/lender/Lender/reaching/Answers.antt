@@ -1,7 +1,7 @@
 use Rattle.std.proofs.Common.{◌≤◌, ℕ, ◌-◌, ◌*◌, sym, refl, ap, ◌∙◌, arith}
 use Rattle.std.proofs.lemmas.Bool.{lt-leb}
 use Rattle.std.specs.Prelude.{nat_le}
-use Rattle.ms_base.specs.Level.{size_of}
+use Rattle.ms_base.specs.Level.{size_of, highest_level}
 use Rattle.ms_base.proofs.free.HalvesLemmas.{size_falls}
 use Rattle.ms_pool.specs.Growing.{has_room}
 use Rattle.ms_pool.specs.Ledger.{state_in}
@@ -23,7 +23,7 @@ returns-then-total-size c =
 pub chunk_at-requires-then-may_become_parent : goal.chunk_at-requires-then-may_become_parent
 chunk_at-requires-then-may_become_parent c =
     let some = c.if-may_become_parent.ensures.no_root refl in
-    let low : c.args.chunk.now.level ≤ 12 = omega (arith, c.number.ensures.same, c.number.ensures.below) in
+    let low : c.args.chunk.now.level ≤ highest_level = omega (arith, c.number.ensures.same, c.number.ensures.below) in
     omega (
       arith,
       c.if-total-size-2.true,
