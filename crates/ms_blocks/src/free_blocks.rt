@@ -1,6 +1,6 @@
 //! The free blocks of one arena, in room that is made ahead.
 //!
-//!     tree      a fork for each kept block          count of them, total of their words
+//!     tree      a fork for each free block          count of them, total of their words
 //!     spare     | fork | fork | fork |  ..  |       room, then places for the forks in the tree
 //!
 //! Adding a block moves a spare fork into the tree, and removing one moves it back: neither takes
@@ -24,7 +24,7 @@ use std::marker::Model;
 /// Adding and removing take time that grows like the logarithm of the blocks kept.
 #[derive(Drop)]
 pub struct FreeBlocks<A: Allocator = Global> {
-    /// The kept blocks by rank, one a fork.
+    /// The free blocks by rank, one a fork.
     tree: Tree<A>,
     /// The room: a fork for each block that may be added yet.
     spare: Vec<Box<Fork<A>, A>, A>,
@@ -60,7 +60,7 @@ impl<A: Allocator> FreeBlocks<A> {
         }
     }
 
-    /// Keeps one block more, of at least two words, in room that there is. It meets no kept block,
+    /// Keeps one block more, of at least two words, in room that there is. It meets no free block,
     /// and its end is a word number too. Takes no memory.
     pub fn add(&mut self, block: Block)
         requires room { 0 < self.old.room }
@@ -79,9 +79,9 @@ impl<A: Allocator> FreeBlocks<A> {
         self.total += block.words;
     }
 
-    /// Takes out the best fit whole: the kept block with the fewest words that has at least so
+    /// Takes out the best fit whole: the free block with the fewest words that has at least so
     /// many, and of those the one with the lowest start. Answers `None`, and changes nothing,
-    /// where no kept block is large enough. Takes no memory: the room grows by one, so that the
+    /// where no free block is large enough. Takes no memory: the room grows by one, so that the
     /// block, or what is left of it, can be added again. Best fit is this project's choice.
     pub fn remove(&mut self, words: u64) -> Option<Block>
         ensures best { IfSome result (λ block. IsBestFit self.old.kept words (run_of block)) }
@@ -107,7 +107,7 @@ impl<A: Allocator> FreeBlocks<A> {
         }
     }
 
-    /// Tells how many words the kept blocks have together, below 2 ^ 64.
+    /// Tells how many words the free blocks have together, below 2 ^ 64.
     pub fn total(&self) -> u64
         ensures { result ≡ words_in self.now.kept }
     {
