@@ -229,16 +229,14 @@ fn is_level<A: Allocator>(tree: &mut Tree<A>) -> bool
 fn leveled<A: Allocator>(mut fork: Box<Fork<A>, A>) -> Tree<A>
     ensures { blocks_of result ≡ blocks_at fork.value }
 {
-    let left = height_of(&fork.left);
-    let right = height_of(&fork.right);
-    if left > right.saturating_add(1) {
+    if is_higher(&fork.left, &fork.right) {
         fork.left = leaning_left(mem::replace(&mut fork.left, Tree::Empty));
         Tree::Forked(left_up(fork))
-    } else if right > left.saturating_add(1) {
+    } else if is_higher(&fork.right, &fork.left) {
         fork.right = leaning_right(mem::replace(&mut fork.right, Tree::Empty));
         Tree::Forked(right_up(fork))
     } else {
-        fork.height = left.max(right).saturating_add(1);
+        tell_height(&mut fork);
         Tree::Forked(fork)
     }
 }
@@ -274,7 +272,7 @@ fn left_up<A: Allocator>(mut fork: Box<Fork<A>, A>) -> Box<Fork<A>, A>
     match mem::replace(&mut fork.left, Tree::Empty) {
         Tree::Empty => fork,
         Tree::Forked(mut low) => {
-            fork.left = mem::replace(&mut low.right, Tree::Empty);
+            mem::swap(&mut fork.left, &mut low.right);
             tell_height(&mut fork);
             low.right = Tree::Forked(fork);
             tell_height(&mut low);
@@ -290,13 +288,18 @@ fn right_up<A: Allocator>(mut fork: Box<Fork<A>, A>) -> Box<Fork<A>, A>
     match mem::replace(&mut fork.right, Tree::Empty) {
         Tree::Empty => fork,
         Tree::Forked(mut high) => {
-            fork.right = mem::replace(&mut high.left, Tree::Empty);
+            mem::swap(&mut fork.right, &mut high.left);
             tell_height(&mut fork);
             high.left = Tree::Forked(fork);
             tell_height(&mut high);
             high
         }
     }
+}
+
+/// Tells whether the one tree is higher by two than the other.
+fn is_higher<A: Allocator>(one: &Tree<A>, other: &Tree<A>) -> bool {
+    height_of(one) > height_of(other).saturating_add(1)
 }
 
 /// Tells how high a tree is.

@@ -80,6 +80,13 @@ pub ended_after : (byte : ℕ) (rest : List ℕ) → eqb byte 10 ≡ false → I
 ended_after byte [] other ended = absurd (both_ways _ other ended)
 ended_after byte (next ∷ rest) other ended = ended
 
+-- What stands after a word that doesn't end so has a byte.
+pub word_inside : (text word rest : List ℕ) → text ≡ word ++ rest → is_ended word ≡ false → IsTrue (is_ended text)
+    → length word < length text
+word_inside text word [] e unended ended =
+    absurd (both_ways _ (ap is_ended (e ∙ append-nil word) ∙ unended) ended)
+word_inside text word (byte ∷ rest) e unended ended = rw e (simp length-append (omega arith))
+
 drop_ended : (text : List ℕ) (at : ℕ) → at < length text → eqb (get_or text at 0) 10 ≡ false
     → IsTrue (is_ended text) → IsTrue (is_ended (drop (suc at) text))
 drop_ended [] at inside other ended = absurd (omega (arith, inside))

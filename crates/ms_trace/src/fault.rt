@@ -1,35 +1,35 @@
 //! Why a text is no trace.
+use std::fmt::{self, Debug, Display, Formatter, Write};
 use thiserror::Error;
 
 /// What is wrong with a line, in the order of the checks. A field is checked whole before the next
-/// one, so the last three come as the fields do. This project's choice.
-#[derive(Clone, Copy, Debug, PartialEq, Eq, Error)]
+/// one, so the last three come as the fields do. This project's choice. It is told by its name.
+#[derive(Clone, Copy, Debug, PartialEq, Eq)]
 pub enum FaultKind {
     /// The line's number is 100001.
-    #[error("TooManyLines")]
     TooManyLines,
     /// The line has more than 80 bytes, the newline not counted; comments too.
-    #[error("LineTooLong")]
     LineTooLong,
     /// The first field is none of the command words.
-    #[error("UnknownCommand")]
     UnknownCommand,
     /// There are more or fewer fields than the command has.
-    #[error("FieldCount")]
     FieldCount,
     /// The field for a kind is none of the four words.
-    #[error("BadKind")]
     BadKind,
     /// The field for a number isn't `0`, nor a digit 1 to 9 followed by digits.
-    #[error("BadNumber")]
     BadNumber,
     /// The number is above the greatest that its field may have.
-    #[error("NumberTooLarge")]
     NumberTooLarge,
 }
 
+impl Display for FaultKind {
+    fn fmt<W: Write>(&self, f: &mut Formatter<W>) -> fmt::Result {
+        Debug::fmt(self, f)
+    }
+}
+
 /// The first faulty line of a text, and what is wrong with it.
-#[derive(Clone, Copy, Debug, PartialEq, Eq, Error)]
+#[derive(Clone, Copy, Debug, Error)]
 #[error("line {line}: {kind}")]
 pub struct TraceFault {
     /// The line's number, 1 to 100001.
@@ -39,7 +39,7 @@ pub struct TraceFault {
 }
 
 /// Why `parse` answers no trace.
-#[derive(Clone, Copy, Debug, PartialEq, Eq, Error)]
+#[derive(Clone, Copy, Debug, Error)]
 pub enum ParseFault {
     /// The text is no trace.
     #[error("{0}")]

@@ -1,12 +1,13 @@
 //! Reading the command whose spelling a text begins with, in one pass up to its newline.
 //!
-//!     alloc 1 10 5        the first bytes decide which fields follow,
+//!     alloc 1 10 5        the first byte decides which word it can be, and so which fields follow,
 //!           - -- -        and each is read up to the byte after it
 //!
 //! Where nothing is answered, `commands` judges the line.
-ghost use Rattle.std.specs.Prelude.{◌≡◌, ◌≤◌, ◌<◌, ◌++◌, ◌∷◌, ◌==◌, IfSome, IsTrue, codes, decimal, drop, length, false};
+ghost use Rattle.std.specs.Prelude.{◌≡◌, ◌≤◌, ◌<◌, ◌++◌, ◌∷◌, ◌==◌, [], IfSome, IsTrue, decimal, drop, length, false};
 ghost use Rattle.ms_trace.specs.Grammar.{kind_word};
 ghost use Rattle.ms_trace.specs.Keeping.{BeginsWith, is_ended};
+ghost use Rattle.ms_trace.specs.Spelling.{IsValid, spelling_of};
 
 use crate::numbers::number_at;
 use crate::trace::Command;
@@ -17,136 +18,61 @@ pub(crate) fn command_before(text: &[u8]) -> Option<(Command, &[u8])>
     requires { IsTrue (is_ended text.now) }
     ensures { IfSome result (λ read. BeginsWith text.now read.0 read.1.now) }
 {
-    match text {
-        [b'a', rest @ ..] => after_a(rest),
-        [b'r', rest @ ..] => after_r(rest),
-        [b'w', rest @ ..] => after_w(rest),
-        [b'f', rest @ ..] => after_f(rest),
-        [b'n', rest @ ..] => after_n(rest),
-        [b'u', rest @ ..] => after_u(rest),
-        [b'c', rest @ ..] => after_c(rest),
-        [b'p', rest @ ..] => after_p(rest),
-        [b's', rest @ ..] => after_s(rest),
+    match text[0] {
+        b'a' => alloc_before(text),
+        b'r' => r_before(text),
+        b'w' => write_before(text),
+        b'f' => free_before(text),
+        b'n' => new_before(text),
+        b'u' => unload_before(text),
+        b'c' => calloc_before(text),
+        b'p' => bare_before(b"purge\n".as_slice(), Command::Step(Step::Purge), text),
+        b's' => bare_before(b"sync\n".as_slice(), Command::Sync, text),
         _ => None,
     }
 }
 
-/// Reads the rest of a command that begins with a.
+/// Reads the command that begins with r.
 #[inline(always)]
-fn after_a(text: &[u8]) -> Option<(Command, &[u8])>
-    requires { IsTrue (is_ended (97 ∷ text.now)) }
-    ensures { IfSome result (λ read. BeginsWith (97 ∷ text.now) read.0 read.1.now) }
+fn r_before(text: &[u8]) -> Option<(Command, &[u8])>
+    requires { IsTrue (is_ended text.now) }
+    ensures { IfSome result (λ read. BeginsWith text.now read.0 read.1.now) }
 {
-    match text {
-        [b'l', b'l', b'o', b'c', b' ', rest @ ..] => alloc_before(rest),
-        _ => None,
+    match read_before(text) {
+        Some(read) => Some(read),
+        None => bare_before(b"report\n".as_slice(), Command::Report, text),
     }
 }
 
-/// Reads the rest of a command that begins with r.
+/// Reads the command that is that line alone.
 #[inline(always)]
-fn after_r(text: &[u8]) -> Option<(Command, &[u8])>
-    requires { IsTrue (is_ended (114 ∷ text.now)) }
-    ensures { IfSome result (λ read. BeginsWith (114 ∷ text.now) read.0 read.1.now) }
+fn bare_before<'a>(line: &[u8], command: Command, text: &'a [u8]) -> Option<(Command, &'a [u8])>
+    requires spelled { line.now ≡ spelling_of command ++ 10 ∷ [] }
+    requires valid { IsValid command }
+    ensures { IfSome result (λ read. BeginsWith text.now read.0 read.1.now) }
 {
-    match text {
-        [b'e', b'a', b'd', b' ', rest @ ..] => read_before(rest),
-        [b'e', b'p', b'o', b'r', b't', b'\n', rest @ ..] => Some((Command::Report, rest)),
-        _ => None,
+    if !begins_with(text, line) {
+        return None;
     }
+    Some((command, &text[line.len()..]))
 }
 
-/// Reads the rest of a command that begins with w.
+/// Tells whether a text begins with a word.
 #[inline(always)]
-fn after_w(text: &[u8]) -> Option<(Command, &[u8])>
-    requires { IsTrue (is_ended (119 ∷ text.now)) }
-    ensures { IfSome result (λ read. BeginsWith (119 ∷ text.now) read.0 read.1.now) }
+fn begins_with(text: &[u8], word: &[u8]) -> bool
+    ensures cut { IsTrue result → text.now ≡ word.now ++ drop (length word.now) text.now }
+    ensures inside { IsTrue result → length word.now ≤ length text.now }
 {
-    match text {
-        [b'r', b'i', b't', b'e', b' ', rest @ ..] => write_before(rest),
-        _ => None,
-    }
+    text.starts_with(word)
 }
 
-/// Reads the rest of a command that begins with f.
-#[inline(always)]
-fn after_f(text: &[u8]) -> Option<(Command, &[u8])>
-    requires { IsTrue (is_ended (102 ∷ text.now)) }
-    ensures { IfSome result (λ read. BeginsWith (102 ∷ text.now) read.0 read.1.now) }
-{
-    match text {
-        [b'r', b'e', b'e', b' ', rest @ ..] => free_before(rest),
-        _ => None,
-    }
-}
-
-/// Reads the rest of a command that begins with n.
-#[inline(always)]
-fn after_n(text: &[u8]) -> Option<(Command, &[u8])>
-    requires { IsTrue (is_ended (110 ∷ text.now)) }
-    ensures { IfSome result (λ read. BeginsWith (110 ∷ text.now) read.0 read.1.now) }
-{
-    match text {
-        [b'e', b'w', b' ', rest @ ..] => new_before(rest),
-        _ => None,
-    }
-}
-
-/// Reads the rest of a command that begins with u.
-#[inline(always)]
-fn after_u(text: &[u8]) -> Option<(Command, &[u8])>
-    requires { IsTrue (is_ended (117 ∷ text.now)) }
-    ensures { IfSome result (λ read. BeginsWith (117 ∷ text.now) read.0 read.1.now) }
-{
-    match text {
-        [b'n', b'l', b'o', b'a', b'd', b' ', rest @ ..] => unload_before(rest),
-        _ => None,
-    }
-}
-
-/// Reads the rest of a command that begins with c.
-#[inline(always)]
-fn after_c(text: &[u8]) -> Option<(Command, &[u8])>
-    requires { IsTrue (is_ended (99 ∷ text.now)) }
-    ensures { IfSome result (λ read. BeginsWith (99 ∷ text.now) read.0 read.1.now) }
-{
-    match text {
-        [b'a', b'l', b'l', b'o', b'c', b' ', rest @ ..] => calloc_before(rest),
-        _ => None,
-    }
-}
-
-/// Reads the rest of a command that begins with p.
-#[inline(always)]
-fn after_p(text: &[u8]) -> Option<(Command, &[u8])>
-    requires { IsTrue (is_ended (112 ∷ text.now)) }
-    ensures { IfSome result (λ read. BeginsWith (112 ∷ text.now) read.0 read.1.now) }
-{
-    match text {
-        [b'u', b'r', b'g', b'e', b'\n', rest @ ..] => Some((Command::Step(Step::Purge), rest)),
-        _ => None,
-    }
-}
-
-/// Reads the rest of a command that begins with s.
-#[inline(always)]
-fn after_s(text: &[u8]) -> Option<(Command, &[u8])>
-    requires { IsTrue (is_ended (115 ∷ text.now)) }
-    ensures { IfSome result (λ read. BeginsWith (115 ∷ text.now) read.0 read.1.now) }
-{
-    match text {
-        [b'y', b'n', b'c', b'\n', rest @ ..] => Some((Command::Sync, rest)),
-        _ => None,
-    }
-}
-
-/// Reads the command after `alloc `.
+/// Reads `alloc` with its fields.
 #[inline(always)]
 fn alloc_before(text: &[u8]) -> Option<(Command, &[u8])>
     requires { IsTrue (is_ended text.now) }
-    ensures { IfSome result (λ read. BeginsWith (codes "alloc " ++ text.now) read.0 read.1.now) }
+    ensures { IfSome result (λ read. BeginsWith text.now read.0 read.1.now) }
 {
-    let (loader, block, words, rest) = three_before(text)?;
+    let (loader, block, words, rest) = three_before(b"alloc ".as_slice(), text)?;
     Some((
         Command::Step(Step::Alloc {
             loader,
@@ -157,13 +83,13 @@ fn alloc_before(text: &[u8]) -> Option<(Command, &[u8])>
     ))
 }
 
-/// Reads the command after `calloc `.
+/// Reads `calloc` with its fields.
 #[inline(always)]
 fn calloc_before(text: &[u8]) -> Option<(Command, &[u8])>
     requires { IsTrue (is_ended text.now) }
-    ensures { IfSome result (λ read. BeginsWith (codes "calloc " ++ text.now) read.0 read.1.now) }
+    ensures { IfSome result (λ read. BeginsWith text.now read.0 read.1.now) }
 {
-    let (loader, block, words, rest) = three_before(text)?;
+    let (loader, block, words, rest) = three_before(b"calloc ".as_slice(), text)?;
     Some((
         Command::Step(Step::Calloc {
             loader,
@@ -174,13 +100,13 @@ fn calloc_before(text: &[u8]) -> Option<(Command, &[u8])>
     ))
 }
 
-/// Reads the command after `read `.
+/// Reads `read` with its fields.
 #[inline(always)]
 fn read_before(text: &[u8]) -> Option<(Command, &[u8])>
     requires { IsTrue (is_ended text.now) }
-    ensures { IfSome result (λ read. BeginsWith (codes "read " ++ text.now) read.0 read.1.now) }
+    ensures { IfSome result (λ read. BeginsWith text.now read.0 read.1.now) }
 {
-    let (loader, block, index, rest) = three_before(text)?;
+    let (loader, block, index, rest) = three_before(b"read ".as_slice(), text)?;
     Some((
         Command::Step(Step::Read {
             loader,
@@ -191,13 +117,13 @@ fn read_before(text: &[u8]) -> Option<(Command, &[u8])>
     ))
 }
 
-/// Reads the command after `write `.
+/// Reads `write` with its fields.
 #[inline(always)]
 fn write_before(text: &[u8]) -> Option<(Command, &[u8])>
     requires { IsTrue (is_ended text.now) }
-    ensures { IfSome result (λ read. BeginsWith (codes "write " ++ text.now) read.0 read.1.now) }
+    ensures { IfSome result (λ read. BeginsWith text.now read.0 read.1.now) }
 {
-    let (loader, at) = loader_first(b' ', text)?;
+    let (loader, at) = loader_after(b"write ".as_slice(), b' ', text)?;
     let (block, at) = block_at(b' ', text, at)?;
     let (index, at) = number_at(b' ', text, at, u64::MAX)?;
     let (value, at) = number_at(b'\n', text, at, u64::MAX)?;
@@ -212,34 +138,34 @@ fn write_before(text: &[u8]) -> Option<(Command, &[u8])>
     ))
 }
 
-/// Reads the command after `free `.
+/// Reads `free` with its fields.
 #[inline(always)]
 fn free_before(text: &[u8]) -> Option<(Command, &[u8])>
     requires { IsTrue (is_ended text.now) }
-    ensures { IfSome result (λ read. BeginsWith (codes "free " ++ text.now) read.0 read.1.now) }
+    ensures { IfSome result (λ read. BeginsWith text.now read.0 read.1.now) }
 {
-    let (loader, at) = loader_first(b' ', text)?;
+    let (loader, at) = loader_after(b"free ".as_slice(), b' ', text)?;
     let (block, at) = block_at(b'\n', text, at)?;
     Some((Command::Step(Step::Free { loader, block }), &text[at..]))
 }
 
-/// Reads the command after `unload `.
+/// Reads `unload` with its fields.
 #[inline(always)]
 fn unload_before(text: &[u8]) -> Option<(Command, &[u8])>
     requires { IsTrue (is_ended text.now) }
-    ensures { IfSome result (λ read. BeginsWith (codes "unload " ++ text.now) read.0 read.1.now) }
+    ensures { IfSome result (λ read. BeginsWith text.now read.0 read.1.now) }
 {
-    let (loader, at) = loader_first(b'\n', text)?;
+    let (loader, at) = loader_after(b"unload ".as_slice(), b'\n', text)?;
     Some((Command::Step(Step::Unload { loader }), &text[at..]))
 }
 
-/// Reads the command after `new `.
+/// Reads `new` with its fields.
 #[inline(always)]
 fn new_before(text: &[u8]) -> Option<(Command, &[u8])>
     requires { IsTrue (is_ended text.now) }
-    ensures { IfSome result (λ read. BeginsWith (codes "new " ++ text.now) read.0 read.1.now) }
+    ensures { IfSome result (λ read. BeginsWith text.now read.0 read.1.now) }
 {
-    let (loader, at) = loader_first(b' ', text)?;
+    let (loader, at) = loader_after(b"new ".as_slice(), b' ', text)?;
     let (kind, rest) = kind_before(&text[at..])?;
     Some((Command::Step(Step::New { loader, kind }), rest))
 }
@@ -247,98 +173,58 @@ fn new_before(text: &[u8]) -> Option<(Command, &[u8])>
 /// Reads a kind and its newline.
 #[inline(always)]
 fn kind_before(text: &[u8]) -> Option<(Kind, &[u8])>
+    requires { 0 < length text.now }
     ensures { IfSome result (λ read. text.now ≡ kind_word read.0 ++ 10 ∷ read.1.now) }
 {
-    match text {
-        [b's', rest @ ..] => standard_before(rest),
-        [b'b', rest @ ..] => boot_before(rest),
-        [b'r', rest @ ..] => reflection_before(rest),
-        [b'h', rest @ ..] => hidden_before(rest),
+    match text[0] {
+        b's' => word_before(b"standard\n".as_slice(), Kind::Standard, text),
+        b'b' => word_before(b"boot\n".as_slice(), Kind::Boot, text),
+        b'r' => word_before(b"reflection\n".as_slice(), Kind::Reflection, text),
+        b'h' => word_before(b"hidden\n".as_slice(), Kind::Hidden, text),
         _ => None,
     }
 }
 
-/// Reads the rest of `standard`, and its newline.
+/// Reads the kind whose word and newline are that line.
 #[inline(always)]
-fn standard_before(text: &[u8]) -> Option<(Kind, &[u8])>
-    ensures { IfSome result (λ read. 115 ∷ text.now ≡ kind_word read.0 ++ 10 ∷ read.1.now) }
+fn word_before<'a>(line: &[u8], kind: Kind, text: &'a [u8]) -> Option<(Kind, &'a [u8])>
+    requires { line.now ≡ kind_word kind ++ 10 ∷ [] }
+    ensures { IfSome result (λ read. text.now ≡ kind_word read.0 ++ 10 ∷ read.1.now) }
 {
-    match text {
-        [b't', b'a', b'n', b'd', b'a', b'r', b'd', b'\n', rest @ ..] => Some((
-            Kind::Standard,
-            rest,
-        )),
-        _ => None,
+    if !begins_with(text, line) {
+        return None;
     }
+    Some((kind, &text[line.len()..]))
 }
 
-/// Reads the rest of `boot`, and its newline.
+/// Reads a word, then a loader, a block, and words or an index, the last up to the newline.
 #[inline(always)]
-fn boot_before(text: &[u8]) -> Option<(Kind, &[u8])>
-    ensures { IfSome result (λ read. 98 ∷ text.now ≡ kind_word read.0 ++ 10 ∷ read.1.now) }
-{
-    match text {
-        [b'o', b'o', b't', b'\n', rest @ ..] => Some((Kind::Boot, rest)),
-        _ => None,
-    }
-}
-
-/// Reads the rest of `reflection`, and its newline.
-#[inline(always)]
-fn reflection_before(text: &[u8]) -> Option<(Kind, &[u8])>
-    ensures { IfSome result (λ read. 114 ∷ text.now ≡ kind_word read.0 ++ 10 ∷ read.1.now) }
-{
-    match text {
-        [
-            b'e',
-            b'f',
-            b'l',
-            b'e',
-            b'c',
-            b't',
-            b'i',
-            b'o',
-            b'n',
-            b'\n',
-            rest @ ..,
-        ] => Some((Kind::Reflection, rest)),
-        _ => None,
-    }
-}
-
-/// Reads the rest of `hidden`, and its newline.
-#[inline(always)]
-fn hidden_before(text: &[u8]) -> Option<(Kind, &[u8])>
-    ensures { IfSome result (λ read. 104 ∷ text.now ≡ kind_word read.0 ++ 10 ∷ read.1.now) }
-{
-    match text {
-        [b'i', b'd', b'd', b'e', b'n', b'\n', rest @ ..] => Some((Kind::Hidden, rest)),
-        _ => None,
-    }
-}
-
-/// Reads a loader, a block, and words or an index, the last up to the newline.
-#[inline(always)]
-fn three_before(text: &[u8]) -> Option<(u16, u32, u64, &[u8])>
-    requires { IsTrue (is_ended text.now) }
+fn three_before<'a>(word: &[u8], text: &'a [u8]) -> Option<(u16, u32, u64, &'a [u8])>
+    requires ended { IsTrue (is_ended text.now) }
+    requires unended { is_ended word.now ≡ false }
     ensures { IfSome result (λ read. text.now
-        ≡ decimal read.0 ++ 32 ∷ decimal read.1 ++ 32 ∷ decimal read.2 ++ 10 ∷ read.3.now) }
+        ≡ word.now ++ decimal read.0 ++ 32 ∷ decimal read.1 ++ 32 ∷ decimal read.2 ++ 10 ∷ read.3.now) }
 {
-    let (loader, at) = loader_first(b' ', text)?;
+    let (loader, at) = loader_after(word, b' ', text)?;
     let (block, at) = block_at(b' ', text, at)?;
     let (word, at) = number_at(b'\n', text, at, u64::MAX)?;
     Some((loader, block, word, &text[at..]))
 }
 
-/// Reads the loader's name that a text begins with up to that byte.
+/// Reads a word, then the loader's name up to that byte.
 #[inline(always)]
-fn loader_first(end: u8, text: &[u8]) -> Option<(u16, usize)>
-    requires { IsTrue (is_ended text.now) }
-    ensures spelled { IfSome result (λ read. text.now ≡ decimal read.0 ++ end ∷ drop read.1 text.now) }
+fn loader_after(word: &[u8], end: u8, text: &[u8]) -> Option<(u16, usize)>
+    requires ended { IsTrue (is_ended text.now) }
+    requires unended { is_ended word.now ≡ false }
+    ensures spelled { IfSome result (λ read.
+        text.now ≡ word.now ++ decimal read.0 ++ end ∷ drop read.1 text.now) }
     ensures within { IfSome result (λ read. read.1 ≤ length text.now) }
     ensures inside { (end == 10) ≡ false → IfSome result (λ read. read.1 < length text.now) }
 {
-    let (loader, at) = number_at(end, text, 0, 65_535)?;
+    if !begins_with(text, word) {
+        return None;
+    }
+    let (loader, at) = number_at(end, text, word.len(), 65_535)?;
     Some((loader as u16, at))
 }
 

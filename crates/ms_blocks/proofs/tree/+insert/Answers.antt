@@ -1,3 +1,4 @@
+-- On either side the block comes to where it ranks.
 use Rattle.std.proofs.Common.{◌≡◌, true, false}
 use Rattle.ms_blocks.specs.Rank.{ranks_before}
 use Rattle.ms_blocks.specs.Tree.{blocks_of}

@@ -1,3 +1,4 @@
+-- Each way down a tree tells the first block that fits, and what is left without it.
 use Rattle.std.proofs.Common.{None, Some}
 use Rattle.ms_blocks.specs.Tree.{blocks_of}
 use Rattle.ms_blocks.proofs.tree.+take_fit.Goals as goal
