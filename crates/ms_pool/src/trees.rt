@@ -231,7 +231,7 @@ fn whole_trees(alloc: Global, count: usize) -> Result<Vec<SplitTree<Global>>, Al
 {
     let mut trees = Vec::with_capacity(alloc, count)?;
     for _ in 0..count {
-        trees.push(SplitTree::new())?;
+        trees.push_reserved(SplitTree::new());
     }
     Ok(trees)
 }

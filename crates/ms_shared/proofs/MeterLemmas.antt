@@ -1,13 +1,17 @@
 -- Each step on a meter's word keeps its rule, and so do cutting and joining seats; where all seats
 -- have become one, the word is its amount. For the calls of UsedMeter.
-use Rattle.std.proofs.Common.{◌≡◌, ℕ, ◌+◌, ◌%◌, ◌^◌, ◌<◌, List, [], ◌∷◌, ◌++◌, get_or, set, sym, refl, ap, ◌∙◌, subst}
-use Rattle.std.proofs.Common.{arith, ⊎_elim, length-set, get_or-set_same, slice_index}
+use Rattle.std.proofs.Common.{◌≡◌, ℕ, ◌+◌, ◌-◌, ◌%◌, ◌^◌, ◌<◌, ◌≤◌, List, [], ◌∷◌, ◌++◌, get_or, set}
+use Rattle.std.proofs.Common.{sym, refl, ap, ◌∙◌, subst}
+use Rattle.std.proofs.Common.{arith, ⊎_elim, length-set, get_or-set_same, slice_index, replicate}
+use Rattle.std.proofs.lemmas.List.{replicate_more}
 use Rattle.std.proofs.lemmas.List.Sums.{sum_by_push}
 use mathlib.Core.Option.{some, some-injective, some-ne-none}
 use lib.ListN.{get_elem?}
+use Rattle.atomic_table.specs.Seated.{TableId}
 use Rattle.atomic_table.specs.Table.{Me, keeps, Allows, Splits, Joins, Final, Seen}
 use Rattle.atomic_table.proofs.Lists.{at_set, at_snoc, set_again}
-use Rattle.ms_shared.specs.MeterRule.{added, meter_view, less_part, joined, IsMetered, IdleIsEmpty, amounts_in}
+use Rattle.ms_shared.specs.MeterRule.{added, meter_view, less_part, joined, IsMetered, IdleIsEmpty, MeterSeatState}
+use Rattle.ms_shared.specs.MeterRule.{amounts_in}
 use Rattle.ms_shared.specs.declared.meter_rule.MeterView.{MeterView}
 use Rattle.ms_shared.proofs.TotalLemmas.{total-set, alone, mod_shift, mod_in}
 
@@ -121,3 +125,21 @@ settled made id n view words slots all final at =
     alone (λ (v : MeterView). v.amount) (λ (v : MeterView). v.parts) state.views id view rule.idle here
     (made_is ∙ sym all) in
     first_word words n at ∙ sym (ap (λ list. slice_index list 0) final.2) ∙ rule.sum ∙ ap (λ k. k % 2 ^ 64) sum
+
+-- One more seat with nothing, of the same meter.
+abbrev idle_seat : TableId → MeterSeatState
+idle_seat id = record { id = id; amount = 0 }
+
+pub one_more_seat : (id : TableId) (given new : List MeterSeatState) (seat : MeterSeatState) (n count : ℕ) → 1 ≤ n
+    → count ≡ n → given ≡ replicate (n - 1) (idle_seat id) → new ≡ given ++ seat ∷ [] → seat.id ≡ id → seat.amount ≡ 0
+    → new ≡ replicate count (idle_seat id)
+one_more_seat id given new seat n count above all so_far is its idle =
+    is
+    ∙ ap (λ (l : List MeterSeatState). l ++ seat ∷ []) so_far
+    ∙ ap (λ (s : MeterSeatState). replicate (n - 1) (idle_seat id) ++ s ∷ [])
+    (ap (λ (i : TableId). seat_of i seat.amount) its ∙ ap (seat_of id) idle)
+    ∙ replicate_more (n - 1) (idle_seat id)
+    ∙ ap (λ (k : ℕ). replicate k (idle_seat id)) (omega arith)
+  where
+    seat_of : TableId → ℕ → MeterSeatState
+    seat_of id amount = record { id = id; amount = amount }

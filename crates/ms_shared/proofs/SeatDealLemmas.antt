@@ -1,14 +1,14 @@
 -- The seats of a new lock, cut off one by one: the first knows all of the pool. For `new`.
 use Rattle.std.proofs.Common.{◌≡◌, ℕ, zero, suc, ◌+◌, ◌-◌, ◌*◌, ◌<◌, ◌≤◌, List, [], ◌∷◌, ◌++◌, ap, ◌∙◌}
-use Rattle.std.proofs.Common.{arith, None, refl, sym, add-zero}
+use Rattle.std.proofs.Common.{length, length-append, arith, None, Option, Some, refl, sym, subst, add-zero}
 use Rattle.atomic_table.specs.Seated.{TableId}
 use Rattle.ms_base.specs.State.{Limits}
 use Rattle.ms_pool.specs.Ledger.{Ledger}
 use Rattle.ms_shared.specs.declared.lock_rule.SeatView.{SeatView}
 use Rattle.ms_shared.specs.declared.lock_rule.LockView.{LockView}
-use Rattle.ms_shared.specs.History.{Strand, first_strand, later, no_events}
+use Rattle.ms_shared.specs.History.{Strand, IsOne, first_strand, front, later, no_events}
 use Rattle.ms_shared.specs.SeatView.{SeatState, knows_all, knows_limits, seat_with, seat_of, spare_seats, new_seats}
-use Rattle.ms_shared.specs.LockRule.{first_view, other_seats}
+use Rattle.ms_shared.specs.LockRule.{Sat, first_view, other_seats, own_seat}
 
 -- All seats but the last ones are cut off, and the rest stands for those.
 pub record IsDealing (id : TableId) (made n : ℕ) (pool : Ledger) (given : List SeatState) (rest : LockView) : Type 0
@@ -110,3 +110,38 @@ pub deals_end : (id : TableId) (made n : ℕ) (pool : Ledger) (old new : List Se
 deals_end id made n pool old new rest seat so_far all is its =
     let count = so_far.count in let sum = so_far.all in let same : n ≡ made = omega arith in
     is ∙ ap (λ (s : SeatState). old ++ s ∷ []) its ∙ so_far.seats ∙ ap (λ (k : ℕ). new_seats id k pool) same
+
+-- A seat that is cut off stands for one, and so does the last one.
+abbrev IsOneSeat : Sat → Type 0
+IsOneSeat me = (me.1 ≡ []) × (me.0.parts ≡ 2) × (me.0.taken ≡ None) × IsOne me.0.strands
+
+pub cut_is_one : (id : TableId) (made n : ℕ) (pool : Ledger) (given : List SeatState) (rest me : Sat)
+    → IsDealing id made n pool given rest.0 → rest.1 ≡ [] → me ≡ (own_seat rest.0, rest.1) → IsOneSeat me
+cut_is_one id made n pool given rest me dealing none cut =
+    let strands : me.0.strands ≡ (dealing.done, []) ∷ [] =
+    ap (λ (m : Sat). m.0.strands) cut ∙ ap front dealing.strands in (
+      ap (λ (m : Sat). m.1) cut ∙ none,
+      ap (λ (m : Sat). m.0.parts) cut,
+      ap (λ (m : Sat). m.0.taken) cut ∙ dealing.free,
+      subst IsOne (sym strands) refl,
+    )
+
+pub last_is_one : (id : TableId) (made n : ℕ) (pool : Ledger) (given : List SeatState) (rest : Sat)
+    → IsDealing id made n pool given rest.0 → made ≤ n → rest.1 ≡ [] → IsOneSeat rest
+last_is_one id made n pool given rest dealing all none =
+    let count = dealing.count in let sum = dealing.all in let parts = dealing.parts in
+    let last : dealing.left ≡ 0 = omega arith in
+    let strands : rest.0.strands ≡ (dealing.done, []) ∷ [] =
+    dealing.strands ∙ ap (λ (left : ℕ). no_events dealing.done (suc left)) last in (
+      none,
+      omega arith,
+      dealing.free,
+      subst IsOne (sym strands) refl,
+    )
+
+-- What was found in the slots is the pool that was put there.
+pub same_slot : (slots left : List (Option Ledger)) (pool given : Ledger) → slots ≡ Some given ∷ []
+    → slots ≡ left ++ Some pool ∷ [] → pool ≡ given
+same_slot slots [] pool given only found = cc
+same_slot slots (x ∷ left) pool given only found =
+    absurd (omega (arith, ap length (sym only ∙ found), length-append left (Some pool ∷ [])))

@@ -1,5 +1,5 @@
 -- What a call leaves as it was: all but a tally, or but an owner's loans; so who is served still.
-use Rattle.std.proofs.Common.{◌≡◌, ◌≢◌, ◌≤◌, ℕ, List, refl, sym, subst}
+use Rattle.std.proofs.Common.{◌≡◌, ◌≢◌, ◌+◌, ◌^◌, ◌<◌, ◌≤◌, ℕ, List, refl, sym, subst, arith}
 use Rattle.std.specs.List.Sorted.{IsPermutation}
 use Rattle.ms_base.specs.declared.span.Chunk.{Chunk}
 use Rattle.ms_pool.specs.Account.{AccountState}
@@ -7,6 +7,9 @@ use Rattle.ms_pool.specs.Tallies.{Tallies}
 use Rattle.ms_pool.specs.Ledger.{Ledger, Serves, chunks_of, opened_in}
 use Rattle.ms_pool.specs.Calls.{tallied}
 use Rattle.ms_pool.specs.Source.{LeavesRest}
+use Rattle.ms_pool.specs.declared.lender.Counts.{Counts}
+use Rattle.ms_pool.specs.declared.lender.Lender.{Lender}
+use Rattle.ms_pool.specs.Keeping.{IsKept}
 use Rattle.ms_pool.proofs.ledger.LedgerOpenLemmas.{tallied_serves}
 
 -- Nothing changes but a tally.
@@ -49,3 +52,45 @@ keeps_rest owner old new keeps = record {
   counted = keeps.opened;
   limits_stay = keeps.limits;
 }
+
+-- What is kept is kept however a refusal is told.
+pub kept_however_told : (lender : Lender) (counts : Counts) → IsKept lender → IsKept (record lender { counts = counts })
+kept_however_told lender counts kept =
+    let sound = kept.sound in
+    record {
+      trees = kept.trees;
+      leaves = kept.leaves;
+      granule = kept.granule;
+      nodes = kept.nodes;
+      sound = record {
+        spaces = sound.spaces;
+        order = sound.order;
+        owners = sound.owners;
+        given = sound.given;
+        opened = sound.opened;
+        nodes = sound.nodes;
+        class_nodes = sound.class_nodes;
+      };
+    }
+
+-- What is kept is kept with one account more.
+pub kept_where_opened : (lender : Lender) (opened class_opened : ℕ) → IsKept lender → lender.given + 1 < 2 ^ 32
+    → opened + class_opened ≡ lender.opened + lender.class_opened + 1
+    → IsKept (record lender { given = lender.given + 1; opened = opened; class_opened = class_opened })
+kept_where_opened lender opened class_opened kept left one_more =
+    let sound = kept.sound in
+    record {
+      trees = kept.trees;
+      leaves = kept.leaves;
+      granule = kept.granule;
+      nodes = kept.nodes;
+      sound = record {
+        spaces = sound.spaces;
+        order = sound.order;
+        owners = λ k d there. ((sound.owners k d there).0, omega (arith, (sound.owners k d there).1));
+        given = left;
+        opened = omega (arith, sound.opened, one_more);
+        nodes = sound.nodes;
+        class_nodes = sound.class_nodes;
+      };
+    }

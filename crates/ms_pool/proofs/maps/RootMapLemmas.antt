@@ -1,8 +1,10 @@
 -- The maps of roots: place by place, and slot by slot of those that a space may have. `root_map` and
 -- `push_maps` use these.
-use Rattle.std.proofs.Common.{◌≡◌, ◌<◌, ◌≤◌, ℕ, suc, ◌+◌, ◌-◌, cond, List, [], ◌∷◌, ◌++◌, get_or, length, set}
+use Rattle.std.proofs.Common.{◌≡◌, ◌<◌, ◌≤◌, ℕ, suc, ◌+◌, ◌-◌, ◌*◌, Bool, true, cond, map}
+use Rattle.std.proofs.Common.{List, [], ◌∷◌, ◌++◌, get_or, length, set}
 use Rattle.std.proofs.Common.{refl, sym, ap, ◌∙◌, arith, append_assoc}
 use Rattle.std.specs.List.{flat_map, range_with_len}
+use Rattle.std.proofs.lemmas.List.{map-append}
 use Rattle.std.proofs.lemmas.List.Edits.{fill_by_more}
 use Rattle.std.proofs.lemmas.List.FromFn.{fill_by_all}
 use Rattle.ms_base.specs.declared.kind.Space.{Space}
@@ -41,6 +43,21 @@ one_more_place place places number told there same so_far k h =
 -- What a slot gives: the maps of its roots, where it is reserved.
 abbrev pub maps_by : NodesState → PoolState → ℕ → List RootPlaces
 maps_by nodes pool slot = cond (is_reserved (all_slots nodes) slot) (maps_of_slot pool slot) []
+
+pub both_pushed : (pool : PoolState) (slot : ℕ) (reserved : Bool) (old once both : List RootMap) (lower upper : RootMap)
+    → reserved ≡ true → once ≡ old ++ lower ∷ [] → both ≡ once ++ upper ∷ [] → map_in lower ≡ map_of pool (2 * slot)
+    → map_in upper ≡ map_of pool (2 * slot + 1)
+    → map map_in both ≡ map map_in old ++ cond reserved (maps_of_slot pool slot) []
+both_pushed pool slot reserved old once both lower upper is first second low high =
+    ap (map map_in) (
+    second
+    ∙ ap (λ (l : List RootMap). l ++ upper ∷ []) first
+    ∙ append_assoc old (lower ∷ []) (upper ∷ [])
+    )
+    ∙ map-append map_in old (lower ∷ upper ∷ [])
+    ∙ ap (λ (m : RootPlaces). map map_in old ++ m ∷ map_in upper ∷ []) low
+    ∙ ap (λ (m : RootPlaces). map map_in old ++ map_of pool (2 * slot) ∷ m ∷ []) high
+    ∙ ap (λ b. map map_in old ++ cond b (maps_of_slot pool slot) []) (sym is)
 
 -- The maps of the slots from a number on.
 abbrev pub maps_left : NodesState → PoolState → ℕ → ℕ → List RootPlaces

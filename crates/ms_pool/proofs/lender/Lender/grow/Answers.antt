@@ -9,6 +9,7 @@ use Rattle.ms_pool.proofs.growths.GrowingLemmas.{past_space, stays_as_it_was}
 use Rattle.ms_pool.proofs.growths.ReachLemmas.{grown_no_room, grown_stays}
 use Rattle.ms_pool.proofs.growths.ReplacingLemmas.{found_there, grew_there, grows_there, reached_there, rises_there}
 use Rattle.ms_pool.proofs.growths.ReplacingLemmas.{grown_where_found, stays_there}
+use Rattle.ms_pool.proofs.ledger.KeepsLemmas.{kept_however_told}
 use Rattle.ms_pool.proofs.lender.Lender.grow.Goals as goal
 
 pub returns-then-total-chunk-clause-grown : goal.returns-then-total-chunk-clause-grown
@@ -42,6 +43,18 @@ reaching-requires c =
     c.requires.served c.account.invariant c.deref.ensures.value c.place_of-place.ensures.there
     c.place_of-place.ensures.starts c.index.ensures in
     record { kept = c.requires.kept; own = at_.own.there }
+
+pub returns-in_default-clause-kept : goal.returns-in_default-clause-kept
+returns-in_default-clause-kept c = kept_however_told c.args.self.now _ c.requires.kept
+
+pub returns-in_default-clause-counted : goal.returns-in_default-clause-counted
+returns-in_default-clause-counted c = c.requires.counted
+
+pub returns-in-Some-commit_limit-clause-kept : goal.returns-in-Some-commit_limit-clause-kept
+returns-in-Some-commit_limit-clause-kept c = kept_however_told c.args.self.now _ c.requires.kept
+
+pub returns-in-Some-commit_limit-clause-counted : goal.returns-in-Some-commit_limit-clause-counted
+returns-in-Some-commit_limit-clause-counted c = c.requires.counted
 
 pub returns-in_default-clause-grew : goal.returns-in_default-clause-grew
 returns-in_default-clause-grew c =

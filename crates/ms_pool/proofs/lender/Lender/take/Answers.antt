@@ -3,6 +3,7 @@ use Rattle.ms_base.proofs.free.HalvesLemmas.{size_falls}
 use Rattle.ms_pool.specs.Lending.{span_of}
 use Rattle.ms_pool.specs.Ledger.{state_in}
 use Rattle.ms_pool.specs.Keeping.{ledger_of}
+use Rattle.ms_pool.proofs.ledger.KeepsLemmas.{kept_however_told}
 use Rattle.ms_pool.proofs.loans.TakingLemmas.{IsPickedThere, TakesThere, adds_there, picked_there, taken_commit}
 use Rattle.ms_pool.proofs.loans.TakingLemmas.{taken_reserve, takes_there}
 use Rattle.ms_pool.proofs.lender.Lender.take.Goals as goal
@@ -29,6 +30,22 @@ takes c at_ =
     takes_there c.args.self.now _ _ c.args.wanted c.args.most c.args.words c.chunk_at-chunk.result c.requires.kept at_
     c.account.view_is c.requires.served c.account.invariant c.in-Some.ensures.room
     c.in_default-commit_limit.ensures.within
+
+-- A refusal and its tally change nothing that is kept.
+pub reserve_limit-requires : goal.reserve_limit-requires
+reserve_limit-requires c = kept_however_told c.args.self.now _ c.requires.kept
+
+pub returns-in_default-clause-kept : goal.returns-in_default-clause-kept
+returns-in_default-clause-kept c = kept_however_told c.args.self.now _ c.requires.kept
+
+pub returns-in_default-clause-counted : goal.returns-in_default-clause-counted
+returns-in_default-clause-counted c = c.requires.counted
+
+pub returns-in-Some-commit_limit-clause-kept : goal.returns-in-Some-commit_limit-clause-kept
+returns-in-Some-commit_limit-clause-kept c = kept_however_told c.args.self.now _ c.requires.kept
+
+pub returns-in-Some-commit_limit-clause-counted : goal.returns-in-Some-commit_limit-clause-counted
+returns-in-Some-commit_limit-clause-counted c = c.requires.counted
 
 pub returns-in_default-clause-took : goal.returns-in_default-clause-took
 returns-in_default-clause-took c =

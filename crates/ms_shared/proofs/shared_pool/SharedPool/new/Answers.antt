@@ -6,7 +6,8 @@ use Rattle.ms_shared.specs.LockRule.{IsLocked, Sat, first_view}
 use Rattle.ms_shared.specs.History.{first_strand}
 use Rattle.ms_shared.proofs.StrandLemmas.{first_of_front}
 use Rattle.ms_shared.proofs.SeatCutLemmas.{begins, cut, cuts_seats}
-use Rattle.ms_shared.proofs.SeatDealLemmas.{deals_begin, deals_more, deals_end, seen_as}
+use Rattle.ms_shared.proofs.SeatDealLemmas.{cut_is_one, deals_begin, deals_more, deals_end, last_is_one}
+use Rattle.ms_shared.proofs.SeatDealLemmas.{same_slot, seen_as}
 use Rattle.ms_shared.proofs.shared_pool.SharedPool.new.Goals as goal
 
 pub new-requires : goal.new-requires
@@ -35,6 +36,15 @@ split_seat-next-requires c =
     let inv = c.loop.invariant in let parts = inv.0.parts in let more = c.loop-test.true in
     (inv.1, search rules, cut _ _ _ _ _ _ (cuts_seats c.loop.rest.me.0 (omega arith)))
 
+pub invariant_of-push_reserved : goal.invariant_of-push_reserved
+invariant_of-push_reserved c =
+    let inv = c.loop.invariant in
+    cut_is_one _ _ _ _ _ c.loop.rest.me c.split_seat-next.new.seat.me inv.0 inv.2 c.split_seat-next.ensures.2
+
+pub invariant_of-push_reserved-in-Ok : goal.invariant_of-push_reserved-in-Ok
+invariant_of-push_reserved-in-Ok c =
+    let inv = c.loop.invariant in last_is_one _ _ _ _ _ c.loop.rest.me inv.0 c.loop-test.false inv.2
+
 pub loop-preserved : goal.loop-preserved
 loop-preserved c =
     let inv = c.loop.invariant in let s = c.split_seat-next.ensures in let more = c.loop-test.true in let len =
@@ -57,3 +67,11 @@ returns-after-loop-clause-seats c =
     deals_end _ _ _ _ _ _ c.loop.rest.me.0 _ inv.0 (omega arith) c.push_reserved-in-Ok.ensures.items
     (seen_as _ _ _ _ c.loop.rest.me.0 inv.1 refl refl)
     ∙ ap (new_seats c.in-Ok.table.shared.table_id c.args.seats) c.of.ensures
+
+pub returns-in-Some-Some-clause-handed_back : goal.returns-in-Some-Some-clause-handed_back
+returns-in-Some-Some-clause-handed_back c =
+    let slots =
+    c.push_reserved.ensures.items
+    ∙ ap (λ (l : List (Option Ledger)). l ++ Some c.args.pool ∷ []) c.in-Ok-Ok.ensures'.items in
+    same_slot c.in-Err.field-0.slots.items c.pop.new.self.items c.in-Some-Some.pool c.args.pool
+    (c.in-Err.ensures.err ∙ slots) (rw c.in-Some-Some.field-0-is at c.in-Some-Some.ensures.items)
