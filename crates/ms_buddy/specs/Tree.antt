@@ -59,6 +59,11 @@ abbrev pub free_in_halves : {A : Type 0} → ℕ → ℕ → Node A → Node A �
 free_in_halves level start lower upper =
     free_in (level + 1) start lower ++ free_in (level + 1) (start + size_of (level + 1)) upper
 
+-- The halves of which one is that node, the lower one or the upper one, and the other is free.
+abbrev pub with_free : {A : Type 0} → Bool → Node A → Node A × Node A
+with_free true half = (half, Free)
+with_free false half = (Free, half)
+
 -- Two trees are the halves of a part of that level, and these bits the levels of both.
 pub record AreHalves {A : Type 0} (level levels : ℕ) (lower upper : Node A) : Type 0 where
   pub low : level < highest_level

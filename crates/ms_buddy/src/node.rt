@@ -5,12 +5,13 @@
 //! lies. What is kept true of a node is `IsTree` in `specs/Tree.antt`: `levels_of_halves` tells the
 //! bits that a split keeps, and each change of a half asks it on the way up.
 //!
-//! Boxes are made by `boxed` alone. Halves that merge leave theirs as spares for the next split: a
+//! Boxes are made for `boxed` alone. Halves that merge leave theirs as spares for the next split: a
 //! chain of nodes, in which each is a split with a pair of boxes, and the second holds the rest.
 //! The number beside a pair tells how many pairs there are from it on, 12 at most, as many as one
 //! carve takes. No clause says what a spare node holds, and nothing rests on it.
 ghost use Rattle.std.specs.Prelude.{◌≡◌, ℕ, ◌+◌, ◌*◌, ◌<◌, ◌≤◌, ◌&&◌, ◌↔◌, bit_or, true, false, [], ◌∷◌, Some, IsTrue};
 ghost use Rattle.std.specs.Prelude.{IsFalse, IfSome, OnSome, IfNone, IsOk, IfOk, OnOk, IfErr, OnErr};
+ghost use Rattle.std.specs.Prelude.{cond};
 ghost use Rattle.std.specs.List.{find};
 ghost use Rattle.ms_base.specs.declared.sizes.TheConstants.{ROOT_WORDS};
 ghost use Rattle.ms_base.specs.Level.{size_of};
@@ -19,7 +20,7 @@ ghost use Rattle.ms_buddy.specs.Leaves.{leaf_of, with_front, with_leaf, with_par
 ghost use Rattle.ms_buddy.specs.Carving.{told};
 ghost use Rattle.ms_buddy.specs.Counts.{IsParted, free_beside, freed_level};
 ghost use Rattle.ms_buddy.specs.Tree.{AreHalves, IsEnlarged, IsPlace, MayBeLent, MayHaveFront, is_free, IsTree};
-ghost use Rattle.ms_buddy.specs.Tree.{lent_in, free_in, levels_of, lent_in_halves, free_in_halves};
+ghost use Rattle.ms_buddy.specs.Tree.{lent_in, free_in, levels_of, lent_in_halves, free_in_halves, with_free};
 
 use crate::levels::{bit_of, has_level};
 use ms_base::{Level, ROOT_WORDS, Refusal, Span};
@@ -276,7 +277,7 @@ impl<A: Allocator + Clone> Node<A> {
     /// spare ones first.
     fn with_lent(
         spare: &mut Node<A>,
-        alloc: A,
+        alloc: &A,
         level: u8,
         start: u64,
         span: Span,
@@ -296,33 +297,10 @@ impl<A: Allocator + Clone> Node<A> {
             return Ok(Node::Lent { owner, front });
         }
         let middle = start + half_of(level);
-        if span.start < middle {
-            let lower = Node::with_lent(
-                spare,
-                alloc.clone()?,
-                level + 1,
-                start,
-                span,
-                owner,
-                front,
-            )?;
-            let levels = lower.levels(level + 1) | bit_of(level + 1);
-            let (lower, upper) = boxed(spare, alloc, lower, Node::Free)?;
-            Ok(Node::Split(levels, lower, upper))
-        } else {
-            let upper = Node::with_lent(
-                spare,
-                alloc.clone()?,
-                level + 1,
-                middle,
-                span,
-                owner,
-                front,
-            )?;
-            let levels = bit_of(level + 1) | upper.levels(level + 1);
-            let (lower, upper) = boxed(spare, alloc, Node::Free, upper)?;
-            Ok(Node::Split(levels, lower, upper))
-        }
+        let is_lower = span.start < middle;
+        let from = half_start(start, middle, is_lower);
+        let half = Node::with_lent(spare, alloc, level + 1, from, span, owner, front)?;
+        beside_free(spare, alloc, level, half, is_lower)
     }
 
     /// Lends the part of that span, where it lies in one free leaf, and answers that leaf's level.
@@ -330,7 +308,7 @@ impl<A: Allocator + Clone> Node<A> {
     pub(crate) fn carve(
         &mut self,
         spare: &mut Node<A>,
-        alloc: A,
+        alloc: &A,
         level: u8,
         start: u64,
         span: Span,
@@ -370,24 +348,71 @@ impl<A: Allocator + Clone> Node<A> {
     }
 }
 
-/// Puts two halves into boxes, spare ones where there are any.
+/// Tells where the lower half starts, or the upper one.
+fn half_start(start: u64, middle: u64, is_lower: bool) -> u64
+    ensures { result ≡ cond is_lower start middle }
+{
+    if is_lower { start } else { middle }
+}
+
+/// Makes a split of that level, in which one half is that node, and the other one is free.
+fn beside_free<A: Allocator + Clone>(
+    spare: &mut Node<A>,
+    alloc: &A,
+    level: u8,
+    half: Node<A>,
+    is_lower: bool,
+) -> Result<Node<A>, AllocError>
+    requires low { level < 12 }
+    requires tree { IsTree (level + 1) half }
+    requires split { is_free half ≡ false }
+    ensures tree { IfOk result (λ node. IsTree level node) }
+    ensures split { IfOk result (λ node. is_free node ≡ false) }
+    ensures lent { IfOk result (λ node. (start : ℕ) → lent_in level start node
+        ≡ lent_in_halves level start (with_free is_lower half).0 (with_free is_lower half).1) }
+    ensures free { IfOk result (λ node. (start : ℕ) → free_in level start node
+        ≡ free_in_halves level start (with_free is_lower half).0 (with_free is_lower half).1) }
+{
+    let levels = half.levels(level + 1);
+    let free_level = bit_of(level + 1);
+    let (half, free) = boxed(spare, alloc, half)?;
+    if is_lower {
+        Ok(Node::Split(levels | free_level, half, free))
+    } else {
+        Ok(Node::Split(free_level | levels, free, half))
+    }
+}
+
+/// Puts a node into a box, and a free one into a second: spare boxes where there are any.
 fn boxed<A: Allocator + Clone>(
     spare: &mut Node<A>,
-    alloc: A,
-    lower: Node<A>,
-    upper: Node<A>,
+    alloc: &A,
+    node: Node<A>,
 ) -> Result<(Box<Node<A>, A>, Box<Node<A>, A>), AllocError>
-    ensures lower { IfOk result (λ halves. halves.0.value ≡ lower) }
-    ensures upper { IfOk result (λ halves. halves.1.value ≡ upper) }
+    ensures node { IfOk result (λ boxes. boxes.0.value ≡ node) }
+    ensures free { IfOk result (λ boxes. is_free boxes.1.value ≡ true) }
 {
     match mem::replace(spare, Node::Free) {
         Node::Split(_, mut first, mut second) => {
-            *first = lower;
-            *spare = mem::replace(&mut *second, upper);
+            *first = node;
+            *spare = mem::replace(&mut *second, Node::Free);
             Ok((first, second))
         }
-        _ => Ok((Box::new(alloc.clone()?, lower)?, Box::new(alloc, upper)?)),
+        _ => boxed_anew(alloc, node),
     }
+}
+
+/// Puts a node into a new box, and a free one into a second.
+fn boxed_anew<A: Allocator + Clone>(
+    alloc: &A,
+    node: Node<A>,
+) -> Result<(Box<Node<A>, A>, Box<Node<A>, A>), AllocError>
+    ensures node { IfOk result (λ boxes. boxes.0.value ≡ node) }
+    ensures free { IfOk result (λ boxes. is_free boxes.1.value ≡ true) }
+{
+    let first = Box::new(alloc.clone()?, node)?;
+    let second = Box::new(alloc.clone()?, Node::Free)?;
+    Ok((first, second))
 }
 
 /// Keeps the boxes of a split as spares, where there are fewer than one carve may take.
@@ -510,7 +535,7 @@ fn carve_in_half<A: Allocator + Clone>(
     lower: &mut Node<A>,
     upper: &mut Node<A>,
     spare: &mut Node<A>,
-    alloc: A,
+    alloc: &A,
     level: u8,
     start: u64,
     span: Span,

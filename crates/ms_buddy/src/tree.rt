@@ -229,7 +229,7 @@ impl<A: Allocator + Clone> SplitTree<A> {
         let part = Span { start: at, level };
         match self
             .node
-            .carve(&mut self.spare, alloc, 0, 0, part, owner, front)
+            .carve(&mut self.spare, &alloc, 0, 0, part, owner, front)
         {
             Ok(free) => {
                 part_counts(&mut self.counts, free, lent);

@@ -43,6 +43,22 @@ carve_in_half-returns-in-Ok-carve-clause-lent g t c =
     upper_added (leaf_of c.args.span c.args.owner c.args.front) _ _ _ _ _ c.carve-else-span-middle.new.self halves
     (omega arith) c.in-Ok-carve.ensures.lent
 
+pub carve_in_half-returns-in-Ok-clause-answers : goal.carve_in_half-returns-in-Ok-clause-answers
+carve_in_half-returns-in-Ok-clause-answers g t c =
+    let halves =
+    halves_at c.args.level c.args.start _ _ c.args.lower.now c.args.upper.now c.requires.halves
+    c.half_of.ensures.size in
+    let fits = lower_fits c.args.span _ _ _ _ _ halves c.if-span-middle.true in
+    record { room = fits ∙ c.in-Ok.ensures.answers.room; refusal = tt }
+
+pub carve_in_half-returns-in-Ok-carve-clause-answers : goal.carve_in_half-returns-in-Ok-carve-clause-answers
+carve_in_half-returns-in-Ok-carve-clause-answers g t c =
+    let halves =
+    halves_at c.args.level c.args.start _ _ c.args.lower.now c.args.upper.now c.requires.halves
+    c.half_of.ensures.size in
+    let fits = upper_fits c.args.span _ _ _ _ _ halves (omega arith) in
+    record { room = fits ∙ c.in-Ok-carve.ensures.answers.room; refusal = tt }
+
 pub carve_in_half-returns-in-Err-clause-answers : goal.carve_in_half-returns-in-Err-clause-answers
 carve_in_half-returns-in-Err-clause-answers g t c =
     let halves =

@@ -1,5 +1,5 @@
 -- The leaf is enlarged in the half where it is, and the other half stays, or the halves become one.
-use Rattle.std.proofs.Common.{◌≡◌, ◌+◌, rules, arith, ap, sym, ◌∙◌}
+use Rattle.std.proofs.Common.{◌≡◌, ◌+◌, rules, arith, refl, ap, sym, ◌∙◌}
 use Rattle.ms_base.specs.Level.{size_of}
 use Rattle.ms_buddy.proofs.TreeHalvesLemmas.{size_of-halves}
 use Rattle.ms_buddy.proofs.SplitLemmas.{halves_at, lower_front, upper_front, parent_acts, lower_changed, upper_changed}
@@ -44,6 +44,26 @@ enlarge_in_half-returns-in-Ok-enlarge-clause-lent g t c =
     c.half_of.ensures.size in
     upper_changed _ _ _ _ _ c.enlarge-else-span-middle.new.self _ _ (parent_acts c.args.span c.args.front) halves
     (omega arith) c.in-Ok-enlarge.ensures.lent
+
+pub enlarge_in_half-returns-in-Ok-clause-answers : goal.enlarge_in_half-returns-in-Ok-clause-answers
+enlarge_in_half-returns-in-Ok-clause-answers g t c =
+    let halves =
+    halves_at c.args.level c.args.start _ _ c.args.lower.now c.args.upper.now c.requires.halves
+    c.half_of.ensures.size in
+    let deeper : c.args.span.level ≡ c.args.level + 1 → ⊥ =
+    λ child. c.if-number-level.false (c.number.ensures.same ∙ child) in
+    let can =
+    lower_can c.args.span _ _ _ _ _ halves c.requires.leaf.place c.requires.leaf.lent deeper
+    (omega arith) c.if-span-middle.true in
+    record { room = (λ done. can ∙ c.in-Ok.ensures.answers.room.0 done, λ _. refl); refusal = tt }
+
+pub enlarge_in_half-returns-in-Ok-enlarge-clause-answers : goal.enlarge_in_half-returns-in-Ok-enlarge-clause-answers
+enlarge_in_half-returns-in-Ok-enlarge-clause-answers g t c =
+    let halves =
+    halves_at c.args.level c.args.start _ _ c.args.lower.now c.args.upper.now c.requires.halves
+    c.half_of.ensures.size in
+    let can = upper_can c.args.span _ _ _ _ _ halves (omega arith) in
+    record { room = (λ done. can ∙ c.in-Ok-enlarge.ensures.answers.room.0 done, λ _. refl); refusal = tt }
 
 pub enlarge_in_half-returns-in-Err-clause-answers : goal.enlarge_in_half-returns-in-Err-clause-answers
 enlarge_in_half-returns-in-Err-clause-answers g t c =

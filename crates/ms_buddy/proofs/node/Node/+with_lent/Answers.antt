@@ -1,21 +1,16 @@
 -- The leaf is made in the half where it starts.
-use Rattle.std.proofs.Common.{rules, arith, sym, ◌∙◌}
-use Rattle.ms_buddy.proofs.CarveLemmas.{lower_may, upper_may}
-use Rattle.ms_buddy.proofs.CountLemmas.{whole_parted, lower_half_parted, upper_half_parted_at}
+use Rattle.std.proofs.Common.{◌<◌, rules, arith, sym, ◌∙◌}
+use Rattle.std.proofs.lemmas.Result.{IfOk-weaker}
+use Rattle.ms_buddy.proofs.CarveLemmas.{half_may, beside_free_lent}
+use Rattle.ms_buddy.proofs.CountLemmas.{whole_parted, beside_free_parted}
 use Rattle.ms_buddy.proofs.node.Node.+with_lent.Goals as goal
 
 pub with_lent-requires : goal.with_lent-requires
 with_lent-requires g t c κs within =
+    let low : c.args.level < c.args.span.level = omega arith in
     let may =
-    lower_may c.args.span c.args.level c.args.start _ _ c.requires (omega arith) c.half_of.ensures.size
-    c.if-span-middle.true in
-    (omega arith, (search rules, may))
-
-pub with_lent-requires-else-span-middle : goal.with_lent-requires-else-span-middle
-with_lent-requires-else-span-middle g t c κs within =
-    let may =
-    upper_may c.args.span c.args.level c.args.start _ _ c.requires (omega arith) c.half_of.ensures.size
-    (omega arith) in
+    half_may c.args.span c.args.level c.args.start _ _ _ c.requires low c.half_of.ensures.size
+    c.half_start-from.ensures in
     (omega arith, (search rules, may))
 
 pub returns-then-number-level-clause-parted : goal.returns-then-number-level-clause-parted
@@ -23,13 +18,14 @@ returns-then-number-level-clause-parted g t c =
     whole_parted (record { start = c.args.start; level = c.args.level }) c.args.span.level
     c.requires.place.level_fits (sym c.number.ensures.same ∙ c.if-number-level.true)
 
-pub returns-in_ok-lower-2-clause-parted : goal.returns-in_ok-lower-2-clause-parted
-returns-in_ok-lower-2-clause-parted g t c =
-    rw (c.in_ok-lower-2.ensures.lower, c.in_ok-lower-2.ensures.upper)
-    (lower_half_parted c.args.level c.args.start _ c.args.span.level _ c.in_ok-lower.ensures.parted)
+pub returns-clause-lent : goal.returns-clause-lent
+returns-clause-lent g t c =
+    IfOk-weaker c.beside_free.result _ _ (λ node lent. lent c.args.start
+    ∙ (beside_free_lent c.args.level c.args.start _ _ _ c.in_ok-half.half c.half_of.ensures.size
+    c.half_start-from.ensures ∙ c.in_ok-half.ensures.lent)) c.beside_free.ensures.lent
 
-pub returns-in_ok-lower-3-clause-parted : goal.returns-in_ok-lower-3-clause-parted
-returns-in_ok-lower-3-clause-parted g t c =
-    rw (c.in_ok-lower-3.ensures.lower, c.in_ok-lower-3.ensures.upper)
-    (upper_half_parted_at c.args.level c.args.start c.half_of.result c.args.span.level c.in_ok-upper.upper
-    c.half_of.ensures.size c.in_ok-upper.ensures.parted)
+pub returns-clause-parted : goal.returns-clause-parted
+returns-clause-parted g t c =
+    IfOk-weaker c.beside_free.result _ _ (λ node free. rw (free c.args.start) (beside_free_parted c.args.level
+    c.args.start _ _ _ _ c.in_ok-half.half c.half_of.ensures.size c.half_start-from.ensures
+    c.in_ok-half.ensures.parted)) c.beside_free.ensures.free

@@ -29,14 +29,14 @@ returns-in-Ok-clause-no_room g c =
     rw e (no_room_exactly (span_at c.args.at c.args.level) (free_in 0 0 c.self.inside.node) (Ok tt)
     (record { room = c.in-Ok.ensures.answers.room; refusal = tt }))
 
-pub returns-in-Err-clause-no_room : goal.returns-in-Err-clause-no_room
-returns-in-Err-clause-no_room g c =
+pub returns-clause-no_room : goal.returns-clause-no_room
+returns-clause-no_room g c =
     let e = sym (ap free_of c.self.view_is) ∙ free_of-tree c.self.inside.node c.self.invariant.tree in
     rw (e, c.tell.ensures) (no_room_exactly (span_at c.args.at c.args.level) (free_in 0 0 c.self.inside.node)
     (Err (refusal_of c.args.level c.in-Err.lack)) (record { room = tt; refusal = c.in-Err.ensures.answers.refusal }))
 
-pub returns-in-Err-clause-refusal : goal.returns-in-Err-clause-refusal
-returns-in-Err-clause-refusal g c =
+pub returns-clause-refusal : goal.returns-clause-refusal
+returns-clause-refusal g c =
     let e = sym (ap free_of c.self.view_is) ∙ free_of-tree c.self.inside.node c.self.invariant.tree in
     rw (e, c.tell.ensures) c.in-Err.ensures.answers.refusal
 
