@@ -60,7 +60,11 @@ impl Boxed {
         ensures sound { IsSoundView (new_loader account class_account kind) }
         ensures back { IfErr result (AreAccountsOf (new_loader account class_account kind)) }
     {
-        into_box(alloc, name, Loader::new(alloc, account, class_account, kind))
+        into_box(
+            alloc,
+            name,
+            Loader::new(alloc, account, class_account, kind),
+        )
     }
 
     /// Makes a loader in a box as `made` does, in the memory that another loader had. Takes memory for the box.
@@ -80,7 +84,11 @@ impl Boxed {
         ensures sound { IsSoundView (new_loader account class_account kind) }
         ensures back { IfErr result (AreAccountsOf (new_loader account class_account kind)) }
     {
-        into_box(alloc, name, Loader::over(room, account, class_account, kind))
+        into_box(
+            alloc,
+            name,
+            Loader::over(room, account, class_account, kind),
+        )
     }
 
     /// Takes the loader apart, as `Loader::into_parts` does.
