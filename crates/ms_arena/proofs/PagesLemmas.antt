@@ -182,40 +182,6 @@ part_leaves words was pages_capacity store_capacity number base first last page 
     some : 0 < (page_at words.pages number).place
     some = are.placed number (ap (λ (page : Page). page.written) is ∙ written)
 
--- A page with a place has its words in the store, and a page that was written has a place.
-pub record IsStored (words : PagesView) (page : Page) : Type 0 where
-  pub placed : 0 < page.place
-  pub within : 512 * page.place ≤ length words.store
-
-pub stored_at : (words was : PagesView) (pages_capacity store_capacity number : ℕ) (page : Page)
-    → ArePages words pages_capacity store_capacity → words ≡ was → number < length was.pages
-    → page ≡ get_or words.pages number page → 0 < (page_at was.pages number).place → IsStored words page
-stored_at words was pages_capacity store_capacity number page are same there page_found some = record {
-  placed = subst (λ (p : Page). 0 < p.place) is
-      (subst (λ (words : PagesView). 0 < (page_at words.pages number).place) (sym same) some);
-  within = omega (
-    arith,
-    subst (λ (p : Page). p.place ≤ count_by is_placed words.pages) is (are.below number),
-    are.stored,
-  );
-}
-  where
-    is : page_at words.pages number ≡ page
-    is = page_is words.pages number page
-        (subst (λ (words : PagesView). number < length words.pages) (sym same) there) page_found
-
-pub is_stored : (words was : PagesView) (pages_capacity store_capacity number : ℕ) (page : Page)
-    → ArePages words pages_capacity store_capacity → words ≡ was → number < length was.pages
-    → page ≡ get_or words.pages number page → page.written ≡ true → IsStored words page
-is_stored words was pages_capacity store_capacity number page are same there page_found written =
-    stored_at words was pages_capacity store_capacity number page are same there page_found
-    (subst (λ (words : PagesView). 0 < (page_at words.pages number).place) same
-    (are.placed number (ap (λ (p : Page). p.written) is ∙ written)))
-  where
-    is : page_at words.pages number ≡ page
-    is = page_is words.pages number page
-        (subst (λ (words : PagesView). number < length words.pages) (sym same) there) page_found
-
 -- A page that was cleared may be zeroed and marked as written.
 pub renewed : (words was : PagesView) (pages_capacity store_capacity number base : ℕ) (page : Page) (store : List ℕ)
     → ArePages words pages_capacity store_capacity → words ≡ was → number < length was.pages

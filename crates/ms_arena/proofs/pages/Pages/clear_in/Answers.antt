@@ -1,22 +1,6 @@
 use Rattle.std.proofs.Common.{arith}
-use Rattle.ms_arena.proofs.PagesLemmas.{is_stored, part_leaves, was_written}
+use Rattle.ms_arena.proofs.PagesLemmas.{part_leaves, was_written}
 use Rattle.ms_arena.proofs.pages.Pages.clear_in.Goals as goal
-
-pub base_of-base-requires-clause-placed : goal.base_of-base-requires-clause-placed
-base_of-base-requires-clause-placed c =
-    (is_stored _ c.args.self.now _ _ c.args.number c.index-page.result.now c.self.invariant c.self.view_is
-    c.requires.there c.index-page.ensures (was_written c.index-page.result.now.written c.if-not-page.false)).placed
-
-pub wipe-requires-clause-order : goal.wipe-requires-clause-order
-wipe-requires-clause-order c =
-    omega (arith, c.saturating_sub-first.ensures, c.min-last.ensures, c.requires.order, c.requires.from)
-
-pub wipe-requires-clause-within : goal.wipe-requires-clause-within
-wipe-requires-clause-within c =
-    let stored =
-    is_stored _ c.args.self.now _ _ c.args.number c.index-page.result.now c.self.invariant c.self.view_is
-    c.requires.there c.index-page.ensures (was_written c.index-page.result.now.written c.if-not-page.false) in
-    omega (arith, stored.placed, stored.within, c.base_of-base.ensures, c.min-last.ensures)
 
 pub returns-else-first-eq0-clause-others : goal.returns-else-first-eq0-clause-others
 returns-else-first-eq0-clause-others c = λ at other.
