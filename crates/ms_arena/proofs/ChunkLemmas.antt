@@ -121,6 +121,12 @@ one_place (x ∷ chunks) (suc i) (suc j) c d apart here there same =
     (and_parts (not (meets_any (words_of x) (map words_of chunks))) (are_apart (map words_of chunks)) apart).1 here
     there same)
 
+-- Where a chunk is current, there is a last place.
+pub last_there : (chunks : List Chunk) (chunk : Chunk) → slice_get chunks (length chunks - 1) ≡ Some chunk
+    → 0 < length chunks
+last_there [] chunk found = absurd (cc)
+last_there (first ∷ more) chunk found = omega arith
+
 -- The account has a chunk that starts where one of its chunks does.
 pub has_its_start : (chunks : List Chunk) (place : ℕ) (chunk : Chunk) → slice_get chunks place ≡ Some chunk
     → has_chunk_at chunks chunk.start ≡ true

@@ -35,7 +35,7 @@ use ms_pool::Account;
 use owners::Owners;
 use places::Places;
 use spares::Spares;
-use std::alloc::Global;
+use std::alloc::{AllocError, Global};
 use std::marker::Model;
 pub use walks::{Iter, Values};
 
@@ -109,16 +109,22 @@ impl Loaders {
             Ok(boxed) => boxed,
             Err(accounts) => return Err(accounts),
         };
-        if self.owners.reserve().is_err() {
-            return Err(boxed.into_accounts());
-        }
-        if self.spares.reserve(self.count + 1).is_err() {
+        if self.make_room().is_err() {
             return Err(boxed.into_accounts());
         }
         match self.stand(owner, name, boxed) {
             Ok(()) => Ok(()),
             Err(boxed) => Err(boxed.into_accounts()),
         }
+    }
+
+    /// Makes room for what is noted of one more loader, and for its room once it goes; the loaders stay.
+    /// Takes memory.
+    fn make_room(&mut self) -> Result<(), AllocError>
+        ensures { self.new ≡ self.old }
+    {
+        self.owners.reserve()?;
+        self.spares.reserve(self.count + 1)
     }
 
     /// Puts a loader that is boxed with its name at that name, which is not used, and notes the name by its first
@@ -187,22 +193,34 @@ impl Loaders {
         if self.contains(name) {
             return Err((Refusal::LoaderExists, loader));
         }
+        match self.add(name, loader) {
+            Ok(()) => Ok(()),
+            Err(loader) => Err((Refusal::OutOfMemory, loader)),
+        }
+    }
+
+    /// Adds a loader under a name that is not used; or hands it back where memory is wanting, and then nothing
+    /// changes. Takes memory.
+    #[inline(always)]
+    fn add(&mut self, name: u16, loader: Loader) -> Result<(), Loader>
+        requires unused { named self.old name ≡ None }
+        ensures added { OnOk result (self.new ≡ with_new self.old name loader) }
+        ensures back { IfErr result (λ back. back ≡ loader) }
+        ensures unchanged { OnErr result (self.new ≡ self.old) }
+    {
+        if self.make_room().is_err() {
+            return Err(loader);
+        }
         let owner = first_owner(&loader);
-        if self.owners.reserve().is_err() {
-            return Err((Refusal::OutOfMemory, loader));
-        }
-        if self.spares.reserve(self.count + 1).is_err() {
-            return Err((Refusal::OutOfMemory, loader));
-        }
         let boxed = match Boxed::new(self.alloc, name, loader) {
             Ok(boxed) => boxed,
-            Err(loader) => return Err((Refusal::OutOfMemory, loader)),
+            Err(loader) => return Err(loader),
         };
         match self.stand(owner, name, boxed) {
             Ok(()) => Ok(()),
             Err(boxed) => {
                 let (_, loader) = boxed.into_named();
-                Err((Refusal::OutOfMemory, loader))
+                Err(loader)
             }
         }
     }

@@ -110,6 +110,21 @@ pub fits_so_far : (space : Space) (sums : InUse) (arena : ArenaTotals) (name : �
 fits_so_far space sums arena name loader left all so_far its few =
     omega (arith, so_far.used, sum_by-cons (used_in space) loader (values_of left), its.used, few.words space)
 
+-- So the next loader's arena has few chunks, and few words in use.
+pub record IsFew (arena : ArenaTotals) : Type 0 where
+  pub chunks : arena.chunks < 2 ^ 31
+  pub used : arena.used < 2 ^ 63
+
+pub is_few : (space : Space) (sums : InUse) (arena : ArenaTotals) (name : ℕ) (loader : LoaderState)
+    (left all : List (ℕ × LoaderState)) → Leads space sums ((name, loader) ∷ left) all → AreSumsIn space arena loader
+    → AreFew all → IsFew arena
+is_few space sums arena name loader left all so_far its few =
+    let chunks = sum_by-cons (chunks_in space) loader (values_of left) in
+    let used = sum_by-cons (used_in space) loader (values_of left) in record {
+      chunks = omega (arith, so_far.chunks, chunks, its.chunks, few.chunks space);
+      used = omega (arith, so_far.used, used, its.used, few.words space);
+    }
+
 -- So are the rows.
 abbrev pub RowsLead : List Row → List (ℕ × LoaderState) → List (ℕ × LoaderState) → Type 0
 RowsLead rows left all = map row_in rows ++ map row_of left ≡ map row_of all

@@ -60,11 +60,11 @@ impl Boxed {
         ensures sound { IsSoundView (new_loader account class_account kind) }
         ensures back { IfErr result (AreAccountsOf (new_loader account class_account kind)) }
     {
-        let loader = Loader::new(alloc, account, class_account, kind);
-        match Box::new(alloc, (name, loader)) {
-            Ok(named) => Ok(Boxed { named }),
-            Err(failed) => Err(accounts_of(failed.value)),
-        }
+        into_box(
+            alloc,
+            name,
+            Loader::new(alloc, account, class_account, kind),
+        )
     }
 
     /// Makes a loader in a box as `made` does, in the memory that another loader had. Takes memory for the box.
@@ -84,11 +84,11 @@ impl Boxed {
         ensures sound { IsSoundView (new_loader account class_account kind) }
         ensures back { IfErr result (AreAccountsOf (new_loader account class_account kind)) }
     {
-        let loader = Loader::over(room, account, class_account, kind);
-        match Box::new(alloc, (name, loader)) {
-            Ok(named) => Ok(Boxed { named }),
-            Err(failed) => Err(accounts_of(failed.value)),
-        }
+        into_box(
+            alloc,
+            name,
+            Loader::over(room, account, class_account, kind),
+        )
     }
 
     /// Takes the loader apart, as `Loader::into_parts` does.
@@ -135,6 +135,18 @@ impl Boxed {
         ensures value { result.now ≡ self.old.1 }
     {
         &mut self.named.1
+    }
+}
+
+/// Puts a new loader into a box with its name, or gives its accounts back where memory is wanting.
+#[inline(always)]
+fn into_box(alloc: Global, name: u16, loader: Loader) -> Result<Boxed, (Account, Account)>
+    ensures boxed { IfOk result (λ boxed. boxed ≡ (name, loader)) }
+    ensures back { IfErr result (AreAccountsOf loader) }
+{
+    match Box::new(alloc, (name, loader)) {
+        Ok(named) => Ok(Boxed { named }),
+        Err(failed) => Err(accounts_of(failed.value)),
     }
 }
 

@@ -17,7 +17,7 @@ use ms_base::{Refusal, Reply, Space, granule};
 use ms_pool::Account;
 
 /// A run of granules, by their numbers over both spaces; none where nothing became committed.
-#[derive(Clone, Copy, Debug, PartialEq, Eq)]
+#[derive(Clone, Copy)]
 pub struct GranuleRun {
     /// The number of the first one.
     pub first: u64,
@@ -28,7 +28,7 @@ pub struct GranuleRun {
 }
 
 /// A block that was allocated, and what became committed for it.
-#[derive(Clone, Copy, Debug, PartialEq, Eq)]
+#[derive(Clone, Copy)]
 pub struct Allocation {
     /// The word where the block starts.
     pub start: u64,

@@ -3,7 +3,7 @@ use Rattle.ms_base.specs.declared.kind.Kind.{Kind}
 use Rattle.ms_base.specs.declared.kind.Space.TheVariants.{NonClass, Class}
 use Rattle.ms_loaders.specs.System.{states_of}
 use Rattle.ms_loaders.specs.Collecting.{row_made}
-use Rattle.ms_loaders.proofs.sums.CollectLemmas.{few_so_far, fits_so_far, leads_on, row_is, rows_lead_on}
+use Rattle.ms_loaders.proofs.sums.CollectLemmas.{few_so_far, fits_so_far, is_few, leads_on, row_is, rows_lead_on}
 use Rattle.ms_loaders.proofs.collecting.gather.Goals as goal
 
 pub with-space-requires : goal.with-space-requires
@@ -22,6 +22,17 @@ with-class_space-requires c =
     record {
       few = few_so_far Class _ _ _ _ left _ so_far c.totals.ensures.class_sums c.requires.few;
       fits = fits_so_far Class _ _ _ _ left _ so_far c.totals.ensures.class_sums c.requires.few;
+    }
+
+pub loader_row-requires : goal.loader_row-requires
+loader_row-requires c =
+    let so_far = rw c.in-Some.ensures.steps at c.loop-name.invariant in
+    let left = states_of c.next.new.self in
+    let its = is_few NonClass _ _ _ _ left _ so_far.space c.totals.ensures.sums c.requires.few in
+    let theirs = is_few Class _ _ _ _ left _ so_far.class_space c.totals.ensures.class_sums c.requires.few in record {
+      few = omega (arith, its.chunks, theirs.chunks);
+      small = omega (arith, c.totals.ensures.small);
+      fits = omega (arith, its.used, theirs.used);
     }
 
 pub loop-name-preserved : goal.loop-name-preserved

@@ -1,6 +1,7 @@
-use Rattle.std.proofs.Common.{arith, ℕ, List, refl, sym, ap, replicate, ◌∙◌}
+use Rattle.std.proofs.Common.{arith, ℕ, List, refl, sym, ap, replicate, subst, ◌∙◌}
 use Rattle.ms_base.specs.Names.{named}
-use Rattle.ms_arena.specs.Arena.{ArenaView}
+use Rattle.ms_arena.specs.Arena.{ArenaView, account_of}
+use Rattle.ms_arena.specs.Books.{BooksView, account_in}
 use Rattle.ms_arena.proofs.ArenaLemmas.{Settles, settles}
 use Rattle.ms_arena.proofs.arena.Arena.alloc.Given.{Over}
 use Rattle.ms_arena.proofs.arena.Arena.alloc.Goals as goal
@@ -16,6 +17,28 @@ settled g c =
     c.self.invariant c.in_ok-made_room.ensures.books c.in_ok-made_room.ensures.blocks
     c.in_ok-start.ensures.looked.leaves.awaits refl c.account.ensures.chunks
     (omega (arith, c.in_ok-made_room.ensures.room, c.in_ok-start.ensures.looked.leaves.room))
+
+pub start_of-requires-clause-may : goal.start_of-requires-clause-may
+start_of-requires-clause-may g c =
+    let serves = g.S.ChunkSource.serves c.args.source.now in let made = c.in_ok-made_room.ensures in record {
+      served = subst (λ (books : BooksView). serves (account_in books)) (sym made.books)
+          (subst (λ (arena : ArenaView). serves (account_of arena)) (sym c.self.view_is) c.requires);
+      may = record {
+        some = c.in_ok-n.ensures.some;
+        fits = c.in_ok-n.ensures.fits;
+        room = omega (arith, made.room);
+        places = made.places;
+      };
+    }
+
+pub start_of-requires-clause-ordered : goal.start_of-requires-clause-ordered
+start_of-requires-clause-ordered g c = c.in_ok-made_room.ensures.ordered
+
+pub insert-requires-clause-some : goal.insert-requires-clause-some
+insert-requires-clause-some g c = omega (arith, c.in_ok-n.ensures.some)
+
+pub insert-requires-clause-room : goal.insert-requires-clause-room
+insert-requires-clause-room g c = c.in_ok-made_room.ensures.row
 
 pub insert-requires-clause-other : goal.insert-requires-clause-other
 insert-requires-clause-other g c =

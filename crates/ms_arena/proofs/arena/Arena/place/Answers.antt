@@ -13,6 +13,12 @@ settled c =
     refl c.account.ensures.chunks
     (omega (arith, c.in_ok-made_room.ensures.room, c.in-Some.ensures.room))
 
+pub insert-requires-clause-some : goal.insert-requires-clause-some
+insert-requires-clause-some c = omega (arith, c.in_ok-n.ensures.some)
+
+pub insert-requires-clause-room : goal.insert-requires-clause-room
+insert-requires-clause-room c = c.in_ok-made_room.ensures.row
+
 pub insert-requires-clause-other : goal.insert-requires-clause-other
 insert-requires-clause-other c =
     (settled (goal.at.insert-requires-clause-other c).After-account).other

@@ -1,10 +1,11 @@
 use Rattle.std.proofs.Common.{Ok, ◌≡◌, ◌≤◌, ◌+◌, ◌-◌, ◌∙◌, refl, ap, arith, subst, sym, ℕ}
+use Rattle.std.specs.Prelude.{slice_index}
 use Rattle.ms_base.specs.Place.{current_top, with_top}
 use Rattle.ms_pool.specs.Lending.{reaching}
 use Rattle.ms_arena.specs.Alloc.{with_current}
 use Rattle.ms_base.specs.Good.{IsSound}
 use Rattle.ms_arena.specs.Books.{BooksView, account_in}
-use Rattle.ms_arena.proofs.ChunkLemmas.{has_its_start}
+use Rattle.ms_arena.proofs.ChunkLemmas.{has_its_start, last_there}
 use Rattle.ms_arena.proofs.BookLemmas.{GrowsCurrent, books_small, current_in, grows_current, grown_awaits, books_grown}
 use Rattle.ms_arena.proofs.BookLemmas.{grown_view}
 use Rattle.ms_arena.proofs.books.Books.grow.Given.{Over}
@@ -27,6 +28,22 @@ pub grow-requires-clause-held : goal.grow-requires-clause-held
 grow-requires-clause-held g c =
     has_its_start c.self.inside.account.chunks _ c.args.chunk
     (current_in _ _ c.args.chunk c.self.view_is c.requires.may.current_is)
+
+pub raise-requires-clause-within : goal.raise-requires-clause-within
+raise-requires-clause-within g c =
+    let there = last_there c.self.inside.account.chunks c.args.chunk
+    (current_in _ _ c.args.chunk c.self.view_is c.requires.may.current_is) in
+    omega (arith, there, c.self.invariant.each, c.held.ensures.count)
+
+pub raise-requires-clause-higher : goal.raise-requires-clause-higher
+raise-requires-clause-higher g c =
+    let more =
+    subst (λ (books : BooksView). current_top books.state + 2 ≤ c.args.total)
+    (sym c.self.view_is) c.requires.may.more in
+    omega (arith, more, ap (λ (h : ℕ). slice_index c.self.inside.tops.items (h - 1)) c.held.ensures.count)
+
+pub raise-requires-clause-summed : goal.raise-requires-clause-summed
+raise-requires-clause-summed g c = c.self.invariant.used
 
 pub raise-requires-clause-fits : goal.raise-requires-clause-fits
 raise-requires-clause-fits g c = omega (arith, books_small _ _ _ c.self.invariant, c.requires.may.small)

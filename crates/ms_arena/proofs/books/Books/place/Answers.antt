@@ -1,9 +1,11 @@
 use Rattle.std.proofs.Common.{◌+◌, ◌-◌, ◌∙◌, ap, arith, subst, sym, ℕ}
+use Rattle.std.specs.Prelude.{slice_index}
 use Rattle.ms_base.specs.Place.{tops_with}
 use Rattle.ms_base.specs.Good.{IsSound}
 use Rattle.ms_arena.specs.Books.{BooksView, Awaits}
 use Rattle.ms_arena.proofs.BookLemmas.{books_small, free_awaits, books_placed_free, top_awaits, books_placed_at_top}
 use Rattle.ms_arena.proofs.BookLemmas.{same_books, same_sound}
+use Rattle.ms_arena.proofs.ChunkLemmas.{last_there}
 use Rattle.ms_arena.proofs.books.Books.place.Goals as goal
 
 pub invariant_of-self : goal.invariant_of-self
@@ -15,6 +17,19 @@ returns-in-Some-clause-awaits c = λ live sound.
     free_awaits _ _ _ c.args.n c.in-Some.start c.place_free.new.kept.kept c.self.invariant c.in-Some.ensures.placed
     c.requires.some
     live (subst (λ (books : BooksView). IsSound books.state live) (sym c.self.view_is) sound)
+
+pub raise-requires-clause-within : goal.raise-requires-clause-within
+raise-requires-clause-within c =
+    let there = last_there c.self.inside.account.chunks c.in_ok-chunk.chunk (sym c.in_ok-chunk.ensures.chunk) in
+    omega (arith, there, c.self.invariant.each, c.held.ensures.count)
+
+pub raise-requires-clause-higher : goal.raise-requires-clause-higher
+raise-requires-clause-higher c =
+    let last = ap (λ (h : ℕ). slice_index c.self.inside.tops.items (h - 1)) c.held.ensures.count in
+    omega (arith, c.in_ok-chunk.ensures.top, last)
+
+pub raise-requires-clause-summed : goal.raise-requires-clause-summed
+raise-requires-clause-summed c = c.self.invariant.used
 
 pub raise-requires-clause-fits : goal.raise-requires-clause-fits
 raise-requires-clause-fits c =
