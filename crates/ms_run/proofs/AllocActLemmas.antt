@@ -57,6 +57,13 @@ made_weaker old new account whole other weaker made = record {
   are_so = asked_weaker account whole other weaker made.made made.are_so;
 }
 
+-- What leaves the seat as it was is no event.
+made_still : (old new : SeatState) (account : AccountState) (whole : Ledger → Ledger → Type 0) → new ≡ old
+    → ((pool : Ledger) → whole pool pool) → HasMade old new (AskedBy account whole)
+made_still old new account whole same so =
+    subst (λ (s : SeatState). HasMade old s (AskedBy account whole)) (sym same)
+    (made_none old (AskedBy account whole) so)
+
 module _ (policy : Policy) (was : ArenaView) (n : ℕ) (answer : Result Block Refusal) (is : ArenaView)
     (after : SeatState) where
   -- The events of a relation that the arena's call is.
@@ -177,57 +184,57 @@ module _ (policy : Policy) (was : ArenaView) (n : ℕ) (answer : Result Block Re
       → ServesBy before.knows (account_of was)
       → MadeBy (WholeServes o) before
   served (Some place) before its same serves =
-      subst (λ (s : SeatState). HasMade before s (AskedBy (account_of was) (WholeServes (Some place)))) (sym its.2)
-      (made_none before (AskedBy (account_of was) (WholeServes (Some place))) (λ pool. (its.0, its.1, refl)))
+      made_still before after (account_of was) (WholeServes (Some place)) its.2 (λ pool. (its.0, its.1, refl))
   served None before its same serves =
       asked (current was.books) (asks_growth was.kind was.space was.books (current was.books) n) before its same serves
+
+-- An allocation in an arena, and of a block, as one event sees it.
+abbrev ArenaAsks : ArenaView → ℕ → Result Block Refusal → ArenaView → Ledger → Ledger → Type 0
+ArenaAsks was words answer is pool later = Allocates GrewSeen Took pool.limits.policy was words pool answer is later
+
+abbrev BlockAsks : Space → LoaderView → LoaderView → ℕ → ℕ → Result Block Refusal → Ledger → Ledger → Type 0
+BlockAsks space was is name words answer pool later =
+    AllocatesBlock GrewSeen Took pool.limits.policy space was name words pool answer is later
 
 arena_made : (policy : Policy) (was : ArenaView) (words : ℕ) (before : SeatState) (answer : Result Block Refusal)
     (is : ArenaView) (after : SeatState)
     → Allocates GrewOver TookOver policy was words before answer is after → policy ≡ before.knows.limits.policy
     → ServesBy before.knows (account_of was)
-    → HasMade before after
-    (AskedBy (account_of was) (λ pool later. Allocates GrewSeen Took pool.limits.policy was words pool answer is later))
+    → HasMade before after (AskedBy (account_of was) (ArenaAsks was words answer is))
 arena_made policy was words before answer is after (inl refused) same serves =
-    subst (λ (s : SeatState). HasMade before s
-    (AskedBy (account_of was) (λ pool later. Allocates GrewSeen Took pool.limits.policy was words pool answer is later)))
-    (sym refused.source)
-    (made_none before (AskedBy (account_of was) (λ pool later. Allocates GrewSeen Took pool.limits.policy was words pool answer is later))
+    made_still before after (account_of was) (ArenaAsks was words answer is) refused.source
     (λ pool. inl (record {
       refusal = refused.refusal;
       answer_is = refused.answer_is;
       cause = refused.cause;
       arena = refused.arena;
       source = refl;
-    })))
+    }))
 arena_made policy was words before answer is after (inr its) same serves =
     made_weaker before after (account_of was)
-    (λ pool later. FindsPlace GrewSeen Took pool.limits.policy was (block_words words) (placed was.books (block_words words)) pool answer is later)
-    (λ pool later. Allocates GrewSeen Took pool.limits.policy was words pool answer is later) (λ pool later whole. inr (its.0, whole))
-    (served policy was (block_words words) answer is after (placed was.books (block_words words)) before its.1 same serves)
+    (λ pool later. FindsPlace GrewSeen Took pool.limits.policy was (block_words words)
+    (placed was.books (block_words words)) pool answer is later)
+    (ArenaAsks was words answer is) (λ pool later whole. inr (its.0, whole))
+    (served policy was (block_words words) answer is after (placed was.books (block_words words)) before its.1 same
+    serves)
 
 block_asked : (space : Space) (policy : Policy) (was is : LoaderView) (name words : ℕ) (old new : SeatState)
     (answer : Result Block Refusal)
     → AllocatesBlock GrewOver TookOver policy space was name words old answer is new
     → policy ≡ old.knows.limits.policy → ServesBy old.knows (account_in space was)
-    → HasMade old new (AskedBy (account_in space was)
-    (λ pool later. AllocatesBlock GrewSeen Took pool.limits.policy space was name words pool answer is later))
+    → HasMade old new (AskedBy (account_in space was) (BlockAsks space was is name words answer))
 block_asked space policy was is name words old new answer (inl refused) same serves =
-    subst (λ (s : SeatState). HasMade old s (AskedBy (account_in space was)
-    (λ pool later. AllocatesBlock GrewSeen Took pool.limits.policy space was name words pool answer is later))) (sym refused.source)
-    (made_none old (AskedBy (account_in space was)
-    (λ pool later. AllocatesBlock GrewSeen Took pool.limits.policy space was name words pool answer is later))
+    made_still old new (account_in space was) (BlockAsks space was is name words answer) refused.source
     (λ pool. inl (record {
       refusal = refused.refusal;
       answer_is = refused.answer_is;
       cause = refused.cause;
       loader = refused.loader;
       source = refl;
-    })))
+    }))
 block_asked space policy was is name words old new answer (inr asks) same serves =
-    made_weaker old new (account_in space was)
-    (λ pool later. Allocates GrewSeen Took pool.limits.policy asks.was words pool answer asks.is later)
-    (λ pool later. AllocatesBlock GrewSeen Took pool.limits.policy space was name words pool answer is later)
+    made_weaker old new (account_in space was) (ArenaAsks asks.was words answer asks.is)
+    (BlockAsks space was is name words answer)
     (λ pool later whole. inr (record {
       unused = asks.unused;
       was = asks.was;
@@ -236,8 +243,8 @@ block_asked space policy was is name words old new answer (inr asks) same serves
       allocates = whole;
       follows = asks.follows;
     }))
-    (subst (λ (account : AccountState). HasMade old new (AskedBy account
-    (λ pool later. Allocates GrewSeen Took pool.limits.policy asks.was words pool answer asks.is later))) account_is
+    (subst (λ (account : AccountState). HasMade old new (AskedBy account (ArenaAsks asks.was words answer asks.is)))
+    account_is
     (arena_made policy asks.was words old answer asks.is new asks.allocates same
     (subst (ServesBy old.knows) (sym account_is) serves)))
   where
@@ -261,8 +268,7 @@ pub block_made : (space : Space) (policy : Policy) (was is : LoaderView) (name w
     → AllocatesBlock GrewOver TookOver policy space was name words old answer is new
     → policy ≡ old.knows.limits.policy → ServesBy old.knows (account_in space was) → HasMade old new (Asks space was is name words (start_of answer))
 block_made space policy was is name words old new answer allocates same serves =
-    let made = made_weaker old new (account_in space was)
-    (λ pool later. AllocatesBlock GrewSeen Took pool.limits.policy space was name words pool answer is later)
+    let made = made_weaker old new (account_in space was) (BlockAsks space was is name words answer)
     (λ pool later. IsAllocation space was is name words (start_of answer) pool later)
     (λ pool later whole. record { made = answer; answer_is = refl; allocates = whole })
     (block_asked space policy was is name words old new answer allocates same serves) in

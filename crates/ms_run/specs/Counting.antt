@@ -1,5 +1,5 @@
 -- The words in use and the peaks, counted on by one worker from step to step.
-use Rattle.std.specs.Prelude.{◌≡◌, ℕ, Bool, true, List, ◌++◌, IsTrue}
+use Rattle.std.specs.Prelude.{◌≡◌, ℕ, Bool, true, List, [], ◌∷◌, ◌++◌, IsTrue}
 use Rattle.ms_base.specs.declared.step.Step.{Step}
 use Rattle.ms_base.specs.declared.step.Step.TheVariants.{Alloc, Calloc, Unload}
 use Rattle.ms_base.specs.Names.{named}
@@ -13,7 +13,7 @@ use Rattle.ms_run.specs.declared.alone.Metered.{Metered}
 use Rattle.ms_run.specs.Course.{Course, passed}
 use Rattle.ms_run.specs.Metering.{used_words_of}
 use Rattle.ms_run.specs.Peaks.{ArePeaksIfKept}
-use Rattle.ms_run.specs.Replay.{Answers, AreKept, is_full}
+use Rattle.ms_run.specs.Replay.{Answers, AreKept, IsEnd, is_full}
 
 -- The words in use of the loader whose tops a step may move, and 0 where it moves none.
 abbrev pub used_around : Step → List (ℕ × LoaderState) → ℕ
@@ -42,3 +42,9 @@ HasAnswered old lines before after new =
     (course : Course) → HasTaken course old
     → (added : List Answer) × (later : Course)
     × (after ≡ before ++ added) × Answers course lines added later × HasTaken later new
+
+-- From each course that a run may have taken, a line that asks no step is answered.
+abbrev pub AddsEnd : Metered → Line → List Answer → List Answer → Type 0
+AddsEnd run line before after =
+    (course : Course) → HasTaken course run
+    → (added : Answer) × (after ≡ before ++ added ∷ []) × IsEnd course line added

@@ -47,6 +47,12 @@ pub record IsSameTurn (old new : TurnState) : Type 0 where
   pub phase : new.phase ≡ old.phase
   pub workers : new.workers ≡ old.workers
 
+-- They are the next worker's.
+pub record IsNextTurn (old new : TurnState) : Type 0 where
+  pub first : new.first ≡ old.first
+  pub phase : new.phase ≡ (old.phase + 1) % old.workers
+  pub workers : new.workers ≡ old.workers
+
 -- In phase 0 the loaders of lines are their workers' by turns.
 abbrev pub AreFirst : List Line → ℕ → List ℕ → Type 0
 AreFirst lines workers first =

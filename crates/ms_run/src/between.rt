@@ -3,8 +3,7 @@
 //! Where the words in use were counted on, a report has them from that count, and else from the
 //! loaders; its sums are the same. It has details and peaks only where it shall be full. Takes
 //! memory for a report and for answers; nothing waits.
-ghost use Rattle.std.specs.Prelude.{◌≡◌, ◌+◌, ◌∷◌, ◌++◌, [], IfOk, IfSome, OnOk, None};
-ghost use Rattle.ms_loaders.specs.declared.replies.Answer.{Answer as AnswerOf};
+ghost use Rattle.std.specs.Prelude.{◌≡◌, ◌+◌, IfOk, IfSome, OnOk, None};
 ghost use Rattle.std.specs.List.{All};
 ghost use Rattle.std.specs.Option.{is_some};
 ghost use Rattle.ms_loaders.specs.Details.{details_in, details_of};
@@ -12,8 +11,8 @@ ghost use Rattle.ms_base.specs.Totals.{sums_of};
 ghost use Rattle.ms_loaders.specs.Sums.{sums_in};
 ghost use Rattle.ms_trace.specs.Steps.{step_of};
 ghost use Rattle.ms_run.specs.Course.{Course};
-ghost use Rattle.ms_run.specs.Counting.{HasTaken};
-ghost use Rattle.ms_run.specs.Replay.{AreKept, AreOf, HasDetail, IsDetailed, IsEnd, Reports};
+ghost use Rattle.ms_run.specs.Counting.{AddsEnd, HasTaken};
+ghost use Rattle.ms_run.specs.Replay.{AreKept, AreOf, HasDetail, IsDetailed, Reports};
 ghost use Rattle.ms_run.specs.Replay.{is_full};
 ghost use Rattle.ms_run.specs.Metering.{used_words_of};
 
@@ -36,9 +35,8 @@ pub fn answer_between(
     requires no_step { step_of line.now.command ≡ None }
     requires used { IfSome used (λ words. words ≡ used_words_of run.now.system) }
     requires kept { AreKept detail run.now.peaks }
-    ensures answered { OnOk result ((course : Course) → HasTaken course run.now → (added : AnswerOf)
-        × (answers.new.items ≡ answers.old.items ++ added ∷ [])
-        × IsEnd course line.now added) }
+    ensures answered { OnOk result
+        (AddsEnd run.now line.now answers.old.items answers.new.items) }
     ensures detailed { OnOk result (All (IsDetailed detail) answers.old.items
         → All (IsDetailed detail) answers.new.items) }
 {

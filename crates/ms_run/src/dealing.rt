@@ -66,11 +66,35 @@ pub fn deal(
 {
     let count = turn.shares();
     let (shared, seats) = lock(alloc, pool, count)?;
-    let (meter, meters) = UsedMeter::new(alloc, count)?;
-    let shares = deal_to(alloc, turn, lines, &shared, seats, meters, loaders)?;
+    let (shares, meter) = deal_metered(alloc, turn, lines, &shared, seats, loaders)?;
     // That each place is within the shares is learnt here.
     let _ = turn.place(None);
     Ok((shared, shares, meter))
+}
+
+/// Deals lines and loaders to a share for each seat, over a meter of as many seats.
+fn deal_metered(
+    alloc: Global,
+    turn: &Turn,
+    lines: &[Line],
+    shared: &SharedPool,
+    seats: Vec<PoolSeat>,
+    loaders: Loaders,
+) -> Result<(Vec<Share>, UsedMeter), RunFault>
+    requires count { vec_len seats ≡ shares_in turn.now }
+    requires seats { AreSeats shared.now seats.items loaders }
+    requires names { AreNamed loaders }
+    ensures dealt { IfOk result (λ made.
+        AreDealtTo (place_for (place_in turn.now) lines.now) shared.now (vec_len seats) lines.now
+        loaders
+        made.0.items) }
+    ensures meters { IfOk result (λ made. HaveMeters made.1 (vec_len made.0) made.0.items) }
+    ensures used { IfOk result (λ made. used_over made.0.items ≡ used_in loaders) }
+    ensures wanting { IfErr result (λ fault. fault ≡ RunFault.OutOfMemory) }
+{
+    let (meter, meters) = UsedMeter::new(alloc, turn.shares())?;
+    let shares = deal_to(alloc, turn, lines, shared, seats, meters, loaders)?;
+    Ok((shares, meter))
 }
 
 /// Puts the pool behind a lock with so many seats.

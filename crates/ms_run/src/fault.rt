@@ -2,7 +2,7 @@
 use std::alloc::AllocError;
 
 /// Why a replay ends without an answer to each line. This project's choice.
-#[derive(Debug, Drop)]
+#[derive(Drop)]
 pub enum RunFault {
     /// A growth of the run itself was refused.
     OutOfMemory,

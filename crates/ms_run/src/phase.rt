@@ -8,7 +8,7 @@
 //! meter moved as its words in use did. Peaks are raised at the end, or line by line by one worker.
 //! Takes memory; waits for the lock and for threads where two
 //! workers have lines.
-ghost use Rattle.std.specs.Prelude.{◌≡◌, ◌++◌, ℕ, List, IsOk, IfOk, IfErr, vec_len};
+ghost use Rattle.std.specs.Prelude.{◌≡◌, ◌++◌, ℕ, List, IsOk, IfOk, IfErr, map, vec_len};
 ghost use Rattle.std.specs.List.{All};
 ghost use Rattle.ms_base.specs.Good.{IsGood};
 ghost use Rattle.ms_loaders.specs.declared.replies.Answer.{Answer as AnswerOf};
@@ -16,8 +16,9 @@ ghost use Rattle.ms_run.specs.Counting.{HasTaken};
 ghost use Rattle.ms_run.specs.Course.{Course};
 ghost use Rattle.ms_run.specs.Replay.{AreKept, GoesOn, IsDetailed, IsWanting};
 ghost use Rattle.ms_shared.specs.MeterRule.{MeterSeatState};
-ghost use Rattle.ms_run.specs.Shares.{AreSteps};
-ghost use Rattle.ms_run.specs.Metering.{used_words_of, amount_of};
+ghost use Rattle.ms_run.specs.Joined.{IsMadeFrom};
+ghost use Rattle.ms_run.specs.Shares.{AreApart, AreSteps, IsGathered, Place, StandOver};
+ghost use Rattle.ms_run.specs.Metering.{amount_of, meter_of, used_over, used_words_of};
 ghost use Rattle.ms_run.specs.Turn.{worker_in, IsSameTurn, TurnState};
 
 use crate::alone::{Metered, answer_lines};
@@ -27,10 +28,11 @@ use crate::gate::Gate;
 use crate::gathering::{fault_of, gather};
 use crate::merging::merge;
 use crate::peaks::raise;
+use crate::share::Share;
 use crate::turn::Turn;
 use crate::working::work_all;
-use ms_loaders::{Answer, Detail};
-use ms_shared::{MeterSeat, UsedMeter};
+use ms_loaders::{Answer, Detail, System};
+use ms_shared::{MeterSeat, SharedPool, UsedMeter};
 use ms_trace::Line;
 use std::alloc::Global;
 use std::sync::Wait;
@@ -106,8 +108,7 @@ fn run_shares<R: Threads + Wait + Sync, G: Gate + Sync>(
     let (shared, shares, meter) = deal(alloc, turn, lines, pool, loaders)?;
     let shares = work_all(rt, alloc, &shared, &meter, used, gate, shares)?;
     merge(turn, lines, &shares, answers)?;
-    let (system, meters) = gather(alloc, shared, shares)?;
-    let amount = close(meter, meters)?;
+    let (system, amount) = end_shares(alloc, shared, shares, meter)?;
     let used = used.wrapping_add(amount);
     raise(&mut peaks, &system, used);
     Ok(Metered {
@@ -115,6 +116,32 @@ fn run_shares<R: Threads + Wait + Sync, G: Gate + Sync>(
         used,
         peaks,
     })
+}
+
+/// Ends the shares of a phase: the system comes together again, and the meter tells its sum.
+fn end_shares(
+    alloc: Global,
+    shared: SharedPool,
+    shares: Vec<Share>,
+    meter: UsedMeter,
+) -> Result<(System, u64), RunFault>
+    requires stand { StandOver shared (vec_len shares) shares.items }
+    requires apart { (place : Place) × AreApart place shares.items }
+    requires own { All (λ (seat : MeterSeatState). seat.id ≡ meter.id)
+        (map meter_of shares.items) }
+    requires count { meter.seats ≡ vec_len shares }
+    ensures gathered { IfOk result (λ ended. (place : Place) → AreApart place shares.items
+        → IsGathered place shares.items ended.0.loaders) }
+    ensures good { IfOk result (λ ended. IsGood ended.0) }
+    ensures limits { IfOk result (λ ended. ended.0.limits ≡ shared.first.limits) }
+    ensures history { IfOk result (λ ended. IsMadeFrom shared.first shares.items ended.0) }
+    ensures used { IfOk result (λ ended. used_words_of ended.0 ≡ used_over shares.items) }
+    ensures amount { IfOk result (λ ended. ended.1 ≡ amount_of (map meter_of shares.items)) }
+    ensures wanting { IfErr result IsWanting }
+{
+    let (system, meters) = gather(alloc, shared, shares)?;
+    let amount = close(meter, meters)?;
+    Ok((system, amount))
 }
 
 /// Ends the phase's meter, to which all seats are given back, and tells what they sum to.

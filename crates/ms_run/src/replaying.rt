@@ -11,11 +11,14 @@ ghost use Rattle.ms_base.specs.State.{empty_machine, limits_of};
 ghost use Rattle.ms_trace.specs.declared.trace.Line.{Line as LineOf};
 ghost use Rattle.ms_trace.specs.Steps.{step_of};
 ghost use Rattle.std.specs.List.{All};
+ghost use Rattle.ms_run.specs.Counting.{AddsEnd};
 ghost use Rattle.ms_run.specs.Course.{Course, begun};
-ghost use Rattle.ms_run.specs.Replay.{IsReplay, Answers, IsDetailed, IsWanting};
+ghost use Rattle.ms_run.specs.Metering.{used_words_of};
+ghost use Rattle.ms_run.specs.Replay.{IsReplay, Answers, AreKept, IsDetailed, IsWanting};
 ghost use Rattle.ms_run.specs.Shares.{AreSteps};
+ghost use Rattle.ms_run.specs.Turn.{AreFirst, IsNextTurn};
 
-use crate::alone::{answer_all, begin_run};
+use crate::alone::{Metered, answer_all, begin_run};
 use crate::between::answer_between;
 use crate::fault::RunFault;
 use crate::gate::Gate;
@@ -24,7 +27,7 @@ use crate::turn::Turn;
 use ms_base::Settings;
 use ms_loaders::{Answer, Detail, Replies};
 use ms_trace::{Command, Line, Trace};
-use std::alloc::Global;
+use std::alloc::{AllocError, Global};
 use std::sync::Wait;
 use std::thread::Threads;
 
@@ -78,12 +81,12 @@ fn run_phases<R: Threads + Wait + Sync, G: Gate + Sync>(
     ensures wanting { IfErr result IsWanting }
 {
     let mut answers = Vec::with_capacity(alloc, lines.len())?;
-    answer_phases(rt, alloc, gate, settings, detail, lines, &mut answers)?;
+    take_turns(rt, alloc, gate, settings, detail, lines, &mut answers)?;
     Ok(Replies { answers })
 }
 
-/// Answers the lines phase by phase, from a system without loaders on.
-fn answer_phases<R: Threads + Wait + Sync, G: Gate + Sync>(
+/// Answers the lines phase by phase, by turns from the first phase's on.
+fn take_turns<R: Threads + Wait + Sync, G: Gate + Sync>(
     rt: &R,
     alloc: Global,
     gate: &G,
@@ -99,19 +102,63 @@ fn answer_phases<R: Threads + Wait + Sync, G: Gate + Sync>(
     ensures wanting { IfErr result IsWanting }
 {
     let mut turn = Turn::new(alloc, settings, lines)?;
+    answer_phases(rt, alloc, gate, settings, detail, lines, &mut turn, answers)
+}
+
+/// Answers the lines phase by phase, from a system without loaders on.
+fn answer_phases<R: Threads + Wait + Sync, G: Gate + Sync>(
+    rt: &R,
+    alloc: Global,
+    gate: &G,
+    settings: Settings,
+    detail: Detail,
+    lines: &[Line],
+    turn: &mut Turn,
+    answers: &mut Vec<Answer>,
+) -> Result<(), RunFault>
+    requires none { answers.old.items ≡ [] }
+    requires numbered { AreFirst lines.now settings.workers turn.old.first }
+    requires workers { turn.old.workers ≡ settings.workers }
+    requires phase { turn.old.phase ≡ 0 }
+    ensures own { OnOk result (IsReplay (limits_of settings) settings.workers
+        lines.now answers.new.items) }
+    ensures detailed { OnOk result (All (IsDetailed detail) answers.new.items) }
+    ensures wanting { IfErr result IsWanting }
+{
     let mut run = begin_run(alloc, settings, detail)?;
     let mut at = 0;
     while at < lines.len() {
         let count = steps_first(&lines[at..]);
         let steps = &lines[at..at + count];
-        run = run_phase(rt, alloc, gate, &mut turn, detail, steps, run, answers)?;
+        run = run_phase(rt, alloc, gate, turn, detail, steps, run, answers)?;
         at += count;
         if at < lines.len() {
-            answer_between(&run, Some(run.used), detail, &lines[at], answers)?;
+            end_phase(turn, &run, detail, &lines[at], answers)?;
             at += 1;
-            turn.go_on();
         }
     }
+    Ok(())
+}
+
+/// Ends a phase: the line that asks no step is answered, and the next phase's turn comes.
+fn end_phase(
+    turn: &mut Turn,
+    run: &Metered,
+    detail: Detail,
+    line: &Line,
+    answers: &mut Vec<Answer>,
+) -> Result<(), AllocError>
+    requires no_step { step_of line.now.command ≡ None }
+    requires used { run.now.used ≡ used_words_of run.now.system }
+    requires kept { AreKept detail run.now.peaks }
+    ensures answered { OnOk result
+        (AddsEnd run.now line.now answers.old.items answers.new.items) }
+    ensures turn { OnOk result (IsNextTurn turn.old turn.new) }
+    ensures detailed { OnOk result (All (IsDetailed detail) answers.old.items
+        → All (IsDetailed detail) answers.new.items) }
+{
+    answer_between(run, Some(run.used), detail, line, answers)?;
+    turn.go_on();
     Ok(())
 }
 

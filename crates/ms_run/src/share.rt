@@ -4,7 +4,7 @@ use ms_loaders::Loaders;
 use ms_shared::{MeterSeat, PoolSeat};
 
 /// A step, and the number of its line.
-#[derive(Clone, Copy, Debug, PartialEq, Eq)]
+#[derive(Clone, Copy)]
 pub struct Task {
     /// The line's number, from 1 on.
     pub line: u32,

@@ -1,5 +1,5 @@
 -- A refusal follows from what is known of the loader that the request names. For `alone`.
-use Rattle.std.proofs.Common.{◌≡◌, ℕ, true, false, Bool, Option, Some, None}
+use Rattle.std.proofs.Common.{◌≡◌, ℕ, ◌≤◌, true, false, Bool, Option, Some, None}
 use Rattle.std.proofs.Common.{refl, sym, ap, ◌∙◌, subst}
 use Rattle.std.proofs.lemmas.Option.{same_Some}
 use Rattle.ms_base.specs.declared.kind.Kind.{Kind}
@@ -13,11 +13,12 @@ use Rattle.ms_base.specs.declared.refusal.Refusal.{Refusal}
 use Rattle.ms_base.specs.declared.refusal.Refusal.TheVariants.{ZeroWords, TooLarge, CommitLimit, ReserveLimit}
 use Rattle.ms_base.specs.declared.refusal.Refusal.TheVariants.{OutOfRange, OutOfMemory, NoLoader, LoaderExists, NoBlock}
 use Rattle.ms_base.specs.declared.refusal.Refusal.TheVariants.{BlockExists, IdsUsedUp}
+use Rattle.ms_base.specs.Level.{root_words}
 use Rattle.ms_base.specs.Names.{named}
 use Rattle.ms_base.specs.Request.{alloc_in, loader_of}
 use Rattle.ms_base.specs.State.{LoaderState, Machine}
-use Rattle.ms_base.specs.Transition.{HasLoader, Cause, NewCause, AllocCause, BlockCause, WordCause}
-use Rattle.ms_base.specs.Run.Alone.{OwnLoader, OwnReply}
+use Rattle.ms_base.specs.Transition.{HasLoader, LacksBlock, Cause, NewCause, AllocCause, BlockCause, WordCause}
+use Rattle.ms_base.specs.Run.Alone.{OwnLoader, OwnReply, AnswersAlloc, CanAlloc, IsAllocWant}
 use Rattle.ms_run.specs.Own.{own_of, own_in}
 
 -- The reply to a request, by what is known of its loader before and after.
@@ -37,6 +38,24 @@ known was is step refused reply before after p q told = (
       (subst (λ (o : Option OwnLoader). OwnReply before step refused reply o) (sym q) told),
 )
 
+-- An allocating request is answered as the loader's map says, in either space.
+pub alloc_told : (own : OwnLoader) (space : Space) (name block words : ℕ) (reply : Reply) (after : Option OwnLoader)
+    → AnswersAlloc own space block words reply after
+    → OwnReply (Some own) (alloc_in space name block words) false reply after
+alloc_told own NonClass name block words reply after told = told
+alloc_told own Class name block words reply after told = told
+
+alloc_wants : (own : OwnLoader) (space : Space) (name block words : ℕ) (refusal : Refusal) → CanAlloc own block words
+    → IsAllocWant refusal
+    → OwnReply (Some own) (alloc_in space name block words) true (Refused refusal) (Some own)
+alloc_wants own NonClass name block words refusal can want = (can, want, refl)
+alloc_wants own Class name block words refusal can want = (can, want, refl)
+
+alloc_without : (space : Space) (name block words : ℕ)
+    → OwnReply None (alloc_in space name block words) false (Refused NoLoader) None
+alloc_without NonClass name block words = refl
+alloc_without Class name block words = refl
+
 -- A refusal, by its cause.
 module _ (m : Machine) (name : ℕ) where
   abbrev own_now : Option OwnLoader
@@ -45,130 +64,90 @@ module _ (m : Machine) (name : ℕ) where
   abbrev IsOwnRefusal : Step → Refusal → Type 0
   IsOwnRefusal step refusal = IsOwn own_now step (Refused refusal) own_now
 
-  there : (loader : LoaderState) → HasLoader m name loader → own_now ≡ Some (own_as loader)
-  there loader has = ap own_of has
+  -- The loader is there, and stays as it is.
+  there : (step : Step) (refused : Bool) (refusal : Refusal) (loader : LoaderState) → HasLoader m name loader
+      → OwnReply (Some (own_as loader)) step refused (Refused refusal) (Some (own_as loader))
+      → IsOwnRefusal step refusal
+  there step refused refusal loader has told =
+      known own_now own_now step refused (Refused refusal) (Some (own_as loader)) (Some (own_as loader))
+      (ap own_of has) (ap own_of has) told
 
-  none : named m.loaders name ≡ None → own_now ≡ None
-  none lacks = ap own_of lacks
+  -- There is no loader of the name, and none comes.
+  none : (step : Step) (refused : Bool) (refusal : Refusal) → named m.loaders name ≡ None
+      → OwnReply None step refused (Refused refusal) None → IsOwnRefusal step refusal
+  none step refused refusal lacks told =
+      known own_now own_now step refused (Refused refusal) None None (ap own_of lacks) (ap own_of lacks) told
 
   new_refused : (kind : Kind) (refusal : Refusal) → NewCause m name refusal → IsOwnRefusal (New name kind) refusal
-  new_refused kind LoaderExists cause =
-      known own_now own_now (New name kind) false (Refused LoaderExists) (Some (own_as cause.loader))
-      (Some (own_as cause.loader))
-      (there cause.loader cause.has) (there cause.loader cause.has) refl
-  new_refused kind IdsUsedUp cause =
-      known own_now own_now (New name kind) true (Refused IdsUsedUp) None None (none cause.0) (none cause.0)
-      (tt, tt, refl)
-  new_refused kind OutOfMemory cause =
-      known own_now own_now (New name kind) true (Refused OutOfMemory) None None (none cause.0) (none cause.0)
-      (tt, tt, refl)
+  new_refused kind LoaderExists cause = there (New name kind) false LoaderExists cause.loader cause.has refl
+  new_refused kind IdsUsedUp cause = none (New name kind) true IdsUsedUp cause.0 (tt, tt, refl)
+  new_refused kind OutOfMemory cause = none (New name kind) true OutOfMemory cause.0 (tt, tt, refl)
   new_refused kind _ cause = absurd cause
+
+  -- A refusal that the block's name or its words are the cause of.
+  alloc_told_so : (space : Space) (block words : ℕ) (refusal : Refusal) (loader : LoaderState)
+      → HasLoader m name loader
+      → AnswersAlloc (own_as loader) space block words (Refused refusal) (Some (own_as loader))
+      → IsOwnRefusal (alloc_in space name block words) refusal
+  alloc_told_so space block words refusal loader has told =
+      there (alloc_in space name block words) false refusal loader has
+      (alloc_told (own_as loader) space name block words (Refused refusal) (Some (own_as loader)) told)
+
+  -- A refusal for want.
+  alloc_wanting : (space : Space) (block words : ℕ) (refusal : Refusal) (lacks : LacksBlock m name block) → 1 ≤ words
+      → words ≤ root_words → IsAllocWant refusal
+      → IsOwnRefusal (alloc_in space name block words) refusal
+  alloc_wanting space block words refusal lacks some fits want =
+      there (alloc_in space name block words) true refusal lacks.loader lacks.loader_is
+      (alloc_wants (own_as lacks.loader) space name block words refusal (lacks.unused, some, fits) want)
 
   alloc_refused : (space : Space) (block words : ℕ) (refusal : Refusal) → AllocCause m space name block words refusal
       → IsOwnRefusal (alloc_in space name block words) refusal
-  alloc_refused NonClass block words NoLoader cause =
-      known own_now own_now (Alloc name block words) false (Refused NoLoader) None None (none cause) (none cause) refl
-  alloc_refused Class block words NoLoader cause =
-      known own_now own_now (Calloc name block words) false (Refused NoLoader) None None (none cause) (none cause) refl
-  alloc_refused NonClass block words BlockExists cause =
-      let its = there cause.loader cause.has.loader_is in
-      known own_now own_now (Alloc name block words) false (Refused BlockExists) (Some (own_as cause.loader))
-      (Some (own_as cause.loader)) its its (cause.found, cause.has.block_is, refl)
-  alloc_refused Class block words BlockExists cause =
-      let its = there cause.loader cause.has.loader_is in
-      known own_now own_now (Calloc name block words) false (Refused BlockExists) (Some (own_as cause.loader))
-      (Some (own_as cause.loader)) its its (cause.found, cause.has.block_is, refl)
-  alloc_refused NonClass block words ZeroWords cause =
-      let its = there cause.0.loader cause.0.loader_is in
-      known own_now own_now (Alloc name block words) false (Refused ZeroWords) (Some (own_as cause.0.loader))
-      (Some (own_as cause.0.loader)) its its (cause.0.unused, cause.1, refl)
-  alloc_refused Class block words ZeroWords cause =
-      let its = there cause.0.loader cause.0.loader_is in
-      known own_now own_now (Calloc name block words) false (Refused ZeroWords) (Some (own_as cause.0.loader))
-      (Some (own_as cause.0.loader)) its its (cause.0.unused, cause.1, refl)
-  alloc_refused NonClass block words TooLarge cause =
-      let its = there cause.0.loader cause.0.loader_is in
-      known own_now own_now (Alloc name block words) false (Refused TooLarge) (Some (own_as cause.0.loader))
-      (Some (own_as cause.0.loader)) its its (cause.0.unused, cause.1, refl)
-  alloc_refused Class block words TooLarge cause =
-      let its = there cause.0.loader cause.0.loader_is in
-      known own_now own_now (Calloc name block words) false (Refused TooLarge) (Some (own_as cause.0.loader))
-      (Some (own_as cause.0.loader)) its its (cause.0.unused, cause.1, refl)
-  alloc_refused NonClass block words (ReserveLimit nodes limit) cause =
-      let its = there cause.0.lacks.loader cause.0.lacks.loader_is in
-      known own_now own_now (Alloc name block words) true (Refused (ReserveLimit nodes limit))
-      (Some (own_as cause.0.lacks.loader)) (Some (own_as cause.0.lacks.loader)) its its
-      ((cause.0.lacks.unused, cause.0.some, cause.0.fits), tt, refl)
-  alloc_refused Class block words (ReserveLimit nodes limit) cause =
-      let its = there cause.0.lacks.loader cause.0.lacks.loader_is in
-      known own_now own_now (Calloc name block words) true (Refused (ReserveLimit nodes limit))
-      (Some (own_as cause.0.lacks.loader)) (Some (own_as cause.0.lacks.loader)) its its
-      ((cause.0.lacks.unused, cause.0.some, cause.0.fits), tt, refl)
-  alloc_refused NonClass block words (CommitLimit committed limit need) cause =
-      let its = there cause.0.lacks.loader cause.0.lacks.loader_is in
-      known own_now own_now (Alloc name block words) true (Refused (CommitLimit committed limit need))
-      (Some (own_as cause.0.lacks.loader)) (Some (own_as cause.0.lacks.loader)) its its
-      ((cause.0.lacks.unused, cause.0.some, cause.0.fits), tt, refl)
-  alloc_refused Class block words (CommitLimit committed limit need) cause =
-      let its = there cause.0.lacks.loader cause.0.lacks.loader_is in
-      known own_now own_now (Calloc name block words) true (Refused (CommitLimit committed limit need))
-      (Some (own_as cause.0.lacks.loader)) (Some (own_as cause.0.lacks.loader)) its its
-      ((cause.0.lacks.unused, cause.0.some, cause.0.fits), tt, refl)
-  alloc_refused NonClass block words OutOfMemory cause =
-      let its = there cause.lacks.loader cause.lacks.loader_is in
-      known own_now own_now (Alloc name block words) true (Refused OutOfMemory) (Some (own_as cause.lacks.loader))
-      (Some (own_as cause.lacks.loader)) its its
-      ((cause.lacks.unused, cause.some, cause.fits), tt, refl)
-  alloc_refused Class block words OutOfMemory cause =
-      let its = there cause.lacks.loader cause.lacks.loader_is in
-      known own_now own_now (Calloc name block words) true (Refused OutOfMemory) (Some (own_as cause.lacks.loader))
-      (Some (own_as cause.lacks.loader)) its its
-      ((cause.lacks.unused, cause.some, cause.fits), tt, refl)
+  alloc_refused space block words NoLoader cause =
+      none (alloc_in space name block words) false NoLoader cause (alloc_without space name block words)
+  alloc_refused space block words BlockExists cause =
+      alloc_told_so space block words BlockExists cause.loader cause.has.loader_is
+      (cause.found, cause.has.block_is, refl)
+  alloc_refused space block words ZeroWords cause =
+      alloc_told_so space block words ZeroWords cause.0.loader cause.0.loader_is (cause.0.unused, cause.1, refl)
+  alloc_refused space block words TooLarge cause =
+      alloc_told_so space block words TooLarge cause.0.loader cause.0.loader_is (cause.0.unused, cause.1, refl)
+  alloc_refused space block words (ReserveLimit nodes limit) cause =
+      alloc_wanting space block words (ReserveLimit nodes limit) cause.0.lacks cause.0.some cause.0.fits tt
+  alloc_refused space block words (CommitLimit committed limit need) cause =
+      alloc_wanting space block words (CommitLimit committed limit need) cause.0.lacks cause.0.some cause.0.fits tt
+  alloc_refused space block words OutOfMemory cause =
+      alloc_wanting space block words OutOfMemory cause.lacks cause.some cause.fits tt
   alloc_refused space block words _ cause = absurd cause
 
   write_refused : (block index value : ℕ) (refusal : Refusal) → WordCause m name block index refusal
       → IsOwnRefusal (Write name block index value) refusal
   write_refused block index value (OutOfRange words) cause =
-      let its = there cause.loader cause.has.loader_is in
-      known own_now own_now (Write name block index value) false (Refused (OutOfRange words))
-      (Some (own_as cause.loader)) (Some (own_as cause.loader)) its its
+      there (Write name block index value) false (OutOfRange words) cause.loader cause.has.loader_is
       (cause.found, cause.has.block_is, cause.words_are, cause.past, refl)
-  write_refused block index value NoLoader cause =
-      known own_now own_now (Write name block index value) false (Refused NoLoader) None None (none cause)
-      (none cause) refl
+  write_refused block index value NoLoader cause = none (Write name block index value) false NoLoader cause refl
   write_refused block index value NoBlock cause =
-      let its = there cause.loader cause.loader_is in
-      known own_now own_now (Write name block index value) false (Refused NoBlock) (Some (own_as cause.loader))
-      (Some (own_as cause.loader)) its its (cause.unused, refl)
+      there (Write name block index value) false NoBlock cause.loader cause.loader_is (cause.unused, refl)
   write_refused block index value _ cause = absurd cause
 
   read_refused : (block index : ℕ) (refusal : Refusal) → WordCause m name block index refusal
       → IsOwnRefusal (Read name block index) refusal
   read_refused block index (OutOfRange words) cause =
-      let its = there cause.loader cause.has.loader_is in
-      known own_now own_now (Read name block index) false (Refused (OutOfRange words)) (Some (own_as cause.loader))
-      (Some (own_as cause.loader)) its its
+      there (Read name block index) false (OutOfRange words) cause.loader cause.has.loader_is
       (cause.found, cause.has.block_is, cause.words_are, cause.past, refl)
-  read_refused block index NoLoader cause =
-      known own_now own_now (Read name block index) false (Refused NoLoader) None None (none cause) (none cause) refl
+  read_refused block index NoLoader cause = none (Read name block index) false NoLoader cause refl
   read_refused block index NoBlock cause =
-      let its = there cause.loader cause.loader_is in
-      known own_now own_now (Read name block index) false (Refused NoBlock) (Some (own_as cause.loader))
-      (Some (own_as cause.loader)) its its (cause.unused, refl)
+      there (Read name block index) false NoBlock cause.loader cause.loader_is (cause.unused, refl)
   read_refused block index _ cause = absurd cause
 
   free_refused : (block : ℕ) (refusal : Refusal) → BlockCause m name block refusal → IsOwnRefusal (Free name block) refusal
-  free_refused block NoLoader cause =
-      known own_now own_now (Free name block) false (Refused NoLoader) None None (none cause) (none cause) refl
+  free_refused block NoLoader cause = none (Free name block) false NoLoader cause refl
   free_refused block NoBlock cause =
-      let its = there cause.loader cause.loader_is in
-      known own_now own_now (Free name block) false (Refused NoBlock) (Some (own_as cause.loader))
-      (Some (own_as cause.loader)) its its (cause.unused, refl)
+      there (Free name block) false NoBlock cause.loader cause.loader_is (cause.unused, refl)
   free_refused block _ cause = absurd cause
 
   unload_refused : (refusal : Refusal) → Cause m (Unload name) refusal → IsOwnRefusal (Unload name) refusal
-  unload_refused NoLoader cause =
-      known own_now own_now (Unload name) false (Refused NoLoader) None None (none cause) (none cause) refl
+  unload_refused NoLoader cause = none (Unload name) false NoLoader cause refl
   unload_refused _ cause = absurd cause
 
 -- What follows for the loader that a request names.

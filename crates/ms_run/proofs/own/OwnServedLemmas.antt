@@ -16,11 +16,11 @@ use Rattle.ms_base.specs.declared.step.Step.TheVariants.{New, Alloc, Calloc, Wri
 use Rattle.ms_base.specs.declared.step.Reply.{Reply}
 use Rattle.ms_base.specs.declared.step.Reply.TheVariants.{Ok as Done, At, Value}
 use Rattle.ms_base.specs.Interval.{meet, meets_any}
-use Rattle.ms_base.specs.Names.{named, with_changed}
+use Rattle.ms_base.specs.Names.{named, with_changed, with_new}
 use Rattle.ms_base.specs.Request.{alloc_in}
 use Rattle.ms_base.specs.Spaces.{space_at}
 use Rattle.ms_base.specs.Live.{run_of, runs_of, block_words}
-use Rattle.ms_base.specs.State.{LoaderState, Machine, empty_loader}
+use Rattle.ms_base.specs.State.{ArenaState, LoaderState, Machine, empty_loader}
 use Rattle.ms_base.specs.Good.{IsGood}
 use Rattle.ms_base.specs.Transition.{HasLoader}
 use Rattle.ms_base.specs.Transition.{ServesStep, Makes, Allocates, Writes, Reads, Frees, Unloads, with_allocated}
@@ -31,7 +31,7 @@ use Rattle.ms_base.proofs.events.SeenEntryLemmas.{all_values, named_without_same
 use Rattle.ms_base.proofs.machine.GoodLemmas.{loader_is_sound}
 use Rattle.ms_base.proofs.machine.BackedLemmas.{blocks_are_apart}
 use Rattle.ms_run.specs.Own.{own_of, own_in}
-use Rattle.ms_run.proofs.own.OwnRefusedLemmas.{AnswersOwn, IsOwn, at_name, known, own_as}
+use Rattle.ms_run.proofs.own.OwnRefusedLemmas.{AnswersOwn, IsOwn, at_name, known, own_as, alloc_told}
 
 -- A run that meets none of the blocks.
 clear_of_all : (run : ℕ × ℕ) (blocks : List LiveBlock)
@@ -76,6 +76,13 @@ new_is_clear space old new name block words start was good made =
         (record { loader_is = has; block_is = named_new_other made.before.blocks block fresh other differ ∙ is })
         (λ e. differ e.1)
 
+-- An allocation's other arena is nothing that a loader's lines say.
+own_allocated : (space : Space) (loader : LoaderState) (arena : ArenaState) (block : ℕ) (fresh : LiveBlock)
+    → own_as (with_allocated space loader arena block fresh)
+    ≡ record (own_as loader) { blocks = with_new loader.blocks block fresh }
+own_allocated NonClass loader arena block fresh = refl
+own_allocated Class loader arena block fresh = refl
+
 -- What is served, by the request.
 module _ (old new : Machine) (name : ℕ) where
   abbrev IsServed : Step → Reply → Type 0
@@ -98,26 +105,17 @@ module _ (old new : Machine) (name : ℕ) where
   allocated_own : IsGood old → IsGood new → (space : Space) (block words start : ℕ)
       → Allocates old space name block words start new
       → IsServed (alloc_in space name block words) (At start)
-  allocated_own was good NonClass block words start made =
-      let after = with_allocated NonClass made.before made.arena block (zeroed start (block_words words)) in
-      known (own_in old.loaders name) (own_in new.loaders name) (Alloc name block words) false (At start)
+  allocated_own was good space block words start made =
+      let after = with_allocated space made.before made.arena block (zeroed start (block_words words)) in
+      known (own_in old.loaders name) (own_in new.loaders name) (alloc_in space name block words) false (At start)
       (Some (own_as made.before)) (Some (own_as after)) (ap own_of made.found)
-      (changed made.before after made.found (ap (λ (m : Machine). m.loaders) made.after)) (
+      (changed made.before after made.found (ap (λ (m : Machine). m.loaders) made.after))
+      (alloc_told (own_as made.before) space name block words (At start) (Some (own_as after)) (
         (made.unused, made.some, made.fits),
         made.inside,
-        new_is_clear NonClass old new name block words start was good made,
-        refl,
-      )
-  allocated_own was good Class block words start made =
-      let after = with_allocated Class made.before made.arena block (zeroed start (block_words words)) in
-      known (own_in old.loaders name) (own_in new.loaders name) (Calloc name block words) false (At start)
-      (Some (own_as made.before)) (Some (own_as after)) (ap own_of made.found)
-      (changed made.before after made.found (ap (λ (m : Machine). m.loaders) made.after)) (
-        (made.unused, made.some, made.fits),
-        made.inside,
-        new_is_clear Class old new name block words start was good made,
-        refl,
-      )
+        new_is_clear space old new name block words start was good made,
+        ap Some (own_allocated space made.before made.arena block (zeroed start (block_words words))),
+      ))
 
   written_own : (block index value : ℕ) → Writes old name block index value new
       → IsServed (Write name block index value) Done

@@ -17,13 +17,13 @@ use Rattle.ms_trace.specs.declared.trace.Command.TheVariants.{Step as Asks, Sync
 use Rattle.ms_trace.specs.declared.trace.Line.{Line}
 use Rattle.ms_trace.specs.Steps.{step_of}
 use Rattle.ms_loaders.specs.declared.replies.Answer.{Answer}
-use Rattle.ms_run.specs.Counting.{HasTaken}
+use Rattle.ms_run.specs.Counting.{AddsEnd, HasTaken}
 use Rattle.ms_run.specs.Course.{Course, begun}
 use Rattle.ms_run.specs.Metering.{used_words_of}
-use Rattle.ms_run.specs.Replay.{Answers, IsEnd, GoesOn, IsReplay, Replays, starts}
+use Rattle.ms_run.specs.Replay.{Answers, GoesOn, IsReplay, Replays, starts}
 use Rattle.ms_run.specs.Replay.{ends}
 use Rattle.ms_run.specs.Shares.{AreSteps}
-use Rattle.ms_run.specs.Turn.{TurnState, worker_in, worker_by, AreFirst, IsSameTurn}
+use Rattle.ms_run.specs.Turn.{TurnState, worker_in, worker_by, AreFirst, IsNextTurn, IsSameTurn}
 use Rattle.ms_run.specs.Workers.{IsByTurn}
 use Rattle.ms_run.specs.declared.alone.Metered.{Metered}
 use Rattle.ms_run.proofs.TurnLemmas.{by_turn, next_worker}
@@ -146,18 +146,7 @@ phases_more workers first old new old_turn turn lines at count answers whole so_
       phase_is = same_turn.phase ∙ so_far.phase_is;
     }
 
--- And the line that ends it.
-abbrev pub AddsEnd : Metered → Line → List Answer → List Answer → Type 0
-AddsEnd run line answers whole =
-    (course : Course) → HasTaken course run
-    → (added : Answer) × (whole ≡ answers ++ added ∷ []) × IsEnd course line added
-
--- The turn goes on.
-pub record IsNextTurn (old new : TurnState) : Type 0 where
-  pub first : new.first ≡ old.first
-  pub phase : new.phase ≡ (old.phase + 1) % old.workers
-  pub workers : new.workers ≡ old.workers
-
+-- And the line that ends it, after which the turn goes on.
 next_phase : (phase at workers count : ℕ) → at ≡ phase % workers → count ≡ workers
     → (at + 1) % count ≡ suc phase % workers
 next_phase phase at workers count is are =

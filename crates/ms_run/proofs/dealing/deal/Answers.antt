@@ -1,7 +1,4 @@
-use Rattle.std.proofs.Common.{◌≡◌, ◌≤◌, ◌∙◌, sym, ap, subst, vec_len, ℕ, List, length, replicate}
-use Rattle.std.proofs.lemmas.List.{length-replicate}
-use Rattle.ms_shared.specs.MeterRule.{MeterSeatState}
-use Rattle.ms_run.specs.Metering.{unmoved}
+use Rattle.std.proofs.Common.{◌≡◌, ◌≤◌, ◌∙◌, sym, subst, vec_len, ℕ}
 use Rattle.ms_run.specs.Turn.{place_in}
 use Rattle.ms_run.specs.Shares.{AreWithin, place_for}
 use Rattle.ms_run.proofs.sharing.StandByLemmas.{within_still}
@@ -9,8 +6,8 @@ use Rattle.ms_run.proofs.sharing.SeatsLemmas.{seats_are, seats_count}
 use Rattle.ms_run.proofs.sharing.DealLemmas.{are_dealt}
 use Rattle.ms_run.proofs.dealing.deal.Goals as goal
 
-pub deal_to-requires-clause-seats : goal.deal_to-requires-clause-seats
-deal_to-requires-clause-seats c =
+pub deal_metered-requires-clause-seats : goal.deal_metered-requires-clause-seats
+deal_metered-requires-clause-seats c =
     seats_are c.in_ok-shared.shared c.shares-count.result c.in_ok-shared.seats.items c.args.pool c.args.loaders c.in_ok-shared.ensures.seats
     c.requires.may.fits c.requires.may.all
 
@@ -38,37 +35,13 @@ returns-clause-count c =
     ∙ seats_count c.in_ok-shared.shared c.shares-count.result c.in_ok-shared.seats.items c.args.pool few c.in_ok-shared.ensures.seats
     ∙ c.shares-count.ensures.count
 
-pub deal_to-requires-clause-count : goal.deal_to-requires-clause-count
-deal_to-requires-clause-count c =
+pub deal_metered-requires-clause-count : goal.deal_metered-requires-clause-count
+deal_metered-requires-clause-count c =
     let few : 1 ≤ c.shares-count.result =
     subst (λ (n : ℕ). 1 ≤ n) (sym c.shares-count.ensures.count) c.shares-count.ensures.turn.some in
     c.in_ok-shared.seats.ok.0
     ∙ seats_count c.in_ok-shared.shared c.shares-count.result c.in_ok-shared.seats.items c.args.pool few c.in_ok-shared.ensures.seats
     ∙ c.shares-count.ensures.count
-
-pub deal_to-requires-clause-meters : goal.deal_to-requires-clause-meters
-deal_to-requires-clause-meters c =
-    let few : 1 ≤ c.shares-count.result =
-    subst (λ (n : ℕ). 1 ≤ n) (sym c.shares-count.ensures.count) c.shares-count.ensures.turn.some in
-    let counted : vec_len c.in_ok-shared.seats ≡ c.shares-count.result =
-    c.in_ok-shared.seats.ok.0
-    ∙ seats_count c.in_ok-shared.shared c.shares-count.result c.in_ok-shared.seats.items c.args.pool few c.in_ok-shared.ensures.seats in
-    c.in_ok-meter.meters.ok.0 ∙ ap (λ (l : List MeterSeatState). length l) c.in_ok-meter.ensures.seats
-    ∙ length-replicate c.shares-count.result (unmoved c.in_ok-meter.meter) ∙ sym counted
-
-pub returns-clause-meters : goal.returns-clause-meters
-returns-clause-meters c =
-    let few : 1 ≤ c.shares-count.result =
-    subst (λ (n : ℕ). 1 ≤ n) (sym c.shares-count.ensures.count) c.shares-count.ensures.turn.some in
-    let counted : vec_len c.in_ok-shares.shares ≡ c.shares-count.result =
-    c.in_ok-shares.shares.ok.0 ∙ c.in_ok-shares.ensures.dealt.count_is ∙ c.in_ok-shared.seats.ok.0
-    ∙ seats_count c.in_ok-shared.shared c.shares-count.result c.in_ok-shared.seats.items c.args.pool few
-    c.in_ok-shared.ensures.seats in
-    record {
-      seats = c.in_ok-meter.ensures.meter ∙ sym counted;
-      unmoved_all = c.in_ok-shares.ensures.meters ∙ c.in_ok-meter.ensures.seats
-          ∙ ap (λ (n : ℕ). replicate n (unmoved c.in_ok-meter.meter)) (sym counted);
-    }
 
 pub returns-clause-first : goal.returns-clause-first
 returns-clause-first c = c.in_ok-shared.ensures.first

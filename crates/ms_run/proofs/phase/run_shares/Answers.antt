@@ -1,5 +1,4 @@
-use Rattle.std.proofs.Common.{sym, ap, subst, ◌∙◌, length}
-use Rattle.std.proofs.lemmas.List.{length-map}
+use Rattle.std.proofs.Common.{sym, ap, subst, ◌∙◌, refl, map}
 use Rattle.ms_base.specs.State.{Machine}
 use Rattle.ms_pool.specs.Ledger.{Ledger}
 use Rattle.ms_run.specs.Metering.{used_words_of, meter_of}
@@ -25,8 +24,8 @@ merge-requires-clause-answered g c =
     ∙ same_tasks (place_in c.args.turn.now) c.args.lines.now at)
     c.in_ok-shares.ensures.worked
 
-pub gather-requires-clause-stand : goal.gather-requires-clause-stand
-gather-requires-clause-stand g c = record {
+pub end_shares-requires-clause-stand : goal.end_shares-requires-clause-stand
+end_shares-requires-clause-stand g c = record {
   own = own_seats c.in_ok-shared.shared c.in_ok-shared.shares.items c.in_ok-shares.shares.items
       c.in_ok-shared.ensures.dealt.ready c.in_ok-shares.ensures.worked;
   manned = all_manned c.in_ok-shared.shares.items c.in_ok-shares.shares.items c.in_ok-shares.ensures.worked;
@@ -34,8 +33,8 @@ gather-requires-clause-stand g c = record {
       ∙ sym c.in_ok-shares.shares.ok.0;
 }
 
-pub gather-requires-clause-apart : goal.gather-requires-clause-apart
-gather-requires-clause-apart g c = (
+pub end_shares-requires-clause-apart : goal.end_shares-requires-clause-apart
+end_shares-requires-clause-apart g c = (
   place_for (place_in c.args.turn.now) c.args.lines.now,
   still_apart (place_for (place_in c.args.turn.now) c.args.lines.now) c.in_ok-shared.shares.items
       c.in_ok-shares.shares.items c.args.lines.now
@@ -47,18 +46,16 @@ work_all-requires-after_bounds g c κs within =
     ready_for c.in_ok-shared.shared c.in_ok-shared.meter _ c.in_ok-shared.shares.items
     c.in_ok-shared.ensures.dealt.ready c.in_ok-shared.ensures.meters.unmoved_all
 
-pub close-requires-clause-own : goal.close-requires-clause-own
-close-requires-clause-own g c =
+pub end_shares-requires-clause-own : goal.end_shares-requires-clause-own
+end_shares-requires-clause-own g c =
     own_meters c.in_ok-shared.meter _ c.in_ok-shared.shares.items c.in_ok-shares.shares.items
-    c.in_ok-system.meters.items
-    c.in_ok-shared.ensures.meters.unmoved_all c.in_ok-shares.ensures.worked c.in_ok-system.ensures.meters
+    (map meter_of c.in_ok-shares.shares.items)
+    c.in_ok-shared.ensures.meters.unmoved_all c.in_ok-shares.ensures.worked refl
 
-pub close-requires-clause-count : goal.close-requires-clause-count
-close-requires-clause-count g c =
+pub end_shares-requires-clause-count : goal.end_shares-requires-clause-count
+end_shares-requires-clause-count g c =
     c.in_ok-shared.ensures.meters.seats ∙ c.in_ok-shared.shares.ok.0
-    ∙ sym (same_count _ _ c.in_ok-shares.ensures.worked)
-    ∙ sym (length-map c.in_ok-shares.shares.items meter_of) ∙ ap length (sym c.in_ok-system.ensures.meters)
-    ∙ sym c.in_ok-system.meters.ok.0
+    ∙ sym (same_count _ _ c.in_ok-shares.ensures.worked) ∙ sym c.in_ok-shares.shares.ok.0
 
 pub returns-clause-phase : goal.returns-clause-phase
 returns-clause-phase g c = λ before same. phase_added (worker_in before) c.args.lines.now c.args.answers.now.items _
@@ -82,20 +79,20 @@ returns-clause-phase g c = λ before same. phase_added (worker_in before) c.args
 pub raise-requires : goal.raise-requires
 raise-requires g c = λ kept.
     used_after c.in_ok-shared.meter _ c.in_ok-shared.shares.items c.in_ok-shares.shares.items
-    c.in_ok-system.meters.items _ _ c.in_ok-system.system
-    c.in_ok-shared.ensures.meters.unmoved_all c.in_ok-shares.ensures.worked c.in_ok-system.ensures.meters
+    (map meter_of c.in_ok-shares.shares.items) _ _ c.in_ok-system.system
+    c.in_ok-shared.ensures.meters.unmoved_all c.in_ok-shares.ensures.worked refl
     (c.requires.used ∙ ap used_words_of (sym c.into_parts-pool.ensures.machine)
     ∙ used_machine c.into_parts-pool.result.0 c.into_parts-pool.result.1 ∙ sym c.in_ok-shared.ensures.used)
-    c.in_ok-amount.ensures.amount c.in_ok-system.ensures.used c.in_ok-system.ensures.good
+    c.in_ok-system.ensures.amount c.in_ok-system.ensures.used c.in_ok-system.ensures.good
 
 pub returns-clause-used : goal.returns-clause-used
 returns-clause-used g c =
     used_after c.in_ok-shared.meter _ c.in_ok-shared.shares.items c.in_ok-shares.shares.items
-    c.in_ok-system.meters.items _ _ c.in_ok-system.system
-    c.in_ok-shared.ensures.meters.unmoved_all c.in_ok-shares.ensures.worked c.in_ok-system.ensures.meters
+    (map meter_of c.in_ok-shares.shares.items) _ _ c.in_ok-system.system
+    c.in_ok-shared.ensures.meters.unmoved_all c.in_ok-shares.ensures.worked refl
     (c.requires.used ∙ ap used_words_of (sym c.into_parts-pool.ensures.machine)
     ∙ used_machine c.into_parts-pool.result.0 c.into_parts-pool.result.1 ∙ sym c.in_ok-shared.ensures.used)
-    c.in_ok-amount.ensures.amount c.in_ok-system.ensures.used c.in_ok-system.ensures.good
+    c.in_ok-system.ensures.amount c.in_ok-system.ensures.used c.in_ok-system.ensures.good
 
 pub returns-clause-detailed : goal.returns-clause-detailed
 returns-clause-detailed g c =

@@ -7,12 +7,12 @@ use Rattle.ms_run.proofs.replaying.answer_phases.Goals as goal
 
 pub loop-at-init : goal.loop-at-init
 loop-at-init g c = record {
-  phases = phases_start c.args.settings c.args.lines.now c.args.answers.now.items _ c.in_ok-turn.turn
-      c.requires c.in_ok-run.ensures.taken
-      c.in_ok-turn.ensures.first c.in_ok-turn.ensures.workers c.in_ok-turn.ensures.phase c.args.settings.workers_some;
+  phases = phases_start c.args.settings c.args.lines.now c.args.answers.now.items _ c.args.turn.now
+      c.requires.none c.in_ok-run.ensures.taken
+      c.requires.numbered c.requires.workers c.requires.phase c.args.settings.workers_some;
   kept = c.in_ok-run.ensures.kept;
   used = c.in_ok-run.ensures.used;
-  detailed = none_detailed c.args.detail c.args.answers.now.items c.requires;
+  detailed = none_detailed c.args.detail c.args.answers.now.items c.requires.none;
 }
 
 pub run_phase-requires-clause-good : goal.run_phase-requires-clause-good
@@ -23,8 +23,8 @@ pub run_phase-requires-clause-steps : goal.run_phase-requires-clause-steps
 run_phase-requires-clause-steps g c κs within =
     steps_there c.args.lines.now c.loop-at.at c.steps_first-count.result c.steps_first-count.ensures.steps
 
-pub answer_between-requires-clause-no_step : goal.answer_between-requires-clause-no_step
-answer_between-requires-clause-no_step g c =
+pub end_phase-requires-clause-no_step : goal.end_phase-requires-clause-no_step
+end_phase-requires-clause-no_step g c =
     stops_next c.args.lines.now c.loop-at.at c.steps_first-count.result _ c.steps_first-count.ensures.stops
     c.if-at-lines.true
 
@@ -35,14 +35,10 @@ loop-at-preserved-then-at-lines g c =
     c.loop-at.invariant.phases c.steps_first-count.ensures.within c.in_ok-run-2.ensures.phase c.in_ok-run-2.ensures.turn in
     record {
       phases = phases_next _ _ _ _ _ c.args.lines.now _ _ _ _ more c.if-at-lines.true
-          c.in_ok-answer_between.ensures.answered (record {
-            first = c.go_on.ensures.first;
-            phase = c.go_on.ensures.phase;
-            workers = c.go_on.ensures.workers;
-          });
+          c.in_ok-end_phase.ensures.answered c.in_ok-end_phase.ensures.turn;
       kept = c.in_ok-run-2.ensures.kept;
       used = c.in_ok-run-2.ensures.used;
-      detailed = c.in_ok-answer_between.ensures.detailed
+      detailed = c.in_ok-end_phase.ensures.detailed
           (c.in_ok-run-2.ensures.detailed c.loop-at.invariant.detailed);
     }
 
