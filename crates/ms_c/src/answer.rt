@@ -25,7 +25,7 @@ pub const BAD_SETTINGS: u32 = 22;
 /// A status, 0 where the call is served, and its numbers: `value` is a start or a word, and of a
 /// refusal what there is of what was wanted; `limit` and `need` are those of a limit.
 #[repr(C)]
-#[derive(Clone, Copy, Debug, PartialEq, Eq)]
+#[derive(Clone, Copy)]
 pub struct Answer {
     pub status: u32,
     pub value: u64,

@@ -7,7 +7,7 @@ use ms_loaders::GranuleRun;
 /// A run of granules, by their numbers over both spaces: the first one, how many they are, and how
 /// many of them became committed. What it says of them stands at `ms_loaders::GranuleRun`.
 #[repr(C)]
-#[derive(Clone, Copy, Debug, PartialEq, Eq)]
+#[derive(Clone, Copy)]
 pub struct Run {
     pub first: u64,
     pub granules: u64,

@@ -13,7 +13,8 @@ use Rattle.std.specs.Fmt.{decimal}
 use Rattle.std.specs.Str.{IsAscii}
 use Rattle.ms_base.specs.Level.{size_of}
 use Rattle.ms_report.specs.Cells.{IsLine, four_line}
-use Rattle.ms_report.specs.Layout.{Table, cells, level_table, level_texts, right_in, table_line}
+use Rattle.ms_base.specs.Totals.{LoaderRow}
+use Rattle.ms_report.specs.Layout.{Table, cells, level_table, level_texts, loader_table, loader_texts, right_in, table_line}
 
 -- A number has twenty digits at most.
 pub digits_fit : (n : ℕ) → n < 2 ^ 64 → length (decimal n) ≤ 20
@@ -181,3 +182,14 @@ word_put old word piece end line long fits plain is =
 
     written : drop start (put_mid start (end - start) old word) ≡ word ++ drop end old
     written = word_written old word word end (omega (arith, line.within, long)) fits refl
+
+-- The line of a loader is its columns, from the left.
+pub row_added : {X E : Type 0} (result : Result X E) (old new line : List ℕ) (row : LoaderRow)
+    → line ≡ codes "  " ++ cells_on loader_table (loader_texts row) (codes "\n") → OnOk result (new ≡ old ++ line)
+    → OnOk result (new ≡ old ++ table_line loader_table (loader_texts row))
+row_added (Err error) old new line row is added = tt
+row_added (Ok done) old new line row is added =
+    added
+    ∙ ap (λ (text : List ℕ). old ++ text) is
+    ∙ ap (λ (columns : List ℕ). old ++ (codes "  " ++ columns))
+    (sym (cells_end loader_table (loader_texts row) (codes "\n")))

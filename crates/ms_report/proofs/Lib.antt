@@ -2,3 +2,4 @@ pub mod TextLemmas
 pub mod PaddingLemmas
 pub mod ColumnLemmas
 pub mod KindLemmas
+pub mod ReplyLemmas

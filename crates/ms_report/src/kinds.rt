@@ -21,7 +21,7 @@ use std::alloc::AllocError;
 
 /// The sums over the loaders of a kind, over both spaces. Of 128 bits, so that a sum always has
 /// room. After HotSpot's VM.metaspace, with this project's numbers.
-#[derive(Clone, Copy, Debug, PartialEq, Eq)]
+#[derive(Clone, Copy, Debug)]
 pub struct KindTotals {
     /// Loaders of the kind.
     pub loaders: u64,
@@ -42,7 +42,7 @@ pub struct KindTotals {
 }
 
 /// The sums over the loaders of each kind.
-#[derive(Clone, Copy, Debug, PartialEq, Eq)]
+#[derive(Clone, Copy)]
 pub struct Kinds {
     /// Those of the boot loader's kind.
     pub boot: KindTotals,

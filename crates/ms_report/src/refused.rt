@@ -18,7 +18,7 @@ use std::alloc::AllocError;
 
 /// How many command lines were refused, by the name of the refusal, for each name that a line can
 /// be refused by. This project's choice.
-#[derive(Clone, Copy, Debug, PartialEq, Eq)]
+#[derive(Clone, Copy, Debug)]
 pub struct Refusals {
     /// A loader had the name.
     pub loader_exists: u64,

@@ -16,7 +16,7 @@ use ms_base::{Settings, granule};
 use ms_loaders::{SpaceTotals, Totals};
 
 /// An amount of memory. Of 128 bits, so that the sum over both spaces always has room.
-#[derive(Clone, Copy, Debug, PartialEq, Eq)]
+#[derive(Clone, Copy, Debug)]
 pub struct Amount {
     /// Words of 8 bytes.
     pub words: u128,
@@ -27,7 +27,7 @@ pub struct Amount {
 
 /// How much of a space, or of both together, is what. After HotSpot's VM.metaspace, with this
 /// project's numbers.
-#[derive(Clone, Copy, Debug, PartialEq, Eq)]
+#[derive(Clone, Copy, Debug)]
 pub struct Usage {
     /// Reserved nodes; nothing stands above them.
     pub reserved: Amount,
@@ -44,7 +44,7 @@ pub struct Usage {
 }
 
 /// The usage of each space and of both together.
-#[derive(Clone, Copy, Debug, PartialEq, Eq)]
+#[derive(Clone, Copy)]
 pub struct Usages {
     /// That of the space that is not the class space.
     pub space: Usage,

@@ -35,8 +35,9 @@ fn called(heap: &LocalHeap) -> Option<Answers> {
 fn the_best_fit_comes_whole(rt: HostRuntime) -> Result<(), Fail> {
     let heap = LocalHeap::new(rt.alloc(), 4096)?;
     let fits = [Some(block(20, 4)), Some(block(0, 10)), None];
-    let refused = Err(Refusal::OutOfMemory);
-    assert_eq!(rt; called(&heap), Some((refused, fits, (1, 4, 2))));
-    assert_eq!(rt; heap.used(), 0);
+    let wanted = (Err(Refusal::OutOfMemory), fits, (1, 4, 2));
+    let told = (called(&heap), heap.used());
+    drop(heap);
+    assert_eq!(rt; told, (Some(wanted), 0));
     Ok(())
 }

@@ -9,6 +9,7 @@ ghost use Rattle.ms_pool.specs.Ledger.{Serves};
 
 use ms_base::{Level, Policy, Refusal, Settings, Space, Span};
 use ms_pool::{Account, ChunkSource, Place, Pool, RootMap};
+use std::alloc::{AllocError, Global};
 use std::process::Abort;
 use std::test::Fail;
 
@@ -49,8 +50,15 @@ fn ask_all(
 ) {
     let mut pool = Pool::new(rt.alloc(), settings).expect(rt, "memory is ample");
     let mut account = pool.open(space).expect(rt, "numbers are left");
+    ask_rows(rt, &mut pool, &mut account, rows);
+}
+
+/// Asks the rows for an account.
+fn ask_rows(rt: &impl Abort, pool: &mut Pool, account: &mut Account, rows: &[(Call, Answer)])
+    requires { Serves pool.old account.old }
+{
     'rows: for (call, want) in rows {
-        let answer = ask(rt, &mut pool, &mut account, *call);
+        let answer = ask(rt, pool, account, *call);
         assert_eq!(rt; answer, *want, "at {call:?}");
     }
 }
@@ -255,13 +263,17 @@ fn lend_three(pool: &mut Pool) {
     let _ = ChunkSource::take(pool, &mut account, ten, ten, 2);
 }
 
+/// The maps of a new pool that has lent an account three chunks.
+fn mapped(alloc: Global) -> Result<Vec<RootMap>, AllocError> {
+    let mut pool = Pool::new(alloc, Settings::DEFAULT)?;
+    lend_three(&mut pool);
+    pool.maps(alloc)
+}
+
 /// The first chunk is place 0, the second places 2 and 3, the third 512 words of place 1.
 #[test]
 fn a_map_tells_what_is_lent_and_committed(rt: HostRuntime) -> Result<(), Fail> {
-    let mut pool = Pool::new(rt.alloc(), Settings::DEFAULT)?;
-    lend_three(&mut pool);
-    let told = pool.maps(rt.alloc());
-    drop(pool);
+    let maps = mapped(rt.alloc())?;
     let mut places = [Place::Free; 64];
     places[0] = Place::LentWholly;
     places[1] = Place::LentPartly;
@@ -269,7 +281,6 @@ fn a_map_tells_what_is_lent_and_committed(rt: HostRuntime) -> Result<(), Fail> {
     places[3] = Place::LentUncommitted;
     let first = RootMap { root: 0, places };
     let (root, places) = (1, [Place::Free; 64]);
-    let maps = told?;
     assert_eq!(rt;
         maps.as_slice(),
         [first, RootMap { root, places }].as_slice()

@@ -108,8 +108,9 @@ fn a_tree_lends_and_merges_and_gives_its_memory_back(rt: HostRuntime) -> Result<
         [Some(Err(no_room(10))), Some(Err(no_room(11)))],
         [Some(span(0, 10)), Some(span(0, 0))],
     );
-    assert_eq!(rt; called(&heap), wanted);
-    assert_eq!(rt; heap.used(), 0);
+    let told = (called(&heap), heap.used());
+    drop(heap);
+    assert_eq!(rt; told, (wanted, 0));
     Ok(())
 }
 
@@ -125,7 +126,9 @@ fn called_without_room(heap: &LocalHeap) -> (Result<(), Refusal>, bool, usize) {
 fn a_carve_that_is_refused_gives_back_what_it_took(rt: HostRuntime) -> Result<(), Fail> {
     let heap = LocalHeap::new(rt.alloc(), 128)?;
     let wanted = (Err(Refusal::OutOfMemory), true, 0);
-    assert_eq!(rt; called_without_room(&heap), wanted);
+    let told = called_without_room(&heap);
+    drop(heap);
+    assert_eq!(rt; told, wanted);
     Ok(())
 }
 
@@ -166,7 +169,8 @@ fn called_again(heap: &LocalHeap) -> ([u32; 2], usize, Result<(), Refusal>, usiz
 fn merged_halves_serve_the_next_carve(rt: HostRuntime) -> Result<(), Fail> {
     let heap = LocalHeap::new(rt.alloc(), 1048576)?;
     let wanted = ([4096, 4096], 1152, Ok(()), 1152);
-    assert_eq!(rt; called_again(&heap), wanted);
-    assert_eq!(rt; heap.used(), 0);
+    let told = (called_again(&heap), heap.used());
+    drop(heap);
+    assert_eq!(rt; told, (wanted, 0));
     Ok(())
 }
