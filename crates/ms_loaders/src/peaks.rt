@@ -5,7 +5,7 @@
 
 /// The most that a run had at once so far, each number by itself: one state that was reached has it,
 /// and none has more. This project's choice.
-#[derive(Clone, Copy)]
+#[derive(Clone, Copy, Debug)]
 pub struct Peaks {
     /// Committed granules, of both spaces together, at most 40960.
     pub granules: u64,

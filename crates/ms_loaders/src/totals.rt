@@ -11,7 +11,7 @@ use ms_base::Kind;
 
 /// The sums over one space: `used = live + free_blocks + waste`. After HotSpot's VM.metaspace, with
 /// this project's numbers.
-#[derive(Clone, Copy)]
+#[derive(Clone, Copy, Debug)]
 pub struct SpaceTotals {
     /// Reserved nodes, at most 64; of the class space at most 16.
     pub nodes: u32,
@@ -44,7 +44,7 @@ pub struct SpaceTotals {
 
 /// One loader's sums, over both its arenas. After HotSpot's VM.metaspace, with this project's
 /// numbers.
-#[derive(Clone, Copy)]
+#[derive(Clone, Copy, Debug)]
 pub struct LoaderRow {
     /// The loader's name.
     pub name: u16,

@@ -2,7 +2,7 @@
 use std::alloc::AllocError;
 
 /// Why a replay ends without an answer to each line. This project's choice.
-#[derive(Drop)]
+#[derive(Debug, Drop)]
 pub enum RunFault {
     /// A growth of the run itself was refused.
     OutOfMemory,

@@ -17,7 +17,7 @@ use ms_base::{Refusal, Reply, Space, granule};
 use ms_pool::Account;
 
 /// A run of granules, by their numbers over both spaces; none where nothing became committed.
-#[derive(Clone, Copy)]
+#[derive(Clone, Copy, Debug)]
 pub struct GranuleRun {
     /// The number of the first one.
     pub first: u64,
@@ -28,7 +28,7 @@ pub struct GranuleRun {
 }
 
 /// A block that was allocated, and what became committed for it.
-#[derive(Clone, Copy)]
+#[derive(Clone, Copy, Debug)]
 pub struct Allocation {
     /// The word where the block starts.
     pub start: u64,
@@ -37,7 +37,7 @@ pub struct Allocation {
 }
 
 /// How many chunks an arena has, and where the last one starts and how far it is committed.
-#[derive(Clone, Copy)]
+#[derive(Clone, Copy, Debug)]
 pub(crate) struct Edge {
     pub(crate) held: u64,
     pub(crate) start: u64,

@@ -11,7 +11,7 @@ use ms_base::Kind;
 use std::alloc::AllocError;
 
 /// The sums of one loader. After HotSpot's VM.metaspace, with this project's numbers.
-#[derive(Clone, Copy)]
+#[derive(Clone, Copy, Debug)]
 pub struct LoaderTotals {
     /// What kind of loader it is.
     pub kind: Kind,
