@@ -10,7 +10,7 @@ pub(crate) const MOST_LINES: u32 = 100_000;
 
 /// What a line asks: a step of the machine, a point where all workers meet, or a report. This
 /// project's choice.
-#[derive(Clone, Copy, PartialEq, Eq)]
+#[derive(Clone, Copy, Debug, PartialEq, Eq)]
 pub enum Command {
     Step(Step),
     Sync,
@@ -18,7 +18,7 @@ pub enum Command {
 }
 
 /// A command and the number of its line, which counts from 1, blank lines and comments included.
-#[derive(Clone, Copy, PartialEq, Eq)]
+#[derive(Clone, Copy, Debug, PartialEq, Eq)]
 pub struct Line {
     /// The line's number, 1 to 100000 where a text was read.
     pub number: u32,
