@@ -34,7 +34,7 @@ def toolchain():
 
 def linked(bench, folder, name, *more):
     """Builds a C program over the library, and gives its path."""
-    expect(os.path.exists(ARCHIVE), "there is no archive: rt lib has not made it")
+    expect(os.path.exists(ARCHIVE), "there is no archive of the library")
     program = bench.built(f"library_{name}")
     how = ["-std=c11", "-O2", "-Wall", "-Wextra", "-Werror", f"-I{EXAMPLES}", *more]
     heap = os.path.join(toolchain(), "c", "liblibc_c.a")
@@ -68,7 +68,7 @@ def is_made_by_its_makefile(bench):
     """Both programs are built by `make` alone, in a copy whose folders lie to each other as here, and do as they do."""
     if not shutil.which("make"):
         raise Skipped("make")
-    expect(os.path.exists(ARCHIVE), "there is no archive: rt lib has not made it")
+    expect(os.path.exists(ARCHIVE), "there is no archive of the library")
     copy = bench.built("library_make")
     folder, out = os.path.join(copy, "examples", "c"), os.path.join(copy, "crates", "ms_c", "out")
     for place in (folder, out):
