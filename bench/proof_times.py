@@ -1,8 +1,9 @@
 """Where a crate's proof time goes: python3 bench/proof_times.py FOLDER [SECONDS].
 
 FOLDER is what `rt check --jobs 1` has left in crates/NAME/out/incremental, from nothing. With one job a module's file is
-written when it is done, so the gap before it is the time that the module took. Prints the seconds of each function, and
-the modules that took at least so many (2 if not said).
+written when it is done, so the gap before it is the time that the module took. Prints the seconds of each part of a
+function (`Lts`, `Proof`, ..) over all functions, then of each function, with those of its three dearest parts, and the
+modules that took at least so many (2 if not said).
 """
 import collections
 import os
@@ -25,12 +26,20 @@ def written(folder):
 def main(folder, least):
     modules = sorted(written(folder))
     gaps = [(end - begin, name) for (begin, _), (end, name) in zip(modules, modules[1:])]
-    functions = collections.Counter()
+    functions, parts, each = collections.Counter(), collections.Counter(), collections.defaultdict(collections.Counter)
     for gap, name in gaps:
-        functions[PARTS.sub("", name)] += gap
+        part, function = PARTS.search(name)[0], PARTS.sub("", name)
+        functions[function] += gap
+        parts[part] += gap
+        each[function][part.removeprefix(".") or "itself"] += gap
     print(f"{sum(gap for gap, _ in gaps):8.1f} all of {len(modules)} modules")
+    print("by part:")
+    for part, seconds in parts.most_common(8):
+        print(f"{seconds:8.1f} {part or '(no part)'}")
+    print("by function:")
     for name, seconds in functions.most_common(40):
-        print(f"{seconds:8.1f} {name}")
+        dearest = ", ".join(f"{part} {taken:.1f}" for part, taken in each[name].most_common(3) if taken >= 0.1)
+        print(f"{seconds:8.1f} {name} ({dearest})")
     print("by module:")
     for gap, name in sorted(gaps, reverse=True):
         if gap >= least:
