@@ -4,4 +4,3 @@ pub mod StartLemmas
 pub mod LaidLemmas
 pub mod BestFitLemmas
 pub mod TendedLemmas
-pub mod BoundLemmas
