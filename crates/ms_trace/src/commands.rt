@@ -2,7 +2,7 @@
 //!
 //!     alloc 1 10          the word decides how many fields follow and what each of them is;
 //!     ----- - --          their number is checked before the first of them is read
-ghost use Rattle.std.specs.Prelude.{◌≡◌, [], ◌∷◌, Some, IfOk, IfSome, IsNone, IsTrue, codes, decimal};
+ghost use Rattle.std.specs.Prelude.{◌≡◌, [], ◌∷◌, Some, IfOk, IfSome, IsNone, IsTrue, bytes_eq, codes, decimal, false};
 ghost use Rattle.std.specs.Result.{result_err};
 ghost use Rattle.ms_trace.specs.Cutting.{fields_in};
 ghost use Rattle.ms_trace.specs.Faults.{after_word_fault, fault_of};
@@ -53,7 +53,21 @@ fn read_command(line: &[u8]) -> Result<Command, FaultKind>
         read_write(rest)
     } else if word == b"read".as_slice() {
         read_read(rest)
-    } else if word == b"free".as_slice() {
+    } else {
+        read_other(word, rest)
+    }
+}
+
+/// Reads what follows a word that is none of those five.
+fn read_other(word: &[u8], rest: Option<&[u8]>) -> Result<Command, FaultKind>
+    requires new { bytes_eq word.now (codes "new") ≡ false }
+    requires alloc { bytes_eq word.now (codes "alloc") ≡ false }
+    requires calloc { bytes_eq word.now (codes "calloc") ≡ false }
+    requires write { bytes_eq word.now (codes "write") ≡ false }
+    requires read { bytes_eq word.now (codes "read") ≡ false }
+    ensures { IsReadFrom (word.now ∷ fields_in rest.entry) result }
+{
+    if word == b"free".as_slice() {
         read_free(rest)
     } else if word == b"unload".as_slice() {
         read_unload(rest)

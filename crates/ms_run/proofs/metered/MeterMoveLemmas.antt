@@ -1,7 +1,7 @@
 -- How a seat of the meter follows the words in use, modulo 2^64: over no step, over several, and over one
--- that adds a difference. For metering.rt and working.rt.
+-- that adds a difference or takes off what goes. For metering.rt and working.rt.
 use Rattle.std.proofs.Common.{◌≡◌, ◌<◌, ℕ, ◌+◌, ◌-◌, ◌%◌, ◌^◌, refl, sym, ◌∙◌, subst, arith}
-use Rattle.ms_shared.specs.MeterRule.{MeterSeatState, added}
+use Rattle.ms_shared.specs.MeterRule.{MeterSeatState, added, taken_off}
 use Rattle.ms_run.specs.Moved.{IsMoved}
 
 pub moved_none : (seat : MeterSeatState) (used : ℕ) → IsMoved seat used seat used
@@ -17,5 +17,12 @@ pub moved_up : (old new : MeterSeatState) (used used_now before after : ℕ) →
     → new ≡ record { id = old.id; amount = added old.amount ((after + (2 ^ 64 - before)) % 2 ^ 64) }
     → IsMoved old used new used_now
 moved_up old new used used_now before after fits is new_is =
+    subst (λ (s : MeterSeatState). IsMoved old used s used_now) (sym new_is)
+    (record { meter = refl; amount = omega arith })
+
+-- A step takes off what was in use and goes.
+pub moved_down : (old new : MeterSeatState) (used used_now gone : ℕ) → gone < 2 ^ 64 → used_now + gone ≡ used
+    → new ≡ record { id = old.id; amount = taken_off old.amount gone } → IsMoved old used new used_now
+moved_down old new used used_now gone fits is new_is =
     subst (λ (s : MeterSeatState). IsMoved old used s used_now) (sym new_is)
     (record { meter = refl; amount = omega arith })
