@@ -108,7 +108,10 @@ fn lock(alloc: Global, pool: Pool, count: usize) -> Result<(SharedPool, Vec<Pool
 {
     match SharedPool::new(alloc, pool, count) {
         Ok(made) => Ok(made),
-        Err(_) => Err(RunFault::OutOfMemory),
+        Err(refused) => {
+            drop(refused);
+            Err(RunFault::OutOfMemory)
+        }
     }
 }
 
@@ -159,7 +162,10 @@ fn put_first(mut shares: Vec<Share>, share: Share) -> Result<Vec<Share>, RunFaul
 {
     match shares.insert(0, share) {
         Ok(()) => Ok(shares),
-        Err(_) => Err(RunFault::OutOfMemory),
+        Err(refused) => {
+            drop(refused);
+            Err(RunFault::OutOfMemory)
+        }
     }
 }
 

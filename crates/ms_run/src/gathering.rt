@@ -64,7 +64,10 @@ fn open(shared: SharedPool, seats: Vec<PoolSeat>) -> Result<Pool, RunFault>
 {
     match shared.into_pool(seats) {
         Ok(pool) => Ok(pool),
-        Err((refusal, _shared, _seats)) => Err(fault_of(refusal)),
+        Err((refusal, shared, seats)) => {
+            drop((shared, seats));
+            Err(fault_of(refusal))
+        }
     }
 }
 
@@ -78,7 +81,10 @@ fn settle(alloc: Global, pool: Pool, loaders: Loaders) -> Result<System, RunFaul
 {
     match System::settle(alloc, pool, loaders) {
         Ok(system) => Ok(system),
-        Err((refusal, _pool, _loaders)) => Err(fault_of(refusal)),
+        Err((refusal, pool, loaders)) => {
+            drop((pool, loaders));
+            Err(fault_of(refusal))
+        }
     }
 }
 
@@ -140,7 +146,10 @@ pub fn put_loader(name: u16, loader: Loader, others: &mut Loaders) -> Result<(),
 {
     match others.insert(name, loader) {
         Ok(()) => Ok(()),
-        Err((refusal, _loader)) => Err(refusal),
+        Err((refusal, loader)) => {
+            drop(loader);
+            Err(refusal)
+        }
     }
 }
 

@@ -66,12 +66,18 @@ pub fn work_all<R: Threads + Wait + Sync, G: Gate + Sync>(
                 );
                 match started {
                     Ok(handle) => handles.push_reserved(handle),
-                    Err(_) => return Err(RunFault::NoThread),
+                    Err(refused) => {
+                        drop(refused);
+                        return Err(RunFault::NoThread);
+                    }
                 }
             }
             match thread::join_promised(rt, handles) {
                 Ok(done) => Ok(done),
-                Err(_) => Err(RunFault::OutOfMemory),
+                Err(refused) => {
+                    drop(refused);
+                    Err(RunFault::OutOfMemory)
+                }
             }
         },
     )
