@@ -50,7 +50,10 @@ pub extern "C" fn nizgrabul_new(alloc: Global, options: &Options, out: &mut Hand
             out.put(system);
             DONE
         }
-        Err(_) => OUT_OF_MEMORY,
+        Err(failed) => {
+            drop(failed);
+            OUT_OF_MEMORY
+        }
     }
 }
 

@@ -153,6 +153,9 @@ fn close(meter: UsedMeter, seats: Vec<MeterSeat>) -> Result<u64, RunFault>
 {
     match meter.close(seats) {
         Ok(amount) => Ok(amount),
-        Err((refusal, _meter, _seats)) => Err(fault_of(refusal)),
+        Err((refusal, meter, seats)) => {
+            drop((meter, seats));
+            Err(fault_of(refusal))
+        }
     }
 }
