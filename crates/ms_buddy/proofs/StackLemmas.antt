@@ -3,12 +3,14 @@ use Rattle.std.proofs.Common.{◌≡◌, ◌<◌, ◌≤◌, ℕ, ◌+◌, true,
 use Rattle.std.proofs.Common.{sym, ap, subst, ◌∙◌, arith, append_assoc}
 use Rattle.std.proofs.lemmas.Bool.{false≢true}
 use Rattle.std.proofs.lemmas.List.{append-nil, length_push}
+use Rattle.std.specs.Borrow.{Bor}
+use Rattle.ms_base.specs.Level.{size_of}
 use Rattle.ms_base.specs.declared.span.Span.{Span}
 use Rattle.ms_buddy.specs.declared.node.Node.{Node}
 use Rattle.ms_buddy.specs.declared.node.Node.TheVariants.{Free, Lent, Split'}
 use Rattle.ms_buddy.specs.declared.leaves.Visit.{Visit}
-use Rattle.ms_buddy.specs.Tree.{IsPlace, IsTree, free_in, free_in_halves}
-use Rattle.ms_buddy.specs.Walk.{IsStack, left_of}
+use Rattle.ms_buddy.specs.Tree.{IsPlace, IsTree, free_in}
+use Rattle.ms_buddy.specs.Walk.{IsStack, left_of, visit_of}
 use Rattle.ms_buddy.proofs.TreeHalvesLemmas.{lower_place, upper_place}
 use Rattle.ms_buddy.proofs.SplitLemmas.{AtSplit}
 
@@ -110,46 +112,42 @@ past_none visits rest visit turn e = record {
   fewer = omega (arith, turn.nodes, nodes_in-some visit.node.now);
 }
 
+-- The visits of the halves of a node that is visited.
+abbrev pub upper_visit : {A : Type 0} → Visit A → Bor (Node A) → Visit A
+upper_visit visit high = visit_of high (visit.level + 1) (visit.start + size_of (visit.level + 1))
+
+abbrev pub lower_visit : {A : Type 0} → Visit A → Bor (Node A) → Visit A
+lower_visit visit low = visit_of low (visit.level + 1) visit.start
+
 -- The halves of a split are put aside, the lower one on top.
-pub past_split : {A : Type 0} (visits rest one now : List (Option (Visit A))) (visit low high : Visit A) (half : ℕ)
+pub past_split : {A : Type 0} (visits rest now : List (Option (Visit A))) (visit : Visit A) (low high : Bor (Node A))
     → IsTurn visits rest visit
-    → AtSplit visit.level visit.start half visit.node.now low.node.now high.node.now
-    → nodes_in visit.node.now ≡ nodes_in low.node.now + nodes_in high.node.now + 1
-    → low.level ≡ visit.level + 1 → low.start ≡ visit.start → high.level ≡ visit.level + 1
-    → high.start ≡ visit.start + half
-    → one ≡ rest ++ Some high ∷ [] → now ≡ one ++ Some low ∷ [] → IsOneOn visits now
-past_split visits rest one now visit low high half turn s nodes low_level low_start high_level high_start e f = record {
-  stack = subst (λ (xs : List (Option (Visit _))). IsStack 0 xs) (sym whole)
-      (pushed 0 (rest ++ Some high ∷ []) low
-      (pushed 0 rest high turn.top.below (omega (arith, turn.top.low, high_level))
-      (rw high_level
-      (upper_place visit.level visit.start high.start turn.top.place s.low
-      (high_start ∙ ap (λ (n : ℕ). visit.start + n) s.halves.size)))
-      (rw high_level s.halves.high_tree))
-      (omega (arith, turn.top.low, low_level, length_push rest (Some high)))
-      (rw (low_level, low_start) (lower_place visit.level visit.start turn.top.place s.low))
-      (rw low_level s.halves.low_tree));
-  left = ap left_of whole ∙ left_of-push (rest ++ Some high ∷ []) low
-      ∙ ap (λ (parts : List Span). free_in low.level low.start low.node.now ++ parts) (left_of-push rest high)
-      ∙ sym (append_assoc (free_in low.level low.start low.node.now) (free_in high.level high.start high.node.now)
-      (left_of rest))
-      ∙ ap (λ (parts : List Span). parts ++ left_of rest) (halves ∙ sym s.free) ∙ sym turn.left;
+    → AtSplit visit.level visit.start (size_of (visit.level + 1)) visit.node.now low.now high.now
+    → nodes_in visit.node.now ≡ nodes_in low.now + nodes_in high.now + 1
+    → now ≡ (rest ++ Some (upper_visit visit high) ∷ []) ++ Some (lower_visit visit low) ∷ [] → IsOneOn visits now
+past_split visits rest now visit low high turn s nodes e = record {
+  stack = subst (λ (xs : List (Option (Visit _))). IsStack 0 xs) (sym e)
+      (pushed 0 (rest ++ Some (upper_visit visit high) ∷ []) (lower_visit visit low)
+      (pushed 0 rest (upper_visit visit high) turn.top.below (omega (arith, turn.top.low))
+      (upper_place visit.level visit.start (visit.start + size_of (visit.level + 1)) turn.top.place s.low refl)
+      s.halves.high_tree)
+      (omega (arith, turn.top.low, length_push rest (Some (upper_visit visit high))))
+      (lower_place visit.level visit.start turn.top.place s.low) s.halves.low_tree);
+  left = ap left_of e ∙ left_of-push (rest ++ Some (upper_visit visit high) ∷ []) (lower_visit visit low)
+      ∙ ap (λ (parts : List Span). free_in (visit.level + 1) visit.start low.now ++ parts)
+      (left_of-push rest (upper_visit visit high))
+      ∙ sym (append_assoc (free_in (visit.level + 1) visit.start low.now)
+      (free_in (visit.level + 1) (visit.start + size_of (visit.level + 1)) high.now) (left_of rest))
+      ∙ ap (λ (parts : List Span). parts ++ left_of rest) (sym s.free) ∙ sym turn.left;
   fewer = omega (
     arith,
     turn.nodes,
     nodes,
-    ap nodes_left whole,
-    nodes_left-push (rest ++ Some high ∷ []) low,
-    nodes_left-push rest high,
+    ap nodes_left e,
+    nodes_left-push (rest ++ Some (upper_visit visit high) ∷ []) (lower_visit visit low),
+    nodes_left-push rest (upper_visit visit high),
   );
 }
-  where
-    whole : now ≡ (rest ++ Some high ∷ []) ++ Some low ∷ []
-    whole = f ∙ ap (λ (xs : List (Option (Visit _))). xs ++ Some low ∷ []) e
-
-    halves : free_in low.level low.start low.node.now ++ free_in high.level high.start high.node.now
-        ≡ free_in_halves visit.level visit.start low.node.now high.node.now
-    halves = rw (low_level, low_start, high_level, high_start, s.halves.size) refl
 
 -- A place that is in use has a visit.
 pub gap_absurd : {A : Type 0} (visits rest : List (Option (Visit A))) (taken : Option (Visit A))

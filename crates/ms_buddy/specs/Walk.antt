@@ -1,6 +1,8 @@
 -- What a walk over the free leaves has still to visit: a stack of nodes, the next one last.
 use Rattle.std.specs.Prelude.{ℕ, ◌+◌, ◌≤◌, Option, Some, None, List, [], ◌∷◌, ◌++◌}
+use Rattle.std.specs.Borrow.{Bor}
 use Rattle.ms_base.specs.declared.span.Span.{Span}
+use Rattle.ms_buddy.specs.declared.node.Node.{Node}
 use Rattle.ms_buddy.specs.declared.leaves.Visit.{Visit}
 use Rattle.ms_buddy.specs.Tree.{IsPlace, IsTree, free_in}
 
@@ -17,3 +19,7 @@ IsStack number (None ∷ visits) = ⊥
 IsStack number (Some visit ∷ visits) =
     (number ≤ visit.level) × IsPlace visit.level visit.start × IsTree visit.level visit.node.now
     × IsStack (number + 1) visits
+
+-- The visit of a node of that level which starts there.
+abbrev pub visit_of : {A : Type 0} → Bor (Node A) → ℕ → ℕ → Visit A
+visit_of node level start = record { node = node; level = level; start = start }

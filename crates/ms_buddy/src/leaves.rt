@@ -4,10 +4,12 @@
 //! split puts its halves there, the lower one last, where its bits tell of a free leaf below. A node
 //! of level n has at most n nodes below it on the stack, one for each upper half on the way, so 13
 //! places do. Takes no memory.
-ghost use Rattle.std.specs.Prelude.{◌≡◌, Some};
+ghost use Rattle.std.specs.Prelude.{◌≡◌, ◌+◌, ◌<◌, ◌≤◌, length, Some, [], ◌∷◌, ◌++◌};
 ghost use Rattle.std.specs.Iterator.{YieldsFirst};
 ghost use Rattle.ms_buddy.specs.Tree.{IsTree, free_in};
-ghost use Rattle.ms_buddy.specs.Walk.{IsStack, left_of};
+ghost use Rattle.ms_buddy.specs.Walk.{IsStack, left_of, visit_of};
+ghost use Rattle.ms_base.specs.Level.{size_of};
+ghost use Rattle.ms_base.specs.declared.sizes.TheConstants.{ROOT_WORDS};
 
 use crate::node::{Node, half_of, part};
 use arrayvec::ArrayVec;
@@ -89,19 +91,38 @@ fn next_free<'a, A: Allocator>(stack: &mut ArrayVec<Option<Visit<'a, A>>, 13>) -
             // No bit tells of a free leaf below.
             Node::Split(levels, ..) if *levels == 0 => {}
             Node::Split(_, lower, upper) => {
-                let level = visit.level + 1;
-                stack.push(Some(Visit {
-                    node: upper,
-                    level,
-                    start: visit.start + half_of(visit.level),
-                }));
-                stack.push(Some(Visit {
-                    node: lower,
-                    level,
-                    start: visit.start,
-                }));
+                put_halves(stack, lower, upper, visit.level, visit.start);
             }
         }
     }
     None
+}
+
+/// Puts the halves of a part on the stack, the lower one last, so that it comes first.
+fn put_halves<'a, A: Allocator>(
+    stack: &mut ArrayVec<Option<Visit<'a, A>>, 13>,
+    lower: &'a Node<A>,
+    upper: &'a Node<A>,
+    level: u8,
+    start: u64,
+)
+    requires low { level < 12 }
+    requires in_root { start ≤ ROOT_WORDS }
+    requires room { length stack.old.items + 1 < 13 }
+    ensures { stack.new.items
+        ≡ (stack.old.items
+        ++ Some (visit_of upper.entry (level + 1) (start + size_of (level + 1))) ∷ [])
+        ++ Some (visit_of lower.entry (level + 1) start) ∷ [] }
+{
+    let below = level + 1;
+    stack.push(Some(Visit {
+        node: upper,
+        level: below,
+        start: start + half_of(level),
+    }));
+    stack.push(Some(Visit {
+        node: lower,
+        level: below,
+        start,
+    }));
 }

@@ -1,6 +1,6 @@
 -- Each turn leaves what was left, or answers its first part.
-use Rattle.ms_base.specs.Level.{level_count}
-use Rattle.std.proofs.Common.{◌<◌, length, arith, ap, refl, sym, ◌∙◌}
+use Rattle.ms_base.specs.declared.sizes.TheConstants.{ROOT_WORDS}
+use Rattle.std.proofs.Common.{◌<◌, ◌≤◌, ◌+◌, length, rules, arith, ap, refl, sym, ◌∙◌}
 use Rattle.ms_buddy.specs.declared.node.Node.{Node}
 use Rattle.ms_buddy.specs.Tree.{free_in, levels_of}
 use Rattle.ms_buddy.proofs.LeafLevelLemmas.{none_left}
@@ -24,35 +24,14 @@ returns-in-Free-clause-next g c =
     sym c.loop-top.invariant.1
     ∙ whole_next _ _ _ c.part.result turn c.in-Free.is c.part.ensures.start c.part.ensures.level
 
-pub overflow_add-level : goal.overflow_add-level
-overflow_add-level g c =
-    let turn = at_turn _ _ _ _ c.in-Some.ensures.items c.in-Some-top.is c.loop-top.invariant.0 in
-    omega (arith, turn.top.place.level_fits)
-
-pub half_of-requires : goal.half_of-requires
-half_of-requires g c =
+pub put_halves-requires : goal.put_halves-requires
+put_halves-requires g c =
     let turn = at_turn _ _ _ _ c.in-Some.ensures.items c.in-Some-top.is c.loop-top.invariant.0 in
     let s = at_split _ c.in-Some-top.visit.start _ _ _ _ _ _ _ c.in-Split-2.is turn.top.tree refl in
-    s.low
-
-pub overflow_add-visit : goal.overflow_add-visit
-overflow_add-visit g c =
-    let turn = at_turn _ _ _ _ c.in-Some.ensures.items c.in-Some-top.is c.loop-top.invariant.0 in
-    omega (arith, turn.top.place.in_root)
-
-pub push-requires : goal.push-requires
-push-requires g c =
-    let turn = at_turn _ _ _ _ c.in-Some.ensures.items c.in-Some-top.is c.loop-top.invariant.0 in
-    let s = at_split _ c.in-Some-top.visit.start _ _ _ _ _ _ _ c.in-Split-2.is turn.top.tree refl in
-    let room : length c.pop.new.self.items < level_count = omega (arith, turn.top.low, s.low) in
-    (omega arith, room)
-
-pub push-requires-in-Split-2 : goal.push-requires-in-Split-2
-push-requires-in-Split-2 g c =
-    let turn = at_turn _ _ _ _ c.in-Some.ensures.items c.in-Some-top.is c.loop-top.invariant.0 in
-    let s = at_split _ c.in-Some-top.visit.start _ _ _ _ _ _ _ c.in-Split-2.is turn.top.tree refl in
-    let room : length c.push.new.self.items < level_count = omega (arith, turn.top.low, s.low, c.push.ensures.len) in
-    (omega arith, room)
+    let low : c.in-Some-top.visit.level < 12 = s.low in
+    let in_root : c.in-Some-top.visit.start ≤ ROOT_WORDS = omega (arith, turn.top.place.in_root) in
+    let room : length c.pop.new.self.items + 1 < 13 = omega (arith, turn.top.low, s.low) in
+    (search rules, (low, (in_root, room)))
 
 pub loop-top-smaller-in-Lent : goal.loop-top-smaller-in-Lent
 loop-top-smaller-in-Lent g c =
@@ -85,21 +64,19 @@ loop-top-preserved-then-levels-eq0 g c =
 pub loop-top-smaller : goal.loop-top-smaller
 loop-top-smaller g c =
     let turn = at_turn _ _ _ _ c.in-Some.ensures.items c.in-Some-top.is c.loop-top.invariant.0 in
-    let s = at_split _ c.in-Some-top.visit.start _ _ _ _ _ _ _ c.in-Split-2.is turn.top.tree c.half_of.ensures.size in
-    let on = past_split c.loop-top.stack.items c.pop.new.self.items c.push.new.self.items c.push-in-Split-2.new.self.items
-    c.in-Some-top.visit _ _ c.half_of.result turn (rw (c.deref.ensures, c.deref-in-Split-2.ensures) s)
-    (rw (c.in-Split-2.is, c.deref.ensures, c.deref-in-Split-2.ensures) refl)
-    refl refl refl refl c.push.ensures.items c.push-in-Split-2.ensures.items in
+    let s = at_split _ c.in-Some-top.visit.start _ _ _ _ _ _ _ c.in-Split-2.is turn.top.tree refl in
+    let on = past_split c.loop-top.stack.items c.pop.new.self.items c.put_halves.new.stack.items c.in-Some-top.visit _ _
+    turn (rw (c.deref.ensures, c.deref-in-Split-2.ensures) s)
+    (rw (c.in-Split-2.is, c.deref.ensures, c.deref-in-Split-2.ensures) refl) c.put_halves.ensures in
     on.fewer
 
 pub loop-top-preserved : goal.loop-top-preserved
 loop-top-preserved g c =
     let turn = at_turn _ _ _ _ c.in-Some.ensures.items c.in-Some-top.is c.loop-top.invariant.0 in
-    let s = at_split _ c.in-Some-top.visit.start _ _ _ _ _ _ _ c.in-Split-2.is turn.top.tree c.half_of.ensures.size in
-    let on = past_split c.loop-top.stack.items c.pop.new.self.items c.push.new.self.items c.push-in-Split-2.new.self.items
-    c.in-Some-top.visit _ _ c.half_of.result turn (rw (c.deref.ensures, c.deref-in-Split-2.ensures) s)
-    (rw (c.in-Split-2.is, c.deref.ensures, c.deref-in-Split-2.ensures) refl)
-    refl refl refl refl c.push.ensures.items c.push-in-Split-2.ensures.items in
+    let s = at_split _ c.in-Some-top.visit.start _ _ _ _ _ _ _ c.in-Split-2.is turn.top.tree refl in
+    let on = past_split c.loop-top.stack.items c.pop.new.self.items c.put_halves.new.stack.items c.in-Some-top.visit _ _
+    turn (rw (c.deref.ensures, c.deref-in-Split-2.ensures) s)
+    (rw (c.in-Split-2.is, c.deref.ensures, c.deref-in-Split-2.ensures) refl) c.put_halves.ensures in
     (on.stack, on.left ∙ c.loop-top.invariant.1)
 
 pub returns-in_default-top-clause-stack : goal.returns-in_default-top-clause-stack

@@ -89,3 +89,6 @@ pub carve_in_half-returns-in-Ok-carve-clause-parted : goal.carve_in_half-returns
 carve_in_half-returns-in-Ok-carve-clause-parted g t c =
     upper_parted_at c.args.level c.args.start c.half_of.result c.args.lower.now c.args.upper.now
     c.carve-else-span-middle.new.self _ _ c.half_of.ensures.size c.in-Ok-carve.ensures.parted
+
+pub Node::carve-returns-in-Err-clause-unchanged : goal.Node::carve-returns-in-Err-clause-unchanged
+Node::carve-returns-in-Err-clause-unchanged g t c = refl

@@ -130,3 +130,16 @@ Node::release-returns-in-Free-clause-merged g t c =
 pub Node::release-returns-in-Free-clause-free : goal.Node::release-returns-in-Free-clause-free
 Node::release-returns-in-Free-clause-free g t c =
     absurd (nothing_lent c.args.span c.args.level c.args.start c.args.self.now c.in-Free.is c.requires.lent)
+
+pub Node::release-returns-in-Some-clause-lent : goal.Node::release-returns-in-Some-clause-lent
+Node::release-returns-in-Some-clause-lent g t c =
+    rw c.in-Split.is
+    (rw (c.deref_mut.ensures.value, c.deref_mut-in-Split.ensures.value) at c.in-Some.ensures.lent)
+
+pub Node::release-returns-in-Some-clause-free : goal.Node::release-returns-in-Some-clause-free
+Node::release-returns-in-Some-clause-free g t c = c.in-Some.ensures.free
+
+pub Node::release-returns-in-Some-clause-merged : goal.Node::release-returns-in-Some-clause-merged
+Node::release-returns-in-Some-clause-merged g t c =
+    rw c.in-Split.is
+    (rw (c.deref_mut.ensures.value, c.deref_mut-in-Split.ensures.value) at c.in-Some.ensures.merged)
