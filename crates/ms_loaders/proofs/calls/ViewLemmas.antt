@@ -16,8 +16,8 @@ use Rattle.ms_base.specs.State.{ArenaState, arena_of}
 use Rattle.ms_base.specs.Good.{IsSound, is_in_use}
 use Rattle.ms_base.proofs.runs.PermutedLemmas.{apart-permuted}
 use Rattle.ms_pool.specs.Account.{AreChunks}
-use Rattle.ms_arena.specs.Arena.{ArenaView, live_runs}
-use Rattle.ms_loaders.specs.Loader.{IsSoundView}
+use Rattle.ms_arena.specs.Arena.{ArenaView, account_of, live_runs}
+use Rattle.ms_loaders.specs.Loader.{IsSoundView, account_in}
 use Rattle.ms_loaders.specs.LoaderInside.{Contents, live_at, blocks_of, named_runs, contents_in, IsLoader, IsArena}
 use Rattle.ms_loaders.specs.LoaderInside.{view_of}
 use Rattle.ms_loaders.specs.declared.loader.Loader.TheInside.{Inside}
@@ -118,3 +118,12 @@ view_is_sound a its = record {
       (subst (λ (one : Space). AreChunks one (arena_in space a).books.chunks) (is_arena a its space).space_is
       (is_arena a its space).sound.chunks);
 }
+
+-- The account of an arena is the loader's in its space.
+pub own_account : (a : Inside) → IsLoader a → account_of a.arena ≡ account_in NonClass (view_of a)
+own_account a its =
+    λ i. record { owner = a.arena.owner; space = its.arena.space_is i; chunks = a.arena.books.chunks }
+
+pub own_class_account : (a : Inside) → IsLoader a → account_of a.class_arena ≡ account_in Class (view_of a)
+own_class_account a its =
+    λ i. record { owner = a.class_arena.owner; space = its.class_arena.space_is i; chunks = a.class_arena.books.chunks }

@@ -37,7 +37,7 @@ pub struct Allocation {
 }
 
 /// How many chunks an arena has, and where the last one starts and how far it is committed.
-#[derive(Clone, Copy, Debug)]
+#[derive(Clone, Copy)]
 pub(crate) struct Edge {
     pub(crate) held: u64,
     pub(crate) start: u64,

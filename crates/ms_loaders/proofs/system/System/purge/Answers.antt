@@ -6,3 +6,6 @@ returns-clause-step c =
     rw (← c.self.view_is)
     (machine_purged_is c.self.inside.pool c.purge-gone.new.self c.self.inside.loaders c.purge-gone.ensures.1
     c.committed.ensures.sound c.self.invariant.together)
+
+pub returns-clause-gone : goal.returns-clause-gone
+returns-clause-gone c = rw (← c.self.view_is) c.purge-gone.ensures.0
