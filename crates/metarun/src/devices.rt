@@ -12,7 +12,7 @@ pub const MOST_BYTES: usize = 8_100_001;
 const PIECE: usize = 8192;
 
 /// Why a session ends early.
-#[derive(Debug, Drop)]
+#[derive(Drop)]
 pub enum ReadFault {
     /// The device answered an error.
     Device,
@@ -71,5 +71,5 @@ pub fn write_text<W: Write>(output: &mut W, text: &[u8]) -> Result<(), WriteFaul
 }
 
 /// The device answered an error, or took nothing.
-#[derive(Debug, Drop)]
+#[derive(Drop)]
 pub struct WriteFault;

@@ -26,7 +26,7 @@ use std::convert::AsStr;
 
 /// The options of a run: its settings, whether an accepted `alloc` tells where its block starts,
 /// and how much a report tells. This project's choice.
-#[derive(Clone, Copy, Debug, PartialEq, Eq)]
+#[derive(Clone, Copy)]
 pub struct Options {
     pub settings: Settings,
     pub addresses: bool,
@@ -44,7 +44,7 @@ impl Options {
 }
 
 /// Why a command line gives no options.
-#[derive(Debug, Drop)]
+#[derive(Drop)]
 pub enum Refused {
     /// Help or the version was asked for; this is its text, for standard output.
     Told(String),
