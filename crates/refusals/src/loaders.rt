@@ -5,7 +5,7 @@ use crate::row::{Answer, Probed, Row, say, served, tell, told};
 use crate::systems::filled;
 use ms_loaders::{Loader, Loaders};
 use std::alloc::Global;
-use std::io;
+use std::{io, mem};
 
 /// The name of the loader that is put.
 const NAME: u16 = 7;
@@ -42,7 +42,7 @@ impl Inserting {
         match self.loaders.insert(NAME, loader) {
             Ok(()) => served(rt),
             Err((refusal, loader)) => {
-                self.loader = Some(loader);
+                drop(mem::replace(&mut self.loader, Some(loader)));
                 told::<()>(rt, Err(refusal))
             }
         }
@@ -76,6 +76,8 @@ impl Row for Inserting {
 
 impl Probed for Inserting {
     fn probe(mut self, rt: &HostRuntime) -> io::Result<()> {
-        tell_all_places(rt, &mut self.loaders)
+        let told = tell_all_places(rt, &mut self.loaders);
+        drop(self);
+        told
     }
 }
