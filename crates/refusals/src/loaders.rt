@@ -29,8 +29,10 @@ pub struct Inserting {
 impl Inserting {
     /// Prepares a loader with a block, and none under a name.
     pub fn prepared(alloc: Global) -> io::Result<Inserting> {
-        let (_, mut others) = filled(alloc)?.into_parts();
+        let (pool, mut others) = filled(alloc)?.into_parts();
+        drop(pool);
         let loader = others.remove(2);
+        drop(others);
         let loaders = Loaders::new(alloc);
         Ok(Inserting { loaders, loader })
     }

@@ -200,8 +200,11 @@ impl Row for Asking {
 
 impl Probed for Asking {
     fn probe(self, rt: &HostRuntime) -> io::Result<()> {
-        let (_, mut loaders) = self.system.into_parts();
-        tell_all_places(rt, &mut loaders)
+        let (pool, mut loaders) = self.system.into_parts();
+        drop(pool);
+        let told = tell_all_places(rt, &mut loaders);
+        drop(loaders);
+        told
     }
 }
 
