@@ -6,6 +6,13 @@ use std::io;
 /// Steps a system, and tells its replies.
 pub fn show(rt: &HostRuntime) -> io::Result<()> {
     let mut system = System::new(rt.alloc(), Settings::DEFAULT)?;
+    let told = step(rt, &mut system);
+    drop(system);
+    told
+}
+
+/// Takes the steps.
+fn step(rt: &HostRuntime, system: &mut System) -> io::Result<()> {
     let (loader, kind) = (1, Kind::Standard);
     println!(rt; "new: {:?}", system.step(Step::New { loader, kind }))?;
     for (block, words) in [(1, 100), (2, 4000), (3, 600000)] {

@@ -20,6 +20,7 @@ pub fn tell_all(rt: &HostRuntime) -> io::Result<()> {
     tell_both(rt, &mut pool);
     tell(rt, "accounts purge", &pool.purge());
     tell_pool(rt, &pool);
+    drop(pool);
     Ok(())
 }
 

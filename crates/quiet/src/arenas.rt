@@ -3,7 +3,7 @@
 ghost use Rattle.std.specs.Prelude.{◌≡◌, [], IfOk};
 
 use crate::row::{SETTINGS, mark, tell, tell_account, unprepared};
-use ms_arena::Arena;
+use ms_arena::{Arena, ArenaRoom};
 use ms_base::{Block, Kind, Refusal, Space};
 use ms_pool::Pool;
 use std::alloc::Global;
@@ -18,8 +18,10 @@ pub fn tell_all(rt: &HostRuntime) -> io::Result<()> {
     mark(rt, "arena");
     tell_words(rt, &mut arena, second);
     tell_freed(rt, &mut arena, first);
-    tell_over(rt, &mut pool, arena, second);
+    let room = parted(rt, arena);
+    tell_over(rt, &mut pool, room, second);
     tell_new(rt, &mut pool);
+    drop(pool);
     Ok(())
 }
 
@@ -39,7 +41,10 @@ fn with_blocks(
 ) -> Result<(Arena, Block, Block), Refusal> {
     match (first, second) {
         (Ok(first), Ok(second)) => Ok((arena, first, second)),
-        _ => Err(Refusal::OutOfMemory),
+        _ => {
+            drop(arena);
+            Err(Refusal::OutOfMemory)
+        }
     }
 }
 
@@ -66,16 +71,27 @@ fn tell_freed(rt: &HostRuntime, arena: &mut Arena, block: Block) {
     tell_arena(rt, arena);
 }
 
-/// Takes an arena apart that has a live block, and makes one that has none in the memory that it had.
-fn tell_over(rt: &HostRuntime, pool: &mut Pool, arena: Arena, block: Block) {
+/// Takes an arena apart: tells its account, and answers the memory that it had.
+fn parted(rt: &HostRuntime, arena: Arena) -> ArenaRoom {
     let (account, room) = arena.into_parts();
     tell_account(rt, "arena account", &account);
-    let Ok(account) = pool.open(Space::NonClass) else {
-        return tell(rt, "arena over", &"no account is opened");
-    };
-    let arena = Arena::over(room, account, Kind::Hidden);
-    tell(rt, "arena read gone", &arena.read(block, 0));
-    tell_arena(rt, &arena);
+    room
+}
+
+/// Makes an arena in memory where another had a live block: it has none.
+fn tell_over(rt: &HostRuntime, pool: &mut Pool, room: ArenaRoom, block: Block) {
+    match pool.open(Space::NonClass) {
+        Ok(account) => {
+            let arena = Arena::over(room, account, Kind::Hidden);
+            tell(rt, "arena read gone", &arena.read(block, 0));
+            tell_arena(rt, &arena);
+            drop(arena);
+        }
+        Err(_) => {
+            drop(room);
+            tell(rt, "arena over", &"no account is opened");
+        }
+    }
 }
 
 /// Makes an arena over a new account, and has the account back.

@@ -30,7 +30,9 @@ pub fn tell_all(rt: &HostRuntime) -> io::Result<()> {
         Some(meter) => {
             both.push_reserved(one);
             both.push_reserved(other);
-            tell_closed(rt, &meter.close(both));
+            let closed = meter.close(both);
+            tell_closed(rt, &closed);
+            drop(closed);
         }
         None => tell(rt, "counter closed", &"without its seats"),
     }

@@ -1,16 +1,16 @@
 //! Calls over the lock, each with the seat that it is made from: the seat comes back, once the answer
 //! is told.
-ghost use Rattle.std.specs.Prelude.{◌≡◌, ◌<◌, IfSome, IsTrue};
-ghost use Rattle.ms_pool.specs.Account.{has_chunk_at};
+ghost use Rattle.std.specs.Prelude.{◌≡◌, ◌<◌, IfSome};
 ghost use Rattle.ms_shared.specs.SeatView.{ServesBy, opened_by};
 
+use crate::accounts::first_chunk;
 use crate::row::tell;
-use ms_base::{Chunk, Level, Space};
+use ms_base::{Level, Space};
 use ms_pool::{Account, AccountSource, ChunkSource};
 use ms_shared::{PoolSeat, SharedPool};
 use std::sync::Wait;
 
-/// Opens an account, and lends it a chunk where none is refused. Takes memory.
+/// Opens an account and lends it a chunk: none where one of these is refused. Takes memory.
 pub fn lent<R: Wait>(waits: &R, lock: &SharedPool, seat: PoolSeat) -> (PoolSeat, Option<Account>)
     requires { seat.id ≡ lock.now.id }
     ensures own { result.0.id ≡ seat.id }
@@ -19,32 +19,31 @@ pub fn lent<R: Wait>(waits: &R, lock: &SharedPool, seat: PoolSeat) -> (PoolSeat,
 {
     let mut pool = lock.at(waits, seat);
     match pool.open(Space::NonClass) {
-        Ok(account) => {
-            let (seat, account) = with_chunk(waits, lock, pool.into_seat(), account);
-            (seat, Some(account))
-        }
+        Ok(account) => with_chunk(waits, lock, pool.into_seat(), account),
         Err(_) => (pool.into_seat(), None),
     }
 }
 
-/// Lends an account a chunk, where that is not refused. Takes memory.
+/// Lends an account a chunk: none where that is refused. Takes memory.
 fn with_chunk<R: Wait>(
     waits: &R,
     lock: &SharedPool,
     seat: PoolSeat,
     mut account: Account,
-) -> (PoolSeat, Account)
+) -> (PoolSeat, Option<Account>)
     requires own { seat.id ≡ lock.now.id }
     requires served { ServesBy seat.knows account }
     requires counted { 0 < opened_by seat.knows account.space }
     ensures own { result.0.id ≡ seat.id }
-    ensures served { ServesBy result.0.knows result.1 }
-    ensures counted { 0 < opened_by result.0.knows result.1.space }
+    ensures served { IfSome result.1 (λ account. ServesBy result.0.knows account) }
+    ensures counted { IfSome result.1 (λ account. 0 < opened_by result.0.knows account.space) }
 {
     let level = Level::new(12);
     let mut pool = lock.at(waits, seat);
-    let _ = pool.take(&mut account, level, level, 10);
-    (pool.into_seat(), account)
+    match pool.take(&mut account, level, level, 10) {
+        Ok(_) => (pool.into_seat(), Some(account)),
+        Err(_) => (pool.into_seat(), None),
+    }
 }
 
 /// Has the first chunk of an account grow to its parent.
@@ -53,35 +52,23 @@ pub fn grown<R: Wait>(
     waits: &R,
     lock: &SharedPool,
     seat: PoolSeat,
-    account: Account,
-) -> (PoolSeat, Account)
+    account: &mut Account,
+) -> PoolSeat
     requires own { seat.id ≡ lock.now.id }
-    requires served { ServesBy seat.knows account }
-    requires counted { 0 < opened_by seat.knows account.space }
-    ensures own { result.0.id ≡ seat.id }
-    ensures served { ServesBy result.0.knows result.1 }
-    ensures counted { 0 < opened_by result.0.knows result.1.space }
+    requires served { ServesBy seat.knows account.old }
+    requires counted { 0 < opened_by seat.knows account.old.space }
+    ensures own { result.id ≡ seat.id }
+    ensures served { ServesBy result.knows account.new }
+    ensures counted { 0 < opened_by result.knows account.new.space }
 {
-    let mut account = account;
-    let Some(chunk) = first_chunk(&account) else {
-        return (seat, account);
+    let Some(chunk) = first_chunk(account) else {
+        return seat;
     };
     let total = 2 * chunk.level.words();
     let mut pool = lock.at(waits, seat);
-    let answer = pool.grow(&mut account, chunk.start, total, true);
+    let answer = pool.grow(account, chunk.start, total, true);
     tell(rt, "lock grow", &answer);
-    (pool.into_seat(), account)
-}
-
-/// Tells the first chunk of an account.
-fn first_chunk(account: &Account) -> Option<Chunk>
-    ensures { IfSome result
-        (λ chunk. IsTrue (has_chunk_at account.now.chunks chunk.start)) }
-{
-    if account.held() == 0 {
-        return None;
-    }
-    Some(account.chunk(0))
+    pool.into_seat()
 }
 
 /// Tells the sums over an account's space, and closes the account.

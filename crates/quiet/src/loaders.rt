@@ -14,7 +14,9 @@ pub fn tell_all(rt: &HostRuntime) -> io::Result<()> {
     tell_words(rt, &mut loaders);
     tell_freed(rt, &mut loaders);
     tell_gone(rt, &mut loaders);
+    drop(loaders);
     tell_new(rt, &mut pool);
+    drop(pool);
     Ok(())
 }
 

@@ -28,6 +28,12 @@ use std::io::{self, ErrorKind};
 use std::process::ExitCode;
 use std::sync::Wait;
 
+/// The names of all rows, in the order in which they are told.
+const ROWS: [&str; 11] = [
+    "sizes", "nodes", "tree", "blocks", "accounts", "counter", "arena", "loaders", "system",
+    "report", "lock",
+];
+
 fn main(rt: HostRuntime) -> ExitCode {
     match tell_row(&rt, &rt) {
         Ok(()) => ExitCode::from(0),
@@ -52,17 +58,10 @@ fn tell_row<R: Wait>(rt: &HostRuntime, waits: &R) -> io::Result<()> {
 
 /// Tells all rows.
 fn tell_each<R: Wait>(rt: &HostRuntime, waits: &R) -> io::Result<()> {
-    sizes::tell_all(rt)?;
-    nodes::tell_all(rt)?;
-    tree::tell_all(rt)?;
-    blocks::tell_all(rt)?;
-    accounts::tell_all(rt)?;
-    counter::tell_all(rt)?;
-    arenas::tell_all(rt)?;
-    loaders::tell_all(rt)?;
-    systems::tell_all(rt)?;
-    reports::tell_all(rt)?;
-    seats::tell_all(rt, waits)
+    for name in ROWS {
+        tell_named(rt, waits, name)?;
+    }
+    Ok(())
 }
 
 /// Tells the row of that name.

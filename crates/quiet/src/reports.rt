@@ -1,5 +1,5 @@
 //! The row of reports: what is told beside sums is counted from them, and refusals from replies.
-use crate::row::{SETTINGS, filled, mark, tell};
+use crate::row::{SETTINGS, filled, mark, tell, unprepared};
 use ms_base::{Refusal, Reply};
 use ms_loaders::{Answer, Details, Totals};
 use ms_report::{Kinds, Usages, sum_kinds, tally, weigh};
@@ -12,6 +12,8 @@ pub fn tell_all(rt: &HostRuntime) -> io::Result<()> {
     mark(rt, "report");
     tell_usages(rt, &weigh(&totals, &SETTINGS));
     tell_kinds(rt, &sum_kinds(&details.loaders));
+    drop(totals);
+    drop(details);
     tell_refusals(rt);
     Ok(())
 }
@@ -19,8 +21,12 @@ pub fn tell_all(rt: &HostRuntime) -> io::Result<()> {
 /// Tells the sums of a system with loaders and blocks, and those of each loader.
 fn summed(alloc: Global) -> io::Result<(Totals, Details)> {
     let system = filled(alloc)?;
-    let totals = system.totals()?;
-    Ok((totals, system.details()?))
+    let (totals, details) = (system.totals(), system.details());
+    drop(system);
+    match (totals, details) {
+        (Ok(totals), Ok(details)) => Ok((totals, details)),
+        _ => Err(unprepared()),
+    }
 }
 
 /// Tells how many of some replies are refusals, by name.

@@ -80,6 +80,7 @@ pub fn filled(alloc: Global) -> io::Result<System> {
     let mut system = System::new(alloc, SETTINGS)?;
     for step in STEPS {
         if let Reply::Refused(_) = system.step(step) {
+            drop(system);
             return Err(unprepared());
         }
     }

@@ -15,10 +15,9 @@ use std::sync::Wait;
 /// Tells the row.
 pub fn tell_all<R: Wait>(rt: &HostRuntime, waits: &R) -> io::Result<()> {
     let mut both = Vec::with_capacity(rt.alloc(), 2)?;
-    let (lock, one, other, account) = prepared(rt.alloc(), waits)?;
+    let (lock, one, mut other, mut account) = prepared(rt.alloc(), waits)?;
     mark(rt, "lock");
-    let (mut one, account) = grown(rt, waits, &lock, one, account);
-    let mut other = other;
+    let mut one = grown(rt, waits, &lock, one, &mut account);
     lock.hand(&mut one, &mut other, &account);
     tell_account(rt, "lock account", &account);
     let other = closed(rt, waits, &lock, other, account);
@@ -29,7 +28,9 @@ pub fn tell_all<R: Wait>(rt: &HostRuntime, waits: &R) -> io::Result<()> {
         Some(lock) => {
             both.push_reserved(one);
             both.push_reserved(other);
-            tell_pool(rt, &lock.into_pool(both));
+            let taken = lock.into_pool(both);
+            tell_pool(rt, &taken);
+            drop(taken);
         }
         None => tell(rt, "lock pool", &"without its seats"),
     }
@@ -59,18 +60,24 @@ fn prepared<R: Wait>(
     ensures served { IfOk result (λ made. ServesBy made.1.knows made.3) }
     ensures counted { IfOk result (λ made. 0 < opened_by made.1.knows made.3.space) }
 {
+    let (lock, one, other) = seated(alloc)?;
+    match lent(waits, &lock, one) {
+        (one, Some(account)) => Ok((lock, one, other, account)),
+        (_, None) => Err(unprepared()),
+    }
+}
+
+/// Makes a lock of two seats.
+fn seated(alloc: Global) -> io::Result<(SharedPool, PoolSeat, PoolSeat)>
+    ensures own { IfOk result (λ made. made.1.id ≡ made.0.id) }
+    ensures other_own { IfOk result (λ made. made.2.id ≡ made.0.id) }
+{
     let pool = Pool::new(alloc, SETTINGS)?;
     let Ok((lock, mut seats)) = SharedPool::new(alloc, pool, 2) else {
         return Err(unprepared());
     };
-    let Some(other) = seats.pop() else {
-        return Err(unprepared());
-    };
-    let Some(one) = seats.pop() else {
-        return Err(unprepared());
-    };
-    match lent(waits, &lock, one) {
-        (one, Some(account)) if account.held() > 0 => Ok((lock, one, other, account)),
+    match (seats.pop(), seats.pop()) {
+        (Some(other), Some(one)) => Ok((lock, one, other)),
         _ => Err(unprepared()),
     }
 }

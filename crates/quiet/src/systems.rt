@@ -78,9 +78,15 @@ fn tell_held_back(rt: &HostRuntime, system: System) {
     match loaders.remove(2) {
         Some(loader) => {
             tell_parted(rt, loader);
-            tell_left(rt, &System::settle(rt.alloc(), pool, loaders));
+            let left = System::settle(rt.alloc(), pool, loaders);
+            tell_left(rt, &left);
+            drop(left);
         }
-        None => tell(rt, "system without", &"none"),
+        None => {
+            drop(pool);
+            drop(loaders);
+            tell(rt, "system without", &"none");
+        }
     }
 }
 

@@ -21,6 +21,7 @@ pub fn tell_all(rt: &HostRuntime) -> io::Result<()> {
     tell_released(rt, &mut tree, 512);
     tell_released(rt, &mut tree, 0);
     tell_released(rt, &mut tree, 0);
+    drop(tree);
     Ok(())
 }
 

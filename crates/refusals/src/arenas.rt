@@ -64,7 +64,10 @@ impl Allocating {
         let mut row = Allocating::new(alloc, asked)?;
         match row.fill() {
             Ok(()) => Ok(row),
-            Err(_) => Err(unprepared()),
+            Err(_) => {
+                drop(row);
+                Err(unprepared())
+            }
         }
     }
 
@@ -131,6 +134,8 @@ impl Places for Allocating {
 
 impl Probed for Allocating {
     fn probe(mut self, rt: &HostRuntime) -> io::Result<()> {
-        tell_places(rt, &mut self)
+        let told = tell_places(rt, &mut self);
+        drop(self);
+        told
     }
 }

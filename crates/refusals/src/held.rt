@@ -125,7 +125,9 @@ fn tell_held(rt: &HostRuntime, loader: Loader) -> io::Result<()> {
         space: Space::NonClass,
         name: LAST_NAME,
     };
-    tell_both(rt, &mut held)
+    let told = tell_both(rt, &mut held);
+    drop(held);
+    told
 }
 
 /// Tells the places that a loader has, in each space.

@@ -5,7 +5,7 @@ use crate::row::{Answer, Probed, Row, say, served, tell, told};
 use crate::systems::filled;
 use ms_loaders::{Loader, Loaders};
 use std::alloc::Global;
-use std::io;
+use std::{io, mem};
 
 /// The name of the loader that is put.
 const NAME: u16 = 7;
@@ -29,8 +29,10 @@ pub struct Inserting {
 impl Inserting {
     /// Prepares a loader with a block, and none under a name.
     pub fn prepared(alloc: Global) -> io::Result<Inserting> {
-        let (_, mut others) = filled(alloc)?.into_parts();
+        let (pool, mut others) = filled(alloc)?.into_parts();
+        drop(pool);
         let loader = others.remove(2);
+        drop(others);
         let loaders = Loaders::new(alloc);
         Ok(Inserting { loaders, loader })
     }
@@ -42,7 +44,7 @@ impl Inserting {
         match self.loaders.insert(NAME, loader) {
             Ok(()) => served(rt),
             Err((refusal, loader)) => {
-                self.loader = Some(loader);
+                drop(mem::replace(&mut self.loader, Some(loader)));
                 told::<()>(rt, Err(refusal))
             }
         }
@@ -76,6 +78,8 @@ impl Row for Inserting {
 
 impl Probed for Inserting {
     fn probe(mut self, rt: &HostRuntime) -> io::Result<()> {
-        tell_all_places(rt, &mut self.loaders)
+        let told = tell_all_places(rt, &mut self.loaders);
+        drop(self);
+        told
     }
 }

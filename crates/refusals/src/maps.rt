@@ -16,7 +16,8 @@ pub struct Mapping {
 impl Mapping {
     /// Prepares the pool of a system with loaders and blocks.
     pub fn prepared(alloc: Global) -> io::Result<Mapping> {
-        let (pool, _) = filled(alloc)?.into_parts();
+        let (pool, loaders) = filled(alloc)?.into_parts();
+        drop(loaders);
         Ok(Mapping { alloc, pool })
     }
 }

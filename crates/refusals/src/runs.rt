@@ -57,7 +57,11 @@ fn tell_call<R: Threads + Wait + Sync>(
     settings: Settings,
 ) -> bool {
     match replay(waits, rt.alloc(), trace, settings, Detail::Full, &NoGate) {
-        Ok(replies) => tell_replies(rt, word, settings.workers == 1, &replies),
+        Ok(replies) => {
+            let is_wanted = tell_replies(rt, word, settings.workers == 1, &replies);
+            drop(replies);
+            is_wanted
+        }
         Err(fault) => {
             let _ = println!(rt; "replay {word} fault {fault:?}");
             true

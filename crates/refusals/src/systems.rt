@@ -92,6 +92,7 @@ pub fn filled(alloc: Global) -> io::Result<System> {
     let mut system = System::new(alloc, SETTINGS)?;
     for step in STEPS {
         if let Reply::Refused(_) = system.step(step) {
+            drop(system);
             return Err(unprepared());
         }
     }
@@ -101,10 +102,9 @@ pub fn filled(alloc: Global) -> io::Result<System> {
 /// Tells the sums of a system with loaders and blocks, with details and peaks.
 pub fn filled_totals(alloc: Global) -> io::Result<Totals> {
     let system = filled(alloc)?;
-    match detailed_totals(&system) {
-        Ok(totals) => Ok(totals),
-        Err(_) => Err(unprepared()),
-    }
+    let totals = detailed_totals(&system);
+    drop(system);
+    Ok(totals?)
 }
 
 /// Tells the sums of a system, with its details and with peaks.
@@ -200,8 +200,11 @@ impl Row for Asking {
 
 impl Probed for Asking {
     fn probe(self, rt: &HostRuntime) -> io::Result<()> {
-        let (_, mut loaders) = self.system.into_parts();
-        tell_all_places(rt, &mut loaders)
+        let (pool, mut loaders) = self.system.into_parts();
+        drop(pool);
+        let told = tell_all_places(rt, &mut loaders);
+        drop(loaders);
+        told
     }
 }
 
