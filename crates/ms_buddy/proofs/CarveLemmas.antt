@@ -16,8 +16,10 @@ use Rattle.ms_base.specs.Level.{size_of, highest_level}
 use Rattle.ms_base.specs.Part.{IsPart}
 use Rattle.ms_base.proofs.free.PartLemmas.{parts_are_nested_or_apart}
 use Rattle.ms_buddy.specs.declared.node.Node.{Node}
+use Rattle.ms_buddy.specs.declared.node.Node.TheVariants.{Free, Lent, Split'}
 use Rattle.ms_buddy.specs.Leaves.{LentLeaf, IsCarveRefusal, is_same, fits_in, words_of, with_leaf}
-use Rattle.ms_buddy.specs.Tree.{IsInside, IsPlace, MayBeLent, IsTree, lent_in, free_in, lent_in_halves, free_in_halves, with_free}
+use Rattle.ms_buddy.specs.Tree.{IsInside, IsPlace, MayBeLent, IsTree, is_free, lent_in, free_in, lent_in_halves, free_in_halves}
+use Rattle.ms_buddy.specs.Tree.{with_free}
 use Rattle.ms_buddy.proofs.TreeHalvesLemmas.{size_of-some, size_of-halves, lower_place, upper_place}
 use Rattle.ms_buddy.proofs.WalkLemmas.{LiesIn, LeafIn, lent_lies_in, free_lies_in, all_weaker, any-none}
 use Rattle.ms_buddy.proofs.WalkLemmas.{none_free_above, none_free_below}
@@ -266,3 +268,11 @@ beside_free_lent level start half from true node size e =
     append-nil (lent_in (level + 1) start node) ∙ ap (λ (n : ℕ). lent_in (level + 1) n node) (sym e)
 beside_free_lent level start half from false node size e =
     ap (λ (n : ℕ). lent_in (level + 1) n node) (sym (e ∙ ap (λ (n : ℕ). start + n) size))
+
+-- What is made of a lower half and a free upper one is what is made of both in their order.
+pub lower_beside : {A B : Type 0} (made : Node A → Node A → B) (is_lower : Bool) (half near far : Node A)
+    → near ≡ half → is_free far ≡ true → is_lower ≡ true
+    → made near far ≡ made (with_free is_lower half).0 (with_free is_lower half).1
+lower_beside made is_lower half near Free e f g = rw g (ap (λ (node : Node _). made node Free) e)
+lower_beside made is_lower half near (Lent owner front) e f g = absurd (cc)
+lower_beside made is_lower half near (Split' levels p lower q upper) e f g = absurd (cc)

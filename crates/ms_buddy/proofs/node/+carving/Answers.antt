@@ -92,3 +92,11 @@ carve_in_half-returns-in-Ok-carve-clause-parted g t c =
 
 pub Node::carve-returns-in-Err-clause-unchanged : goal.Node::carve-returns-in-Err-clause-unchanged
 Node::carve-returns-in-Err-clause-unchanged g t c = refl
+
+pub carve_in_half-returns-in-Ok-clause-halves : goal.carve_in_half-returns-in-Ok-clause-halves
+carve_in_half-returns-in-Ok-clause-halves g t c = record {
+  low = c.requires.halves.low;
+  lower_tree = c.in-Ok.ensures.tree;
+  upper_tree = c.requires.halves.upper_tree;
+  levels_are = c.levels_of_halves.ensures;
+}

@@ -143,3 +143,11 @@ pub Node::release-returns-in-Some-clause-merged : goal.Node::release-returns-in-
 Node::release-returns-in-Some-clause-merged g t c =
     rw c.in-Split.is
     (rw (c.deref_mut.ensures.value, c.deref_mut-in-Split.ensures.value) at c.in-Some.ensures.merged)
+
+pub release_in_half-returns-then-span-middle-clause-halves : goal.release_in_half-returns-then-span-middle-clause-halves
+release_in_half-returns-then-span-middle-clause-halves g t c = record {
+  low = c.requires.halves.low;
+  lower_tree = c.release-freed.ensures.tree;
+  upper_tree = c.requires.halves.upper_tree;
+  levels_are = c.levels_of_halves.ensures;
+}
