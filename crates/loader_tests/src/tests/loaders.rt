@@ -30,7 +30,9 @@ fn blocks_of_one(alloc: Global, pool: &mut Pool) -> Option<Blocks> {
     let first = loader.alloc(pool, 1, 10);
     let second = loader.allocate(pool, Space::NonClass, 2, 1);
     let _ = loader.write(2, 1, 7);
-    Some(([first, second], loader.read(2, 1), loader.used()))
+    let (read, used) = (loader.read(2, 1), loader.used());
+    drop(loader);
+    Some(([first, second], read, used))
 }
 
 /// Makes a loader over the next accounts of a pool, and a class block of it.
@@ -39,7 +41,9 @@ fn class_block_of_one(alloc: Global, pool: &mut Pool) -> Option<Result<Block, Re
         return None;
     };
     let mut loader = Loader::new(alloc, account, class_account, Kind::Standard);
-    Some(loader.calloc(pool, 1, 10))
+    let block = loader.calloc(pool, 1, 10);
+    drop(loader);
+    Some(block)
 }
 
 #[test]
@@ -74,14 +78,17 @@ const STEPS: [Step; 2] = [
 /// Runs steps by a new system: the replies, and the totals after the last.
 fn ran(alloc: Global, steps: &[Step]) -> Result<(Vec<Reply>, Totals), AllocError> {
     let mut system = System::new(alloc, Settings::DEFAULT)?;
-    let replies = system.run(steps)?;
-    Ok((replies, totals(&system)?))
+    let (replies, sums) = (system.run(steps), totals(&system));
+    drop(system);
+    Ok((replies?, sums?))
 }
 
 #[test]
 fn a_run_answers_each_step_and_is_reported(rt: HostRuntime) -> Result<(), Fail> {
     let (replies, sums) = ran(rt.alloc(), &STEPS)?;
-    let report = text(rt.alloc(), &sums)?;
+    let report = text(rt.alloc(), &sums);
+    drop(sums);
+    let report = report?;
     assert_eq!(rt;
         (replies.as_slice(), report.as_str()),
         ([Reply::Ok, Reply::At(0)].as_slice(), ONE_BLOCK)

@@ -221,7 +221,9 @@ fn the_largest_numbers_fit_their_columns(rt: HostRuntime) -> Result<(), Fail> {
         policy: Policy::None,
         class_nodes: 16,
     };
-    let report = full_text(rt.alloc(), &totals, &settings, &tally(&[]))?;
+    let report = full_text(rt.alloc(), &totals, &settings, &tally(&[]));
+    drop(totals);
+    let report = report?;
     let text = report.as_str();
     let is_fixed = text.starts_with(LARGEST);
     let found = (text.contains(LARGEST_USAGE), text.contains(LARGEST_KINDS));
