@@ -2,7 +2,7 @@
 -- its leaf takes its place there. For carving.
 use Rattle.std.proofs.Common.{◌≡◌, ◌<◌, ◌≤◌, ℕ, ◌+◌, Bool, true, false, cond, ◌&&◌, ◌||◌, List, [], ◌∷◌, ◌++◌, refl}
 use Rattle.std.proofs.Common.{sym, ap, subst, ◌∙◌, inl, inr, arith}
-use Rattle.std.specs.Prelude.{nat_le, nat_lt, IsTrue, IsFalse}
+use Rattle.std.specs.Prelude.{nat_le, nat_lt, bit_or, ◌^◌, IsTrue, IsFalse}
 use Rattle.std.specs.List.{AllByRecursion, list_any}
 use Rattle.std.proofs.lemmas.List.{append-nil}
 use Rattle.std.proofs.lemmas.List.Folds.{list_any-append}
@@ -19,7 +19,7 @@ use Rattle.ms_buddy.specs.declared.node.Node.{Node}
 use Rattle.ms_buddy.specs.declared.node.Node.TheVariants.{Free, Lent, Split'}
 use Rattle.ms_buddy.specs.Leaves.{LentLeaf, IsCarveRefusal, is_same, fits_in, words_of, with_leaf}
 use Rattle.ms_buddy.specs.Tree.{IsInside, IsPlace, MayBeLent, IsTree, is_free, lent_in, free_in, lent_in_halves, free_in_halves}
-use Rattle.ms_buddy.specs.Tree.{with_free}
+use Rattle.ms_buddy.specs.Tree.{levels_of, with_free}
 use Rattle.ms_buddy.proofs.TreeHalvesLemmas.{size_of-some, size_of-halves, lower_place, upper_place}
 use Rattle.ms_buddy.proofs.WalkLemmas.{LiesIn, LeafIn, lent_lies_in, free_lies_in, all_weaker, any-none}
 use Rattle.ms_buddy.proofs.WalkLemmas.{none_free_above, none_free_below}
@@ -276,3 +276,14 @@ pub lower_beside : {A B : Type 0} (made : Node A → Node A → B) (is_lower : B
 lower_beside made is_lower half near Free e f g = rw g (ap (λ (node : Node _). made node Free) e)
 lower_beside made is_lower half near (Lent owner front) e f g = absurd (cc)
 lower_beside made is_lower half near (Split' levels p lower q upper) e f g = absurd (cc)
+
+-- A lower half that is not free and a free upper one make a tree.
+pub lower_beside_tree : {A : Type 0} (level levels free_level : ℕ) (half near far : Node A) → level < highest_level
+    → IsTree (level + 1) half → is_free half ≡ false → near ≡ half → is_free far ≡ true
+    → levels ≡ levels_of (level + 1) half → free_level ≡ 2 ^ (level + 1)
+    → (level < highest_level) × IsFalse (is_free near && is_free far) × IsTree (level + 1) near × IsTree (level + 1) far
+    × (bit_or levels free_level ≡ bit_or (levels_of (level + 1) near) (levels_of (level + 1) far))
+lower_beside_tree level levels free_level half near Free low tree split e f l b =
+    rw e (low, rw split refl, tree, tt, rw (l, b) refl)
+lower_beside_tree level levels free_level half near (Lent owner front) low tree split e f l b = absurd (cc)
+lower_beside_tree level levels free_level half near (Split' bits p lower q upper) low tree split e f l b = absurd (cc)

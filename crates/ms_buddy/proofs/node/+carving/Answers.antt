@@ -100,3 +100,11 @@ carve_in_half-returns-in-Ok-clause-halves g t c = record {
   upper_tree = c.requires.halves.upper_tree;
   levels_are = c.levels_of_halves.ensures;
 }
+
+pub carve_in_half-returns-in-Ok-carve-clause-halves : goal.carve_in_half-returns-in-Ok-carve-clause-halves
+carve_in_half-returns-in-Ok-carve-clause-halves g t c = record {
+  low = c.requires.halves.low;
+  lower_tree = c.requires.halves.lower_tree;
+  upper_tree = c.in-Ok-carve.ensures.tree;
+  levels_are = c.levels_of_halves-in-Ok-carve.ensures;
+}
