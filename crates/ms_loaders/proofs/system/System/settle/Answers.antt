@@ -23,6 +23,12 @@ invariant_of-result c =
       policy_is = c.policy-policy.ensures;
     }
 
+pub returns-clause-exact : goal.returns-clause-exact
+returns-clause-exact c = (
+  λ _. omega (arith, c.accounts-opened.ensures, c.len.ensures.count, c.if-opened-gathered.false),
+  λ _. refl,
+)
+
 pub returns-clause-settled : goal.returns-clause-settled
 returns-clause-settled c = refl
 
