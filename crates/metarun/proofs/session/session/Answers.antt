@@ -1,3 +1,5 @@
+use Rattle.std.proofs.Common.{inr}
+use Rattle.std.proofs.KnownBytes.{Keeps-refl}
 use Rattle.std.specs.Prelude.{string_bytes}
 use Rattle.metarun.proofs.session.session.Goals as goal
 
@@ -11,3 +13,19 @@ returns-in-Ok-write_text-clause-answered g c = λ zero.
       output = told.2;
       out = rw (← c.as_bytes.ensures.value) c.in-Ok-write_text.ensures.ok;
     }
+
+pub returns-in-Ok-clause-failed : goal.returns-in-Ok-clause-failed
+returns-in-Ok-clause-failed g c = λ five.
+    let told = c.in-Ok.ensures.ok in
+    let part = c.in-Err-write_text.ensures.err in
+    inr (record {
+      text = told.0;
+      written = string_bytes c.in-Ok.text;
+      count = part.0;
+      whole = told.1;
+      output = told.2;
+      out = rw (← c.as_bytes.ensures.value) part.1;
+    })
+
+pub returns-clause-untouched : goal.returns-clause-untouched
+returns-clause-untouched g c = λ refused. Keeps-refl (g.W.Write.contents c.args.output.now)
