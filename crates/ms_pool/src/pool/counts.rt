@@ -5,7 +5,7 @@ ghost use Rattle.ms_pool.specs.LimitCounts.{limit_counts};
 use super::Pool;
 
 /// What is committed and reserved, beside what may be. The limits are this project's choice.
-#[derive(Clone, Copy, Debug)]
+#[derive(Clone, Copy, Debug, PartialEq, Eq)]
 pub struct LimitCounts {
     /// Committed granules, of both spaces together.
     pub granules: u64,
