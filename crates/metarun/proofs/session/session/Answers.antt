@@ -1,4 +1,4 @@
-use Rattle.std.proofs.Common.{inr}
+use Rattle.std.proofs.Common.{inl, inr}
 use Rattle.std.proofs.KnownBytes.{Keeps-refl}
 use Rattle.std.specs.Prelude.{string_bytes}
 use Rattle.metarun.proofs.session.session.Goals as goal
@@ -29,3 +29,6 @@ returns-in-Ok-clause-failed g c = λ five.
 
 pub returns-clause-untouched : goal.returns-clause-untouched
 returns-clause-untouched g c = λ refused. Keeps-refl (g.W.Write.contents c.args.output.now)
+
+pub returns-clause-failed : goal.returns-clause-failed
+returns-clause-failed g c = λ five. inl (Keeps-refl (g.W.Write.contents c.args.output.now))
