@@ -1,4 +1,4 @@
-use Rattle.std.proofs.Common.{ap, ◌∙◌, Some, refl}
+use Rattle.std.proofs.Common.{ap, ◌∙◌, Some, refl, sym}
 use Rattle.ms_c.proofs.making.nizgrabul_new.Goals as goal
 
 -- the box holds the new machine
@@ -9,3 +9,7 @@ returns-in-Ok-new-clause-made c = λ _. record {
   none = c.in_default.ensures.none refl;
   made = c.put-in-Ok-new.ensures ∙ ap (λ m. Some m) (c.in-Ok-new.ensures.ok ∙ c.in-Ok.ensures);
 }
+
+-- a handle that is used has its system still
+pub returns-in-Some-clause-refused : goal.returns-in-Some-clause-refused
+returns-in-Some-clause-refused c = λ _. c.put.ensures ∙ sym c.in-Some.ensures.some

@@ -1,4 +1,4 @@
-use Rattle.std.proofs.Common.{◌≡◌, sym, take, get_or, arith, subst}
+use Rattle.std.proofs.Common.{◌≡◌, Result, Ok, Err, OnErr, refl, sym, take, get_or, arith, subst}
 use Rattle.std.proofs.lemmas.List.{take_more}
 use Rattle.ms_base.specs.declared.step.Step.TheVariants.{New}
 use Rattle.ms_base.specs.declared.kind.Kind.TheVariants.{Standard}
@@ -59,3 +59,11 @@ returns-clause-emptied c =
     nothing_is_left _
     (subst IsGood c.self-2.view_is
     (machine_is_good c.self-2.inside.pool c.self-2.inside.loaders c.self-2.invariant.together))
+
+-- What is so is so where there is an error.
+where_err : {A E : Type 0} (P : Type 0) (answer : Result A E) → P → OnErr answer P
+where_err P (Ok a) so = tt
+where_err P (Err e) so = so
+
+pub returns-in_err-replies-clause-unchanged : goal.returns-in_err-replies-clause-unchanged
+returns-in_err-replies-clause-unchanged c = where_err _ c.from_residual.result refl

@@ -1,4 +1,4 @@
-use Rattle.std.proofs.Common.{◌≡◌, ◌+◌, List, ap, subst, ◌∙◌, arith}
+use Rattle.std.proofs.Common.{◌≡◌, ◌+◌, ℕ, List, ◌∷◌, ap, subst, ◌∙◌, arith}
 use Rattle.std.specs.List.{sum_by}
 use Rattle.std.proofs.lemmas.List.Sums.{sum_by-cons}
 use Rattle.ms_base.specs.declared.kind.Space.TheVariants.{NonClass, Class}
@@ -34,3 +34,15 @@ overflow_add-words c =
       c.used-words.ensures,
       used_fits _ (machine_is_good c.self.inside.pool c.self.inside.loaders c.self.invariant.together),
     )
+
+-- One more loader's words are counted.
+goes_on : (words used : ℕ) (loader : LoaderView) (left rest : List LoaderView) (all : ℕ)
+    → words + sum_by used_in_both left ≡ all → left ≡ loader ∷ rest → used ≡ used_in_both loader
+    → words + used + sum_by used_in_both rest ≡ all
+goes_on words used loader left rest all so first is =
+    omega (arith, so, ap (sum_by used_in_both) first, sum_by-cons used_in_both loader rest, is)
+
+pub loop-loader-preserved : goal.loop-loader-preserved
+loop-loader-preserved c =
+    goes_on c.loop-loader.words c.used-words.result c.in-Some.loader.now c.loop-loader.loader-iterator c.next.new.self _
+    c.loop-loader.invariant c.in-Some.ensures.steps c.used-words.ensures
