@@ -2,9 +2,10 @@
 -- use these.
 use Rattle.std.proofs.Common.{◌≡◌, ◌≤◌, ◌<◌, ◌+◌, ◌-◌, ◌^◌, ℕ, zero, suc, Bool, Option, Some, None, List, [], ◌∷◌, ◌++◌}
 use Rattle.std.proofs.Common.{length, refl, sym, ap, ◌∙◌, subst, arith, length-append, length-set, sum}
-use Rattle.std.specs.Prelude.{slice_get, slice_index, slice_index_or, slice_set}
+use Rattle.std.specs.Prelude.{if◌then◌else◌, slice_get, slice_index, slice_index_or, slice_set}
 use Rattle.std.specs.Option.{option_map, IfSome}
 use Rattle.std.proofs.Math.Nat.{pow-le-pow_right}
+use Rattle.std.proofs.lemmas.Bool.{le-leb}
 use Rattle.std.proofs.lemmas.Grind.{get_or_default_zero}
 use Rattle.std.proofs.lemmas.List.Sums.{sum_by_push}
 use Rattle.ms_base.specs.declared.kind.Space.{Space}
@@ -16,7 +17,7 @@ use Rattle.ms_base.specs.Names.{with_new}
 use Rattle.ms_base.specs.State.{ArenaState}
 use Rattle.ms_base.specs.Good.{IsSound}
 use Rattle.ms_base.specs.Place.{current, current_top, last_place, tops_with, with_rest, with_top, with_chunk}
-use Rattle.ms_base.specs.Place.{with_taken, retired, retired_chunk}
+use Rattle.ms_base.specs.Place.{with_taken, retired, retired_chunk, best_fit, placed, placed_in, place_at_top}
 use Rattle.ms_base.proofs.arena.KeptLemmas.{sound_with_kept}
 use Rattle.ms_base.proofs.arena.RaisedLemmas.{top_within, place_within}
 use Rattle.ms_base.proofs.arena.TopLemmas.{tops_pushed}
@@ -136,6 +137,31 @@ books_placed_at_top space state counted n place now chunk tops books found withi
   used = summed;
   sound = (top_awaits space state counted n place chunk tops books found within long last is [] books.sound).sound;
 }
+
+-- So it is placed there where no free block fits.
+pub placed_at_top : (state : ArenaState) (n place top : ℕ) (chunk : Chunk) (tops : List ℕ) (kept : List (ℕ × ℕ))
+    → best_fit state.kept n ≡ None → current state ≡ Some chunk → top ≡ current_top state
+    → current_top state + n ≤ chunk.front → place ≡ last_place state → tops ≡ tops_with state.tops place (top + n)
+    → kept ≡ state.kept
+    → placed state n ≡ Some (chunk.start + top, record { chunks = state.chunks; tops = tops; kept = kept })
+placed_at_top state n place top chunk tops kept none found top_is within last is same =
+    ap (λ (run : Option (ℕ × ℕ)). placed_in state run n) none
+    ∙ ap (λ (one : Option Chunk). place_at_top state one n) found
+    ∙ ap (λ (fits : Bool). if fits then Some (chunk.start + current_top state, after) else None)
+    (le-leb (current_top state + n) chunk.front within)
+    ∙ ap (λ (t : ℕ). Some (chunk.start + t, after)) (sym top_is)
+    ∙ ap (λ (s : ArenaState). Some (chunk.start + top, s)) (sym same_state)
+  where
+    after : ArenaState
+    after = with_top state (current_top state + n)
+
+    same_state : ◌≡◌ {A = ArenaState} (record { chunks = state.chunks; tops = tops; kept = kept }) after
+    same_state = λ i. record {
+      chunks = state.chunks;
+      tops = (is ∙ ap (λ (p : ℕ). tops_with state.tops p (top + n)) last
+          ∙ ap (λ (t : ℕ). tops_with state.tops (last_place state) (t + n)) top_is) i;
+      kept = same i;
+    }
 
 pub rest_may : (kept : List (ℕ × ℕ)) (run : ℕ × ℕ) (start words : ℕ) → MayBeKept kept run → run.0 ≤ start
     → start + words ≤ run.0 + run.1

@@ -176,3 +176,14 @@ hands_on from to left taker account left_is taker_is serves some = rw (left_is, 
   counted = taker_counts from to account.owner account.space;
   from_counted = left_counts from account.owner account.space some;
 })
+
+-- What the seats are, once one has joined a part and the other has lost one.
+pub gives : (left part given : Sat) (kept spare : LockView) → given ≡ (both left.0 part.0, left.1) → left.0 ≡ kept
+    → part.0 ≡ spare → left.1 ≡ [] → given ≡ (both kept spare, [])
+gives left part given kept spare is left_is part_is none = is ∙ (λ i. (both (left_is i) (part_is i), none i))
+
+pub takes : (old note joined taker : Sat) (noted : LockView) → taker ≡ (less_part joined.0, joined.1)
+    → joined ≡ (both old.0 note.0, old.1) → note.0 ≡ noted → old.1 ≡ []
+    → taker ≡ (less_part (both old.0 noted), [])
+takes old note joined taker noted is joined_is note_is none =
+    is ∙ ap (λ (m : Sat). (less_part m.0, m.1)) joined_is ∙ (λ i. (less_part (both old.0 (note_is i)), none i))

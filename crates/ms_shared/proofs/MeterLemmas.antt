@@ -143,3 +143,8 @@ one_more_seat id given new seat n count above all so_far is its idle =
   where
     seat_of : TableId → ℕ → MeterSeatState
     seat_of id amount = record { id = id; amount = amount }
+
+-- A seat as its callers see it.
+pub meter_seat_is : (id id' : TableId) (amount amount' : ℕ) → id' ≡ id → amount' ≡ amount
+    → ◌≡◌ {A = MeterSeatState} (record { id = id'; amount = amount' }) (record { id = id; amount = amount })
+meter_seat_is id id' amount amount' same is = λ i. record { id = same i; amount = is i }

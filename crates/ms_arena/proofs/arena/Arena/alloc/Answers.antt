@@ -1,7 +1,8 @@
-use Rattle.std.proofs.Common.{arith, ℕ, List, refl, sym, ap, replicate, subst, ◌∙◌}
+use Rattle.std.proofs.Common.{arith, ℕ, List, inr, refl, sym, ap, replicate, subst, ◌∙◌}
 use Rattle.ms_base.specs.Names.{named}
 use Rattle.ms_arena.specs.Arena.{ArenaView, account_of}
-use Rattle.ms_arena.specs.Books.{BooksView, account_in}
+use Rattle.ms_arena.specs.Books.{BooksView, account_in, arena_over}
+use Rattle.ms_arena.proofs.AllocLemmas.{finds_from}
 use Rattle.ms_arena.proofs.ArenaLemmas.{Settles, settles}
 use Rattle.ms_arena.proofs.arena.Arena.alloc.Given.{Over}
 use Rattle.ms_arena.proofs.arena.Arena.alloc.Goals as goal
@@ -54,3 +55,19 @@ returns-clause-fresh g c =
     ap (λ (arena : ArenaView). named arena.live c.in_ok-start.start) (sym c.self.view_is)
     ∙ ap (λ (live : List (ℕ × List ℕ)). named live c.in_ok-start.start) (sym c.in_ok-made_room.ensures.blocks)
     ∙ (settled g (goal.at.returns-clause-fresh g c).After-account).other
+
+pub returns-clause-allocates : goal.returns-clause-allocates
+returns-clause-allocates g c = inr (
+  c.in_ok-n.ensures.askable,
+  finds_from _ _ _ _ c.made_room.new.books c.start_of.new.books c.self.inside.kind c.made_room.new.live.blocks _
+      c.in_ok-n.n _ c.in_ok-start.start _ _ c.in_ok-n.ensures.words
+      (ap (λ (live : List (ℕ × List ℕ)). arena_over c.made_room.new.books c.self.inside.kind live)
+      c.in_ok-made_room.ensures.blocks
+      ∙ ap (λ (books : BooksView). arena_over books c.self.inside.kind c.self.inside.live.blocks)
+      c.in_ok-made_room.ensures.books ∙ c.self.view_is)
+      c.in_ok-start.ensures.looked.leaves.owner c.in_ok-start.ensures.looked.leaves.space c.insert.ensures
+      (c.in_ok-start.ensures.serves c.made_room.new.live.blocks),
+)
+
+pub returns-clause-unchanged : goal.returns-clause-unchanged
+returns-clause-unchanged g c = tt

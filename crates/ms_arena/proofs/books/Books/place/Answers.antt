@@ -1,10 +1,11 @@
-use Rattle.std.proofs.Common.{◌+◌, ◌-◌, ◌∙◌, ap, arith, subst, sym, ℕ}
+use Rattle.std.proofs.Common.{◌≤◌, ◌+◌, ◌-◌, ◌∙◌, ap, arith, subst, sym, ℕ}
 use Rattle.std.specs.Prelude.{slice_index}
-use Rattle.ms_base.specs.Place.{tops_with}
+use Rattle.ms_base.specs.Place.{placed, tops_with}
 use Rattle.ms_base.specs.Good.{IsSound}
+use Rattle.ms_arena.specs.Kept.{KeptView}
 use Rattle.ms_arena.specs.Books.{BooksView, Awaits}
 use Rattle.ms_arena.proofs.BookLemmas.{books_small, free_awaits, books_placed_free, top_awaits, books_placed_at_top}
-use Rattle.ms_arena.proofs.BookLemmas.{same_books, same_sound}
+use Rattle.ms_arena.proofs.BookLemmas.{placed_at_top, same_books, same_sound}
 use Rattle.ms_arena.proofs.ChunkLemmas.{last_there}
 use Rattle.ms_arena.proofs.books.Books.place.Goals as goal
 
@@ -42,7 +43,7 @@ invariant_of-self-3 c =
     books_placed_at_top _ _ _ c.args.n (c.held.result - 1) _ c.in_ok-chunk.chunk _
     (same_books _ _ _ _ _ c.place_free.new.kept c.in_default.ensures.unchanged c.self.invariant)
     (sym c.in_ok-chunk.ensures.chunk)
-    (omega (arith, c.if-top-n.false, c.in_ok-chunk.ensures.top)) c.requires.some
+    (subst (λ (t : ℕ). t + c.args.n ≤ c.in_ok-chunk.chunk.front) c.in_ok-chunk.ensures.top c.if-top-n.false) c.requires.some
     (ap (λ (h : ℕ). h - 1) c.held.ensures.count)
     (c.raise.ensures.tops
     ∙ ap (λ (t : ℕ). tops_with c.self.inside.tops.items (c.held.result - 1) (t + c.args.n))
@@ -61,10 +62,19 @@ returns-clause-awaits c = λ live sound.
     (top_awaits _ _ _ c.args.n (c.held.result - 1) c.in_ok-chunk.chunk _
     (same_books _ _ _ _ _ c.place_free.new.kept c.in_default.ensures.unchanged c.self.invariant)
     (sym c.in_ok-chunk.ensures.chunk)
-    (omega (arith, c.if-top-n.false, c.in_ok-chunk.ensures.top)) c.requires.some
+    (subst (λ (t : ℕ). t + c.args.n ≤ c.in_ok-chunk.chunk.front) c.in_ok-chunk.ensures.top c.if-top-n.false) c.requires.some
     (ap (λ (h : ℕ). h - 1) c.held.ensures.count)
     (c.raise.ensures.tops
     ∙ ap (λ (t : ℕ). tops_with c.self.inside.tops.items (c.held.result - 1) (t + c.args.n))
     c.in_ok-chunk.ensures.top)
     live (same_sound _ _ live _ c.place_free.new.kept c.in_default.ensures.unchanged
     (subst (λ (books : BooksView). IsSound books.state live) (sym c.self.view_is) sound)))
+
+pub returns-clause-placed : goal.returns-clause-placed
+returns-clause-placed c =
+    sym (ap (λ (books : BooksView). placed books.state c.args.n) c.self.view_is)
+    ∙ placed_at_top _ c.args.n (c.held.result - 1) c.in_ok-chunk.top c.in_ok-chunk.chunk c.raise.new.tops.items _
+    c.in_default.ensures.none (sym c.in_ok-chunk.ensures.chunk) c.in_ok-chunk.ensures.top
+    (subst (λ (t : ℕ). t + c.args.n ≤ c.in_ok-chunk.chunk.front) c.in_ok-chunk.ensures.top c.if-top-n.false)
+    (ap (λ (h : ℕ). h - 1) c.held.ensures.count) c.raise.ensures.tops
+    (ap (λ (kept : KeptView). kept.kept) c.in_default.ensures.unchanged)

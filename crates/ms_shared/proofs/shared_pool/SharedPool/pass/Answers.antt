@@ -1,8 +1,8 @@
 use Rattle.std.proofs.Common.{rules, ◌≡◌, ◌+◌, ◌-◌, sym, ap, ◌∙◌, arith}
 use Rattle.ms_shared.specs.SeatView.{LockState}
-use Rattle.ms_shared.specs.LockRule.{Sat}
+use Rattle.ms_shared.specs.LockRule.{Sat, spare_part}
 use Rattle.ms_shared.proofs.SeatCutLemmas.{cut, cuts_blank, join}
-use Rattle.ms_shared.proofs.HandLemmas.{cuts_account}
+use Rattle.ms_shared.proofs.HandLemmas.{cuts_account, gives, takes}
 use Rattle.ms_shared.proofs.shared_pool.SharedPool.pass.Goals as goal
 
 pub split_seat-note-requires : goal.split_seat-note-requires
@@ -54,3 +54,20 @@ join_seat-requires-2 g c =
       join _ _ _ _ _ _ (omega arith) (ap (λ (m : Sat). m.0.taken) from.2 ∙ c.requires.from.free)
           (ap (λ (m : Sat). m.0.taken) part.4),
     )
+
+pub returns-clause-from_own : goal.returns-clause-from_own
+returns-clause-from_own g c = c.join_seat-2.ensures.0 ∙ c.split_seat-note.ensures.0
+
+pub returns-clause-from : goal.returns-clause-from
+returns-clause-from g c =
+    gives c.split_seat-note.new.seat.me c.split_seat-part.result.me _ _ _ c.join_seat-2.ensures.2 (ap (λ (m : Sat). m.0) c.split_seat-note.ensures.2)
+    (ap (λ (m : Sat). m.0) c.split_seat-part.ensures.4 ∙ ap (λ (m : Sat). spare_part m.0) c.join_seat.ensures.2)
+    (ap (λ (m : Sat). m.1) c.split_seat-note.ensures.2 ∙ c.requires.from.slots)
+
+pub returns-clause-to_own : goal.returns-clause-to_own
+returns-clause-to_own g c = c.split_seat-part.ensures.0 ∙ c.join_seat.ensures.0
+
+pub returns-clause-to : goal.returns-clause-to
+returns-clause-to g c =
+    takes c.args.to.now.me c.split_seat-note.result.me _ _ _ c.split_seat-part.ensures.2 c.join_seat.ensures.2
+    (ap (λ (m : Sat). m.0) c.split_seat-note.ensures.4) c.requires.to.slots
