@@ -154,3 +154,12 @@ rises_on items i last d inside rises =
     let front : rises_above last (get_or items i d ∷ drop (i + 1) items) ≡ true =
     rw (drop_here items i d inside) at rises in
     (and_parts _ _ front).1
+
+-- A line whose number is above the last one, and not too great, leaves the question to those after it.
+pub rises_past : (items : List Line) (i last : ℕ) (d : Line) → i < length items → last < (get_or items i d).number
+    → (get_or items i d).number ≤ most_lines
+    → rises_above last (drop i items) ≡ rises_above (get_or items i d).number (drop (i + 1) items)
+rises_past items i last d inside low high =
+    let above : ltb last (get_or items i d).number ≡ true = grind (arith, nat_tests) in
+    let small : leb (get_or items i d).number most_lines ≡ true = grind (arith, nat_tests) in
+    rw (drop_here items i d inside, above, small) refl

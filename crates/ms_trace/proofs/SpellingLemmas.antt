@@ -2,7 +2,7 @@
 -- command. So a line has no fault exactly where it is silent or spells a valid command.
 use Rattle.std.proofs.Common.{◌≡◌, ℕ, ◌⊎◌, inl, inr, ⊎_elim, IsTrue, get_or, length-append, ◌^◌, ◌<◌, ◌≤◌, Bool, not}
 use Rattle.std.proofs.Common.{true, false, cond, ltb, eqb, List, [], ◌∷◌, length, refl, sym, ◌∙◌, ap, arith, Option}
-use Rattle.std.proofs.Common.{Some, None, codes}
+use Rattle.std.proofs.Common.{Some, None, codes, ◌++◌, append_assoc}
 use Rattle.std.proofs.lemmas.Bool.Decides.{nat_tests}
 use Rattle.std.proofs.lemmas.Fmt.{length-decimal-le}
 use Rattle.std.proofs.lemmas.List.Elements.{All-from_recursion}
@@ -240,3 +240,6 @@ no_fault_from_allowed number line h =
     (rw spelled.spelled
     (rw (fields_of-spelling spelled.command spelled.valid) (valid_has_no_fault spelled.command spelled.valid))))
     h.says)
+
+pub four_joined : (a b c d : List ℕ) → a ++ (b ++ (c ++ d)) ≡ a ++ b ++ c ++ d
+four_joined a b c d = simp append_assoc refl

@@ -31,3 +31,6 @@ pub returns-clause-inside : goal.returns-clause-inside
 returns-clause-inside c = λ other.
     let other_byte : eqb (get_or c.args.text.now c.loop-value.at 0) 10 ≡ false = rw c.if-text-at.false other in
     not_last c.args.text.now c.loop-value.at c.loop-value.invariant.inside other_byte c.requires.ended
+
+pub returns-clause-bounded : goal.returns-clause-bounded
+returns-clause-bounded c = c.if-value-greatest.false
