@@ -1,13 +1,13 @@
 -- What the free leaves of a root's tree say of its places: a place is free where one meets it, and lent but
 -- where it lies in one. `note` and `found_in` use these.
 use Rattle.std.proofs.Common.{◌≡◌, ◌≤◌, ◌<◌, ℕ, ◌+◌, ◌*◌, ◌/◌, Bool, true, false, not, ◌&&◌, ◌||◌}
-use Rattle.std.proofs.Common.{List, [], ◌∷◌, get_or, set, length, map, replicate, refl, sym, ap, ap₂, subst, ◌∙◌}
+use Rattle.std.proofs.Common.{List, [], ◌∷◌, get_or, map, replicate, refl, sym, ap, ap₂, ◌∙◌}
 use Rattle.std.proofs.Common.{arith, inl, inr}
 use Rattle.std.specs.Prelude.{nat_le, nat_lt}
 use Rattle.std.specs.List.{AllByRecursion, list_any}
-use Rattle.std.proofs.lemmas.Bool.{cases_eq, cases_lt, or_parts}
+use Rattle.std.proofs.lemmas.Bool.{cases_lt, or_parts}
 use Rattle.std.proofs.lemmas.Bool.Decides.{nat_tests}
-use Rattle.std.proofs.lemmas.List.{get_or-replicate, get_or-set_other, get_or-set_same}
+use Rattle.std.proofs.lemmas.List.{get_or-replicate}
 use Rattle.std.proofs.lemmas.List.Elements.{All-weaker, recursion_from_All}
 use Rattle.ms_base.specs.declared.span.Chunk.{Chunk}
 use Rattle.ms_base.specs.declared.span.Span.{Span}
@@ -67,48 +67,6 @@ pub record AreUpTo (whole : Bool) (first end : ℕ) (lent_old free_old lent_new 
       → get_or lent_new k false ≡ (get_or lent_old k false && not (is_from first end k && whole))
   pub free : (k : ℕ) → k < root_places
       → get_or free_new k false ≡ (get_or free_old k false || is_from first end k)
-
--- One place more.
-pub noted_next : (whole : Bool) (first k : ℕ) (lent free l f : List Bool) (v : Bool)
-    → AreUpTo whole first k lent free l f → first ≤ k → k < length l → k < length f
-    → v ≡ (get_or l k false && not whole) → AreUpTo whole first (k + 1) lent free (set l k v) (set f k true)
-noted_next whole first k lent free l f v so_far low in_l in_f is = record {
-  lent = λ j h. elim (cases_eq j k) [
-    | inl e ↦ subst (λ (n : ℕ). get_or (set l k v) n false
-        ≡ (get_or lent n false && not (is_from first (k + 1) n && whole))) (sym e)
-        (get_or-set_same l k v false in_l ∙ is
-        ∙ ap (λ b. b && not whole) (so_far.lent k (subst (λ (n : ℕ). n < root_places) e h))
-        ∙ gone (get_or lent k false) _ _ whole (before first k) (there first k low))
-    | inr n ↦ get_or-set_other l k j v false n ∙ so_far.lent j h
-        ∙ ap (λ b. get_or lent j false && not (b && whole)) (elsewhere first k j n)
-  ];
-  free = λ j h. elim (cases_eq j k) [
-    | inl e ↦ subst (λ (n : ℕ). get_or (set f k true) n false ≡ (get_or free n false || is_from first (k + 1) n)) (sym e)
-        (get_or-set_same f k true false in_f ∙ sym (met (get_or free k false) _ (there first k low)))
-    | inr n ↦ get_or-set_other f k j true false n ∙ so_far.free j h
-        ∙ ap (λ b. get_or free j false || b) (elsewhere first k j n)
-  ];
-}
-  where
-    before : (a b : ℕ) → is_from a b b ≡ false
-    before a b = grind (arith, nat_tests)
-
-    there : (a b : ℕ) → a ≤ b → is_from a (b + 1) b ≡ true
-    there a b h = grind (arith, nat_tests)
-
-    elsewhere : (a b c : ℕ) → (c ≡ b → ⊥) → is_from a b c ≡ is_from a (b + 1) c
-    elsewhere a b c h = grind (arith, nat_tests)
-
-    gone : (g p q w : Bool) → p ≡ false → q ≡ true → ((g && not (p && w)) && not w) ≡ (g && not (q && w))
-    gone g p q w e h = ap (λ b. (g && not (b && w)) && not w) e ∙ kept g w ∙ ap (λ b. g && not (b && w)) (sym h)
-      where
-        kept : (g w : Bool) → ((g && true) && not w) ≡ (g && not w)
-        kept true w = refl
-        kept false w = refl
-
-    met : (g q : Bool) → q ≡ true → (g || q) ≡ true
-    met true q e = refl
-    met false q e = e
 
 -- All of them: what the leaf says of each place.
 pub all_noted : (part : Span) (words first end : ℕ) (lent free l f : List Bool) → IsPart part.start part.level

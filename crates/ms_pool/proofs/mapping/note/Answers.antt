@@ -1,6 +1,6 @@
-use Rattle.std.proofs.Common.{◌≡◌, ◌+◌, ◌/◌, arith, refl, subst, ℕ}
+use Rattle.std.proofs.Common.{◌≡◌, ◌+◌, ◌/◌, arith, refl, rules, subst, ℕ}
 use Rattle.std.specs.Prelude.{nat_le}
-use Rattle.ms_pool.proofs.maps.FoundLemmas.{AreUpTo, all_noted, noted_next}
+use Rattle.ms_pool.proofs.maps.FoundLemmas.{AreUpTo, all_noted}
 use Rattle.ms_pool.proofs.mapping.note.Goals as goal
 
 pub returns : goal.returns
@@ -15,6 +15,4 @@ returns c =
     c.args.found.now.free c.loop-number.found.lent c.loop-number.found.free) all c.loop-number.invariant)
 
 pub loop-number-preserved : goal.loop-number-preserved
-loop-number-preserved c =
-    noted_next _ _ c.loop-number.number _ _ _ _ _ c.loop-number.invariant (omega (arith, c.loop-number.auto.number))
-    (omega arith) (omega arith) refl
+loop-number-preserved c = search rules
