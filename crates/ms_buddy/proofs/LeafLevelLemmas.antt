@@ -219,3 +219,20 @@ lone_found level start wanted e =
   where
     itself : (a b : ℕ) → ((a == a) && nat_le 0 b) ≡ true
     itself a b = grind (arith, nat_tests)
+
+-- It does not count where it starts before the offset, or is of another level.
+pub lone_before : (level start wanted from : ℕ) → start < from
+    → None ≡ find (is_of_from wanted from) (record { start = start; level = level } ∷ [])
+lone_before level start wanted from e =
+    sym (ap (λ b. cond b (Some (record { start = start; level = level })) None) (before level wanted start from e))
+  where
+    before : (a b c d : ℕ) → c < d → ((a == b) && nat_le d c) ≡ false
+    before a b c d e = grind (arith, nat_tests)
+
+pub lone_other : (level start wanted from : ℕ) → (level ≡ wanted → ⊥)
+    → None ≡ find (is_of_from wanted from) (record { start = start; level = level } ∷ [])
+lone_other level start wanted from e =
+    sym (ap (λ b. cond b (Some (record { start = start; level = level })) None) (other level wanted start from e))
+  where
+    other : (a b c d : ℕ) → (a ≡ b → ⊥) → ((a == b) && nat_le d c) ≡ false
+    other a b c d e = grind (arith, nat_tests)

@@ -9,3 +9,4 @@ pub mod KeptTreeLemmas
 pub mod LeafLevelLemmas
 pub mod CountLemmas
 pub mod TreeCountLemmas
+pub mod StepLemmas

@@ -37,3 +37,9 @@ pub returns-in-Lent-lower-clause-parted : goal.returns-in-Lent-lower-clause-part
 returns-in-Lent-lower-clause-parted g c =
     leader_parted c.args.level c.args.start c.args.span.level _ _ c.args.lower.now c.args.upper.now c.requires.low
     c.in-Lent-lower.is c.in-Free.is c.requires.child
+
+pub returns-then-span-start-clause-lent : goal.returns-then-span-start-clause-lent
+returns-then-span-start-clause-lent g c = tt
+
+pub returns-then-span-start-clause-parted : goal.returns-then-span-start-clause-parted
+returns-then-span-start-clause-parted g c = tt

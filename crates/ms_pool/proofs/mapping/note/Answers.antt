@@ -1,4 +1,4 @@
-use Rattle.std.proofs.Common.{◌≡◌, ◌+◌, ◌/◌, arith, refl, subst, ℕ}
+use Rattle.std.proofs.Common.{◌≡◌, ◌+◌, ◌/◌, arith, refl, rules, subst, ℕ}
 use Rattle.std.specs.Prelude.{nat_le}
 use Rattle.ms_pool.proofs.maps.FoundLemmas.{AreUpTo, all_noted}
 use Rattle.ms_pool.proofs.mapping.note.Goals as goal
@@ -13,3 +13,6 @@ returns c =
     c.words-words.ensures.size refl refl
     (subst (λ (end : ℕ). AreUpTo (nat_le 8192 words) (c.args.part.start / 8192) end c.args.found.now.lent
     c.args.found.now.free c.loop-number.found.lent c.loop-number.found.free) all c.loop-number.invariant)
+
+pub loop-number-preserved : goal.loop-number-preserved
+loop-number-preserved c = search rules

@@ -4,7 +4,10 @@ use Rattle.ms_buddy.specs.Tree.{levels_of}
 use Rattle.ms_buddy.proofs.TreeHalvesLemmas.{lower_place, upper_place}
 use Rattle.ms_buddy.proofs.SplitLemmas.{at_split}
 use Rattle.ms_buddy.proofs.LeafLevelLemmas.{found_above, found_below, told_below, none_of_level, none_below_from}
+use Rattle.ms_buddy.proofs.LeafLevelLemmas.{lone_before, lone_other}
 use Rattle.ms_buddy.proofs.node.Node.+next_free.Goals as goal
+use Rattle.ms_buddy.proofs.node.Node.+next_free.Goals.{else-level-wanted-via-then-level-wanted+else-from-start}
+use Rattle.ms_buddy.proofs.node.Node.+next_free.Goals.{else-level-wanted-via-else-level-wanted}
 
 pub returns-then-not-has_level : goal.returns-then-not-has_level
 returns-then-not-has_level g t c =
@@ -64,3 +67,12 @@ returns-in-None g t c =
     let s = at_split _ c.args.start _ _ _ _ _ _ _ c.in-Split.is c.requires.tree c.half_of.ensures.size in
     found_above _ _ _ _ _ _ _ _ _ _ s c.deref-in-None.ensures c.next_free-in-None.ensures
     (told_below _ _ _ _ _ _ _ _ c.deref-in-Split.ensures c.next_free-in-Split.ensures c.in-None.is)
+
+pub returns-else-level-wanted : goal.returns-else-level-wanted
+returns-else-level-wanted g t c =
+    elim c.else-level-wanted.branch [
+      | else-level-wanted-via-then-level-wanted+else-from-start w ↦
+          rw c.in-Free.is (lone_before _ _ _ _ w.if-from-start.false)
+      | else-level-wanted-via-else-level-wanted w ↦
+          rw c.in-Free.is (lone_other _ _ _ _ w.if-level-wanted.false)
+    ]

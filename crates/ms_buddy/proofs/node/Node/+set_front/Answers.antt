@@ -5,6 +5,7 @@ use Rattle.ms_base.specs.Level.{size_of}
 use Rattle.ms_buddy.specs.Leaves.{with_front}
 use Rattle.ms_buddy.specs.Tree.{free_in}
 use Rattle.ms_buddy.proofs.SplitLemmas.{at_split, lower_front, upper_front, front_acts, lower_changed, upper_changed}
+use Rattle.ms_buddy.proofs.StepLemmas.{lower_kept}
 use Rattle.ms_buddy.proofs.node.Node.+set_front.Goals as goal
 
 pub set_front-requires : goal.set_front-requires
@@ -48,3 +49,9 @@ returns-else-span-middle-clause-parts g t c =
     ap (λ (xs : List Span). free_in (c.args.level + 1) c.args.start c.in-Split.lower.value ++ xs)
     (rw (c.deref_mut-else-span-middle.ensures.value, c.half_of.ensures.size) at c.set_front-else-span-middle.ensures.parts)
     ∙ sym s.free
+
+pub returns-then-span-middle-clause-tree : goal.returns-then-span-middle-clause-tree
+returns-then-span-middle-clause-tree g t c =
+    let value = c.deref_mut.ensures.value in
+    lower_kept _ _ c.in-Split.lower.value c.in-Split.upper.value c.set_front.new.self (rw c.in-Split.is at c.requires.tree) c.set_front.ensures.tree
+    (rw value at c.set_front.ensures.free) (rw value at c.set_front.ensures.levels)

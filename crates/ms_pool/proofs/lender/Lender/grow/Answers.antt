@@ -176,3 +176,6 @@ returns-clause-counted c =
     (subst (λ (lent : Lent). MovesIn c.account.inside.space lent (c.index.result.now ∷ []) (c.in-Some.greater ∷ [])
     c.replace-2.new.self) c.replace.ensures.lent c.replace-2.ensures) c.replace.ensures.grown
     (grown_where_found c.args.self.now _ _ _ _ _ _ _ c.requires.kept at_ grows)
+
+pub returns-clause-unchanged : goal.returns-clause-unchanged
+returns-clause-unchanged c = tt

@@ -1,6 +1,7 @@
-use Rattle.std.proofs.Common.{refl, arith}
+use Rattle.std.proofs.Common.{List, ap, refl, subst, sym, arith}
 use Rattle.ms_base.specs.Part.{slot_of}
-use Rattle.ms_pool.specs.Keeping.{ledger_of}
+use Rattle.ms_buddy.specs.Leaves.{LentLeaf}
+use Rattle.ms_pool.specs.Keeping.{IsKept, ledger_of}
 use Rattle.ms_pool.proofs.counts.CountedLemmas.{counted_on, lent_is_counted, room_there, run_starts_in}
 use Rattle.ms_pool.proofs.loans.OpenLemmas.{open_is_low, open_where_fresh}
 use Rattle.ms_pool.proofs.loans.LentPartLemmas.{front_is_low, front_is_reserved, front_within, kept_however_counted, kept_where_shown}
@@ -88,3 +89,13 @@ returns-clause-counted c =
     lent_is_counted c.args.space c.args.owner c.args.chunk.now c.args.self.now.lent c.add.new.self
     (ledger_of c.args.self.now) _ c.requires.counted c.add.ensures (returns-clause-lent c refl)
     (run_starts_in c.args.space c.args.chunk.now.start c.args.chunk.now.front c.requires.may.some c.requires.may.inside)
+
+pub returns-then-not-carve-clause-unchanged : goal.returns-then-not-carve-clause-unchanged
+returns-then-not-carve-clause-unchanged c = λ _.
+    ap (λ (items : List (List LentLeaf)). ledger_of (record c.args.self.now { trees = record { items = items } }))
+    (c.if-not-carve.ensures.unchanged refl)
+
+pub returns-then-not-carve-clause-kept : goal.returns-then-not-carve-clause-kept
+returns-then-not-carve-clause-kept c =
+    subst (λ (items : List (List LentLeaf)). IsKept (record c.args.self.now { trees = record { items = items } }))
+    (sym (c.if-not-carve.ensures.unchanged refl)) c.requires.kept

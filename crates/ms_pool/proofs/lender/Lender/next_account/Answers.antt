@@ -1,4 +1,7 @@
-use Rattle.std.proofs.Common.{sym, ap, subst, ◌∙◌, arith}
+use Rattle.std.proofs.Common.{ℕ, List, sym, ap, ap₂, subst, ◌∙◌, arith}
+use Rattle.ms_pool.specs.declared.lender.Lender.{Lender}
+use Rattle.ms_base.specs.declared.span.Chunk.{Chunk}
+use Rattle.ms_pool.specs.Account.{AccountState}
 use Rattle.ms_pool.specs.Keeping.{IsCounted, IsKept, ledger_of}
 use Rattle.ms_pool.specs.Ledger.{with_opened}
 use Rattle.ms_pool.proofs.ledger.KeepsLemmas.{kept_where_opened}
@@ -25,3 +28,12 @@ returns-clause-counted c = elim c.match-space.branch [
   | in-NonClass w ↦ subst IsCounted (sym w.self-is) c.requires.counted
   | in-Class w ↦ subst IsCounted (sym w.self-is) c.requires.counted
 ]
+
+pub returns-clause-account : goal.returns-clause-account
+returns-clause-account c =
+    let account : ℕ → List Chunk → AccountState =
+    λ owner chunks. record { owner = owner; space = c.args.space; chunks = chunks } in
+    elim c.match-space.branch [
+      | in-NonClass w ↦ ap₂ account (ap (λ (lender : Lender). lender.given) w.self-is) c.new.ensures.items
+      | in-Class w ↦ ap₂ account (ap (λ (lender : Lender). lender.given) w.self-is) c.new.ensures.items
+    ]

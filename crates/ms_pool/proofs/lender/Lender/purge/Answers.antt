@@ -74,3 +74,9 @@ pub returns-clause-counted : goal.returns-clause-counted
 returns-clause-counted c =
     counted_on c.args.self.now c.loop-slot.self c.loop-slot.invariant.purged.trees c.loop-slot.invariant.purged.lent
     c.requires.counted
+
+pub unreserve-requires-clause-reserved : goal.unreserve-requires-clause-reserved
+unreserve-requires-clause-reserved c = c.in-Some.ensures.reserved
+
+pub unreserve-requires-clause-below : goal.unreserve-requires-clause-below
+unreserve-requires-clause-below c = c.in-Some.ensures.below
