@@ -74,13 +74,28 @@ fn main(rt: HostRuntime) -> ExitCode {
 fn tell_asked<R: Threads + Wait + Sync>(rt: &HostRuntime, waits: &R) -> io::Result<()> {
     let mut words = env::args(rt)?;
     drop(words.next());
-    while let Some(name) = words.next() {
-        match name.as_str() {
-            "replay" => runs::tell_calls(rt, waits, words.next())?,
-            name => tell_named(rt, waits, name)?,
-        }
+    let mut replays = false;
+    for word in words {
+        let told = tell_word(rt, waits, word.as_str(), replays);
+        replays = word.as_str() == "replay";
+        drop(word);
+        told?;
     }
     Ok(())
+}
+
+/// Tells the row that a word names, or replays by as many workers as it says.
+fn tell_word<R: Threads + Wait + Sync>(
+    rt: &HostRuntime,
+    waits: &R,
+    word: &str,
+    replays: bool,
+) -> io::Result<()> {
+    match word {
+        word if replays => runs::tell_calls(rt, waits, word),
+        "replay" => Ok(()),
+        name => tell_named(rt, waits, name),
+    }
 }
 
 /// Tells the row of that name, of what stands below an arena or is shared.

@@ -1,5 +1,5 @@
 //! The rows of a pool: it is made, and lends a chunk; and how a pool and an account are told.
-ghost use Rattle.std.specs.Prelude.{IfOk};
+ghost use Rattle.std.specs.Prelude.{◌≡◌, [], IfOk};
 ghost use Rattle.ms_pool.specs.Ledger.{Serves};
 
 pub mod accounts;
@@ -71,7 +71,8 @@ pub fn account_lines(rt: &HostRuntime, about: &str, account: &Account) {
 
 /// Makes a pool with no node but the class space's, and an account of it that holds no chunk.
 pub fn opened(alloc: Global) -> io::Result<(Pool, Account)>
-    ensures { IfOk result (λ made. Serves made.0 made.1) }
+    ensures served { IfOk result (λ made. Serves made.0 made.1) }
+    ensures empty { IfOk result (λ made. made.1.chunks ≡ []) }
 {
     let mut pool = Pool::new(alloc, SETTINGS)?;
     match pool.open(Space::NonClass) {
@@ -123,7 +124,7 @@ pub struct Taking {
 
 impl Model for Taking {
     ghost use Rattle.ms_pool.specs.Account.{AccountState};
-    ghost use Rattle.ms_pool.specs.Ledger.{Ledger};
+    ghost use Rattle.ms_pool.specs.Ledger.{Ledger, Serves};
 
     ghost Value = { Ledger × AccountState };
 

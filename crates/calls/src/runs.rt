@@ -12,7 +12,7 @@ use std::thread::Threads;
 pub fn tell_calls<R: Threads + Wait + Sync>(
     rt: &HostRuntime,
     waits: &R,
-    word: Option<String>,
+    word: &str,
 ) -> io::Result<()> {
     let settings = settings_of(word)?;
     let trace = read_trace(rt)?;
@@ -23,10 +23,7 @@ pub fn tell_calls<R: Threads + Wait + Sync>(
 }
 
 /// Reads the number of workers; there is a class space of one node.
-fn settings_of(word: Option<String>) -> io::Result<Settings> {
-    let Some(word) = word else {
-        return Err(ErrorKind::InvalidInput.into());
-    };
+fn settings_of(word: &str) -> io::Result<Settings> {
     match word.parse::<u32>() {
         Ok(workers) if workers >= 1 && workers <= 8 => Ok(Settings {
             workers,
