@@ -1,10 +1,10 @@
-"""The library's own calls while growths are refused: rows of small programs, under the same allocator.
+"""The library's own calls while growths are refused: rows of the program calls, under the same allocator.
 
-A row of refusals makes its preparation, tells the state, makes a call, tells its answer and the state after it, and
+A row that takes memory makes its preparation, tells the state, makes a call, tells its answer and the state after it, and
 where the answer is a refusal makes the call once more. Where a state keeps what no call tells, it makes calls last that
-use that up, and tells what they find: where free blocks lie, and how far current chunks are used. Its row of replays
-replays a trace, and once more where memory or a thread was wanted. A row of quiet makes calls that take no
-memory after a mark, and tells what it finds.
+use that up, and tells what they find: where free blocks lie, and how far current chunks are used. The row of replays
+replays a trace, and once more where memory or a thread was wanted. The other rows make calls that take no memory after a
+mark, and tell what they find.
 """
 import os
 import re
@@ -71,11 +71,11 @@ NO_MEMORY, NO_THREAD = b"fault OutOfMemory", b"fault NoThread"
 
 
 class Calls:
-    """Runs a row of a crate's program while growths are refused."""
+    """Runs a row of the program calls while growths are refused."""
 
-    def __init__(self, bench, crate, row, words=()):
+    def __init__(self, bench, row, words=()):
         self.bench, self.row, self.words = bench, row, [row, *words]
-        self.program = Program(os.path.join(ROOT, "crates", crate, "out", crate))
+        self.program = Program(os.path.join(ROOT, "crates/calls/out/calls"))
         self.told = Told(bench.room)
 
     def run(self, given=b"", **rules):
@@ -101,7 +101,7 @@ class Calls:
 
 def refuses_each_growth(bench, row):
     """The first, the second, .. growth is refused: the call says so, changes nothing, and is served the next time."""
-    calls = Calls(bench, "refusals", row)
+    calls = Calls(bench, row)
     output = calls.calm()
     (_, before), (_, answer), (_, after), *probed = calm = calls.facts_of(output)
     words = [b"before", b"answer", b"after"] + [b"probed"] * (row in PROBED)
@@ -131,7 +131,7 @@ class Replays:
     """Runs a trace by so many workers, and once more where memory or a thread was wanted."""
 
     def __init__(self, bench, text, workers):
-        self.calls, self.text, self.workers = Calls(bench, "refusals", "replay", [str(workers)]), text, workers
+        self.calls, self.text, self.workers = Calls(bench, "replay", [str(workers)]), text, workers
         self.calm = {}
 
     def answers(self, output):
@@ -209,7 +209,7 @@ def calm_as_said(calls):
 
 def takes_nothing(bench, row):
     """From the mark on the calls take no memory, and all memory refused changes no answer."""
-    calls = Calls(bench, "quiet", row)
+    calls = Calls(bench, row)
     output = calm_as_said(calls)
     ended, counts = calls.run(REFUSE_AFTER=f"{row} marked\n")
     expect_ended(ended, 0, b"", output)
