@@ -1,4 +1,4 @@
-use Rattle.std.proofs.Common.{arith}
+use Rattle.std.proofs.Common.{arith, rules}
 use Rattle.ms_arena.proofs.AllocLemmas.{grown_leaves}
 use Rattle.ms_arena.proofs.arena.start_in_grown.Goals as goal
 
@@ -13,3 +13,6 @@ returns-in-Ok-clause-looked g c = record {
       _ c.in-Ok.ensures.grown
       (c.in-Ok.ensures.awaits _ c.args.n (omega (arith, c.requires.asks.total_is)) c.requires.asks.total_is);
 }
+
+pub returns-in-Err-clause-grows : goal.returns-in-Err-clause-grows
+returns-in-Err-clause-grows g c = search rules

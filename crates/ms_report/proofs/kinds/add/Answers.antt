@@ -1,4 +1,4 @@
-use Rattle.std.proofs.Common.{arith}
+use Rattle.std.proofs.Common.{arith, refl}
 use Rattle.ms_report.proofs.kinds.add.Goals as goal
 
 pub returns-clause-below : goal.returns-clause-below
@@ -12,3 +12,17 @@ returns-clause-below c count below = record {
   free_blocks = omega (arith, below.free_blocks, c.both-6.ensures.small);
   waste = omega (arith, below.waste, c.both-7.ensures.small);
 }
+
+pub returns-clause-sums : goal.returns-clause-sums
+returns-clause-sums c =
+    rw (
+      c.both.ensures.sum,
+      c.from.ensures,
+      c.from-2.ensures,
+      c.both-2.ensures.sum,
+      c.both-3.ensures.sum,
+      c.both-4.ensures.sum,
+      c.both-5.ensures.sum,
+      c.both-6.ensures.sum,
+      c.both-7.ensures.sum,
+    ) refl
