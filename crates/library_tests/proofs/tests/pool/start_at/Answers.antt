@@ -4,7 +4,7 @@ use Rattle.std.proofs.lemmas.Bool.Decides.{nat_tests}
 use Rattle.std.proofs.lemmas.List.Folds.{list_any-from_Any}
 use Rattle.std.proofs.lemmas.Option.{get_or_from_slice_get}
 use Rattle.ms_base.specs.declared.span.Chunk.{Chunk}
-use Rattle.pool_tests.proofs.tests.pool.start_at.Goals as goal
+use Rattle.library_tests.proofs.tests.pool.start_at.Goals as goal
 
 pub returns : goal.returns
 returns c =

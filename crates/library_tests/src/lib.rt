@@ -1,4 +1,4 @@
-//! Tests of public calls: of loaders, systems and reports. They say what no clause does.
+//! Tests of the library's public calls. They say what no clause does.
 //!
 //! They stand in a crate of their own because a crate with tests is proved twice.
 #![tactic(auto)]

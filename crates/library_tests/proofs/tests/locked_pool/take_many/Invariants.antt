@@ -1,6 +1,6 @@
 use Rattle.std.proofs.Common.{◌≡◌, ◌<◌}
 use Rattle.ms_shared.specs.SeatView.{ServesBy, opened_by}
-use Rattle.thread_tests.proofs.tests.locked_pool.take_many.Given as goal
+use Rattle.library_tests.proofs.tests.locked_pool.take_many.Given as goal
 
 abbrev pub invariant-loop : goal.invariant-loop
 invariant-loop g l =

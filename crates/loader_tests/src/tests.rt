@@ -1,3 +1,0 @@
-//! By subject: `loaders` and systems, and `reports` as texts. Each says what no clause does.
-mod loaders;
-mod reports;

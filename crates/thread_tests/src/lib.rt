@@ -1,7 +1,0 @@
-//! Tests of public calls: of traces, and of what threads share. They say what no clause does.
-//!
-//! They stand in a crate of their own because a crate with tests is proved twice.
-#![tactic(auto)]
-
-#[cfg(test)]
-mod tests;
