@@ -225,7 +225,17 @@ def takes_nothing(bench, row):
     expect(False, "there was no end of growths")
 
 
+def names_no_row(bench):
+    """Without a word, and where a word names no row, nothing is told."""
+    program = Calls(bench, TAKING[0]).program
+    for words in ([], ["carving"]):
+        ended = program.run(words, b"")
+        expect(ended.status == 5 and not ended.output and ended.errors, words, ended)
+    return "status 5"
+
+
 def tests():
+    yield Test("calls are asked by the names of rows", names_no_row)
     for row in TAKING:
         yield Test(f"a call refuses each growth: {row}", refuses_each_growth, (row,))
     for name in REPLAYED:

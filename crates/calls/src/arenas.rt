@@ -1,11 +1,11 @@
 //! The rows of an arena over a pool: it places a block, or allocates one; its words are written and read,
-//! a block is freed, the account comes back, and another arena has the memory.
+//! a block is freed, and the arena starts anew over another account.
 ghost use Rattle.std.specs.Prelude.{◌≡◌, [], IfOk};
 
 use crate::pools::{account_lines, opened, tell_account, tell_pool};
 use crate::probing::{Places, tell_places};
 use crate::row::{Answer, Probed, Row, line, mark, tell, told, unprepared};
-use ms_arena::{Arena, ArenaRoom};
+use ms_arena::Arena;
 use ms_base::{Block, Kind, Refusal, Space};
 use ms_pool::Pool;
 use std::alloc::Global;
@@ -25,8 +25,7 @@ pub fn tell_all(rt: &HostRuntime) -> io::Result<()> {
     mark(rt, "arena");
     tell_words(rt, &mut arena, second);
     tell_freed(rt, &mut arena, first);
-    let room = parted(rt, arena);
-    tell_over(rt, &mut pool, room, second);
+    tell_renewed(rt, &mut pool, arena, second);
     tell_new(rt, &mut pool);
     drop(pool);
     Ok(())
@@ -55,27 +54,18 @@ fn tell_freed(rt: &HostRuntime, arena: &mut Arena, block: Block) {
     tell_arena(rt, arena);
 }
 
-/// Takes an arena apart: tells its account, and answers the memory that it had.
-fn parted(rt: &HostRuntime, arena: Arena) -> ArenaRoom {
-    let (account, room) = arena.into_parts();
-    account_lines(rt, "arena account", &account);
-    room
-}
-
-/// Makes an arena in memory where another had a live block: it has none.
-fn tell_over(rt: &HostRuntime, pool: &mut Pool, room: ArenaRoom, block: Block) {
+/// Has an arena start anew where it had a live block: it gives its account back, and has no block.
+fn tell_renewed(rt: &HostRuntime, pool: &mut Pool, mut arena: Arena, block: Block) {
+    line(rt, "arena small", &arena.is_small());
     match pool.open(Space::NonClass) {
         Ok(account) => {
-            let arena = Arena::over(room, account, Kind::Hidden);
+            account_lines(rt, "arena account", &arena.renew(account, Kind::Hidden));
             line(rt, "arena read gone", &arena.read(block, 0));
             tell_arena(rt, &arena);
-            drop(arena);
         }
-        Err(_) => {
-            drop(room);
-            line(rt, "arena over", &"no account is opened");
-        }
+        Err(_) => line(rt, "arena renew", &"no account is opened"),
     }
+    drop(arena);
 }
 
 /// Makes an arena over a new account, and has the account back.

@@ -21,8 +21,9 @@
 //!     replay answer fault NoThread
 //!     replay again 1 Ok                  where memory or a thread was wanted: the call once more
 //!
-//! Where a growth is refused outside a row's call, or before its mark, the status is 3. It promises nothing:
-//! the system tests compare what it tells with a run in which nothing was refused.
+//! Where a growth is refused outside a row's call, or before its mark, the status is 3; where a word names no
+//! row, or there is no word, it is 5. It promises nothing: the system tests compare what it tells with a run
+//! in which nothing was refused.
 #![tactic(auto)]
 
 mod arenas;
@@ -74,14 +75,19 @@ fn main(rt: HostRuntime) -> ExitCode {
 fn tell_asked<R: Threads + Wait + Sync>(rt: &HostRuntime, waits: &R) -> io::Result<()> {
     let mut words = env::args(rt)?;
     drop(words.next());
-    let mut replays = false;
+    let (mut replays, mut asked) = (false, false);
     for word in words {
         let told = tell_word(rt, waits, word.as_str(), replays);
         replays = word.as_str() == "replay";
+        asked = true;
         drop(word);
         told?;
     }
-    Ok(())
+    if asked {
+        Ok(())
+    } else {
+        Err(ErrorKind::InvalidInput.into())
+    }
 }
 
 /// Tells the row that a word names, or replays by as many workers as it says.

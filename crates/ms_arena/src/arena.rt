@@ -28,8 +28,9 @@ ghost use Rattle.ms_arena.specs.Alloc.{Allocates, FindsPlace, AsksChunk, TakesNe
 ghost use Rattle.ms_arena.specs.ArenaSums.{AreSums};
 ghost use Rattle.ms_arena.specs.Books.{AsksFor, ForAllLive, HasLooked, MayLook, arena_over};
 
+mod room;
+
 use crate::books::Books;
-use crate::room::ArenaRoom;
 use crate::rows::Rows;
 use crate::totals::{ArenaTotals, sums_of};
 use ms_base::{Block, Chunk, Kind, ROOT_WORDS, Refusal, level_for};
@@ -75,25 +76,16 @@ impl Arena {
         }
     }
 
-    /// Makes an arena over an account that holds no chunk, in the memory that another arena had. Takes
-    /// none.
-    pub fn over(room: ArenaRoom, account: Account, kind: Kind) -> Arena
+    /// Starts anew over an account that holds no chunk, as empty as `new` makes an arena, and gives the
+    /// former account back. The memory that it had serves it again. Takes none.
+    pub fn renew(&mut self, account: Account, kind: Kind) -> Account
         requires { account.chunks ≡ [] }
-        ensures { result ≡ new_arena account kind }
+        ensures former { result ≡ account_of self.old }
+        ensures anew { self.new ≡ new_arena account kind }
     {
-        let ArenaRoom {
-            alloc,
-            tops,
-            came,
-            live: mut rows,
-        } = room;
-        rows.clear();
-        Arena {
-            alloc,
-            kind,
-            books: Books::over(alloc, tops, came, account),
-            live: rows,
-        }
+        self.live.clear();
+        self.kind = kind;
+        self.books.renew(self.alloc, account)
     }
 
     /// Places a block of so many words, at least two, where it needs no chunk: in the free block that
@@ -172,21 +164,6 @@ impl Arena {
         self.live.remove(block)?;
         self.books.keep(block);
         Ok(())
-    }
-
-    /// Takes the arena apart: gives the account back, and the memory that the arena had, which a new one
-    /// may have. Takes none.
-    pub fn into_parts(self) -> (Account, ArenaRoom)
-        ensures { result.0 ≡ account_of self }
-    {
-        let (account, tops, came) = self.books.into_parts();
-        let room = ArenaRoom {
-            alloc: self.alloc,
-            tops,
-            came,
-            live: self.live,
-        };
-        (account, room)
     }
 
     /// Gives the account back, and drops all else. Takes no memory.

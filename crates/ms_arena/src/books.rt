@@ -28,6 +28,7 @@ use ms_base::{Block, Chunk, Kind, Level, Refusal, growth};
 use ms_pool::{Account, ChunkSource};
 use std::alloc::Global;
 use std::marker::Model;
+use std::mem;
 
 /// The account, tops and free blocks of one arena. Starts are word numbers.
 #[derive(Drop)]
@@ -81,31 +82,27 @@ impl Books {
         }
     }
 
-    /// Makes the books of an account that holds no chunk, over the memory that other books had. Takes
-    /// none.
-    pub fn over(alloc: Global, mut tops: Vec<u64>, came: Vec<Block>, account: Account) -> Books
+    /// Starts anew over an account that holds no chunk, in the memory that there is, and gives the former
+    /// account back. Takes none.
+    pub fn renew(&mut self, alloc: Global, account: Account) -> Account
         requires { account.chunks ≡ [] }
-        ensures owner { result.owner ≡ account.owner }
-        ensures space { result.space ≡ account.space }
-        ensures state { result.state ≡ empty_arena }
-        ensures chunks { AreChunks result.space result.state.chunks }
+        ensures former { result ≡ account_in self.old }
+        ensures owner { self.new.owner ≡ account.owner }
+        ensures space { self.new.space ≡ account.space }
+        ensures state { self.new.state ≡ empty_arena }
+        ensures chunks { AreChunks self.new.space self.new.state.chunks }
     {
         // What holds of the chunks of every account is learnt here.
         let _ = account.held();
-        tops.clear();
-        Books {
-            account,
-            tops,
-            used: 0,
-            kept: Kept::over(alloc, came),
-        }
+        self.tops.clear();
+        self.used = 0;
+        self.kept.clear(alloc);
+        mem::replace(&mut self.account, account)
     }
 
-    /// Gives the account back, and the memory for tops and for blocks that come.
-    pub fn into_parts(self) -> (Account, Vec<u64>, Vec<Block>)
-        ensures { result.0 ≡ account_in self }
-    {
-        (self.account, self.tops, self.kept.into_came())
+    /// Tells for how many tops there is memory, and for how many free blocks that come.
+    pub fn sizes(&self) -> (usize, usize) {
+        (self.tops.capacity(), self.kept.capacity())
     }
 
     /// Gives the account back, and drops all else.

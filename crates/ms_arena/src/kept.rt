@@ -61,21 +61,18 @@ impl Kept {
         }
     }
 
-    /// Makes a collection of no block over the memory that another one had for blocks that come. Takes none.
-    pub fn over(alloc: Global, mut came: Vec<Block>) -> Kept
-        ensures { result.kept ≡ [] }
+    /// Takes all blocks out, and keeps the memory for those that come.
+    pub fn clear(&mut self, alloc: Global)
+        ensures { self.new.kept ≡ [] }
     {
-        came.clear();
-        Kept {
-            ordered: FreeBlocks::new(alloc),
-            came,
-            words: 0,
-        }
+        self.ordered = FreeBlocks::new(alloc);
+        self.came.clear();
+        self.words = 0;
     }
 
-    /// Gives up the memory for blocks that come, and drops all else.
-    pub fn into_came(self) -> Vec<Block> {
-        self.came
+    /// Tells for how many blocks that come there is memory.
+    pub fn capacity(&self) -> usize {
+        self.came.capacity()
     }
 
     /// Puts all blocks in order, and makes room for so many more; the blocks stay.

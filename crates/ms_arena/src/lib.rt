@@ -10,10 +10,8 @@ mod arena;
 mod books;
 mod kept;
 mod pages;
-mod room;
 mod rows;
 mod totals;
 
 pub use arena::Arena;
-pub use room::ArenaRoom;
 pub use totals::ArenaTotals;

@@ -21,7 +21,6 @@ mod loaders;
 mod naming;
 mod peaks;
 mod replies;
-mod room;
 mod serving;
 mod system;
 mod totals;

@@ -16,11 +16,12 @@ ghost use Rattle.ms_pool.specs.Source.{LeavesRest};
 ghost use Rattle.ms_loaders.specs.Loader.{owner_in, account_in, new_loader, with_state, IsSoundView, AllocatesBlock};
 ghost use Rattle.ms_loaders.specs.Loader.{HasWord, WritesWord, FreesBlock, LacksWord, LacksName};
 ghost use Rattle.ms_loaders.specs.Sums.{AreSumsIn};
+ghost use Rattle.ms_loaders.specs.GivenBack.{AreAccountsOf};
 
 mod finding;
+mod room;
 
 use crate::naming::{Names, allocate_in};
-use crate::room::LoaderRoom;
 use ms_arena::{Arena, ArenaTotals};
 use ms_base::{Block, Kind, NODE_WORDS, Refusal, SLOTS, Space};
 use ms_pool::{Account, ChunkSource};
@@ -76,31 +77,25 @@ impl Loader {
         }
     }
 
-    /// Makes a loader as `new` does, in the memory that another loader had. Takes none.
-    pub(crate) fn over(
-        room: LoaderRoom,
+    /// Starts anew over two accounts, as `new` makes a loader, and gives the former accounts back, the
+    /// class space's last. The memory that it had serves it again. Takes none.
+    pub(crate) fn renew(
+        &mut self,
         account: Account,
         class_account: Account,
         kind: Kind,
-    ) -> Loader
+    ) -> (Account, Account)
         requires empty { account.chunks ≡ [] }
         requires class_empty { class_account.chunks ≡ [] }
         requires space { account.space ≡ NonClass }
         requires class_space { class_account.space ≡ Class }
-        ensures made { result ≡ new_loader account class_account kind }
-        ensures sound { IsSoundView result }
+        ensures former { AreAccountsOf self.old result }
+        ensures made { self.new ≡ new_loader account class_account kind }
+        ensures sound { IsSoundView self.new }
     {
-        let LoaderRoom {
-            arena,
-            class_arena,
-            mut names,
-        } = room;
-        names.clear();
-        Loader {
-            arena: Arena::over(arena, account, kind),
-            class_arena: Arena::over(class_arena, class_account, kind),
-            names,
-        }
+        self.names.clear();
+        let former = self.arena.renew(account, kind);
+        (former, self.class_arena.renew(class_account, kind))
     }
 
     /// Allocates a block of so many words, at least two, in a space, under a new name; its words are 0.
@@ -227,22 +222,6 @@ impl Loader {
             let _ = self.arena.account();
             answer
         }
-    }
-
-    /// Takes the loader apart: gives the accounts back, the class space's last, and the memory that the
-    /// loader had, which a new one may have. Takes none.
-    pub(crate) fn into_parts(self) -> (Account, Account, LoaderRoom)
-        ensures account { result.0 ≡ account_in NonClass self }
-        ensures class_account { result.1 ≡ account_in Class self }
-    {
-        let (account, arena) = self.arena.into_parts();
-        let (class_account, class_arena) = self.class_arena.into_parts();
-        let room = LoaderRoom {
-            arena,
-            class_arena,
-            names: self.names,
-        };
-        (account, class_account, room)
     }
 
     /// Gives the accounts back, the class space's last, and drops all else. Takes no memory.

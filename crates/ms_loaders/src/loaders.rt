@@ -5,8 +5,8 @@
 //!
 //! So names need no search, and a walk over the places gives them in order. Kept true: each loader
 //! stands at its name, none below `first`, and there are `count`. Beside them a map guesses a loader's
-//! name from an owner number (`owners`), of which nothing is kept true, and the rooms of loaders that were
-//! taken apart wait for new ones (`spares`). Apart from the system so that loaders can be handed to workers
+//! name from an owner number (`owners`), of which nothing is kept true, and loaders that were unloaded
+//! wait to start anew (`spares`). Apart from the system so that loaders can be handed to workers
 //! and gathered again. Only `insert` and `open` take memory. A loader is large, so it is made into its box and
 //! taken apart out of it, and else a pointer moves.
 ghost use Rattle.std.specs.Prelude.{◌≡◌, ◌<◌, ◌^◌, ◌∷◌, None, IfSome, IfNone, OnOk, IfErr, OnErr, Some, [], length};
@@ -52,7 +52,7 @@ pub struct Loaders {
     count: usize,
     // The name of each by the first of its owner numbers, as it was noted when it came.
     owners: Owners,
-    // The rooms of loaders that were taken apart, for new ones.
+    // Loaders that were unloaded, for new ones.
     spares: Spares,
 }
 
@@ -83,8 +83,8 @@ impl Loaders {
         }
     }
 
-    /// Adds a loader over two accounts, as `Loader::new` makes it, under a name that is not used: in a spare
-    /// room where there is one. Where memory is wanting, the accounts are given back and nothing changes.
+    /// Adds a loader over two accounts, as `Loader::new` makes it, under a name that is not used: a spare one
+    /// anew where there is one. Where memory is wanting, the accounts are given back and nothing changes.
     /// Takes memory.
     pub(crate) fn open(
         &mut self,
@@ -164,7 +164,7 @@ impl Loaders {
     }
 
     /// Takes the loader of a name out and apart, where there is one, and gives its accounts back, the class
-    /// space's last; the others stay. Its room is kept for a new loader where it is small and there is place.
+    /// space's last; the others stay. It is kept to start anew where it is small and there is place.
     /// Takes no memory.
     pub(crate) fn close(&mut self, name: u16) -> Option<(Account, Account)>
         ensures found { IfSome result (AreAccountsAt self.old name) }
@@ -173,7 +173,7 @@ impl Loaders {
     {
         match self.take_out(name) {
             Some(boxed) => {
-                let (account, class_account) = self.spares.take_apart(boxed);
+                let (account, class_account) = self.spares.close(self.alloc, boxed);
                 self.owners.forget(account.owner());
                 Some((account, class_account))
             }

@@ -6,10 +6,11 @@
 //! Kept true: the chunks are parts of the account's space, no two share a word, and each front has a
 //! word and fits. The pool keeps a record of its own of each owner, in order of address; that both
 //! have the same chunks is what "the pool serves the account" means. Nothing here takes memory.
-ghost use Rattle.std.specs.Prelude.{◌≡◌, ◌<◌, length, slice_get, Some};
+ghost use Rattle.std.specs.Prelude.{◌≡◌, ◌<◌, [], length, slice_get, Some};
 ghost use Rattle.ms_pool.specs.Account.{AreChunks};
 
 use ms_base::{Chunk, Space};
+use std::alloc::Global;
 use std::marker::Model;
 
 /// What was lent to one owner in one space. It can't be cloned; an account that is dropped without
@@ -17,7 +18,7 @@ use std::marker::Model;
 /// list themselves.
 #[derive(Drop)]
 pub struct Account {
-    /// The owner's number, 1 to 4294967295.
+    /// The owner's number, 1 to 4294967295; 0 where the account is closed.
     pub(crate) owner: u32,
     /// Where the chunks lie.
     pub(crate) space: Space,
@@ -36,6 +37,18 @@ impl Model for Account {
 }
 
 impl Account {
+    /// Makes an account that is closed: of owner number 0, which no pool gives out, and with no chunk. It
+    /// stands where an open one is to come. Takes no memory.
+    pub fn closed(alloc: Global, space: Space) -> Account
+        ensures { result ≡ record { owner = 0; space = space; chunks = [] } }
+    {
+        Account {
+            owner: 0,
+            space,
+            chunks: Vec::new(alloc),
+        }
+    }
+
     /// Tells how many chunks the account holds. A caller also learns here what is true of the chunks
     /// of every account. Takes no memory.
     pub fn held(&self) -> u32
@@ -53,7 +66,7 @@ impl Account {
         self.chunks[place as usize]
     }
 
-    /// Tells the owner's number, 1 to 4294967295. Takes no memory.
+    /// Tells the owner's number, 1 to 4294967295, or 0 where the account is closed. Takes no memory.
     pub fn owner(&self) -> u32
         ensures { result ≡ self.now.owner }
     {

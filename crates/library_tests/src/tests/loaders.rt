@@ -3,7 +3,7 @@
 //! hand are rows of the system tests, which ask it of the program and, growth by growth, of calls.
 use super::reports::ONE_BLOCK;
 use ms_base::{Block, Kind, Policy, Refusal, Reply, Settings, Space, Step};
-use ms_loaders::{ArenaTotals, Details, Loader, LoaderDetails, System, Totals};
+use ms_loaders::{ArenaTotals, Details, Loader, LoaderDetails, Loaders, System, Totals, serve};
 use ms_pool::{Place, Pool, RootMap};
 use ms_report::{text, totals};
 use std::alloc::{AllocError, Global};
@@ -74,6 +74,26 @@ const STEPS: [Step; 2] = [
         words: 10,
     },
 ];
+
+/// Serves one step over a new pool, where there is no loader: the reply, and how many there are then.
+fn served(alloc: Global, step: Step) -> Result<(Reply, usize), AllocError> {
+    let mut pool = Pool::new(alloc, SETTINGS)?;
+    let mut loaders = Loaders::new(alloc);
+    let reply = serve(alloc, &mut pool, &mut loaders, step);
+    let count = loaders.len();
+    drop(loaders);
+    drop(pool);
+    Ok((reply, count))
+}
+
+#[test]
+fn a_step_is_served_over_a_pool(rt: HostRuntime) -> Result<(), Fail> {
+    let made = served(rt.alloc(), STEPS[0])?;
+    let refused = served(rt.alloc(), STEPS[1])?;
+    assert_eq!(rt; made, (Reply::Ok, 1));
+    assert_eq!(rt; refused, (Reply::Refused(Refusal::NoLoader), 0));
+    Ok(())
+}
 
 /// Runs steps by a new system: the replies, and the totals after the last.
 fn ran(alloc: Global, steps: &[Step]) -> Result<(Vec<Reply>, Totals), AllocError> {

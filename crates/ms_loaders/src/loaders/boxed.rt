@@ -4,11 +4,10 @@ ghost use Rattle.std.specs.Borrow.{sem};
 ghost use Rattle.ms_base.specs.declared.kind.Space.TheVariants.{NonClass, Class};
 ghost use Rattle.ms_loaders.specs.Boxed.{LendsBoxed};
 ghost use Rattle.ms_loaders.specs.GivenBack.{AreAccountsOf};
-ghost use Rattle.ms_loaders.specs.Loader.{IsSoundView, account_in, new_loader};
+ghost use Rattle.ms_loaders.specs.Loader.{IsSoundView, new_loader};
 
 use crate::loader::Loader;
-use crate::room::LoaderRoom;
-use ms_base::Kind;
+use ms_base::{Kind, Space};
 use ms_pool::Account;
 use std::alloc::Global;
 use std::marker::Model;
@@ -67,37 +66,36 @@ impl Boxed {
         )
     }
 
-    /// Makes a loader in a box as `made` does, in the memory that another loader had. Takes memory for the box.
-    pub(super) fn over(
-        alloc: Global,
+    /// Starts the loader anew over two accounts, as `Loader::renew` does, under a name, and gives its former
+    /// accounts back, the class space's last. Takes no memory.
+    pub(super) fn renew(
+        &mut self,
         name: u16,
-        room: LoaderRoom,
         account: Account,
         class_account: Account,
         kind: Kind,
-    ) -> Result<Boxed, (Account, Account)>
+    ) -> (Account, Account)
         requires empty { account.chunks ≡ [] }
         requires class_empty { class_account.chunks ≡ [] }
         requires space { account.space ≡ NonClass }
         requires class_space { class_account.space ≡ Class }
-        ensures made { IfOk result (λ boxed. boxed ≡ (name, new_loader account class_account kind)) }
+        ensures former { AreAccountsOf self.old.1 result }
+        ensures made { self.new ≡ (name, new_loader account class_account kind) }
         ensures sound { IsSoundView (new_loader account class_account kind) }
-        ensures back { IfErr result (AreAccountsOf (new_loader account class_account kind)) }
     {
-        into_box(
-            alloc,
-            name,
-            Loader::over(room, account, class_account, kind),
-        )
+        self.named.0 = name;
+        self.named.1.renew(account, class_account, kind)
     }
 
-    /// Takes the loader apart, as `Loader::into_parts` does.
-    pub(super) fn into_parts(self) -> (Account, Account, LoaderRoom)
-        ensures account { result.0 ≡ account_in NonClass self.1 }
-        ensures class_account { result.1 ≡ account_in Class self.1 }
+    /// Has the loader keep its memory alone: its accounts are given back, the class space's last, and closed
+    /// ones stand in their place. Takes no memory.
+    pub(super) fn close(&mut self, alloc: Global) -> (Account, Account)
+        ensures { AreAccountsOf self.old.1 result }
     {
-        let named = Box::into_inner(self.named);
-        named.1.into_parts()
+        let account = Account::closed(alloc, Space::NonClass);
+        let class_account = Account::closed(alloc, Space::Class);
+        let kind = self.named.1.kind();
+        self.named.1.renew(account, class_account, kind)
     }
 
     /// Gives the accounts back, the class space's last, and drops all else.

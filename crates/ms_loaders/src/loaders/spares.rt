@@ -1,30 +1,29 @@
-//! The rooms of loaders that were unloaded, for new loaders.
+//! Loaders that were unloaded, each in its box, for new ones.
 //!
-//!     unload ──> | room | room | room |  place  |  place  | ──> new       at most 64, each small
+//!     unload ──> | closed | closed | closed |  place  |  place  | ──> new       at most 64, each small
 //!
 //! Where loaders come and go, each would ask for the memory of its arenas and names anew. Nothing
-//! outside rests on which rooms there are: a loader over one is as new as any. Only `reserve` and `make`
-//! take memory, the latter a box: there is place for a room of each loader, since it was made when the
-//! loader came.
+//! outside rests on which loaders are here: one that starts anew is as new as any. Only `reserve` and
+//! `make` take memory, the latter where none is here: there is place for each loader, since it was made
+//! when the loader came.
 ghost use Rattle.std.specs.Prelude.{◌≡◌, IfOk, IfErr, []};
 ghost use Rattle.ms_base.specs.declared.kind.Space.TheVariants.{NonClass, Class};
 ghost use Rattle.ms_loaders.specs.GivenBack.{AreAccountsOf};
 ghost use Rattle.ms_loaders.specs.Loader.{IsSoundView, new_loader};
 
 use super::boxed::Boxed;
-use crate::room::LoaderRoom;
 use ms_base::Kind;
 use ms_pool::Account;
 use std::alloc::{AllocError, Global};
 use std::marker::Model;
 
-/// How many rooms are kept at most.
+/// How many loaders are kept at most.
 const MOST: usize = 64;
 
-/// Rooms that are spare.
+/// Loaders that are spare.
 #[derive(Drop)]
 pub(super) struct Spares {
-    rooms: Vec<LoaderRoom>,
+    boxes: Vec<Boxed>,
 }
 
 impl Model for Spares {
@@ -34,20 +33,21 @@ impl Model for Spares {
 }
 
 impl Spares {
-    /// Makes a list of no room. Takes no memory.
+    /// Makes a list of no loader. Takes no memory.
     pub(super) fn new(alloc: Global) -> Spares {
         Spares {
-            rooms: Vec::new(alloc),
+            boxes: Vec::new(alloc),
         }
     }
 
-    /// Makes place for the rooms of so many loaders, but for no more than are kept at most. Takes memory.
+    /// Makes place for so many loaders, but for no more than are kept at most. Takes memory.
     pub(super) fn reserve(&mut self, loaders: usize) -> Result<(), AllocError> {
         let wanted = loaders.min(MOST);
-        self.rooms.reserve(wanted.saturating_sub(self.rooms.len()))
+        self.boxes.reserve(wanted.saturating_sub(self.boxes.len()))
     }
 
-    /// Makes a loader in a box over two accounts, as `Boxed::made` does: in a spare room where there is one.
+    /// Makes a loader in a box over two accounts, as `Boxed::made` does: a spare one anew where there is
+    /// one, else one that takes memory.
     pub(super) fn make(
         &mut self,
         alloc: Global,
@@ -64,27 +64,27 @@ impl Spares {
         ensures sound { IsSoundView (new_loader account class_account kind) }
         ensures back { IfErr result (AreAccountsOf (new_loader account class_account kind)) }
     {
-        match self.rooms.pop() {
-            Some(room) => Boxed::over(alloc, name, room, account, class_account, kind),
+        match self.boxes.pop() {
+            Some(mut boxed) => {
+                let _ = boxed.renew(name, account, class_account, kind);
+                Ok(boxed)
+            }
             None => Boxed::made(alloc, name, account, class_account, kind),
         }
     }
 
-    /// Takes a loader apart and gives its accounts back, the class space's last. Its room is kept where it is
-    /// small and has a place, else dropped.
-    pub(super) fn take_apart(&mut self, boxed: Boxed) -> (Account, Account)
+    /// Gives the accounts of a loader back, the class space's last. It is kept where it is small and has a
+    /// place, else dropped. Takes no memory.
+    pub(super) fn close(&mut self, alloc: Global, mut boxed: Boxed) -> (Account, Account)
         ensures { AreAccountsOf boxed.1 result }
     {
-        let (account, class_account, room) = boxed.into_parts();
-        self.keep(room);
-        (account, class_account)
-    }
-
-    /// Keeps a room where it is small and has a place, else drops it.
-    fn keep(&mut self, room: LoaderRoom) {
-        let len = self.rooms.len();
-        if len < MOST && len < self.rooms.capacity() && room.is_small() {
-            self.rooms.push_reserved(room);
+        let len = self.boxes.len();
+        if len < MOST && len < self.boxes.capacity() && boxed.loader().is_small() {
+            let accounts = boxed.close(alloc);
+            self.boxes.push_reserved(boxed);
+            accounts
+        } else {
+            boxed.into_accounts()
         }
     }
 }

@@ -26,7 +26,6 @@ use Rattle.ms_loaders.specs.contracts.loaders.Loaders as loaders
 use Rattle.ms_loaders.specs.contracts.loaders.boxed.Boxed as boxed
 use Rattle.ms_loaders.specs.contracts.loaders.page.Page as page
 use Rattle.ms_loaders.specs.contracts.loaders.spares.Spares as spares
-use Rattle.ms_loaders.specs.contracts.room.LoaderRoom as room
 use Rattle.ms_loaders.specs.contracts.system.System as system
 use Rattle.ms_c.specs.Holding.{Held, held_by}
 use Rattle.ms_c.specs.contracts.slot.Slot.{the_row, the_type}
@@ -39,11 +38,8 @@ boxed_send =
 page_send : IsSend page.the_row
 page_send = search (boxed_send, sendable, crosses, option.the_send) depth 20
 
-room_send : IsSend room.the_row
-room_send = search (sendable, crosses, rows.the_send, names.the_send, handle.the_send) depth 60 fits 30000
-
 spares_send : IsSend spares.the_row
-spares_send = search (room_send, sendable, crosses) depth 20
+spares_send = search (boxed_send, sendable, crosses) depth 20
 
 loaders_send : IsSend loaders.the_row
 loaders_send = search (page_send, owners.the_send, spares_send, sendable, crosses, handle.the_send) depth 20

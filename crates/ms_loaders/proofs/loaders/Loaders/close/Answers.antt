@@ -4,5 +4,5 @@ pub returns-in-Some-clause-found : goal.returns-in-Some-clause-found
 returns-in-Some-clause-found c = record {
   loader = c.in-Some.boxed.1;
   found = c.in-Some.ensures.found;
-  own = c.take_apart-account.ensures;
+  own = c.close-account.ensures;
 }
