@@ -1,250 +1,299 @@
--- An arena stays one where a block is placed, written or freed. The functions of `arena` use these.
-use Rattle.std.proofs.Common.{◌≡◌, ◌≤◌, ◌+◌, ℕ, true, false, Option, Some, None, Result, Ok, Err, List, [], ◌∷◌, ◌++◌}
-use Rattle.std.proofs.Common.{length, map, refl, sym, ap, ◌∙◌, subst, arith, length-append, length-set, replicate}
+-- What an arena's live blocks are where one is placed, written or freed, from what the arena below says of it. The
+-- functions of `arena` use these.
+use Rattle.std.proofs.Common.{◌≡◌, ◌≢◌, ◌≤◌, ◌<◌, ◌+◌, ℕ, Bool, true, false, cond, Option, Some, None, List, [], ◌∷◌}
+use Rattle.std.proofs.Common.{◌++◌, length, map, replicate, refl, sym, ap, ◌∙◌, subst, inl, inr, arith, option_map}
 use Rattle.std.specs.Prelude.{nat_le, slice_set}
-use Rattle.std.specs.List.{list_all, sum_by}
-use Rattle.std.specs.Result.{OnOk, OnErr}
-use Rattle.std.proofs.lemmas.Bool.{and_parts, or_parts, leb-true}
+use Rattle.std.specs.List.{AllByRecursion, list_all}
+use Rattle.std.specs.Map.{keys_of}
+use Rattle.std.specs.Ordering.{nat_cmp, is_eq, match_ordering}
+use Rattle.std.specs.declared.cmp.Ordering.TheVariants.{Less, Equal, Greater}
+use Rattle.std.specs.BTreeMap.{is_at}
+use Rattle.std.proofs.lemmas.Bool.{cases_eq, and_parts, leb-true}
 use Rattle.std.proofs.lemmas.Bool.Decides.{nat_tests}
-use Rattle.std.proofs.lemmas.List.{map-append, length-replicate}
-use Rattle.std.proofs.lemmas.List.Sums.{sum_by-cons}
-use Rattle.std.proofs.lemmas.List.Folds.{list_any-append, list_all-append}
-use Rattle.ms_base.specs.declared.kind.Kind.{Kind}
-use Rattle.ms_base.specs.declared.kind.Space.{Space}
+use Rattle.std.proofs.lemmas.List.Elements.{recursion_from_All}
+use Rattle.std.proofs.lemmas.List.Folds.{list_all-append}
+use Rattle.std.proofs.lemmas.List.Sums.{AllPass-from_list_all}
 use Rattle.ms_base.specs.declared.span.Block.{Block}
-use Rattle.ms_base.specs.declared.refusal.Refusal.{Refusal}
-use Rattle.ms_base.specs.Interval.{meet, meets_any}
-use Rattle.ms_base.specs.Names.{AreNamed, named, with_new, without}
-use Rattle.ms_base.specs.State.{ArenaState}
-use Rattle.ms_base.specs.Good.{IsSound}
-use Rattle.ms_base.proofs.entries.EntryLemmas.{Split, split_at, Gap, gap_at, rises_without, rises_with_changed}
-use Rattle.ms_base.proofs.entries.NameLemmas.{rises_with_new}
-use Rattle.ms_base.specs.Totals.{used_of, kept_of}
-use Rattle.ms_base.proofs.machine.SumLemmas.{blocks_within}
-use Rattle.ms_base.proofs.runs.ApartLemmas.{list_any-with}
-use Rattle.ms_base.proofs.arena.KeptLemmas.{IsTakenOut, sound_with_live, sound_with_kept, live_taken_out}
-use Rattle.ms_blocks.specs.FreeBlocks.{run_of}
-use Rattle.ms_pool.specs.Account.{AreChunks}
-use Rattle.ms_arena.specs.Arena.{live_run}
-use Rattle.ms_arena.specs.Rows.{LiveRows, HasRow, WritesRow}
-use Rattle.ms_arena.specs.Books.{BooksView, Awaits, AwaitsBlock, IsArena, arena_over}
-use Rattle.ms_arena.proofs.AwaitLemmas.{fits_from, sound_alone}
+use Rattle.ms_base.specs.Hashed.{by_name}
+use Rattle.ms_base.specs.Interval.{meet}
+use Rattle.ms_base.specs.Names.{AreNamed, named, with_new, with_changed, without}
+use Rattle.ms_base.proofs.entries.EntryLemmas.{Split, split_at, Gap, gap_at, same_name, rises_with_changed}
+use Rattle.ms_base.proofs.entries.HashedLemmas.{Sets, without_by_name}
+use Rattle.ms_base.proofs.entries.LookupLemmas.{named_changed_same, named_changed_other, named_without_other}
+use Rattle.ms_base.proofs.events.SeenEntryLemmas.{same_entries}
+use Rattle.ms_arena.specs.Arena.{IsLive, IsNotLive, WritesWord, FreesBlock, live_run}
+use Rattle.ms_arena.specs.Raw.{RawView, Gains, FreesRun, Holds, RunIsThere, contents_at, live_in, with_live}
+use Rattle.ms_arena.specs.Words.{WordsView, StayWords, Writes, value_at}
+use Rattle.ms_arena.proofs.HoldLemmas.{contents_long, contents_stay, IsClear, clear_of_each, clear_of_new}
+use Rattle.ms_arena.proofs.HoldLemmas.{all_then, clear_words, contents_set, contents_zero, holds_fewer, holds_more}
 
-abbrev runs_of : List (ℕ × List ℕ) → List (ℕ × ℕ)
-runs_of live = map live_run live
+-- What the live blocks show of the words of a start.
+abbrev shown : WordsView → ℕ → Option ℕ → Option (List ℕ)
+shown words start found = option_map (λ (n : ℕ). contents_at words (start, n)) found
 
--- No live block starts where a run does that awaits its block.
+named_live : (words : WordsView) (runs : List (ℕ × ℕ)) (start : ℕ)
+    → named (live_in words runs) start ≡ shown words start (named runs start)
+named_live words [] start = refl
+named_live words (run ∷ runs) start =
+    elim (is_at (nat_cmp start) run.0) as (λ b. is_at (nat_cmp start) run.0 ≡ b
+    → cond b (Some (contents_at words run)) (named (live_in words runs) start)
+    ≡ shown words start (cond b (Some run.1) (named runs start))) [
+      | true ↦ λ at_it. ap (λ (s : ℕ). Some (contents_at words (s, run.1))) (same_name start run.0 at_it)
+      | false ↦ λ past. named_live words runs start
+    ] refl
+
+keys_live : (words : WordsView) (runs : List (ℕ × ℕ)) → keys_of (live_in words runs) ≡ keys_of runs
+keys_live words [] = refl
+keys_live words (run ∷ runs) = ap (λ (l : List ℕ). run.0 ∷ l) (keys_live words runs)
+
+pub rises_live : (words : WordsView) (runs : List (ℕ × ℕ)) → AreNamed runs → AreNamed (live_in words runs)
+rises_live words runs rises = rw (keys_live words runs) rises
+
+-- The runs of what is shown.
+pub runs_live : (words : WordsView) (runs : List (ℕ × ℕ)) → map live_run (live_in words runs) ≡ runs
+runs_live words [] = refl
+runs_live words (run ∷ runs) =
+    ap (λ (n : ℕ). (run.0, n) ∷ map live_run (live_in words runs)) (contents_long (value_at words) run)
+    ∙ ap (λ (l : List (ℕ × ℕ)). run ∷ l) (runs_live words runs)
+
+-- A block is live where it is in the list with its words, and else it is not.
+pub is_live : (raw : RawView) (runs : List (ℕ × ℕ)) (block : Block) → named runs block.start ≡ Some block.words
+    → IsLive (with_live raw (live_in raw.words runs)) block (contents_at raw.words (block.start, block.words))
+is_live raw runs block found = record {
+  found = named_live raw.words runs block.start ∙ ap (shown raw.words block.start) found;
+  words = sym (contents_long (value_at raw.words) (block.start, block.words));
+}
+
+has_words : (words : WordsView) (start n : ℕ) (found : Option ℕ) (contents : List ℕ)
+    → shown words start found ≡ Some contents → n ≡ length contents → found ≡ Some n
+has_words words start n None contents is long = absurd (cc)
+has_words words start n (Some m) contents is long =
+    let same : contents_at words (start, m) ≡ contents = cc in
+    ap (λ (n : ℕ). Some n)
+    (sym (contents_long (value_at words) (start, m)) ∙ ap (λ (l : List ℕ). length l) same ∙ sym long)
+
+pub is_not_live : (raw : RawView) (runs : List (ℕ × ℕ)) (block : Block)
+    → (named runs block.start ≡ Some block.words → false ≡ true)
+    → IsNotLive (with_live raw (live_in raw.words runs)) block
+is_not_live raw runs block none = λ contents live.
+    let e : false ≡ true = none (has_words raw.words block.start block.words (named runs block.start) contents
+    (sym (named_live raw.words runs block.start) ∙ live.found) live.words) in
+    absurd (cc (e))
+
+-- What holds of all holds of the one that has a name.
+all_named : (P : ℕ × ℕ → Type 0) (runs : List (ℕ × ℕ)) (name n : ℕ) → AllByRecursion P runs
+    → named runs name ≡ Some n → P (name, n)
+all_named P [] name n all found = absurd (cc)
+all_named P (run ∷ runs) name n all found =
+    elim (is_at (nat_cmp name) run.0) as (λ b. is_at (nat_cmp name) run.0 ≡ b
+    → cond b (Some run.1) (named runs name) ≡ Some n → P (name, n)) [
+      | true ↦ λ here found. subst (λ (m : ℕ). P (name, m)) (let same : run.1 ≡ n = cc in same)
+          (subst (λ (s : ℕ). P (s, run.1)) (same_name name run.0 here) all.0)
+      | false ↦ λ past found. all_named P runs name n all.1 found
+    ] refl found
+
+-- The words of a run, and of all runs, stay.
+abbrev Shows : WordsView → WordsView → ℕ × ℕ → Type 0
+Shows old new run = contents_at new run ≡ contents_at old run
+
+live_stays : (old new : WordsView) (runs : List (ℕ × ℕ)) → AllByRecursion (Shows old new) runs
+    → live_in new runs ≡ live_in old runs
+live_stays old new [] all = refl
+live_stays old new (run ∷ runs) all =
+    ap (λ (contents : List ℕ). (run.0, contents) ∷ live_in new runs) all.0
+    ∙ ap (λ (l : List (ℕ × List ℕ)). (run.0, contents_at old run) ∷ l) (live_stays old new runs all.1)
+
+pub live_same : (old new : WordsView) (runs made : List (ℕ × ℕ)) → StayWords old new → made ≡ runs
+    → live_in new made ≡ live_in old runs
+live_same old new runs made stay is = ap (live_in new) is ∙ live_stays old new runs (each runs)
+  where
+    each : (runs : List (ℕ × ℕ)) → AllByRecursion (Shows old new) runs
+    each [] = tt
+    each (run ∷ runs) =
+        (contents_stay (value_at old) (value_at new) run (λ word low high. stay.values word), each runs)
+
+-- One more, and one less.
+new_live : (words : WordsView) (runs : List (ℕ × ℕ)) (start n : ℕ)
+    → live_in words (with_new runs start n) ≡ with_new (live_in words runs) start (contents_at words (start, n))
+new_live words [] start n = refl
+new_live words (run ∷ runs) start n =
+    elim (nat_cmp start run.0) as (λ o. nat_cmp start run.0 ≡ o
+    → live_in words (match_ordering o ((start, n) ∷ run ∷ runs) ((run.0, n) ∷ runs) (run ∷ with_new runs start n))
+    ≡ match_ordering o ((start, contents_at words (start, n)) ∷ live_in words (run ∷ runs))
+    ((run.0, contents_at words (start, n)) ∷ live_in words runs)
+    ((run.0, contents_at words run) ∷ with_new (live_in words runs) start (contents_at words (start, n)))) [
+      | Less ↦ λ p. refl
+      | Equal ↦ λ p. ap (λ (s : ℕ). (run.0, contents_at words (s, n)) ∷ live_in words runs)
+          (same_name start run.0 (ap is_eq p))
+      | Greater ↦ λ p. ap (λ (l : List (ℕ × List ℕ)). (run.0, contents_at words run) ∷ l) (new_live words runs start n)
+    ] refl
+
+without_live : (words : WordsView) (runs : List (ℕ × ℕ)) (start : ℕ)
+    → live_in words (without runs start) ≡ without (live_in words runs) start
+without_live words [] start = refl
+without_live words (run ∷ runs) start =
+    elim (is_at (nat_cmp start) run.0) as (λ b. live_in words (cond b runs (run ∷ without runs start))
+    ≡ cond b (live_in words runs) ((run.0, contents_at words run) ∷ without (live_in words runs) start)) [
+      | true ↦ refl
+      | false ↦ ap (λ (l : List (ℕ × List ℕ)). (run.0, contents_at words run) ∷ l) (without_live words runs start)
+    ]
+
+-- No live block starts where one that is placed does.
+abbrev is_two : ℕ × ℕ → Bool
+is_two run = nat_le 2 run.1
+
 meets_itself : (a m n : ℕ) → 2 ≤ m → 2 ≤ n → meet a m a n ≡ true
 meets_itself a m n h k = grind (arith, nat_tests)
 
-none_starts_there : (live : List (ℕ × List ℕ)) (run : ℕ × ℕ) → meets_any run (runs_of live) ≡ false → 2 ≤ run.1
-    → list_all (λ (r : ℕ × ℕ). nat_le 2 r.1) (runs_of live) ≡ true → named live run.0 ≡ None
-none_starts_there live run clear long all = none_there (named live run.0) refl
+is_long : (runs kept : List (ℕ × ℕ)) (start n : ℕ) → list_all is_two (runs ++ kept) ≡ true → named runs start ≡ Some n
+    → 2 ≤ n
+is_long runs kept start n all found =
+    leb-true 2 n (all_named (λ (run : ℕ × ℕ). is_two run ≡ true) runs start n
+    (recursion_from_All (λ (run : ℕ × ℕ). is_two run ≡ true) runs
+    (AllPass-from_list_all is_two runs
+    (and_parts (list_all is_two runs) (list_all is_two kept) (sym (list_all-append is_two runs kept) ∙ all)).0)) found)
+
+none_starts_there : (old new : RawView) (block : Block) (runs : List (ℕ × ℕ)) → Holds old runs → Gains old block new
+    → named runs block.start ≡ None
+none_starts_there old new block runs holds gains = none (named runs block.start) refl
   where
-    none_there : (o : Option (List ℕ)) → named live run.0 ≡ o → named live run.0 ≡ None
-    none_there None e = e
-    none_there (Some contents) e =
-        let split = split_at live run.0 contents e in
-        let runs = ap runs_of split.is ∙ map-append live_run split.before ((run.0, contents) ∷ split.after) in
-        let tests =
-        list_any-with (λ (r : ℕ × ℕ). meet run.0 run.1 r.0 r.1) (runs_of split.before) (run.0, length contents)
-        (runs_of split.after) in
-        let none =
-        (or_parts (meet run.0 run.1 run.0 (length contents))
-        (meets_any run (runs_of split.before ++ runs_of split.after)) (sym tests ∙ (rw runs at clear))).0 in
-        let two = and_parts (nat_le 2 (length contents)) (list_all (λ (r : ℕ × ℕ). nat_le 2 r.1) (runs_of split.after))
-        (and_parts (list_all (λ (r : ℕ × ℕ). nat_le 2 r.1) (runs_of split.before))
-        (list_all (λ (r : ℕ × ℕ). nat_le 2 r.1) ((run.0, length contents) ∷ runs_of split.after))
-        (sym (list_all-append (λ (r : ℕ × ℕ). nat_le 2 r.1) (runs_of split.before)
-        ((run.0, length contents) ∷ runs_of split.after)) ∙ (rw runs at all))).1 in
-        let meets = meets_itself run.0 run.1 (length contents) long (leb-true 2 (length contents) two.0) in
-        absurd (cc (none, meets))
+    none : (found : Option ℕ) → named runs block.start ≡ found → named runs block.start ≡ None
+    none None is = is
+    none (Some n) is =
+        let clear = all_named (IsClear (block.start, block.words)) runs block.start n
+        (clear_of_new old new block runs holds gains) is in
+        let meets = meets_itself block.start block.words n (gains.awaits runs holds.sound).long
+        (is_long runs old.books.kept block.start n holds.sound.long is) in
+        absurd (cc (clear, meets))
 
-awaits_other : (state : ArenaState) (live : List (ℕ × List ℕ)) (run : ℕ × ℕ) → Awaits state (runs_of live) run
-    → named live run.0 ≡ None
-awaits_other state live run awaits =
-    none_starts_there live run
-    (or_parts (meets_any run (runs_of live)) (meets_any run state.kept)
-    (sym (list_any-append (λ (r : ℕ × ℕ). meet run.0 run.1 r.0 r.1) (runs_of live) state.kept) ∙ awaits.clear)).0
-    awaits.long
-    (and_parts (list_all (λ (r : ℕ × ℕ). nat_le 2 r.1) (runs_of live))
-    (list_all (λ (r : ℕ × ℕ). nat_le 2 r.1) state.kept)
-    (sym (list_all-append (λ (r : ℕ × ℕ). nat_le 2 r.1) (runs_of live) state.kept) ∙ awaits.sound.long)).0
+-- A block that is placed: the list has it then, and what is shown.
+pub record Enters (old new : RawView) (block : Block) (runs more : List (ℕ × ℕ)) : Type 0 where
+  pub holds : Holds new more
+  pub fresh : named (live_in old.words runs) block.start ≡ None
+  pub live : live_in new.words more ≡ with_new (live_in old.words runs) block.start (replicate block.words 0)
 
--- The block is live then.
-pub record Settles (new : BooksView) (kind : Kind) (live : List (ℕ × List ℕ)) (start : ℕ) (contents : List ℕ) : Type 0
+pub enters : (old new : RawView) (block : Block) (runs made more : List (ℕ × ℕ)) → Holds old runs → Gains old block new
+    → made ≡ runs → more ≡ with_new made block.start block.words → Enters old new block runs more
+enters old new block runs made more holds gains same more_are = record {
+  holds = holds_more old new block runs more gap.before gap.after holds gains gap.is (is ∙ gap.made block.words);
+  fresh = named_live old.words runs block.start ∙ ap (shown old.words block.start) none;
+  live = ap (live_in new.words) is ∙ new_live new.words runs block.start block.words
+      ∙ ap (λ (l : List (ℕ × List ℕ)). with_new l block.start (contents_at new.words run))
+      (live_stays old.words new.words runs
+      (all_then (IsClear run) (Shows old.words new.words) runs each (clear_of_new old new block runs holds gains)))
+      ∙ ap (λ (contents : List ℕ). with_new (live_in old.words runs) block.start contents)
+      (contents_zero (value_at new.words) run gains.opens.zero);
+}
   where
-    pub other : named live start ≡ None
-    pub arena : IsArena (arena_over new kind (with_new live start contents)) new.room
+    run : ℕ × ℕ
+    run = (block.start, block.words)
 
-pub settles : (kind : Kind) (old made new : BooksView) (live rows : List (ℕ × List ℕ)) (start n : ℕ) (contents : List ℕ)
-    (room : ℕ)
-    → IsArena (arena_over old kind live) room → made ≡ record old { room = made.room; came = made.came; places = made.places }
-    → rows ≡ live
-    → AwaitsBlock made.state new.state start n → contents ≡ replicate n 0 → AreChunks new.space new.state.chunks
-    → length rows + 1 ≤ new.room
-    → Settles new kind rows start contents
-settles kind old made new live rows start n contents room arena made_is same awaits zeros chunks enough = record {
-  other = other;
-  arena = record {
-    sound = record {
-      chunks = chunks;
-      books = rw (ap runs_of (gap.made contents) ∙ map-append live_run gap.before ((start, contents) ∷ gap.after))
-          (sound_with_live new.state (runs_of gap.before) (start, length contents) (runs_of gap.after)
-          (rw joined at (fits_from new.state (runs_of rows) (start, length contents) here)) (rw joined at here.sound));
-      names = rises_with_new rows start contents (subst AreNamed (sym same) arena.sound.names);
-    };
-    room = omega (
-      arith,
-      enough,
-      ap length (gap.made contents),
-      length-append gap.before ((start, contents) ∷ gap.after),
-      ap length gap.is,
-      length-append gap.before gap.after,
-    );
+    is : more ≡ with_new runs block.start block.words
+    is = more_are ∙ ap (λ (l : List (ℕ × ℕ)). with_new l block.start block.words) same
+
+    none : named runs block.start ≡ None
+    none = none_starts_there old new block runs holds gains
+
+    gap : Gap runs block.start
+    gap = gap_at runs block.start none
+
+    each : (other : ℕ × ℕ) → IsClear run other → Shows old.words new.words other
+    each other clear =
+        contents_stay (value_at old.words) (value_at new.words) other
+        (λ word low high. elim (clear_words run other word clear low high
+        (omega (arith, (gains.awaits runs holds.sound).long))) [
+          | inl before ↦ gains.opens.before word before
+          | inr after ↦ gains.opens.after word after
+        ])
+
+-- A live block that goes.
+pub record Goes (old new : RawView) (block : Block) (runs fewer : List (ℕ × ℕ)) : Type 0 where
+  pub holds : Holds new fewer
+  pub frees : FreesBlock (with_live old (live_in old.words runs)) block (with_live new (live_in new.words fewer))
+
+pub goes : (old new : RawView) (block : Block) (was is : List (ℕ × ℕ)) → Holds old (by_name was)
+    → FreesRun old block new → named (by_name was) block.start ≡ Some block.words → Sets was is block.start None
+    → Goes old new block (by_name was) (by_name is)
+goes old new block was is holds frees found sets = record {
+  holds = holds_fewer old new block runs (by_name is) split.before split.after holds frees split.is
+      (fewer ∙ split.gone);
+  frees = record {
+    contents = contents_at old.words (block.start, block.words);
+    live = is_live old runs block found;
+    after = ap (λ (live : List (ℕ × List ℕ)). with_live new live)
+        (ap (live_in new.words) fewer
+        ∙ ap (λ (raw : RawView). live_in raw.words (without runs block.start)) frees
+        ∙ without_live old.words runs block.start)
+        ∙ ap (λ (raw : RawView). with_live raw (without (live_in old.words runs) block.start)) frees;
   };
 }
   where
-    here : Awaits new.state (runs_of rows) (start, length contents)
-    here = subst (λ (k : ℕ). Awaits new.state (runs_of rows) (start, k)) (sym (ap length zeros ∙ length-replicate n 0))
-        (awaits (runs_of rows)
-        (subst (λ (b : BooksView). IsSound b.state (runs_of rows)) (sym made_is)
-        (subst (λ (l : List (ℕ × List ℕ)). IsSound old.state (runs_of l)) (sym same) arena.sound.books)))
+    runs : List (ℕ × ℕ)
+    runs = by_name was
 
-    other : named rows start ≡ None
-    other = awaits_other new.state rows (start, length contents) here
+    fewer : by_name is ≡ without runs block.start
+    fewer = without_by_name was is block.start sets
 
-    gap : Gap rows start
-    gap = gap_at rows start other
+    split : Split runs block.start block.words
+    split = split_at runs block.start block.words found
 
-    joined : runs_of rows ≡ runs_of gap.before ++ runs_of gap.after
-    joined = ap runs_of gap.is ∙ map-append live_run gap.before gap.after
+-- A word of a live block is there, and is written.
+pub is_there : (raw : RawView) (block : Block) (runs : List (ℕ × ℕ)) → Holds raw runs
+    → named runs block.start ≡ Some block.words → RunIsThere raw.words (block.start, block.words)
+is_there raw block runs holds found =
+    all_named (RunIsThere raw.words) runs block.start block.words
+    (recursion_from_All (RunIsThere raw.words) runs holds.there) found
 
--- A block that goes: its words may be kept.
-pub record Leaves (books : BooksView) (live : List (ℕ × List ℕ)) (block : Block) : Type 0 where
-  pub awaits : Awaits books.state (runs_of (without live block.start)) (run_of block)
-  pub alone : Awaits books.state [] (run_of block)
-  pub fewer : length (without live block.start) + 1 ≡ length live
-
-pub leaves : (books : BooksView) (live : List (ℕ × List ℕ)) (block : Block) (contents : List ℕ)
-    → IsSound books.state (runs_of live)
-    → HasRow live block contents → Leaves books live block
-leaves books live block contents sound row = record {
-  awaits = awaits;
-  alone = record {
-    sound = sound_alone books.state (runs_of (without live block.start)) awaits.sound;
-    clear = (or_parts (meets_any (run_of block) (runs_of (without live block.start)))
-        (meets_any (run_of block) books.state.kept)
-        (sym (list_any-append (λ (r : ℕ × ℕ). meet block.start block.words r.0 r.1) (runs_of (without live block.start))
-        books.state.kept) ∙ awaits.clear)).1;
-    used = awaits.used;
-    long = awaits.long;
-  };
-  fewer = omega (
-    arith,
-    ap length split.gone,
-    ap length split.is,
-    length-append split.before split.after,
-    length-append split.before ((block.start, contents) ∷ split.after),
-  );
+pub writes : (old new : RawView) (block : Block) (index value : ℕ) (runs : List (ℕ × ℕ)) → Holds old runs
+    → AreNamed runs → named runs block.start ≡ Some block.words → index < block.words
+    → Writes old.words (block.start + index) value new.words → new ≡ record old { words = new.words }
+    → WritesWord (with_live old (live_in old.words runs)) block index value (with_live new (live_in new.words runs))
+writes old new block index value runs holds rises found within word rest = record {
+  contents = contents_at old.words run;
+  live = is_live old runs block found;
+  within = omega (arith, within, (is_live old runs block found).words);
+  after = ap (λ (live : List (ℕ × List ℕ)). with_live new live) changed
+      ∙ ap (λ (raw : RawView). with_live raw (with_changed (live_in old.words runs) block.start contents)) rest;
 }
   where
-    split : Split live block.start contents
-    split = split_at live block.start contents row.found
+    run : ℕ × ℕ
+    run = (block.start, block.words)
 
-    out : IsTakenOut books.state (runs_of split.before ++ runs_of split.after) (block.start, length contents)
-    out = live_taken_out books.state (runs_of split.before) (block.start, length contents) (runs_of split.after)
-        (rw (ap runs_of split.is ∙ map-append live_run split.before ((block.start, contents) ∷ split.after)) at sound)
+    contents : List ℕ
+    contents = slice_set (contents_at old.words run) index value
 
-    joined : runs_of (without live block.start) ≡ runs_of split.before ++ runs_of split.after
-    joined = ap runs_of split.gone ∙ map-append live_run split.before split.after
+    split : Split runs block.start block.words
+    split = split_at runs block.start block.words found
 
-    awaits : Awaits books.state (runs_of (without live block.start)) (run_of block)
-    awaits = subst (λ (k : ℕ). Awaits books.state (runs_of (without live block.start)) (block.start, k)) (sym row.words)
-        (subst (λ (runs : List (ℕ × ℕ)). Awaits books.state runs (block.start, length contents)) (sym joined)
-        (record { sound = out.sound; clear = out.fits.clear; used = out.fits.used; long = out.fits.long }))
+    stays : (start : ℕ) (found : Option ℕ) → block.start ≢ start → named runs start ≡ found
+        → shown new.words start found ≡ shown old.words start found
+    stays start None differ is = refl
+    stays start (Some n) differ is =
+        let clear : IsClear run (start, n) = all_named (IsClear run) (without runs block.start) start n
+        (subst (AllByRecursion (IsClear run)) (sym split.gone)
+        (clear_of_each old block runs split.before split.after holds split.is))
+        (named_without_other runs block.start start differ ∙ is) in
+        ap (λ (contents : List ℕ). Some contents)
+        (contents_stay (value_at old.words) (value_at new.words) (start, n)
+        (λ other low high. word.others other
+        (λ same. elim (clear_words run (start, n) other clear low high (omega (arith, within))) [
+          | inl before ↦ absurd (omega (arith, before, same))
+          | inr after ↦ absurd (omega (arith, after, same, within))
+        ])))
 
-pub arena_freed : (kind : Kind) (old new : BooksView) (live rows : List (ℕ × List ℕ)) (block : Block)
-    (contents : List ℕ) (room : ℕ)
-    → IsArena (arena_over old kind live) room → HasRow live block contents → rows ≡ without live block.start
-    → new.state ≡ record old.state { kept = with_new old.state.kept block.start block.words } → new.space ≡ old.space
-    → new.room + 1 ≡ room
-    → IsArena (arena_over new kind rows) new.room
-arena_freed kind old new live rows block contents room arena row same state space one = record {
-  sound = record {
-    chunks = subst (λ (s : ArenaState). AreChunks new.space s.chunks) (sym state)
-        (subst (λ (one : Space). AreChunks one old.state.chunks) (sym space) arena.sound.chunks);
-    books = subst (λ (l : List (ℕ × List ℕ)). IsSound new.state (runs_of l)) (sym same)
-        (subst (λ (s : ArenaState). IsSound s (runs_of (without live block.start))) (sym state)
-        (sound_with_kept old.state (runs_of (without live block.start)) (run_of block)
-        (fits_from old.state (runs_of (without live block.start)) (run_of block) gone.awaits) gone.awaits.sound));
-    names = subst AreNamed (sym same) (rises_without live block.start arena.sound.names);
-  };
-  room = omega (arith, arena.room, one, gone.fewer, ap length same);
-}
-  where
-    gone : Leaves old live block
-    gone = leaves old live block contents arena.sound.books row
-
--- A word written.
-arena_with_word : (kind : Kind) (books : BooksView) (live new : List (ℕ × List ℕ)) (block : Block)
-    (index value room : ℕ)
-    → IsArena (arena_over books kind live) room → WritesRow live block index value new
-    → IsArena (arena_over books kind new) room
-arena_with_word kind books live new block index value room arena writes = record {
-  sound = record {
-    chunks = arena.sound.chunks;
-    books = subst (λ (runs : List (ℕ × ℕ)). IsSound books.state runs) (sym same) arena.sound.books;
-    names = subst AreNamed (sym writes.after) (rises_with_changed live block.start _ arena.sound.names);
-  };
-  room = omega (
-    arith,
-    arena.room,
-    ap length writes.after,
-    ap length (split.changed (slice_set writes.contents index value)),
-    ap length split.is,
-    length-append split.before ((block.start, writes.contents) ∷ split.after),
-    length-append split.before ((block.start, slice_set writes.contents index value) ∷ split.after),
-  );
-}
-  where
-    split : Split live block.start writes.contents
-    split = split_at live block.start writes.contents writes.row.found
-
-    same : runs_of new ≡ runs_of live
-    same = ap runs_of (writes.after ∙ split.changed (slice_set writes.contents index value))
-        ∙ map-append live_run split.before ((block.start, slice_set writes.contents index value) ∷ split.after)
-        ∙ ap (λ (k : ℕ). runs_of split.before ++ (block.start, k) ∷ runs_of split.after)
-        (length-set writes.contents index value)
-        ∙ sym (map-append live_run split.before ((block.start, writes.contents) ∷ split.after))
-        ∙ sym (ap runs_of split.is)
-
-pub arena_written : (kind : Kind) (books : BooksView) (old new : LiveRows) (block : Block) (index value room : ℕ)
-    (result : Result (Unit {0}) Refusal)
-    → IsArena (arena_over books kind old.blocks) room → OnOk result (WritesRow old.blocks block index value new.blocks)
-    → OnErr result (new ≡ old)
-    → IsArena (arena_over books kind new.blocks) room
-arena_written kind books old new block index value room (Ok done) arena writes unchanged =
-    arena_with_word kind books old.blocks new.blocks block index value room arena writes
-arena_written kind books old new block index value room (Err refusal) arena writes unchanged =
-    subst (λ (rows : LiveRows). IsArena (arena_over books kind rows.blocks) room) (sym unchanged) arena
-
--- The words of live blocks, and that with free blocks they are no more than are in use.
-live_words : (live : List (ℕ × List ℕ))
-    → sum_by (λ (run : ℕ × ℕ). run.1) (runs_of live) ≡ sum_by (λ (block : ℕ × List ℕ). length block.1) live
-live_words [] = refl
-live_words (block ∷ live) =
-    omega (
-      arith,
-      sum_by-cons (λ (run : ℕ × ℕ). run.1) (live_run block) (runs_of live),
-      sum_by-cons (λ (one : ℕ × List ℕ). length one.1) block live,
-      live_words live,
-    )
-
-pub record AreWithin (state : ArenaState) (live : List (ℕ × List ℕ)) : Type 0 where
-  pub same : sum_by (λ (run : ℕ × ℕ). run.1) (runs_of live) ≡ sum_by (λ (block : ℕ × List ℕ). length block.1) live
-  pub fit : sum_by (λ (block : ℕ × List ℕ). length block.1) live + kept_of state ≤ used_of state
-
-pub within_used : (state : ArenaState) (live : List (ℕ × List ℕ)) → IsSound state (runs_of live) → AreWithin state live
-within_used state live sound =
-    record { same = live_words live; fit = omega (arith, live_words live, blocks_within state (runs_of live) sound) }
+    changed : live_in new.words runs ≡ with_changed (live_in old.words runs) block.start contents
+    changed = same_entries (live_in new.words runs) (with_changed (live_in old.words runs) block.start contents)
+        (rises_live new.words runs rises)
+        (rises_with_changed (live_in old.words runs) block.start contents (rises_live old.words runs rises))
+        (λ start. elim (cases_eq block.start start) [
+          | inl same ↦ ap (named (live_in new.words runs)) (sym same) ∙ named_live new.words runs block.start
+              ∙ ap (shown new.words block.start) found
+              ∙ ap (λ (contents : List ℕ). Some contents)
+              (contents_set (value_at old.words) (value_at new.words) run index value within word.written word.others)
+              ∙ sym (named_changed_same (live_in old.words runs) block.start (contents_at old.words run) contents
+              (is_live old runs block found).found)
+              ∙ ap (named (with_changed (live_in old.words runs) block.start contents)) same
+          | inr differ ↦ named_live new.words runs start ∙ stays start (named runs start) differ refl
+              ∙ sym (named_live old.words runs start)
+              ∙ sym (named_changed_other (live_in old.words runs) block.start contents start differ)
+        ])

@@ -1,10 +1,10 @@
-mod RowLemmas
-mod CountLemmas
-mod PutLemmas
+pub mod HoldLemmas
 mod ChunkLemmas
 mod AwaitLemmas
 mod KeptLemmas
 mod BookLemmas
 mod AllocLemmas
+mod RawLemmas
 mod ArenaLemmas
 mod PagesLemmas
+mod PlacesLemmas

@@ -42,6 +42,11 @@ abbrev pub arena_over : BooksView → Kind → List (ℕ × List ℕ) → ArenaV
 arena_over books kind live =
     record { owner = books.owner; space = books.space; kind = kind; books = books.state; live = live }
 
+-- The books are as they were, but for room, of which there is no less.
+pub record IsSameBooks (old new : BooksView) : Type 0 where
+  pub rest : new ≡ record old { room = new.room; came = new.came; places = new.places }
+  pub more : old.room ≤ new.room
+
 -- What is kept true of books: the chunks are an account's, each has its top, the words in use are
 -- the sum of the tops, and they are sound with no live block.
 pub record AreBooks (space : Space) (state : ArenaState) (counted : ℕ) : Type 0 where

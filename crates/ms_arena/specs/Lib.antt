@@ -1,7 +1,9 @@
 pub mod Arena
 pub mod Alloc
 pub mod ArenaSums
-pub mod Rows
 pub mod Books
 pub mod Kept
 pub mod Pages
+pub mod Places
+pub mod Words
+pub mod Raw

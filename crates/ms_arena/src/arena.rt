@@ -1,65 +1,58 @@
-//! The arena and its calls.
+//! The arena and its calls, for whoever has blocks and no more of them: it knows which are live.
 //!
-//!     chunks in the order taken     retired                 ..     current
-//!                                   |##..##.####|  past    |      |###..##~~~~~|  past    |
-//!                                           top = front                  top   front   size
+//!     live      512 -> 8      0 -> 12      12 -> 2       where each starts, and its words
+//!                  |             |            |
+//!     raw       [ live 0..12 | live 12..14 | free .. | live 512..520 | .. ]
 //!
-//! `#` are words of live blocks, `.` free blocks and waste below a top, `~` words that are committed
-//! and not in use. A block goes into the free block that fits best, else to the current chunk's
-//! top, else to where the source has more; free blocks are never joined.
-//! Kept true: the chunks are the account's, live and free blocks are apart, have two words at least
-//! and lie below tops, starts of live blocks rise, and there is room to free each of them.
-//! Room is made before a source is asked: so what it lends is always placed, a refused `alloc`
-//! changes nothing, and `free` takes no memory. Stands on `books` for chunks, tops and free blocks
-//! and on `rows` for live blocks. Only `place` and `alloc` take memory; `alloc` waits as its source
-//! does. After HotSpot's metaspaceArena.cpp; best fit and live blocks are this project's choice.
-ghost use Rattle.std.specs.Prelude.{◌≡◌, ◌≢◌, ◌↔◌, ℕ, ◌+◌, ◌<◌, ◌≤◌, ◌^◌, None, Err, IfOk, OnOk, IfErr, OnErr, IfSome};
-ghost use Rattle.std.specs.Prelude.{IfNone, [], List, length, true, false};
-ghost use Rattle.ms_base.specs.Level.{size_of};
-ghost use Rattle.ms_base.specs.Live.{block_words};
-ghost use Rattle.ms_base.specs.Names.{named};
-ghost use Rattle.ms_base.specs.Place.{placed, current};
-ghost use Rattle.ms_base.specs.Asks.{asks_growth};
+//! Apart because a loader's names are its blocks already: only who has no other list of them needs
+//! this one, a hash map. A block is found and added in about the same time, however many are live.
+//! Kept true: the live blocks are those of the arena below, so they are apart and in use, and starts
+//! rise in what is seen of them. Stands on `raw` for all else. Only `place` and `alloc` take memory;
+//! room for a block is made before the arena below is asked. HotSpot's arenas know no live blocks;
+//! that this one does is this project's choice.
+ghost use Rattle.std.specs.Prelude.{◌≡◌, ◌↔◌, ◌<◌, ◌^◌, None, Some, Err, IfOk, OnOk, IfErr, OnErr, []};
+ghost use Rattle.std.specs.Prelude.{◌+◌, IsTrue};
+ghost use Rattle.std.specs.HashMap.{spare};
+ghost use Rattle.ms_base.specs.Hashed.{by_name};
+ghost use Rattle.ms_base.specs.Names.{named, with_new};
 ghost use Rattle.ms_base.specs.Totals.{used_of};
 ghost use Rattle.ms_pool.specs.Source.{LeavesRest};
-ghost use Rattle.ms_arena.specs.Arena.{IsSoundArena, IsNotLive, IsAskable, Places, PlaceRefused, ReadsWord, WritesWord};
+ghost use Rattle.ms_arena.specs.Arena.{IsSoundArena, IsNotLive, Places, PlaceRefused, ReadsWord, WritesWord};
 ghost use Rattle.ms_arena.specs.Arena.{WordRefused, FreesBlock, account_of, new_arena};
-ghost use Rattle.ms_arena.specs.Alloc.{Allocates, FindsPlace, AsksChunk, TakesNew, GrowsCurrent};
+ghost use Rattle.ms_arena.specs.Alloc.{Allocates};
 ghost use Rattle.ms_arena.specs.ArenaSums.{AreSums};
-ghost use Rattle.ms_arena.specs.Books.{AsksFor, ForAllLive, HasLooked, MayLook, arena_over};
+ghost use Rattle.ms_arena.specs.Raw.{Holds, live_in, with_live};
 
-mod room;
-
-use crate::books::Books;
-use crate::rows::Rows;
-use crate::totals::{ArenaTotals, sums_of};
-use ms_base::{Block, Chunk, Kind, ROOT_WORDS, Refusal, level_for};
+use crate::raw::RawArena;
+use crate::totals::ArenaTotals;
+use ms_base::{Block, Kind, ROOT_WORDS, Refusal};
 use ms_pool::{Account, ChunkSource};
 use std::alloc::Global;
+use std::collections::HashMap;
 use std::marker::Model;
+
+/// For how many live blocks a small arena has memory at most.
+const SMALL_BLOCKS: usize = 128;
 
 /// The arena of one class loader in one space. After HotSpot's metaspaceArena.hpp.
 #[derive(Drop)]
 pub struct Arena {
-    /// Where the words of live blocks come from.
-    alloc: Global,
-    /// The kind of the arena's loader, by which it grows.
-    kind: Kind,
-    /// Chunks, tops and free blocks, with room for as many free blocks more as blocks are live.
-    books: Books,
-    /// The live blocks, each with its words.
-    live: Rows,
+    /// Chunks, tops, free blocks and words.
+    raw: RawArena,
+    /// How many words each live block has, by its start.
+    live: HashMap<u64, u64>,
 }
 
 impl Model for Arena {
     ghost use Rattle.ms_arena.specs.Arena.{ArenaView};
-    ghost use Rattle.ms_arena.specs.Books.{IsArena, arena_over};
+    ghost use Rattle.ms_arena.specs.Raw.{Holds, live_in, with_live};
+    ghost use Rattle.ms_base.specs.Hashed.{by_name};
 
     ghost Value = { ArenaView };
 
-    ghost view = { λ a. arena_over a.books a.kind a.live.blocks };
+    ghost view = { λ a. with_live a.raw (live_in a.raw.words (by_name a.live.entries)) };
 
-    ghost invariant = { λ a. IsArena (arena_over a.books a.kind a.live.blocks) a.books.room };
+    ghost invariant = { λ a. Holds a.raw (by_name a.live.entries) };
 }
 
 impl Arena {
@@ -69,10 +62,8 @@ impl Arena {
         ensures { result ≡ new_arena account kind }
     {
         Arena {
-            alloc,
-            kind,
-            books: Books::new(alloc, account),
-            live: Rows::new(alloc),
+            raw: RawArena::new(alloc, account, kind),
+            live: HashMap::new(alloc),
         }
     }
 
@@ -84,8 +75,7 @@ impl Arena {
         ensures anew { self.new ≡ new_arena account kind }
     {
         self.live.clear();
-        self.kind = kind;
-        self.books.renew(self.alloc, account)
+        self.raw.renew(account, kind)
     }
 
     /// Places a block of so many words, at least two, where it needs no chunk: in the free block that
@@ -97,16 +87,14 @@ impl Arena {
         ensures refused { IfErr result (λ refusal. PlaceRefused words refusal) }
         ensures unchanged { OnErr result (self.new ≡ self.old) }
     {
-        let n = asked(words)?;
-        made_room(&mut self.books, &mut self.live, self.alloc, n)?;
-        match self.books.place(n) {
-            None => Ok(None),
-            Some(start) => {
-                // That the account's chunks are chunks of its space is learnt here.
-                let _ = self.books.account();
-                self.live.insert(start, n);
-                Ok(Some(Block { start, words: n }))
+        made_room(&mut self.live, words)?;
+        match self.raw.place(words) {
+            Ok(Some(block)) => {
+                put(&mut self.live, block.start, block.words);
+                Ok(Some(block))
             }
+            Ok(None) => Ok(None),
+            Err(refusal) => Err(refusal),
         }
     }
 
@@ -124,13 +112,14 @@ impl Arena {
             source.old result self.new source.new }
         ensures unchanged { OnErr result (self.new ≡ self.old) }
     {
-        let n = asked(words)?;
-        made_room(&mut self.books, &mut self.live, self.alloc, n)?;
-        let start = start_of(&mut self.books, source, self.kind, n)?;
-        // That the account's chunks are chunks of its space is learnt here.
-        let _ = self.books.account();
-        self.live.insert(start, n);
-        Ok(Block { start, words: n })
+        made_room(&mut self.live, words)?;
+        match self.raw.alloc(source, words) {
+            Ok(block) => {
+                put(&mut self.live, block.start, block.words);
+                Ok(block)
+            }
+            Err(refusal) => Err(refusal),
+        }
     }
 
     /// Reads a word of a live block, by its index from 0 on. Refused with `NotLive` where the block
@@ -140,7 +129,8 @@ impl Arena {
         ensures value { IfOk result (λ value. ReadsWord self.now block index value) }
         ensures refused { IfErr result (λ refusal. WordRefused self.now block index refusal) }
     {
-        self.live.read(block, index)
+        let word = word_of(&self.raw, &self.live, block, index)?;
+        Ok(self.raw.read(word))
     }
 
     /// Writes a word of a live block, by its index from 0 on; all else stays. Refused as `read` is,
@@ -150,7 +140,9 @@ impl Arena {
         ensures refused { IfErr result (λ refusal. WordRefused self.old block index refusal) }
         ensures unchanged { OnErr result (self.new ≡ self.old) }
     {
-        self.live.write(block, index, value)
+        let word = word_of(&self.raw, &self.live, block, index)?;
+        self.raw.write(word, value);
+        Ok(())
     }
 
     /// Frees a live block: its words become a free block, which is never joined with another.
@@ -161,8 +153,11 @@ impl Arena {
         ensures refused { IfErr result (λ refusal. refusal ≡ Refusal.NotLive) }
         ensures unchanged { OnErr result (self.new ≡ self.old) }
     {
-        self.live.remove(block)?;
-        self.books.keep(block);
+        if !is_live(&self.live, block) {
+            return Err(Refusal::NotLive);
+        }
+        let _ = self.live.remove(&block.start);
+        self.raw.free(block);
         Ok(())
     }
 
@@ -170,7 +165,7 @@ impl Arena {
     pub fn into_account(self) -> Account
         ensures { result ≡ account_of self }
     {
-        self.books.into_account()
+        self.raw.into_account()
     }
 
     /// Lends the account. A caller also learns here what is true of every arena. Takes no memory.
@@ -178,7 +173,7 @@ impl Arena {
         ensures account { result.now ≡ account_of self.now }
         ensures sound { IsSoundArena self.now }
     {
-        self.books.account()
+        self.raw.account()
     }
 
     /// Tells how many words are in use: the sum of the tops. Takes no memory, and looks at no chunk.
@@ -186,14 +181,20 @@ impl Arena {
         ensures sum { result ≡ used_of self.now.books }
         ensures small { result < 2 ^ 52 }
     {
-        self.books.used()
+        self.raw.used()
     }
 
     /// Tells for what kind of loader the arena is. Takes no memory.
     pub fn kind(&self) -> Kind
         ensures { result ≡ self.now.kind }
     {
-        self.kind
+        self.raw.kind()
+    }
+
+    /// Tells whether the arena's memory is small, as `RawArena` says of its own. A hint, of which nothing
+    /// is promised. Takes no memory.
+    pub fn is_small(&self) -> bool {
+        self.raw.is_small() && self.live.capacity() <= SMALL_BLOCKS
     }
 
     /// Tells the sums over the arena. Takes no memory, and looks at each chunk once.
@@ -201,160 +202,76 @@ impl Arena {
         ensures sums { AreSums result self.now }
         ensures small { result.capacity < 2 ^ 52 }
     {
-        let (capacity, fronts) = sums_of(self.books.account());
-        let used = self.books.used();
-        let live = self.live.words();
-        let free_blocks = self.books.kept_words();
-        ArenaTotals {
-            chunks: self.books.account().held(),
-            capacity,
-            fronts,
-            used,
-            live,
-            free_blocks,
-            waste: used - live - free_blocks,
-        }
+        // What is true of every arena is learnt here.
+        let _ = self.raw.account();
+        self.raw.totals()
     }
 }
 
-/// Tells how many words the block of a request has.
-fn asked(words: u64) -> Result<u64, Refusal>
-    ensures words { IfOk result (λ n. n ≡ block_words words) }
-    ensures askable { OnOk result (IsAskable words) }
-    ensures some { IfOk result (λ n. 2 ≤ n) }
-    ensures fits { IfOk result (λ n. n ≤ size_of 0) }
+/// Makes room for one live block more, which is to have so many words. Takes memory.
+fn made_room(live: &mut HashMap<u64, u64>, words: u64) -> Result<(), Refusal>
+    ensures room { OnOk result (0 < spare live.new) }
+    ensures same { by_name live.new.entries ≡ by_name live.old.entries }
     ensures refused { IfErr result (λ refusal. PlaceRefused words refusal) }
 {
-    match words {
-        0 => Err(Refusal::ZeroWords),
-        1..=ROOT_WORDS => Ok(words.max(2)),
-        _ => Err(Refusal::TooLarge),
-    }
-}
-
-/// Makes all room that a block of n words may need: for its words, its row, a top, and for free
-/// blocks, as many as live blocks and two more: its own when it is freed, and the rest of a chunk
-/// that retires.
-fn made_room(books: &mut Books, live: &mut Rows, alloc: Global, n: u64) -> Result<(), Refusal>
-    ensures room { OnOk result (length live.new.blocks + 2 ≤ books.new.room) }
-    ensures ordered { OnOk result (books.new.came ≡ 0) }
-    ensures places { OnOk result (0 < books.new.places) }
-    ensures row { OnOk result (n ≤ live.new.room) }
-    ensures more { books.old.room ≤ books.new.room }
-    ensures books { books.new ≡ record books.old {
-      room = books.new.room;
-      came = books.new.came;
-      places = books.new.places;
-    } }
-    ensures blocks { live.new.blocks ≡ live.old.blocks }
-    ensures refused { IfErr result (λ refusal. refusal ≡ Refusal.OutOfMemory) }
-{
-    books.make_room(live.len() + 2)?;
-    match live.reserve(alloc, n) {
+    match live.reserve(1) {
         Ok(()) => Ok(()),
-        Err(_) => Err(Refusal::OutOfMemory),
+        Err(_) => Err(wanting_room(words)),
     }
 }
 
-/// Finds where a block of n words starts: where it needs no chunk, else where the source has one.
-fn start_of<S: ChunkSource>(
-    books: &mut Books,
-    source: &mut S,
-    kind: Kind,
-    n: u64,
+/// Tells why a block of so many words is refused where it finds no room among the live ones.
+fn wanting_room(words: u64) -> Refusal
+    ensures { PlaceRefused words result }
+{
+    match words {
+        0 => Refusal::ZeroWords,
+        1..=ROOT_WORDS => Refusal::OutOfMemory,
+        _ => Refusal::TooLarge,
+    }
+}
+
+/// Puts a block among the live ones, in room that there is.
+fn put(live: &mut HashMap<u64, u64>, start: u64, words: u64)
+    requires { 0 < spare live.old }
+    ensures { by_name live.new.entries ≡ with_new (by_name live.old.entries) start words }
+{
+    match live.insert(start, words) {
+        Ok(_) => {}
+        Err(_) => unreachable!(),
+    }
+}
+
+/// Tells whether a block is among the live ones.
+fn is_live(live: &HashMap<u64, u64>, block: Block) -> bool
+    ensures { IsTrue result ↔ (named (by_name live.now.entries) block.start ≡ Some block.words) }
+{
+    match live.get(&block.start) {
+        Some(words) => *words == block.words,
+        None => false,
+    }
+}
+
+/// Tells the number in the space of a live block's word, or why there is no such word. Only the clauses speak
+/// of the arena below.
+fn word_of(
+    raw: &RawArena,
+    live: &HashMap<u64, u64>,
+    block: Block,
+    index: u64,
 ) -> Result<u64, Refusal>
-    requires may { MayLook S.serves source.old books.old n }
-    requires ordered { books.old.came ≡ 0 }
-    ensures looked { HasLooked S.serves S.opened S.limits books.old n source.old result books.new source.new }
-    ensures serves { ForAllLive books.old kind n result books.new.state (λ arena answer new.
-        FindsPlace S.grew S.took (S.limits source.old).policy arena n (placed books.old.state n)
-        source.old answer new source.new) }
+    requires { Holds raw.now (by_name live.now.entries) }
+    ensures word { IfOk result (λ word. word ≡ block.start + index) }
+    ensures live { OnOk result (named (by_name live.now.entries) block.start ≡ Some block.words) }
+    ensures within { OnOk result (index < block.words) }
+    ensures refused { IfErr result (λ refusal.
+        WordRefused (with_live raw.now (live_in raw.now.words (by_name live.now.entries))) block index refusal) }
 {
-    match books.place(n) {
-        Some(start) => Ok(start),
-        None => start_in_chunk(books, source, kind, n),
+    if !is_live(live, block) {
+        return Err(Refusal::NotLive);
     }
-}
-
-/// Finds where a block starts in a chunk that the source grows, or lends.
-fn start_in_chunk<S: ChunkSource>(
-    books: &mut Books,
-    source: &mut S,
-    kind: Kind,
-    n: u64,
-) -> Result<u64, Refusal>
-    requires { MayLook S.serves source.old books.old n }
-    ensures looked { HasLooked S.serves S.opened S.limits books.old n source.old result books.new source.new }
-    ensures asks { ForAllLive books.old kind n result books.new.state (λ arena answer new.
-        AsksChunk S.grew S.took (S.limits source.old).policy arena n (current arena.books)
-        (asks_growth kind arena.space arena.books (current arena.books) n) source.old answer new source.new) }
-{
-    match growth_asked(books, kind, n) {
-        Some((chunk, total, may_enlarge)) => {
-            start_in_grown(books, source, kind, n, chunk, total, may_enlarge)
-        }
-        None => start_in_taken(books, source, kind, n),
+    if index >= block.words {
+        return Err(Refusal::OutOfRange { words: block.words });
     }
-}
-
-/// Finds where a block starts in the current chunk once it grew, or else in a new one.
-fn start_in_grown<S: ChunkSource>(
-    books: &mut Books,
-    source: &mut S,
-    kind: Kind,
-    n: u64,
-    chunk: Chunk,
-    total: u64,
-    may_enlarge: bool,
-) -> Result<u64, Refusal>
-    requires may { MayLook S.serves source.old books.old n }
-    requires asks { AsksFor books.old.state kind books.old.space n chunk total may_enlarge }
-    ensures looked { HasLooked S.serves S.opened S.limits books.old n source.old result books.new source.new }
-    ensures grows { ForAllLive books.old kind n result books.new.state (λ arena answer new.
-        GrowsCurrent S.grew S.took (S.limits source.old).policy arena chunk n source.old answer new source.new) }
-{
-    let start = chunk.start + (total - n);
-    match books.grow(source, chunk, total, may_enlarge) {
-        Ok(()) => Ok(start),
-        Err(_) => start_in_taken(books, source, kind, n),
-    }
-}
-
-/// Finds where a block starts in a chunk that the source lends.
-fn start_in_taken<S: ChunkSource>(
-    books: &mut Books,
-    source: &mut S,
-    kind: Kind,
-    n: u64,
-) -> Result<u64, Refusal>
-    requires { MayLook S.serves source.old books.old n }
-    ensures looked { HasLooked S.serves S.opened S.limits books.old n source.old result books.new source.new }
-    ensures takes { ForAllLive books.old kind n result books.new.state (λ arena answer new.
-        TakesNew S.took (S.limits source.old).policy arena n source.old answer new source.new) }
-{
-    let Some(most) = level_for(n) else {
-        return Err(Refusal::TooLarge);
-    };
-    let wanted = most.min(books.next_level(kind));
-    books.take(source, wanted, most, n)
-}
-
-/// Tells whether the source is to grow the current chunk, how far, and whether the chunk may become
-/// its parent.
-fn growth_asked(books: &Books, kind: Kind, n: u64) -> Option<(Chunk, u64, bool)>
-    requires { n ≤ size_of 0 }
-    ensures asks { IfSome result
-        (λ asked. AsksFor books.now.state kind books.now.space n asked.0 asked.1 asked.2) }
-    ensures none { IfNone result
-        (asks_growth kind books.now.space books.now.state (current books.now.state) n ≡ false) }
-{
-    let (chunk, top) = books.current()?;
-    let total = top + n;
-    let may_enlarge = books.next_level(kind) <= chunk.level;
-    let size = chunk.level.words();
-    if total <= size || (total <= 2 * size && may_enlarge) {
-        Some((chunk, total, may_enlarge))
-    } else {
-        None
-    }
+    Ok(block.start + index)
 }

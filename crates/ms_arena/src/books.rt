@@ -13,6 +13,7 @@ ghost use Rattle.std.specs.Option.{option_map};
 ghost use Rattle.ms_base.specs.Level.{size_of};
 ghost use Rattle.ms_base.specs.Asks.{next_level};
 ghost use Rattle.ms_base.specs.Names.{with_new};
+ghost use Rattle.ms_base.specs.Good.{IsSound};
 ghost use Rattle.ms_base.specs.State.{empty_arena};
 ghost use Rattle.ms_base.specs.Place.{placed, current, current_top, with_rest, tops_with, best_fit};
 ghost use Rattle.ms_base.specs.Totals.{used_of, kept_of};
@@ -116,6 +117,7 @@ impl Books {
     pub fn account(&self) -> &Account
         ensures account { result.now ≡ account_in self.now }
         ensures chunks { AreChunks self.now.space self.now.state.chunks }
+        ensures sound { IsSound self.now.state [] }
     {
         // What holds of the chunks of every account is learnt here.
         let _ = self.account.held();

@@ -99,11 +99,9 @@ impl Pages {
         Ok(())
     }
 
-    /// Tells for how many pages there is room.
-    pub fn room(&self) -> usize
-        ensures { result ≡ self.now.room }
-    {
-        self.room
+    /// Tells how many pages there are in memory.
+    pub fn stored(&self) -> usize {
+        self.store.len() / PAGE
     }
 
     /// Reads a word.

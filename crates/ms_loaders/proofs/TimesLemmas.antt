@@ -1,5 +1,4 @@
--- Lists that have the same elements, by how often each stands in them: what both have more than once
--- may be taken from both, and a test keeps the same of both.
+-- Lists that have the same elements, by how often each stands in them: a test keeps the same of both.
 use Rattle.std.proofs.Common.{◌≡◌, ◌≤◌, ℕ, Bool, true, false, cond, ◌&&◌, List, [], ◌∷◌, ◌++◌, refl, sym, ap, ◌∙◌}
 use Rattle.std.proofs.Common.{subst, arith}
 use Rattle.std.specs.List.{sum_by, filter}
@@ -62,13 +61,6 @@ from_times {X} same tells (x ∷ xs) ys all =
     subst (IsPermutation (x ∷ xs)) (sym at_.is)
     (IsPermutation-trans (x ∷ xs) (x ∷ (b ++ a)) (b ++ x ∷ a) (IsPermutation-cons x xs (b ++ a) rest)
     (IsPermutation-sym (b ++ x ∷ a) (x ∷ (b ++ a)) (IsPermutation-middle b x a)))
-
--- Without an element that both have first.
-pub without_first : {X : Type 0} (same : X → X → Bool) → Tells same → (x : X) (xs ys : List X)
-    → IsPermutation (x ∷ xs) (x ∷ ys) → IsPermutation xs ys
-without_first {X} same tells x xs ys moved = from_times same tells xs ys (λ z.
-    let test : X → ℕ = λ y. one_if (same z y) in
-    omega (arith, sum_by-IsPermutation test (x ∷ xs) (x ∷ ys) moved, sum_by-cons test x xs, sum_by-cons test x ys))
 
 -- What passes a test.
 times_kept : {X : Type 0} (same : X → X → Bool) (p : X → Bool) (x : X) (xs : List X)

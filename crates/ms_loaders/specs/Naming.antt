@@ -8,8 +8,9 @@ use Rattle.ms_base.specs.declared.refusal.Refusal.{Refusal}
 use Rattle.ms_base.specs.declared.refusal.Refusal.TheVariants.{BlockExists}
 use Rattle.ms_base.specs.Names.{named, with_new}
 use Rattle.ms_loaders.specs.declared.naming.FoundName.{FoundName}
-use Rattle.ms_arena.specs.Arena.{ArenaView, PlaceRefused}
+use Rattle.ms_arena.specs.Arena.{PlaceRefused}
 use Rattle.ms_arena.specs.Alloc.{TakeRelation, GrowRelation, Allocates}
+use Rattle.ms_arena.specs.Raw.{RawView, Gains, IsSameRaw, live_then, with_live}
 
 -- The blocks in rising order of their names.
 pub record BlockNames : Type 0 where
@@ -36,8 +37,8 @@ names_after names name (Ok block) = with_new names name block
 names_after names name (Err refusal) = names
 
 -- The name is not entered: nothing changes, and no arena is asked.
-pub record IsNotNamed {S : Type 0} (names : List (ℕ × Block)) (was : ArenaView) (name words : ℕ) (before : S)
-    (answer : Result Block Refusal) (others : List (ℕ × Block)) (is : ArenaView) (after : S) : Type 0 where
+pub record IsNotNamed {S : Type 0} (names : List (ℕ × Block)) (was : RawView) (name words : ℕ) (before : S)
+    (answer : Result Block Refusal) (others : List (ℕ × Block)) (is : RawView) (after : S) : Type 0 where
   pub refusal : Refusal
   pub answer_is : answer ≡ Err refusal
   pub cause : EnterRefused names name words refusal
@@ -47,17 +48,18 @@ pub record IsNotNamed {S : Type 0} (names : List (ℕ × Block)) (was : ArenaVie
 
 -- The name is new, the arena is asked, and the block that it answers gets the name.
 pub record AsksNamed {S : Type 0} (grew : GrowRelation S) (took : TakeRelation S) (policy : Policy)
-    (names : List (ℕ × Block)) (was : ArenaView) (name words : ℕ) (before : S) (answer : Result Block Refusal)
-    (others : List (ℕ × Block)) (is : ArenaView) (after : S) : Type 0 where
+    (names : List (ℕ × Block)) (was : RawView) (name words : ℕ) (before : S) (answer : Result Block Refusal)
+    (others : List (ℕ × Block)) (is : RawView) (after : S) : Type 0 where
   pub unused : named names name ≡ None
   pub names_are : others ≡ names_after names name answer
-  pub fresh : IfOk answer (λ block. named was.live block.start ≡ None)
-  pub allocates : Allocates grew took policy was words before answer is after
-  pub unchanged : OnErr answer (is ≡ was)
+  pub allocates : (live : List (ℕ × List ℕ))
+      → Allocates grew took policy (with_live was live) words before answer (with_live is (live_then live answer)) after
+  pub gains : IfOk answer (λ block. Gains was block is)
+  pub unchanged : OnErr answer (IsSameRaw was is)
 
 -- An allocation of so many words in an arena, under a name.
-abbrev pub AllocatesNamed : {S : Type 0} → GrowRelation S → TakeRelation S → Policy → List (ℕ × Block) → ArenaView
-    → ℕ → ℕ → S → Result Block Refusal → List (ℕ × Block) → ArenaView → S → Type 0
+abbrev pub AllocatesNamed : {S : Type 0} → GrowRelation S → TakeRelation S → Policy → List (ℕ × Block) → RawView
+    → ℕ → ℕ → S → Result Block Refusal → List (ℕ × Block) → RawView → S → Type 0
 AllocatesNamed grew took policy names was name words before answer others is after =
     IsNotNamed names was name words before answer others is after
     ⊎ AsksNamed grew took policy names was name words before answer others is after

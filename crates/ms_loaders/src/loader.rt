@@ -4,10 +4,9 @@
 //!                       |             |              |
 //!     arenas    [ live | live | free ..  ]       [ live | ..      ]   the class space's
 //!
-//! Kept true: the named blocks that lie in a space are the live blocks of its arena, one to one; a
-//! block's space is decided by where it starts. Stands on `ms_arena`. Only `allocate`, `alloc` and
-//! `calloc` take memory; they wait as their source does. After each change of an arena `account` is
-//! called: it costs nothing, and tells what is true of every arena.
+//! The names are the only list of its live blocks; the arenas know none. Kept true: each arena holds the
+//! named blocks that lie in its space; a block's space is decided by where it starts. Stands on
+//! `ms_arena`. Only `allocate`, `alloc` and `calloc` take memory; they wait as their source does.
 ghost use Rattle.std.specs.Prelude.{◌≡◌, ◌+◌, ◌<◌, ◌^◌, IfOk, IfErr, OnOk, OnErr, []};
 ghost use Rattle.ms_base.specs.declared.kind.Space.TheVariants.{NonClass, Class};
 ghost use Rattle.ms_base.specs.Spaces.{is_in};
@@ -22,7 +21,7 @@ mod finding;
 mod room;
 
 use crate::naming::{Names, allocate_in};
-use ms_arena::{Arena, ArenaTotals};
+use ms_arena::{ArenaTotals, RawArena};
 use ms_base::{Block, Kind, NODE_WORDS, Refusal, SLOTS, Space};
 use ms_pool::{Account, ChunkSource};
 use std::alloc::Global;
@@ -33,9 +32,9 @@ use std::marker::Model;
 #[derive(Drop)]
 pub struct Loader {
     // Its arena in the space that is not the class space.
-    arena: Arena,
+    arena: RawArena,
     // Its arena in the class space.
-    class_arena: Arena,
+    class_arena: RawArena,
     // Its live blocks by name, 0 to 2^32 - 1: each where it starts, and its words.
     names: Names,
 }
@@ -71,8 +70,8 @@ impl Loader {
         ensures sound { IsSoundView result }
     {
         Loader {
-            arena: Arena::new(alloc, account, kind),
-            class_arena: Arena::new(alloc, class_account, kind),
+            arena: RawArena::new(alloc, account, kind),
+            class_arena: RawArena::new(alloc, class_account, kind),
             names: Names::new(alloc),
         }
     }
@@ -171,10 +170,14 @@ impl Loader {
         let Some(block) = self.names.get(name) else {
             return Err(Refusal::NoBlock);
         };
+        if index >= block.words {
+            return Err(Refusal::OutOfRange { words: block.words });
+        }
+        let word = block.start + index;
         if is_class(block.start) {
-            self.class_arena.read(block, index)
+            Ok(self.class_arena.read(word))
         } else {
-            self.arena.read(block, index)
+            Ok(self.arena.read(word))
         }
     }
 
@@ -190,14 +193,16 @@ impl Loader {
         let Some(block) = self.names.find(name) else {
             return Err(Refusal::NoBlock);
         };
+        if index >= block.words {
+            return Err(Refusal::OutOfRange { words: block.words });
+        }
+        let word = block.start + index;
         if is_class(block.start) {
-            let answer = self.class_arena.write(block, index, value);
-            let _ = self.class_arena.account();
-            answer
+            self.class_arena.write(word, value);
+            Ok(())
         } else {
-            let answer = self.arena.write(block, index, value);
-            let _ = self.arena.account();
-            answer
+            self.arena.write(word, value);
+            Ok(())
         }
     }
 
@@ -214,13 +219,11 @@ impl Loader {
             return Err(Refusal::NoBlock);
         };
         if is_class(block.start) {
-            let answer = self.class_arena.free(block);
-            let _ = self.class_arena.account();
-            answer
+            self.class_arena.free(block);
+            Ok(())
         } else {
-            let answer = self.arena.free(block);
-            let _ = self.arena.account();
-            answer
+            self.arena.free(block);
+            Ok(())
         }
     }
 

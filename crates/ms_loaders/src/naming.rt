@@ -13,13 +13,15 @@
 ghost use Rattle.std.specs.Prelude.{◌≡◌, ◌<◌, IfOk, IfNone, OnOk, [], nat_eq};
 ghost use Rattle.std.specs.Map.{lookup};
 ghost use Rattle.ms_base.specs.Names.{AreNamed, named, without};
-ghost use Rattle.ms_arena.specs.Arena.{IsSoundArena, PlaceRefused, account_of};
+ghost use Rattle.ms_arena.specs.Arena.{PlaceRefused};
+ghost use Rattle.ms_arena.specs.Raw.{raw_account};
+ghost use Rattle.ms_pool.specs.Account.{AreChunks};
 ghost use Rattle.ms_pool.specs.Source.{LeavesRest};
 ghost use Rattle.ms_loaders.specs.Naming.{AllocatesNamed, IsStillNamed};
 
 mod finding;
 
-use ms_arena::Arena;
+use ms_arena::RawArena;
 use ms_base::{Block, ROOT_WORDS, Refusal};
 use ms_pool::ChunkSource;
 use std::alloc::Global;
@@ -138,22 +140,22 @@ fn look_up(blocks: &HashMap<u32, Block>, name: u32) -> Option<Block>
 /// room, and as the arena refuses; then nothing changes. Takes memory, and looks the name up once.
 pub fn allocate_in<S: ChunkSource>(
     names: &mut Names,
-    arena: &mut Arena,
+    arena: &mut RawArena,
     source: &mut S,
     name: u32,
     words: u64,
 ) -> Result<Block, Refusal>
-    requires { S.serves source.old (account_of arena.old) }
-    ensures served { S.serves source.new (account_of arena.new) }
+    requires { S.serves source.old (raw_account arena.old) }
+    ensures served { S.serves source.new (raw_account arena.new) }
     ensures rest { LeavesRest S.serves S.opened S.limits arena.old.owner source.old source.new }
     ensures allocates { AllocatesNamed S.grew S.took (S.limits source.old).policy names.old.entries
         arena.old name words source.old result names.new.entries arena.new source.new }
-    ensures sound { OnOk result (IsSoundArena arena.new) }
+    ensures chunks { OnOk result (AreChunks arena.new.space arena.new.books.chunks) }
 {
     match names.blocks.entry(name) {
         Ok(Entry::Vacant(slot)) => {
             let block = arena.alloc(source, words)?;
-            // What is true of every arena is learnt here.
+            // That the account's chunks are chunks of its space is learnt here.
             let _ = arena.account();
             let _ = slot.insert(block);
             Ok(block)

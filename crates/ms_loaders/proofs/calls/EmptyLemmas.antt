@@ -1,44 +1,72 @@
--- A loader with no name and no live block: these match, and it is the new one. `Loader::new` uses these.
-use Rattle.std.proofs.Common.{◌≡◌, ℕ, List, [], ap, ◌∙◌}
-use Rattle.std.specs.List.Sorted.{IsPermutation}
-use Rattle.std.proofs.lemmas.List.Sorted.{IsPermutation-refl}
+-- A loader with no name, whose arenas are new: it is the new one, and they hold nothing. `Loader::new` and
+-- `Loader::renew` use these.
+use Rattle.std.proofs.Common.{◌≡◌, ℕ, List, [], ◌∙◌, refl, sym, subst, arith, rules}
+use Rattle.std.proofs.lemmas.List.Elements.{All-from_recursion}
 use Rattle.ms_base.specs.declared.kind.Kind.{Kind}
 use Rattle.ms_base.specs.declared.kind.Space.{Space}
 use Rattle.ms_base.specs.declared.kind.Space.TheVariants.{NonClass, Class}
 use Rattle.ms_base.specs.declared.span.Block.{Block}
-use Rattle.ms_base.specs.declared.span.Chunk.{Chunk}
-use Rattle.ms_base.specs.Spaces.{by_space}
-use Rattle.ms_base.specs.State.{empty_arena}
-use Rattle.ms_pool.specs.Account.{AccountState}
-use Rattle.ms_arena.specs.Arena.{ArenaView, live_runs, new_arena}
+use Rattle.ms_base.specs.State.{ArenaState}
+use Rattle.ms_base.specs.Good.{IsSound}
+use Rattle.ms_base.specs.Names.{AreNamed}
+use Rattle.ms_pool.specs.Account.{AccountState, AreChunks}
+use Rattle.ms_arena.specs.Raw.{RawView, IsNewRaw, Holds, RunIsThere}
 use Rattle.ms_loaders.specs.Loader.{new_loader}
-use Rattle.ms_loaders.specs.LoaderInside.{blocks_of, contents_in, named_runs, view_of}
+use Rattle.ms_loaders.specs.LoaderInside.{IsArena, IsLoader, blocks_of, named_runs, view_of, words_in}
 use Rattle.ms_loaders.specs.Naming.{BlockNames}
 
-pub none_match : (space : Space) (arena class_arena : ArenaView) (names : List (ℕ × Block)) → names ≡ []
-    → arena.live ≡ [] → class_arena.live ≡ []
-    → IsPermutation (named_runs space names) (live_runs (by_space space arena class_arena))
-none_match NonClass arena class_arena names none live class_live = rw (none, live) (IsPermutation-refl [])
-none_match Class arena class_arena names none live class_live = rw (none, class_live) (IsPermutation-refl [])
+-- An arena with nothing is sound, and holds no block.
+pub nothing_held : (account : AccountState) (kind : Kind) (raw : RawView) → IsNewRaw account kind raw → Holds raw []
+nothing_held account kind raw new = record {
+  sound = subst (λ (books : ArenaState). IsSound books []) (sym new.books) (record {
+    apart = refl;
+    long = refl;
+    inside = refl;
+    few = omega arith;
+    tops = refl;
+    kept = λ k h. absurd (omega arith);
+  });
+  counted = new.count;
+  summed = new.total;
+  there = All-from_recursion (RunIsThere raw.words) [] tt;
+}
 
-empty_books : (account : AccountState) (kind : Kind) (arena : ArenaView) → account.chunks ≡ []
-    → arena ≡ new_arena account kind → arena.books ≡ empty_arena
-empty_books account kind arena empty is = ap (λ (a : ArenaView). a.books) is
-    ∙ ap (λ (chunks : List Chunk). record empty_arena { chunks = chunks }) empty
+nothing_lent : (space : Space) → AreChunks space []
+nothing_lent space = search rules
 
-module _ (account class_account : AccountState) (kind : Kind) (arena class_arena : ArenaView) (names : BlockNames)
-    (empty : account.chunks ≡ []) (class_empty : class_account.chunks ≡ []) (is : arena ≡ new_arena account kind)
-    (class_is : class_arena ≡ new_arena class_account kind) (none : names.entries ≡ []) where
-  -- What its fields stand for is a new loader.
-  pub new_is : view_of (record { arena = arena; class_arena = class_arena; names = names })
-      ≡ new_loader account class_account kind
-  new_is = λ i. record {
-    owner = (is i).owner;
-    class_owner = (class_is i).owner;
-    state = record {
-      kind = (is i).kind;
-      arena = empty_books account kind arena empty is i;
-      class_arena = empty_books class_account kind class_arena class_empty class_is i;
-      blocks = blocks_of (contents_in arena class_arena) (none i);
-    };
-  }
+its_arena : (space : Space) (account : AccountState) (kind is : Kind) (raw : RawView) (names : List (ℕ × Block))
+    → account.space ≡ space → kind ≡ is → names ≡ [] → IsNewRaw account kind raw → IsArena space is names raw
+its_arena space account kind is raw names space_is kind_is none new = record {
+  space_is = new.space ∙ space_is;
+  kind_is = new.kind_is ∙ kind_is;
+  chunks = subst (λ (books : ArenaState). AreChunks raw.space books.chunks) (sym new.books) (nothing_lent raw.space);
+  holds = subst (λ (l : List (ℕ × Block)). Holds raw (named_runs space l)) (sym none) (nothing_held account kind raw new);
+}
+
+module _ (account class_account : AccountState) (kind : Kind) (arena class_arena : RawView) (names : BlockNames)
+    (is : IsNewRaw account kind arena) (class_is : IsNewRaw class_account kind class_arena) (none : names.entries ≡ [])
+  where
+    -- What its fields stand for is a new loader.
+    pub new_is : view_of (record { arena = arena; class_arena = class_arena; names = names })
+        ≡ new_loader account class_account kind
+    new_is = λ i. record {
+      owner = is.owner i;
+      class_owner = class_is.owner i;
+      state = record {
+        kind = is.kind_is i;
+        arena = is.books i;
+        class_arena = class_is.books i;
+        blocks = blocks_of (words_in arena class_arena) (none i);
+      };
+    }
+
+    -- And its fields are a loader's.
+    pub new_holds : account.space ≡ NonClass → class_account.space ≡ Class
+        → IsLoader (record { arena = arena; class_arena = class_arena; names = names })
+    new_holds space class_space = record {
+      arena = its_arena NonClass account kind arena.kind arena names.entries space (sym is.kind_is) none is;
+      class_arena =
+          its_arena Class class_account kind arena.kind class_arena names.entries class_space (sym is.kind_is) none
+          class_is;
+      names = subst AreNamed (sym none) (λ k h. absurd (omega arith));
+    }

@@ -8,8 +8,6 @@ use Rattle.std.specs.Map.{keys_of, lookup}
 use Rattle.std.proofs.lemmas.Bool.{and_parts, and_from, or_cases, eqb-true, eq-eqb, ne_eqb, both_ways, cases_eq}
 use Rattle.std.proofs.lemmas.Map.Entries.{lookup_head, lookup_tail}
 use Rattle.std.proofs.lemmas.Map.Keys.{IsDistinct-head, IsDistinct-tail}
-use Rattle.ms_base.specs.declared.kind.Space.{Space}
-use Rattle.ms_base.specs.declared.kind.Space.TheVariants.{NonClass, Class}
 use Rattle.ms_base.specs.declared.span.Block.{Block}
 use Rattle.ms_base.specs.declared.words.LiveBlock.{LiveBlock}
 use Rattle.ms_base.specs.declared.refusal.Refusal.{Refusal}
@@ -17,17 +15,15 @@ use Rattle.ms_base.specs.declared.refusal.Refusal.TheVariants.{NoLoader, NoBlock
 use Rattle.ms_base.specs.Hashed.{by_name}
 use Rattle.ms_base.specs.Live.{run_of}
 use Rattle.ms_base.specs.Names.{named}
-use Rattle.ms_base.specs.Spaces.{is_in}
 use Rattle.ms_base.specs.State.{LoaderState, Machine}
 use Rattle.ms_base.specs.Transition.{HasLoader, BlockCause}
 use Rattle.ms_base.proofs.entries.HashedLemmas.{named_by_name}
 use Rattle.ms_loaders.specs.Finding.{names_block, HasRun}
 use Rattle.ms_loaders.specs.LoaderInside.{live_at, IsLoader, view_of}
 use Rattle.ms_loaders.specs.declared.loader.Loader.TheInside.{Inside}
-use Rattle.ms_loaders.proofs.calls.LoaderLemmas.{contents_at}
 use Rattle.ms_loaders.proofs.MappedLemmas.{found-mapped, named-mapped}
-use Rattle.ms_loaders.proofs.calls.MatchLemmas.{where_is, block_is_at, live_at_is}
-use Rattle.ms_loaders.proofs.calls.ViewLemmas.{matches_of}
+use Rattle.ms_loaders.proofs.calls.NamedRunLemmas.{lies_there}
+use Rattle.ms_loaders.proofs.calls.ViewLemmas.{words_at}
 
 -- Blocks that lie at one place are one.
 same_block : (x y : Block) → x.start ≡ y.start → x.words ≡ y.words → x ≡ y
@@ -105,26 +101,12 @@ pub named_entry : (name : ℕ) (block : Block) (es : List (ℕ × Block)) → na
 named_entry name block es found = has_entry name block es (sym (named_by_name es name) ∙ found)
 
 -- A named block lies where its name says.
-lies_there : (a : Inside) (name : ℕ) (block : Block) → IsLoader a → named a.names.entries name ≡ Some block
-    → run_of (live_at (contents_at a) block) ≡ (block.start, block.words)
-lies_there a name block its found = elim (where_is NonClass block.start) [
-  | inl w ↦ at NonClass w.inside
-  | inr w ↦ at Class w.inside
-]
-  where
-    at : (space : Space) → is_in space block.start ≡ true
-        → run_of (live_at (contents_at a) block) ≡ (block.start, block.words)
-    at space inside =
-        let it = block_is_at (contents_at a) a.names.entries space name block (matches_of a its space) found inside in
-        ap run_of (live_at_is (contents_at a) block space it inside)
-        ∙ ap (λ (n : ℕ). (block.start, n)) (sym it.words)
-
 pub run_named : (a : Inside) (name : ℕ) (block : Block) → IsLoader a → named a.names.entries name ≡ Some block
     → HasRun (view_of a).state name block
 run_named a name block its found = record {
-  found = live_at (contents_at a) block;
-  has = found-mapped (live_at (contents_at a)) a.names.entries name block found;
-  lies = lies_there a name block its found;
+  found = live_at (words_at a) block;
+  has = found-mapped (live_at (words_at a)) a.names.entries name block found;
+  lies = lies_there (words_at a) block;
 }
 
 pub named_run : (a : Inside) (name : ℕ) (block : Block) → IsLoader a → HasRun (view_of a).state name block
@@ -133,16 +115,16 @@ named_run a name block its run =
     elim (named a.names.entries name) as (λ o. named a.names.entries name ≡ o → o ≡ Some block) [
       | None ↦ λ e. absurd (let none = as_mapped e in cc (none, run.has))
       | Some other ↦ λ e.
-          let as_it : Some (live_at (contents_at a) other) ≡ Some run.found = sym (as_mapped e) ∙ run.has in
-          let live : live_at (contents_at a) other ≡ run.found = cc in
-          let lies = sym (lies_there a name other its e) ∙ ap run_of live ∙ run.lies in
+          let as_it : Some (live_at (words_at a) other) ≡ Some run.found = sym (as_mapped e) ∙ run.has in
+          let live : live_at (words_at a) other ≡ run.found = cc in
+          let lies = sym (lies_there (words_at a) other) ∙ ap run_of live ∙ run.lies in
           ap (λ (b : Block). Some b) (same_block other block (ap (λ (r : ℕ × ℕ). r.0) lies) (ap (λ (r : ℕ × ℕ). r.1) lies))
     ] refl
   where
     as_mapped : {o : Option Block} → named a.names.entries name ≡ o
-        → named (view_of a).state.blocks name ≡ option_map (live_at (contents_at a)) o
+        → named (view_of a).state.blocks name ≡ option_map (live_at (words_at a)) o
     as_mapped e =
-        named-mapped (live_at (contents_at a)) a.names.entries name ∙ ap (option_map (live_at (contents_at a))) e
+        named-mapped (live_at (words_at a)) a.names.entries name ∙ ap (option_map (live_at (words_at a))) e
 
 -- A live block of a loader is freed by its name, and not refused.
 pub live_is_freed : (m : Machine) (name number : ℕ) (loader : LoaderState) (found : LiveBlock) (refusal : Refusal)

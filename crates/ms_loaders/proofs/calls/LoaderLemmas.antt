@@ -1,31 +1,32 @@
 -- What a loader's calls do to it, from what its arena of a space does.
-use Rattle.std.proofs.Common.{◌≡◌, ℕ, true, false, Some, Result, Ok, Err, List, length, refl, sym, ap, ◌∙◌, subst, IfOk}
-use Rattle.std.proofs.Common.{IfErr, length-set, inl, inr, OnOk, OnErr}
+use Rattle.std.proofs.Common.{◌≡◌, ◌<◌, ◌≤◌, ◌+◌, ◌^◌, ℕ, true, Some, Result, Ok, Err, List, ◌∷◌, ◌++◌, length, refl, sym, ap, ◌∙◌, subst}
+use Rattle.std.proofs.Common.{IfOk, IfErr, arith, inl, inr}
 use Rattle.std.specs.Prelude.{slice_set}
-use Rattle.std.proofs.lemmas.Bool.{both_ways}
+use Rattle.std.specs.List.{AllByRecursion}
 use Rattle.ms_base.specs.declared.kind.Kind.{Kind}
 use Rattle.ms_base.specs.declared.kind.Space.{Space}
 use Rattle.ms_base.specs.declared.kind.Space.TheVariants.{NonClass, Class}
 use Rattle.ms_base.specs.declared.span.Block.{Block}
 use Rattle.ms_base.specs.declared.words.LiveBlock.{LiveBlock}
-use Rattle.ms_base.specs.declared.refusal.Refusal.{Refusal}
-use Rattle.ms_base.specs.declared.refusal.Refusal.TheVariants.{NotLive, OutOfRange}
-use Rattle.ms_base.specs.Spaces.{by_space, is_in}
+use Rattle.ms_base.specs.Spaces.{by_space, is_in, other_space}
 use Rattle.ms_base.specs.Names.{AreNamed, named, with_new, with_changed, without}
 use Rattle.ms_base.specs.State.{ArenaState, LoaderState, arena_of, with_arena}
 use Rattle.ms_base.specs.Transition.{with_block, with_freed}
-use Rattle.ms_base.proofs.entries.EntryLemmas.{rises_without}
-use Rattle.ms_arena.specs.Arena.{ArenaView, IsSoundArena, IsLive, IsNotLive, ReadsWord, WritesWord as WritesIn}
-use Rattle.ms_arena.specs.Arena.{WordRefused, FreesBlock as FreesIn}
-use Rattle.ms_loaders.specs.Loader.{LoaderView, with_state, HasWord, WritesWord, FreesBlock, LacksWord}
+use Rattle.ms_base.proofs.entries.EntryLemmas.{Split, split_at, rises_without}
+use Rattle.ms_base.proofs.arena.BlockLemmas.{not_in_other}
+use Rattle.ms_pool.specs.Account.{AreChunks}
+use Rattle.ms_arena.specs.Raw.{RawView, FreesRun, Holds, RunIsThere, contents_at}
+use Rattle.ms_arena.specs.Words.{WordsView, Writes, value_at}
+use Rattle.ms_arena.proofs.HoldLemmas.{IsClear, MayFree, clear_of_each, contents_long, holds_fewer, holds_written, may_free}
+use Rattle.ms_arena.proofs.HoldLemmas.{word_in_contents, run_there}
+use Rattle.ms_loaders.specs.Loader.{LoaderView, with_state, HasWord, WritesWord, FreesBlock, IsPastEnd}
 use Rattle.ms_loaders.specs.Naming.{BlockNames}
-use Rattle.ms_loaders.specs.LoaderInside.{Contents, live_at, blocks_of, contents_in, IsLoader, view_of}
+use Rattle.ms_loaders.specs.LoaderInside.{live_at, blocks_of, named_runs, IsLoader, view_of}
 use Rattle.ms_loaders.specs.declared.loader.Loader.TheInside.{Inside}
-use Rattle.ms_loaders.proofs.MappedLemmas.{found-mapped}
-use Rattle.ms_loaders.proofs.calls.MatchLemmas.{Matches, IsAt, where_is, here, run_of_block, block_is_at, live_at_is}
-use Rattle.ms_loaders.proofs.calls.LoaderChangeLemmas.{ChangesIn, freed_matches, freed_blocks, written_matches}
-use Rattle.ms_loaders.proofs.calls.LoaderChangeLemmas.{written_blocks}
-use Rattle.ms_loaders.proofs.calls.ViewLemmas.{arena_in, matches_of, books_of}
+use Rattle.ms_loaders.proofs.MappedLemmas.{found-mapped, without-mapped}
+use Rattle.ms_loaders.proofs.calls.NamedRunLemmas.{contents_here, here, where_is, run_of_block, runs_here, runs_joined, runs_there}
+use Rattle.ms_loaders.proofs.calls.NamedRunLemmas.{blocks_stay, written_blocks}
+use Rattle.ms_loaders.proofs.calls.ViewLemmas.{arena_in, books_of, is_arena, words_at}
 
 -- What follows from an answer.
 pub ok_then : {A E : Type 0} (P Q : A → Type 0) (answer : Result A E) → ((a : A) → P a → Q a) → IfOk answer P
@@ -38,62 +39,77 @@ pub err_then : {A E : Type 0} (P Q : E → Type 0) (answer : Result A E) → ((e
 err_then P Q (Ok a) each its = tt
 err_then P Q (Err e) each its = each e its
 
--- The contents of a loader's arenas.
-abbrev pub contents_at : Inside → Contents
-contents_at a = contents_in a.arena a.class_arena
-
 -- The loader with another arena in a space, and other names.
-abbrev pub with_arena_at : Space → Inside → ArenaView → BlockNames → Inside
+abbrev pub with_arena_at : Space → Inside → RawView → BlockNames → Inside
 with_arena_at space a arena names =
     record a { arena = by_space space arena a.arena; class_arena = by_space space a.class_arena arena; names = names }
 
-pub changes_of : (space : Space) (a : Inside) (arena : ArenaView) (names : BlockNames) (live : List (ℕ × List ℕ))
-    → arena.live ≡ live
-    → ChangesIn space (contents_at a) (contents_at (with_arena_at space a arena names)) live
-changes_of NonClass a arena names live e = record { here_is = e; there_is = refl }
-changes_of Class a arena names live e = record { here_is = e; there_is = refl }
+pub words_there : (space : Space) (a : Inside) (arena : RawView) (names : BlockNames)
+    → words_at (with_arena_at space a arena names) (other_space space) ≡ words_at a (other_space space)
+words_there NonClass a arena names = refl
+words_there Class a arena names = refl
 
-live_in : (space : Space) (a : Inside) → contents_at a space ≡ (arena_in space a).live
-live_in NonClass a = refl
-live_in Class a = refl
+pub words_now : (space : Space) (a : Inside) (arena : RawView) (names : BlockNames)
+    → words_at (with_arena_at space a arena names) space ≡ arena.words
+words_now NonClass a arena names = refl
+words_now Class a arena names = refl
 
-pub replaced : (space : Space) (a : Inside) (arena : ArenaView) (names : BlockNames) → IsLoader a
-    → arena.space ≡ (arena_in space a).space
-    → arena.kind ≡ (arena_in space a).kind → IsSoundArena arena → AreNamed names.entries
-    → ((one : Space) → Matches (contents_at (with_arena_at space a arena names)) names.entries one)
+pub words_here : (space : Space) (a : Inside) → words_at a space ≡ (arena_in space a).words
+words_here NonClass a = refl
+words_here Class a = refl
+
+blocks_same : (space : Space) (a : Inside) (arena : RawView) (names : BlockNames) (entries : List (ℕ × Block))
+    → arena.words ≡ (arena_in space a).words
+    → blocks_of (words_at (with_arena_at space a arena names)) entries ≡ blocks_of (words_at a) entries
+blocks_same space a arena names entries e =
+    blocks_stay space (words_at a) (words_at (with_arena_at space a arena names)) (words_there space a arena names)
+    entries
+    (λ word. ap (λ (words : WordsView). value_at words word)
+    (words_now space a arena names ∙ e ∙ sym (words_here space a)))
+
+pub replaced : (space : Space) (a : Inside) (arena : RawView) (names : BlockNames) → IsLoader a
+    → arena.space ≡ (arena_in space a).space → arena.kind ≡ (arena_in space a).kind
+    → AreChunks arena.space arena.books.chunks → AreNamed names.entries → Holds arena (named_runs space names.entries)
+    → named_runs (other_space space) names.entries ≡ named_runs (other_space space) a.names.entries
     → IsLoader (with_arena_at space a arena names)
-replaced NonClass a arena names its space kind sound rises matches = record {
-  arena = record { space_is = space ∙ its.arena.space_is; kind_is = refl; sound = sound };
-  class_arena =
-      record {
-        space_is = its.class_arena.space_is;
-        kind_is = its.class_arena.kind_is
-            ∙ sym kind;
-        sound = its.class_arena.sound;
-      };
+replaced NonClass a arena names its space kind chunks rises holds others = record {
+  arena = record { space_is = space ∙ its.arena.space_is; kind_is = refl; chunks = chunks; holds = holds };
+  class_arena = record {
+    space_is = its.class_arena.space_is;
+    kind_is = its.class_arena.kind_is ∙ sym kind;
+    chunks = its.class_arena.chunks;
+    holds = subst (Holds a.class_arena) (sym others) its.class_arena.holds;
+  };
   names = rises;
-  matched = λ one. (matches one).matched;
 }
-replaced Class a arena names its space kind sound rises matches = record {
-  arena = its.arena;
-  class_arena =
-      record { space_is = space ∙ its.class_arena.space_is; kind_is = kind ∙ its.class_arena.kind_is; sound = sound };
+replaced Class a arena names its space kind chunks rises holds others = record {
+  arena = record {
+    space_is = its.arena.space_is;
+    kind_is = refl;
+    chunks = its.arena.chunks;
+    holds = subst (Holds a.arena) (sym others) its.arena.holds;
+  };
+  class_arena = record {
+    space_is = space ∙ its.class_arena.space_is;
+    kind_is = kind ∙ its.class_arena.kind_is;
+    chunks = chunks;
+    holds = holds;
+  };
   names = rises;
-  matched = λ one. (matches one).matched;
 }
 
 -- A loader as it was, but for the arena of a space and its blocks.
-pub changed_view : (space : Space) (a : Inside) (arena : ArenaView) (names : BlockNames)
+pub changed_view : (space : Space) (a : Inside) (arena : RawView) (names : BlockNames)
     (blocks : List (ℕ × LiveBlock)) → arena.owner ≡ (arena_in space a).owner
-    → arena.kind ≡ (arena_in space a).kind → blocks_of (contents_at (with_arena_at space a arena names)) names.entries
+    → arena.kind ≡ (arena_in space a).kind → blocks_of (words_at (with_arena_at space a arena names)) names.entries
     ≡ blocks
     → view_of (with_arena_at space a arena names)
     ≡ with_state (view_of a) (with_arena space (record (view_of a).state { blocks = blocks }) arena.books)
 changed_view NonClass a arena names blocks owner kind same =
-    ap (λ (o : ℕ). view o arena.kind (blocks_of (contents_at (with_arena_at NonClass a arena names)) names.entries))
+    ap (λ (o : ℕ). view o arena.kind (blocks_of (words_at (with_arena_at NonClass a arena names)) names.entries))
     owner
     ∙ ap (λ (k : Kind). view a.arena.owner k
-    (blocks_of (contents_at (with_arena_at NonClass a arena names)) names.entries)) kind
+    (blocks_of (words_at (with_arena_at NonClass a arena names)) names.entries)) kind
     ∙ ap (view a.arena.owner a.arena.kind) same
   where
     view : ℕ → Kind → List (ℕ × LiveBlock) → LoaderView
@@ -103,7 +119,7 @@ changed_view NonClass a arena names blocks owner kind same =
       state = record { kind = kind; arena = arena.books; class_arena = a.class_arena.books; blocks = blocks };
     }
 changed_view Class a arena names blocks owner kind same =
-    ap (λ (o : ℕ). view o (blocks_of (contents_at (with_arena_at Class a arena names)) names.entries)) owner
+    ap (λ (o : ℕ). view o (blocks_of (words_at (with_arena_at Class a arena names)) names.entries)) owner
     ∙ ap (view a.class_arena.owner) same
   where
     view : ℕ → List (ℕ × LiveBlock) → LoaderView
@@ -116,211 +132,184 @@ changed_view Class a arena names blocks owner kind same =
 owners_stay : (new old : LoaderView) (state : LoaderState) → new ≡ with_state old state → new ≡ with_state old new.state
 owners_stay new old state is = is ∙ ap (with_state old) (sym (ap (λ (v : LoaderView). v.state) is))
 
-same_arena : (space : Space) (loader : LoaderState) → with_arena space loader (arena_of space loader) ≡ loader
+pub same_arena : (space : Space) (loader : LoaderState) → with_arena space loader (arena_of space loader) ≡ loader
 same_arena NonClass loader = refl
 same_arena Class loader = refl
 
-as_it_was : (space : Space) (a : Inside) → with_arena_at space a (arena_in space a) a.names ≡ a
-as_it_was NonClass a = refl
-as_it_was Class a = refl
-
--- What becomes of a loader that was asked to change: it does, or is as it was.
-record IsDone (a : Inside) (Done : LoaderState → Type 0) (new : Inside) : Type 0 where
-  loader : IsLoader new
-  done : Done (view_of new).state
-  owners : view_of new ≡ with_state (view_of a) (view_of new).state
-
-pub record IsChanged {A : Type 0} (a : Inside) (answer : Result A Refusal) (Done : LoaderState → Type 0)
-    (new : Inside) : Type 0 where
+-- What becomes of a loader that changes.
+pub record IsDone (a : Inside) (Done : LoaderState → Type 0) (new : Inside) : Type 0 where
   pub loader : IsLoader new
-  pub done : OnOk answer (Done (view_of new).state)
-  pub unchanged : OnErr answer (view_of new ≡ view_of a)
+  pub done : Done (view_of new).state
   pub owners : view_of new ≡ with_state (view_of a) (view_of new).state
-
-changed_on_ok : {A : Type 0} (a : Inside) (x : A) (Done : LoaderState → Type 0) (new : Inside) → IsDone a Done new
-    → IsChanged a (Ok x) Done new
-changed_on_ok a x Done new its = record { loader = its.loader; done = its.done; unchanged = tt; owners = its.owners }
-
-changed_on_err : {A : Type 0} (a : Inside) (e : Refusal) (Done : LoaderState → Type 0) (new : Inside) → IsLoader a
-    → new ≡ a → IsChanged {A = A} a (Err e) Done new
-changed_on_err {A} a e Done new its same =
-    subst (λ (n : Inside). IsChanged {A = A} a (Err e) Done n) (sym same)
-    (record { loader = its; done = tt; unchanged = refl; owners = refl })
 
 -- A named block, as its arena has it.
 module _ (a : Inside) (its : IsLoader a) (space : Space) (name : ℕ) (block : Block)
     (found : named a.names.entries name ≡ Some block) (inside : is_in space block.start ≡ true) where
-  its_at : IsAt (contents_at a space) (run_of_block block)
-  its_at = block_is_at (contents_at a) a.names.entries space name block (matches_of a its space) found inside
+  split : Split a.names.entries name block
+  split = split_at a.names.entries name block found
 
-  abbrev at_contents : (contents : List ℕ) → IsLive (arena_in space a) block contents
-      → IsAt (contents_at a space) (run_of_block block)
-  at_contents contents live =
-      record {
-        contents = contents;
-        found = ap (λ l. named l block.start) (live_in space a) ∙ live.found;
-        words = live.words;
-      }
+  abbrev arena : RawView
+  arena = arena_in space a
 
-  has : (contents : List ℕ) → IsLive (arena_in space a) block contents
-      → named (view_of a).state.blocks name ≡ Some (record { start = block.start; contents = contents })
-  has contents live = found-mapped (live_at (contents_at a)) a.names.entries name block found
-      ∙ ap (λ (b : LiveBlock). Some b) (live_at_is (contents_at a) block space (at_contents contents live) inside)
+  holds : Holds arena (named_runs space a.names.entries)
+  holds = (is_arena a its space).holds
 
-  is_live : IsNotLive (arena_in space a) block → ⊥
-  is_live not =
-      not its_at.contents
-      (record { found = ap (λ l. named l block.start) (sym (live_in space a)) ∙ its_at.found; words = its_at.words })
+  runs_with : named_runs space a.names.entries
+      ≡ named_runs space split.before ++ run_of_block block ∷ named_runs space split.after
+  runs_with = ap (named_runs space) split.is ∙ runs_here space split.before name block split.after inside
 
-  pub word_is_read : (index value : ℕ) → ReadsWord (arena_in space a) block index value
+  runs_without : named_runs space (without a.names.entries name)
+      ≡ named_runs space split.before ++ named_runs space split.after
+  runs_without = ap (named_runs space) split.gone ∙ runs_joined space split.before split.after
+
+  abbrev contents : List ℕ
+  contents = contents_at arena.words (run_of_block block)
+
+  abbrev its_block : LiveBlock
+  its_block = record { start = block.start; contents = contents }
+
+  block_is : live_at (words_at a) block ≡ its_block
+  block_is = contents_here (words_at a) block space inside
+      ∙ ap (λ (words : WordsView). let one : LiveBlock = record {
+        start = block.start;
+        contents = contents_at words (run_of_block block);
+      } in one) (words_here space a)
+
+  has : named (view_of a).state.blocks name ≡ Some its_block
+  has = found-mapped (live_at (words_at a)) a.names.entries name block found
+      ∙ ap (λ (one : LiveBlock). Some one) block_is
+
+  long : length contents ≡ block.words
+  long = contents_long (value_at arena.words) (run_of_block block)
+
+  -- Its words are there, and a word that is read is one of them.
+  pub its_run : RunIsThere arena.words (run_of_block block)
+  its_run = run_there arena (run_of_block block) (named_runs space a.names.entries) (named_runs space split.before)
+      (named_runs space split.after) holds runs_with
+
+  pub word_is_read : (index value : ℕ) → index < block.words → value ≡ value_at arena.words (block.start + index)
       → HasWord (view_of a).state name index value
-  word_is_read index value reads =
-      record {
-        found = record { start = block.start; contents = reads.contents };
-        has = has reads.contents reads.live;
-        word = reads.word;
-      }
+  word_is_read index value within is = record {
+    found = its_block;
+    has = has;
+    word = word_in_contents (value_at arena.words) (run_of_block block) index within
+        ∙ ap (λ (word : ℕ). Some word) (sym is);
+  }
 
-  pub word_is_lacking : (index : ℕ) (refusal : Refusal) → WordRefused (arena_in space a) block index refusal
-      → LacksWord (view_of a).state name index refusal
-  word_is_lacking index NotLive not = absurd (is_live not)
-  word_is_lacking index (OutOfRange words) past =
-      record {
-        found = record { start = block.start; contents = past.contents };
-        has = has past.contents past.live;
-        words_are = past.words_are;
-        past = past.past;
-      }
-  word_is_lacking index _ lacks = absurd lacks
+  pub index_past : (index : ℕ) → block.words ≤ index → IsPastEnd (view_of a).state name index block.words
+  index_past index past = record { found = its_block; has = has; words_are = sym long; past = past }
 
   -- The block after a write.
-  writing : (index value : ℕ) (arena : ArenaView) (writes : WritesIn (arena_in space a) block index value arena)
-      → IsSoundArena arena
-      → IsDone a (WritesWord (view_of a).state name index value) (with_arena_at space a arena a.names)
-  writing index value arena writes sound = record {
-    loader = replaced space a arena a.names its (ap (λ (v : ArenaView). v.space) writes.after)
-        (ap (λ (v : ArenaView). v.kind) writes.after) sound its.names
-        (written_matches (contents_at a) a.names.entries name block space found inside (matches_of a its)
-        (contents_at new) now as_long changes);
+  pub word_is_written : (index value : ℕ) (new : RawView) → index < block.words
+      → Writes arena.words (block.start + index) value new.words → new ≡ record arena { words = new.words }
+      → IsDone a (WritesWord (view_of a).state name index value) (with_arena_at space a new a.names)
+  word_is_written index value new within writes same = record {
+    loader = replaced space a new a.names its (ap (λ (v : RawView). v.space) same) (ap (λ (v : RawView). v.kind) same)
+        (subst (λ (v : RawView). AreChunks v.space v.books.chunks) (sym same) (is_arena a its space).chunks) its.names
+        (holds_written arena new (named_runs space a.names.entries) (block.start + index) value same writes holds) refl;
     done = record {
-      found = record { start = block.start; contents = writes.contents };
-      has = has writes.contents writes.live;
-      within = writes.within;
+      found = its_block;
+      has = has;
+      within = omega (arith, within, long);
       after = ap (λ (v : LoaderView). v.state) is;
     };
-    owners = owners_stay (view_of new) (view_of a) (with_block (view_of a).state name after) is;
+    owners = owners_stay (view_of loader) (view_of a) (with_block (view_of a).state name after) is;
   }
     where
-      new : Inside
-      new = with_arena_at space a arena a.names
-
-      now : List ℕ
-      now = slice_set writes.contents index value
-
-      as_long : length now ≡ block.words
-      as_long = length-set writes.contents index value ∙ sym writes.live.words
-
-      changes : ChangesIn space (contents_at a) (contents_at new) (with_changed (contents_at a space) block.start now)
-      changes =
-          changes_of space a arena a.names (with_changed (contents_at a space) block.start now)
-          (ap (λ (v : ArenaView). v.live) writes.after)
+      loader : Inside
+      loader = with_arena_at space a new a.names
 
       after : LiveBlock
-      after = record { start = block.start; contents = now }
+      after = record { start = block.start; contents = slice_set contents index value }
 
-      is : view_of new ≡ with_state (view_of a) (with_block (view_of a).state name after)
-      is = changed_view space a arena a.names (with_changed (view_of a).state.blocks name after)
-          (ap (λ (v : ArenaView). v.owner) writes.after) (ap (λ (v : ArenaView). v.kind) writes.after)
-          (written_blocks (contents_at a) a.names.entries name block space found inside (matches_of a its)
-          (contents_at new) now as_long changes)
+      written : blocks_of (words_at loader) a.names.entries ≡ with_changed (view_of a).state.blocks name after
+      written = written_blocks space (words_at a) (words_at loader) (words_there space a new a.names) a.names.entries
+          name block index value found inside within
+          (subst (λ (w : WordsView). Writes w (block.start + index) value (words_at loader space)) (sym (words_here space a))
+          (subst (λ (w : WordsView). Writes arena.words (block.start + index) value w) (sym (words_now space a new a.names))
+          writes))
+          (subst (AllByRecursion (λ (other : ℕ × ℕ). IsClear (run_of_block block) other)) (sym runs_without)
+          (clear_of_each arena block (named_runs space a.names.entries) (named_runs space split.before)
+          (named_runs space split.after) holds runs_with))
+          ∙ ap (λ (words : WordsView). let one : LiveBlock = record {
+            start = block.start;
+            contents = slice_set (contents_at words (run_of_block block)) index value;
+          } in with_changed (view_of a).state.blocks name one) (words_here space a)
+
+      is : view_of loader ≡ with_state (view_of a) (with_block (view_of a).state name after)
+      is = changed_view space a new a.names (with_changed (view_of a).state.blocks name after)
+          (ap (λ (v : RawView). v.owner) same) (ap (λ (v : RawView). v.kind) same) written
           ∙ ap (λ (books : ArenaState). with_state (view_of a)
           (with_arena space (with_block (view_of a).state name after) books))
-          (ap (λ (v : ArenaView). v.books) writes.after ∙ sym (books_of a space))
+          (ap (λ (v : RawView). v.books) same ∙ sym (books_of a space))
           ∙ ap (with_state (view_of a)) (same_arena space (with_block (view_of a).state name after))
 
-  pub word_is_written : {A : Type 0} (answer : Result A Refusal) (index value : ℕ) (arena : ArenaView)
-      → OnOk answer (WritesIn (arena_in space a) block index value arena)
-      → OnErr answer (arena ≡ arena_in space a) → IsSoundArena arena
-      → IsChanged a answer (WritesWord (view_of a).state name index value) (with_arena_at space a arena a.names)
-  word_is_written (Ok x) index value arena writes same sound =
-      changed_on_ok a x _ (with_arena_at space a arena a.names) (writing index value arena writes sound)
-  word_is_written (Err e) index value arena writes same sound =
-      changed_on_err a e _ (with_arena_at space a arena a.names) its
-      (subst (λ (v : ArenaView). with_arena_at space a v a.names ≡ a) (sym same) (as_it_was space a))
+  -- The block may be freed, and is then, its name being gone.
+  pub block_may_go : MayFree arena block
+  block_may_go = may_free arena block (named_runs space a.names.entries) (named_runs space split.before)
+      (named_runs space split.after) holds runs_with
 
-  -- The block is freed, its name being gone.
-  module _ (names : BlockNames) (gone : names.entries ≡ without a.names.entries name) where
-    freeing : (arena : ArenaView) → FreesIn (arena_in space a) block arena → IsSoundArena arena
-        → IsDone a (FreesBlock (view_of a).state name) (with_arena_at space a arena names)
-    freeing arena frees sound = record {
-      loader = replaced space a arena names its (ap (λ (v : ArenaView). v.space) frees.after)
-          (ap (λ (v : ArenaView). v.kind) frees.after) sound
-          (rw gone (rises_without a.names.entries name its.names))
-          (rw gone (freed_matches (contents_at a) a.names.entries name block space found inside (matches_of a its)
-          (contents_at new) changes));
-      done = record {
-        found = record { start = block.start; contents = frees.contents };
-        has = has frees.contents frees.live;
-        after = ap (λ (v : LoaderView). v.state) is
-            ∙ ap (λ (s : Space). with_freed s (view_of a).state name
-            (with_new (arena_of s (view_of a).state).kept block.start (length frees.contents)))
-            (sym (here space block.start inside));
-      };
-      owners = owners_stay (view_of new) (view_of a) after is;
-    }
-      where
-        new : Inside
-        new = with_arena_at space a arena names
+  pub block_is_freed : (new : RawView) (names : BlockNames) → names.entries ≡ without a.names.entries name
+      → FreesRun arena block new
+      → IsDone a (FreesBlock (view_of a).state name) (with_arena_at space a new names)
+  block_is_freed new names gone frees = record {
+    loader = replaced space a new names its (ap (λ (v : RawView). v.space) frees) (ap (λ (v : RawView). v.kind) frees)
+        (subst (λ (v : RawView). AreChunks v.space v.books.chunks) (sym frees) (is_arena a its space).chunks)
+        (rw gone (rises_without a.names.entries name its.names))
+        (holds_fewer arena new block (named_runs space a.names.entries) (named_runs space names.entries)
+        (named_runs space split.before) (named_runs space split.after) holds frees runs_with
+        (ap (named_runs space) gone ∙ runs_without))
+        (ap (named_runs (other_space space)) (gone ∙ split.gone)
+        ∙ sym (runs_there (other_space space) split.before name block split.after
+        (not_in_other space block.start inside))
+        ∙ sym (ap (named_runs (other_space space)) split.is));
+    done = record {
+      found = its_block;
+      has = has;
+      after = ap (λ (v : LoaderView). v.state) is
+          ∙ ap (λ (s : Space). with_freed s (view_of a).state name
+          (with_new (arena_of s (view_of a).state).kept block.start (length contents)))
+          (sym (here space block.start inside));
+    };
+    owners = owners_stay (view_of loader) (view_of a) after is;
+  }
+    where
+      loader : Inside
+      loader = with_arena_at space a new names
 
-        changes : ChangesIn space (contents_at a) (contents_at new) (without (contents_at a space) block.start)
-        changes =
-            changes_of space a arena names (without (contents_at a space) block.start)
-            (ap (λ (v : ArenaView). v.live) frees.after)
+      after : LoaderState
+      after = with_freed space (view_of a).state name
+          (with_new (arena_of space (view_of a).state).kept block.start (length contents))
 
-        after : LoaderState
-        after = with_freed space (view_of a).state name
-            (with_new (arena_of space (view_of a).state).kept block.start (length frees.contents))
+      books : new.books ≡ record (arena_of space (view_of a).state) {
+        kept = with_new (arena_of space (view_of a).state).kept block.start (length contents);
+      }
+      books = ap (λ (v : RawView). v.books) frees
+          ∙ ap (λ (n : ℕ). record arena.books { kept = with_new arena.books.kept block.start n }) (sym long)
+          ∙ ap (λ (b : ArenaState). record b { kept = with_new b.kept block.start (length contents) })
+          (sym (books_of a space))
 
-        books : arena.books
-            ≡ record (arena_of space (view_of a).state) {
-              kept = with_new (arena_of space (view_of a).state).kept
-                  block.start (length frees.contents);
-            }
-        books = ap (λ (v : ArenaView). v.books) frees.after
-            ∙ ap (λ (n : ℕ).
-            record (arena_in space a).books { kept = with_new (arena_in space a).books.kept block.start n })
-            frees.live.words
-            ∙ ap (λ (b : ArenaState). record b { kept = with_new b.kept block.start (length frees.contents) })
-            (sym (books_of a space))
+      is : view_of loader ≡ with_state (view_of a) after
+      is = changed_view space a new names (without (view_of a).state.blocks name)
+          (ap (λ (v : RawView). v.owner) frees) (ap (λ (v : RawView). v.kind) frees)
+          (ap (blocks_of (words_at loader)) gone
+          ∙ blocks_same space a new names (without a.names.entries name) (ap (λ (v : RawView). v.words) frees)
+          ∙ without-mapped (live_at (words_at a)) a.names.entries name)
+          ∙ ap (λ (b : ArenaState). with_state (view_of a)
+          (with_arena space (record (view_of a).state { blocks = without (view_of a).state.blocks name }) b)) books
 
-        is : view_of new ≡ with_state (view_of a) after
-        is = changed_view space a arena names (without (view_of a).state.blocks name)
-            (ap (λ (v : ArenaView). v.owner) frees.after) (ap (λ (v : ArenaView). v.kind) frees.after)
-            (ap (blocks_of (contents_at new)) gone
-            ∙ freed_blocks (contents_at a) a.names.entries name block space found inside (matches_of a its)
-            (contents_at new) changes)
-            ∙ ap (λ (b : ArenaState). with_state (view_of a)
-            (with_arena space (record (view_of a).state { blocks = without (view_of a).state.blocks name }) b)) books
+-- The words of a named block end within a machine word, in whatever space it lies.
+pub ends_somewhere : (a : Inside) → IsLoader a → (name : ℕ) (block : Block) → named a.names.entries name ≡ Some block
+    → block.start + block.words < 2 ^ 64
+ends_somewhere a its name block found = elim (where_is NonClass block.start) [
+  | inl w ↦ (its_run a its NonClass name block found w.inside).ends
+  | inr w ↦ (its_run a its Class name block found w.inside).ends
+]
 
-    pub block_is_freed : {A : Type 0} (answer : Result A Refusal) (arena : ArenaView)
-        → OnOk answer (FreesIn (arena_in space a) block arena)
-        → (answer ≡ Err NotLive → IsNotLive (arena_in space a) block) → IfErr answer (λ refusal. refusal ≡ NotLive)
-        → IsSoundArena arena
-        → IsChanged a answer (FreesBlock (view_of a).state name) (with_arena_at space a arena names)
-    block_is_freed (Ok x) arena frees not only sound =
-        changed_on_ok a x _ (with_arena_at space a arena names) (freeing arena frees sound)
-    block_is_freed (Err e) arena frees not only sound = absurd (is_live (not (ap (λ (r : Refusal). Err r) only)))
-
-  -- An arena that has the block does not refuse to free it.
-  pub freeing_is_not_refused : {A : Type 0} (Q : Refusal → Type 0) (answer : Result A Refusal)
-      → (answer ≡ Err NotLive → IsNotLive (arena_in space a) block) → IfErr answer (λ refusal. refusal ≡ NotLive)
-      → IfErr answer Q
-  freeing_is_not_refused Q (Ok x) not only = tt
-  freeing_is_not_refused Q (Err e) not only = absurd (is_live (not (ap (λ (r : Refusal). Err r) only)))
-
--- What is not in the class space is in the other.
-pub not_class : (word : ℕ) → is_in Class word ≡ false → is_in NonClass word ≡ true
-not_class word e = elim (where_is NonClass word) [
-  | inl w ↦ w.inside
-  | inr w ↦ absurd (both_ways (is_in Class word) e w.inside)
+pub past_somewhere : (a : Inside) → IsLoader a → (name : ℕ) (block : Block) (index : ℕ)
+    → named a.names.entries name ≡ Some block → block.words ≤ index
+    → IsPastEnd (view_of a).state name index block.words
+past_somewhere a its name block index found past = elim (where_is NonClass block.start) [
+  | inl w ↦ index_past a its NonClass name block found w.inside index past
+  | inr w ↦ index_past a its Class name block found w.inside index past
 ]

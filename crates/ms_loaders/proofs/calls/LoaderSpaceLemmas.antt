@@ -1,13 +1,11 @@
--- The live blocks of a sound arena lie in its space: they are in use, so in a chunk, and the chunk is a
+-- The blocks of an arena lie in its space: they are in use, so in a chunk, and the chunk is a
 -- part of a slot of the space.
-use Rattle.std.proofs.Common.{◌≡◌, ◌≤◌, ◌<◌, ◌+◌, ◌*◌, ℕ, Bool, true, Some, List, [], ◌∷◌, ◌++◌, length, map, sym, ap}
-use Rattle.std.proofs.Common.{◌∙◌, arith, inl, inr}
+use Rattle.std.proofs.Common.{◌≡◌, ◌≤◌, ◌<◌, ◌+◌, ◌*◌, ℕ, true, List, [], ◌∷◌}
+use Rattle.std.proofs.Common.{arith, inl, inr}
 use Rattle.std.specs.Prelude.{nat_le}
 use Rattle.std.specs.List.{AllByRecursion, list_any, list_all, zip}
 use Rattle.std.proofs.lemmas.Bool.{and_parts, or_cases, leb-true, lt-ltb, le-leb}
 use Rattle.std.proofs.lemmas.Nat.{div-add-mod'}
-use Rattle.std.proofs.lemmas.List.{map-append}
-use Rattle.std.proofs.lemmas.List.Folds.{list_all-append}
 use Rattle.std.proofs.lemmas.List.Elements.{recursion_from_All}
 use Rattle.ms_base.specs.declared.kind.Space.{Space}
 use Rattle.ms_base.specs.declared.kind.Space.TheVariants.{NonClass, Class}
@@ -16,10 +14,11 @@ use Rattle.ms_base.specs.Interval.{lies_in}
 use Rattle.ms_base.specs.Level.{size_of}
 use Rattle.ms_base.specs.Part.{IsPart, node_words, slot_of}
 use Rattle.ms_base.specs.Spaces.{IsSlotOf, is_in, first_class_word}
-use Rattle.ms_base.specs.Names.{named}
-use Rattle.ms_base.proofs.entries.EntryLemmas.{Split, split_at}
+use Rattle.ms_base.specs.State.{ArenaState}
+use Rattle.ms_base.specs.Good.{IsSound}
 use Rattle.ms_base.proofs.granules.GranuleLemmas.{ends_in_node}
-use Rattle.ms_arena.specs.Arena.{ArenaView, IsSoundArena, live_run, live_runs}
+use Rattle.ms_pool.specs.Account.{AreChunks}
+use Rattle.ms_arena.specs.Books.{Awaits, AwaitsBlock}
 
 -- A word of a slot of the space lies in the space.
 slot_in_space : (space : Space) (slot word : ℕ) → IsSlotOf space slot → slot * node_words ≤ word
@@ -57,33 +56,11 @@ in_use_in_space space (c ∷ chunks) (t ∷ tops) run some parts slots fronts wi
       | inr later ↦ in_use_in_space space chunks tops run some parts.1 slots.1 fronts.1 both.1 later
     ]
 
-pub live_in_space : (arena : ArenaView) (start : ℕ) (contents : List ℕ) → IsSoundArena arena
-    → named arena.live start ≡ Some contents → is_in arena.space start ≡ true
-live_in_space arena start contents sound found =
-    in_use_in_space arena.space arena.books.chunks arena.books.tops run
-    (omega (arith, leb-true 2 run.1 (at_run (λ (r : ℕ × ℕ). nat_le 2 r.1) sound.books.long)))
-    (recursion_from_All _ arena.books.chunks sound.chunks.parts)
-    (recursion_from_All _ arena.books.chunks sound.chunks.inside)
-    (recursion_from_All _ arena.books.chunks sound.chunks.fronts)
-    sound.books.tops
-    (at_run (λ (r : ℕ × ℕ). list_any (λ (used : Chunk × ℕ). lies_in r (used.0.start, used.1))
-    (zip arena.books.chunks arena.books.tops)) sound.books.inside)
-  where
-    run : ℕ × ℕ
-    run = (start, length contents)
-
-    split : Split arena.live start contents
-    split = split_at arena.live start contents found
-
-    at_run : (test : ℕ × ℕ → Bool) → list_all test (live_runs arena ++ arena.books.kept) ≡ true → test run ≡ true
-    at_run test all =
-        let live =
-        (and_parts (list_all test (live_runs arena)) (list_all test arena.books.kept)
-        (sym (list_all-append test (live_runs arena) arena.books.kept) ∙ all)).0 in
-        let parts : list_all test (map live_run split.before ++ run ∷ map live_run split.after) ≡ true =
-        ap (list_all test)
-        (sym (ap (map live_run) split.is ∙ map-append live_run split.before ((start, contents) ∷ split.after)))
-        ∙ live in
-        (and_parts (test run) (list_all test (map live_run split.after))
-        (and_parts (list_all test (map live_run split.before)) (list_all test (run ∷ map live_run split.after))
-        (sym (list_all-append test (map live_run split.before) (run ∷ map live_run split.after)) ∙ parts)).1).0
+-- So a block that was placed there, whatever blocks are live.
+pub placed_in_space : (space : Space) (old new : ArenaState) (start n : ℕ) (live : List (ℕ × ℕ))
+    → AreChunks space new.chunks → IsSound old live → AwaitsBlock old new start n → is_in space start ≡ true
+placed_in_space space old new start n live chunks sound awaits =
+    let here : Awaits new live (start, n) = awaits live sound in
+    in_use_in_space space new.chunks new.tops (start, n) (omega (arith, here.long))
+    (recursion_from_All _ new.chunks chunks.parts) (recursion_from_All _ new.chunks chunks.inside)
+    (recursion_from_All _ new.chunks chunks.fronts) here.sound.tops here.used

@@ -17,7 +17,7 @@ use Rattle.ms_loaders.specs.Sums.{AreSumsIn, row_in}
 use Rattle.ms_loaders.specs.Collecting.{AreFew, chunks_in, used_in, kept_in, row_made}
 use Rattle.ms_loaders.specs.declared.in_use.InUse.{InUse}
 use Rattle.ms_loaders.specs.declared.totals.LoaderRow.{LoaderRow as Row}
-use Rattle.ms_loaders.proofs.calls.MatchLemmas.{where_is}
+use Rattle.ms_loaders.proofs.calls.NamedRunLemmas.{where_is}
 
 -- The live words of a loader are those of its spaces.
 abbrev words_of_run : ℕ × ℕ → ℕ

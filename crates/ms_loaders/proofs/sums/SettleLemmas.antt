@@ -1,5 +1,5 @@
 -- Parts of a system of which a loader is held back: they may be given to `settle` still.
-use Rattle.std.proofs.Common.{◌≡◌, ◌+◌, ℕ, Some, List, [], ◌∷◌, ◌++◌, map, length, sym, ap}
+use Rattle.std.proofs.Common.{◌≡◌, ◌+◌, ℕ, Some, List, ◌∷◌, ◌++◌, map, length, sym, ap}
 use Rattle.std.proofs.Common.{◌∙◌, subst, arith}
 use Rattle.std.specs.List.{AllByRecursion}
 use Rattle.std.proofs.lemmas.List.{length-append, map-append}

@@ -22,7 +22,7 @@ use Rattle.ms_base.proofs.step.Reply.TheSendSync as reply
 use Rattle.ms_pool.proofs.account.Account.TheSendSync as account
 use Rattle.ms_shared.below.atomic_table.proofs.shared.Seat.TheSendSync as table_seat
 use Rattle.ms_loaders.below.ms_blocks.proofs.tree.Tree.TheLaws.TheKnot.{send-Tree, send-Fork}
-use Rattle.ms_loaders.below.ms_arena.proofs.rows.Rows.TheSendSync as rows
+use Rattle.ms_loaders.below.ms_arena.proofs.words.Words.TheSendSync as words
 use Rattle.ms_loaders.proofs.naming.Names.TheSendSync as names
 use Rattle.ms_loaders.proofs.loaders.owners.Owners.TheSendSync as owners
 use Rattle.ms_loaders.below.ms_buddy.proofs.node.Node.TheLaws.TheKnot as node
@@ -45,7 +45,7 @@ use Rattle.ms_run.specs.contracts.share.Share as share
 
 boxed_send : IsSend boxed.the_row
 boxed_send =
-    search (sendable, crosses, send-Tree, send-Fork, rows.the_send, names.the_send, account.the_send)
+    search (sendable, crosses, send-Tree, send-Fork, words.the_send, names.the_send, account.the_send)
     depth 60 fits 30000
 
 page_send : IsSend page.the_row

@@ -1,73 +1,32 @@
-use Rattle.std.proofs.Common.{arith, ℕ, List, inr, refl, sym, ap, replicate, subst, ◌∙◌}
-use Rattle.ms_base.specs.Names.{named}
-use Rattle.ms_arena.specs.Arena.{ArenaView, account_of}
-use Rattle.ms_arena.specs.Books.{BooksView, account_in, arena_over}
-use Rattle.ms_arena.proofs.AllocLemmas.{finds_from}
-use Rattle.ms_arena.proofs.ArenaLemmas.{Settles, settles}
-use Rattle.ms_arena.proofs.arena.Arena.alloc.Given.{Over}
+use Rattle.ms_base.specs.Hashed.{by_name}
+use Rattle.ms_arena.specs.Raw.{live_in}
+use Rattle.ms_arena.proofs.ArenaLemmas.{enters, live_same}
 use Rattle.ms_arena.proofs.arena.Arena.alloc.Goals as goal
-use Rattle.ms_arena.proofs.arena.Arena.alloc.Goals.{After-account}
 
--- The block is live at the start that was found.
-settled : (g : Over) (c : After-account g)
-    → Settles c.start_of.new.books c.self.inside.kind c.made_room.new.live.blocks c.in_ok-start.start
-    (replicate c.in_ok-n.n 0)
-settled g c =
-    settles c.self.inside.kind c.self.inside.books c.made_room.new.books c.start_of.new.books c.self.inside.live.blocks
-    c.made_room.new.live.blocks c.in_ok-start.start c.in_ok-n.n (replicate c.in_ok-n.n 0) _
-    c.self.invariant c.in_ok-made_room.ensures.books c.in_ok-made_room.ensures.blocks
-    c.in_ok-start.ensures.looked.leaves.awaits refl c.account.ensures.chunks
-    (omega (arith, c.in_ok-made_room.ensures.room, c.in_ok-start.ensures.looked.leaves.room))
+pub invariant_of-self-in-Ok : goal.invariant_of-self-in-Ok
+invariant_of-self-in-Ok g c =
+    (enters c.self.inside.raw c.alloc.new.self c.in-Ok.block (by_name c.self.inside.live.entries)
+    (by_name c.made_room.new.live.entries) (by_name c.put.new.live.entries) c.self.invariant c.in-Ok.ensures.gains
+    c.made_room.ensures.same c.put.ensures).holds
 
-pub start_of-requires-clause-may : goal.start_of-requires-clause-may
-start_of-requires-clause-may g c =
-    let serves = g.S.ChunkSource.serves c.args.source.now in let made = c.in_ok-made_room.ensures in record {
-      served = subst (λ (books : BooksView). serves (account_in books)) (sym made.books)
-          (subst (λ (arena : ArenaView). serves (account_of arena)) (sym c.self.view_is) c.requires);
-      may = record {
-        some = c.in_ok-n.ensures.some;
-        fits = c.in_ok-n.ensures.fits;
-        room = omega (arith, made.room);
-        places = made.places;
-      };
-    }
+pub returns-in-Ok-clause-fresh : goal.returns-in-Ok-clause-fresh
+returns-in-Ok-clause-fresh g c =
+    rw (← c.self.view_is)
+    (enters c.self.inside.raw c.alloc.new.self c.in-Ok.block (by_name c.self.inside.live.entries)
+    (by_name c.made_room.new.live.entries) (by_name c.put.new.live.entries) c.self.invariant c.in-Ok.ensures.gains
+    c.made_room.ensures.same c.put.ensures).fresh
 
-pub start_of-requires-clause-ordered : goal.start_of-requires-clause-ordered
-start_of-requires-clause-ordered g c = c.in_ok-made_room.ensures.ordered
+pub returns-in-Ok-clause-allocates : goal.returns-in-Ok-clause-allocates
+returns-in-Ok-clause-allocates g c =
+    let its = enters c.self.inside.raw c.alloc.new.self c.in-Ok.block (by_name c.self.inside.live.entries)
+    (by_name c.made_room.new.live.entries) (by_name c.put.new.live.entries) c.self.invariant c.in-Ok.ensures.gains
+    c.made_room.ensures.same c.put.ensures in
+    rw (← c.self.view_is, its.live)
+    (c.in-Ok.ensures.allocates (live_in c.self.inside.raw.words (by_name c.self.inside.live.entries)))
 
-pub insert-requires-clause-some : goal.insert-requires-clause-some
-insert-requires-clause-some g c = omega (arith, c.in_ok-n.ensures.some)
-
-pub insert-requires-clause-room : goal.insert-requires-clause-room
-insert-requires-clause-room g c = c.in_ok-made_room.ensures.row
-
-pub insert-requires-clause-other : goal.insert-requires-clause-other
-insert-requires-clause-other g c =
-    (settled g (goal.at.insert-requires-clause-other g c).After-account).other
-
-pub invariant_of-self-2 : goal.invariant_of-self-2
-invariant_of-self-2 g c =
-    rw c.insert.ensures
-    (settled g (goal.at.invariant_of-self-2 g c).After-account).arena
-
-pub returns-clause-fresh : goal.returns-clause-fresh
-returns-clause-fresh g c =
-    ap (λ (arena : ArenaView). named arena.live c.in_ok-start.start) (sym c.self.view_is)
-    ∙ ap (λ (live : List (ℕ × List ℕ)). named live c.in_ok-start.start) (sym c.in_ok-made_room.ensures.blocks)
-    ∙ (settled g (goal.at.returns-clause-fresh g c).After-account).other
-
-pub returns-clause-allocates : goal.returns-clause-allocates
-returns-clause-allocates g c = inr (
-  c.in_ok-n.ensures.askable,
-  finds_from _ _ _ _ c.made_room.new.books c.start_of.new.books c.self.inside.kind c.made_room.new.live.blocks _
-      c.in_ok-n.n _ c.in_ok-start.start _ _ c.in_ok-n.ensures.words
-      (ap (λ (live : List (ℕ × List ℕ)). arena_over c.made_room.new.books c.self.inside.kind live)
-      c.in_ok-made_room.ensures.blocks
-      ∙ ap (λ (books : BooksView). arena_over books c.self.inside.kind c.self.inside.live.blocks)
-      c.in_ok-made_room.ensures.books ∙ c.self.view_is)
-      c.in_ok-start.ensures.looked.leaves.owner c.in_ok-start.ensures.looked.leaves.space c.insert.ensures
-      (c.in_ok-start.ensures.serves c.made_room.new.live.blocks),
-)
-
-pub returns-clause-unchanged : goal.returns-clause-unchanged
-returns-clause-unchanged g c = tt
+pub returns-in-Err-clause-allocates : goal.returns-in-Err-clause-allocates
+returns-in-Err-clause-allocates g c =
+    let same = live_same c.self.inside.raw.words c.alloc.new.self.words (by_name c.self.inside.live.entries)
+    (by_name c.made_room.new.live.entries) c.in-Err.ensures.unchanged.words c.made_room.ensures.same in
+    rw (← c.self.view_is, same)
+    (c.in-Err.ensures.allocates (live_in c.self.inside.raw.words (by_name c.self.inside.live.entries)))

@@ -1,16 +1,40 @@
-use Rattle.std.proofs.Common.{ap}
-use Rattle.ms_arena.specs.Books.{BooksView}
-use Rattle.ms_arena.proofs.ArenaLemmas.{leaves, arena_freed}
+use Rattle.std.proofs.Common.{refl}
+use Rattle.ms_base.specs.Hashed.{by_name}
+use Rattle.ms_base.proofs.entries.EntryLemmas.{split_at}
+use Rattle.ms_arena.proofs.ArenaLemmas.{goes, is_live, is_not_live}
+use Rattle.ms_arena.proofs.HoldLemmas.{may_free}
 use Rattle.ms_arena.proofs.arena.Arena.free.Goals as goal
 
-pub keep-requires-clause-awaits : goal.keep-requires-clause-awaits
-keep-requires-clause-awaits c =
-    (leaves c.self.inside.books c.self.inside.live.blocks c.args.block c.in_ok-remove.ensures.live.0
-    c.self.invariant.sound.books c.in_ok-remove.ensures.live.1).alone
+pub returns-then-not-is_live-clause-not_live : goal.returns-then-not-is_live-clause-not_live
+returns-then-not-is_live-clause-not_live c = (
+  λ refused. rw (← c.self.view_is)
+      (is_not_live c.self.inside.raw (by_name c.self.inside.live.entries) c.args.block c.if-not-is_live.ensures.1),
+  λ not_live. refl,
+)
 
-pub invariant_of-self-2 : goal.invariant_of-self-2
-invariant_of-self-2 c =
-    arena_freed c.self.inside.kind c.self.inside.books c.keep.new.self c.self.inside.live.blocks
-    c.remove.new.self.blocks c.args.block c.in_ok-remove.ensures.live.0 _ c.self.invariant
-    c.in_ok-remove.ensures.live.1 c.in_ok-remove.ensures.removed c.keep.ensures.kept
-    (ap (λ (books : BooksView). books.space) c.keep.ensures.others) c.keep.ensures.room
+pub free-requires : goal.free-requires
+free-requires c =
+    let split = split_at (by_name c.self.inside.live.entries) c.args.block.start c.args.block.words
+    (c.if-not-is_live.ensures.0 refl) in
+    let may = may_free c.self.inside.raw c.args.block (by_name c.self.inside.live.entries) split.before split.after
+    c.self.invariant split.is in
+    record { some = may.some; awaits = may.awaits }
+
+pub invariant_of-self : goal.invariant_of-self
+invariant_of-self c =
+    (goes c.self.inside.raw c.free.new.self c.args.block c.self.inside.live.entries c.remove.new.self.entries
+    c.self.invariant c.free.ensures (c.if-not-is_live.ensures.0 refl) c.remove.ensures.updates.0).holds
+
+pub returns-clause-freed : goal.returns-clause-freed
+returns-clause-freed c =
+    rw (← c.self.view_is)
+    (goes c.self.inside.raw c.free.new.self c.args.block c.self.inside.live.entries c.remove.new.self.entries
+    c.self.invariant c.free.ensures (c.if-not-is_live.ensures.0 refl) c.remove.ensures.updates.0).frees
+
+pub returns-clause-not_live : goal.returns-clause-not_live
+returns-clause-not_live c = (
+  λ refused. absurd (cc),
+  λ not_live. absurd
+      ((rw (← c.self.view_is) at not_live) _
+      (is_live c.self.inside.raw (by_name c.self.inside.live.entries) c.args.block (c.if-not-is_live.ensures.0 refl))),
+)

@@ -14,7 +14,7 @@ use Rattle.std.specs.Global.{Global}
 use Rattle.std_alloc.proofs.SendSync.{quiet, lies}
 use Rattle.std_heap.proofs.Global.TheSendSync as handle
 use Rattle.ms_pool.proofs.account.Account.TheSendSync as account
-use Rattle.ms_arena.proofs.rows.Rows.TheSendSync as rows
+use Rattle.ms_arena.proofs.words.Words.TheSendSync as words
 use Rattle.ms_loaders.proofs.naming.Names.TheSendSync as names
 use Rattle.ms_loaders.proofs.loaders.owners.Owners.TheSendSync as owners
 use Rattle.ms_loaders.below.ms_blocks.proofs.tree.Tree.TheLaws.TheKnot.{send-Tree, send-Fork}
@@ -32,7 +32,7 @@ use Rattle.ms_c.specs.contracts.slot.Slot.{the_row, the_type}
 
 boxed_send : IsSend boxed.the_row
 boxed_send =
-    search (sendable, crosses, send-Tree, send-Fork, rows.the_send, names.the_send, account.the_send)
+    search (sendable, crosses, send-Tree, send-Fork, words.the_send, names.the_send, account.the_send)
     depth 60 fits 30000
 
 page_send : IsSend page.the_row

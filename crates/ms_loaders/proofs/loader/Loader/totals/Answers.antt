@@ -1,6 +1,12 @@
 use Rattle.ms_base.specs.declared.kind.Space.TheVariants.{NonClass, Class}
-use Rattle.ms_loaders.proofs.sums.SumsLemmas.{sums_of_arena}
+use Rattle.ms_loaders.proofs.sums.SumsLemmas.{sums_of_arena, within}
 use Rattle.ms_loaders.proofs.loader.Loader.totals.Goals as goal
+
+pub totals-requires : goal.totals-requires
+totals-requires c = (within c.self.inside c.self.invariant NonClass).fit
+
+pub totals-requires-2 : goal.totals-requires-2
+totals-requires-2 c = (within c.self.inside c.self.invariant Class).fit
 
 pub returns-clause-sums : goal.returns-clause-sums
 returns-clause-sums c =

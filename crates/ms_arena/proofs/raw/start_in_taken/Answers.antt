@@ -1,0 +1,24 @@
+use Rattle.std.proofs.Common.{◌≡◌, ◌≤◌, ℕ, ◌∙◌, ap, sym, subst, arith, rules, min}
+use Rattle.ms_base.specs.Level.{size_of, level_that_holds}
+use Rattle.ms_base.proofs.free.LevelLemmas.{level_is_greatest}
+use Rattle.ms_arena.proofs.AllocLemmas.{takes_from}
+use Rattle.ms_arena.proofs.raw.start_in_taken.Goals as goal
+
+pub take-requires-clause-may : goal.take-requires-clause-may
+take-requires-clause-may g c =
+    let greatest = level_is_greatest c.args.n c.requires.may.fits in
+    record {
+      some = c.requires.may.some;
+      fits = subst (λ (level : ℕ). c.args.n ≤ size_of level) (sym c.in-Some.ensures.level)
+          ((greatest.holds (level_that_holds c.args.n) greatest.below).1 (omega arith));
+      room = c.requires.may.room;
+      places = c.requires.may.places;
+    }
+
+pub returns-clause-takes : goal.returns-clause-takes
+returns-clause-takes g c = λ live.
+    let least : c.min-wanted.result ≡ min c.in-Some.most c.next_level.result = search rules in
+    takes_from _ _ c.args.books.now c.args.kind live _ _ c.args.n c.args.source.now c.take.result _ _
+    (least ∙ ap (λ (level : ℕ). min level c.next_level.result) c.in-Some.ensures.level
+    ∙ ap (λ (level : ℕ). min (level_that_holds c.args.n) level) c.next_level.ensures)
+    c.in-Some.ensures.level c.take.ensures.taken c.take.ensures.refused

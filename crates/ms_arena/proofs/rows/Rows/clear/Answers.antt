@@ -1,8 +1,0 @@
-use Rattle.std.proofs.Common.{rules}
-use Rattle.ms_arena.proofs.rows.Rows.clear.Goals as goal
-
-pub invariant_of-self : goal.invariant_of-self
-invariant_of-self c = search rules
-
-pub returns : goal.returns
-returns c = search rules

@@ -1,0 +1,69 @@
+-- The words of an arena's blocks by their numbers in the space, kept stretch by stretch: each stretch that a
+-- block reached into has a place in a list of words of which most are 0 (our choice).
+use Rattle.std.specs.Prelude.{◌≡◌, ◌≢◌, ℕ, ◌+◌, ◌-◌, ◌*◌, ◌/◌, ◌%◌, ◌^◌, ◌<◌, ◌≤◌, cond, nat_lt}
+use Rattle.ms_arena.specs.Pages.{PagesView, word_at}
+use Rattle.ms_arena.specs.Places.{PlacesView, HasTables, place_of}
+
+-- The places of stretches, the list, how many places were given, and for how many more there is room.
+pub record WordsView : Type 0 where
+  pub places : PlacesView
+  pub list : PagesView
+  pub given : ℕ
+  pub ready : ℕ
+
+-- The place of a word's stretch, counted from 1; 0 where it has none.
+abbrev pub place_at : WordsView → ℕ → ℕ
+place_at words word = place_of words.places (word / 2048)
+
+-- A word of a place by its offset there, and a word by its number; it is 0 where its stretch has no place.
+abbrev pub value_in : PagesView → ℕ → ℕ → ℕ
+value_in list place offset = cond (nat_lt 0 place) (word_at list (2048 * (place - 1) + offset)) 0
+
+abbrev pub value_at : WordsView → ℕ → ℕ
+value_at words word = value_in words.list (place_at words word) (word % 2048)
+
+-- The word's stretch has a place.
+abbrev pub IsThere : WordsView → ℕ → Type 0
+IsThere words word = 0 < place_at words word
+
+-- All words stay, and where they are.
+pub record StayWords (old new : WordsView) : Type 0 where
+  pub values : (word : ℕ) → value_at new word ≡ value_at old word
+  pub places : (word : ℕ) → place_at new word ≡ place_at old word
+
+-- There is room for a run of n words, wherever it lies.
+abbrev pub HasRoom : WordsView → ℕ → Type 0
+HasRoom words n = n / 2048 + 2 ≤ words.ready
+
+-- The words from a start up to an end are opened: each is there and 0, and the others stay.
+pub record Opens (old : WordsView) (start end : ℕ) (new : WordsView) : Type 0 where
+  pub zero : (word : ℕ) → start ≤ word → word < end → value_at new word ≡ 0
+  pub here : (word : ℕ) → start ≤ word → word < end → IsThere new word
+  pub there : (word : ℕ) → IsThere old word → IsThere new word
+  pub before : (word : ℕ) → word < start → value_at new word ≡ value_at old word
+  pub after : (word : ℕ) → end ≤ word → value_at new word ≡ value_at old word
+
+-- So are those of them that lie in a stretch.
+pub record OpensIn (old : WordsView) (stretch start end : ℕ) (new : WordsView) : Type 0 where
+  pub zero : (word : ℕ) → word / 2048 ≡ stretch → start ≤ word → word < end → value_at new word ≡ 0
+  pub here : (word : ℕ) → word / 2048 ≡ stretch → IsThere new word
+  pub there : (word : ℕ) → IsThere old word → IsThere new word
+  pub elsewhere : (word : ℕ) → word / 2048 ≢ stretch → value_at new word ≡ value_at old word
+  pub before : (word : ℕ) → word < start → value_at new word ≡ value_at old word
+  pub after : (word : ℕ) → end ≤ word → value_at new word ≡ value_at old word
+
+-- A word is written, and the others stay.
+pub record Writes (old : WordsView) (word value : ℕ) (new : WordsView) : Type 0 where
+  pub written : value_at new word ≡ value
+  pub others : (other : ℕ) → other ≢ word → value_at new other ≡ value_at old other
+  pub places : (other : ℕ) → place_at new other ≡ place_at old other
+
+-- What is kept true: places are those given, no two stretches have one, and the list has them all and room for
+-- as many more as said.
+pub record AreWords (places : PlacesView) (room given ready : ℕ) : Type 0 where
+  pub below : (stretch : ℕ) → place_of places stretch ≤ given
+  pub own : (stretch other : ℕ) → 0 < place_of places stretch → place_of places stretch ≡ place_of places other
+      → stretch ≡ other
+  pub list : 2048 * (given + ready) ≤ 512 * room
+  pub fits : 2048 * (given + ready) < 2 ^ 43
+  pub tables : 0 < ready → HasTables places ready

@@ -1,0 +1,184 @@
+//! The words of one arena's blocks, by their numbers in the space.
+//!
+//!     space    stretch 3           stretch 70          stretch 71
+//!              |..####..........|  |##.............|   |####...........|     # written
+//!     list     | stretch 3      | stretch 71     | stretch 70     |  room  |
+//!     place         1                  2                3
+//!              0                2048             4096             6144
+//!
+//! A stretch of 2048 words that a block reaches into gets the next place of the list, and keeps it: so a
+//! word has one home, by its number, and a block that starts where another did finds what that one wrote,
+//! which is cleared first. A word whose stretch has no place is 0.
+//! Kept true: no two stretches have one place, and the list has room for all. Only `reserve` takes memory.
+//! Stands on `places` and `pages`. HotSpot's arenas are memory themselves; this stands for it.
+ghost use Rattle.std.specs.Prelude.{◌≡◌, ℕ, ◌+◌, ◌*◌, ◌/◌, ◌^◌, ◌<◌, ◌≤◌, OnOk};
+ghost use Rattle.ms_arena.specs.Places.{place_of};
+ghost use Rattle.ms_arena.specs.Words.{StayWords, HasRoom, Opens, OpensIn, IsThere, Writes, place_at, value_at};
+
+use crate::pages::Pages;
+use crate::places::Places;
+use std::alloc::{AllocError, Global};
+use std::marker::Model;
+
+/// The words of a stretch.
+const STRETCH: usize = 2048;
+
+/// Below which the number of places stays: more memory than a process has.
+const MOST: usize = 1 << 32;
+
+/// The words of an arena's blocks. A word has its number in the space.
+#[derive(Drop)]
+pub struct Words {
+    /// The places of stretches, counted from 1.
+    places: Places,
+    /// The words, place by place.
+    list: Pages,
+    /// How many places were given.
+    given: usize,
+    /// For how many places more there is room.
+    ready: usize,
+}
+
+impl Model for Words {
+    ghost use Rattle.ms_arena.specs.Words.{WordsView, AreWords};
+
+    ghost Value = { WordsView };
+
+    ghost view = { λ w. record { places = w.places; list = w.list; given = w.given; ready = w.ready } };
+
+    ghost invariant = { λ w. AreWords w.places w.list.room w.given w.ready };
+}
+
+impl Words {
+    /// Makes a list of no place, which takes its memory from the allocator. Takes none yet.
+    pub fn new(alloc: Global) -> Words
+        ensures { (word : ℕ) → place_at result word ≡ 0 }
+    {
+        Words {
+            places: Places::new(alloc),
+            list: Pages::new(alloc),
+            given: 0,
+            ready: 0,
+        }
+    }
+
+    /// Takes all places away, and keeps the memory that they had. What the words held stays there, and is
+    /// cleared where a place is given again.
+    pub fn clear(&mut self)
+        ensures { (word : ℕ) → place_at self.new word ≡ 0 }
+    {
+        self.places.clear();
+        self.given = 0;
+        self.ready = 0;
+    }
+
+    /// Tells for how many stretches there is memory, and how many pages of words are in it.
+    pub fn sizes(&self) -> (usize, usize) {
+        (self.places.capacity(), self.list.stored())
+    }
+
+    /// Makes room for a run of n words; the words stay.
+    pub fn reserve(&mut self, alloc: Global, n: u64) -> Result<(), AllocError>
+        ensures room { OnOk result (HasRoom self.new n) }
+        ensures stay { StayWords self.old self.new }
+    {
+        // A run that doesn't begin with a stretch reaches into one more at each end.
+        let more = n as usize / STRETCH + 2;
+        if more <= self.ready {
+            return Ok(());
+        }
+        self.make_room(alloc, more)
+    }
+
+    /// Makes room for so many places more; the words stay.
+    fn make_room(&mut self, alloc: Global, more: usize) -> Result<(), AllocError>
+        requires { more < 2 ^ 55 }
+        ensures room { OnOk result (more ≤ self.new.ready) }
+        ensures stay { StayWords self.old self.new }
+    {
+        let given = self.given + more;
+        if given >= MOST {
+            return Err(AllocError);
+        }
+        self.ready = 0;
+        self.places.reserve(more)?;
+        self.list.reserve(alloc, STRETCH * given)?;
+        self.ready = more;
+        Ok(())
+    }
+
+    /// Reads a word.
+    pub fn read(&self, word: u64) -> u64
+        ensures { result ≡ value_at self.now word }
+    {
+        let place = self.places.get(word as usize / STRETCH);
+        if place == 0 {
+            return 0;
+        }
+        self.list
+            .read((place - 1) * STRETCH + word as usize % STRETCH)
+    }
+
+    /// Writes a word that is there.
+    pub fn write(&mut self, word: u64, value: u64)
+        requires { IsThere self.old word }
+        ensures { Writes self.old word value self.new }
+    {
+        let place = self.places.get(word as usize / STRETCH);
+        self.list
+            .write((place - 1) * STRETCH + word as usize % STRETCH, value);
+    }
+
+    /// Opens a run of n words, which are there and 0 then, in room that there is.
+    pub fn open(&mut self, start: u64, n: u64)
+        requires some { 0 < n }
+        requires room { HasRoom self.old n }
+        requires ends { start + n < 2 ^ 27 }
+        ensures { Opens self.old start (start + n) self.new }
+    {
+        let from = start as usize;
+        let end = from + n as usize;
+        for stretch in from / STRETCH..end.div_ceil(STRETCH) {
+            self.open_in(stretch, from, end);
+        }
+    }
+
+    /// Opens the words from a start up to an end that lie in a stretch.
+    fn open_in(&mut self, stretch: usize, start: usize, end: usize)
+        requires low { start < 2048 * stretch + 2048 }
+        requires high { 2048 * stretch < end }
+        requires order { start ≤ end }
+        requires within { stretch < 65536 }
+        requires room { 0 < self.old.ready }
+        ensures opens { OpensIn self.old stretch start end self.new }
+        ensures room { self.old.ready ≤ self.new.ready + 1 }
+    {
+        let place = self.places.get(stretch);
+        if place == 0 {
+            self.give(stretch);
+            return;
+        }
+        let base = (place - 1) * STRETCH;
+        let first = start.saturating_sub(STRETCH * stretch);
+        let last = (end - STRETCH * stretch).min(STRETCH);
+        self.list.clear(base + first, base + last);
+    }
+
+    /// Gives the next place to a stretch that has none; its words are 0.
+    fn give(&mut self, stretch: usize)
+        requires none { place_of self.old.places stretch ≡ 0 }
+        requires within { stretch < 65536 }
+        requires room { 0 < self.old.ready }
+        ensures here { (word : ℕ) → word / 2048 ≡ stretch → IsThere self.new word }
+        ensures there { (word : ℕ) → IsThere self.old word → IsThere self.new word }
+        ensures values { (word : ℕ) → value_at self.new word ≡ value_at self.old word }
+        ensures room { self.old.ready ≤ self.new.ready + 1 }
+    {
+        let base = self.given * STRETCH;
+        self.list.clear(base, base + STRETCH);
+        self.given += 1;
+        self.ready -= 1;
+        let place = self.given;
+        self.places.put(stretch, place);
+    }
+}
