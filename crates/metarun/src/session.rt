@@ -1,4 +1,5 @@
-//! A session: the whole input is read and parsed, then run, then answered.
+//! A session: the whole input is read and parsed, then run, while the text of the answers grows, then
+//! that text is written.
 ghost use Rattle.std.specs.Prelude.{◌≡◌, ◌⊎◌, ℕ, List, IfOk, IfErr, IfSome, string_bytes};
 ghost use Rattle.std.specs.Io.KnownBytes.{Keeps};
 ghost use Rattle.ms_trace.specs.declared.fault.FaultKind.{FaultKind};
@@ -9,8 +10,8 @@ ghost use Rattle.metarun.specs.Session.{IsOutput, IsAnswered, IsBrokenOff, IsWho
 use crate::devices::{read_text, write_text};
 use crate::failure::Failure;
 use crate::options::Options;
-use ms_report::lines;
-use ms_run::{NoGate, replay};
+use ms_report::AnswerText;
+use ms_run::{NoGate, replay_into};
 use ms_trace::parse;
 use std::alloc::Global;
 use std::io::{Read, Write};
@@ -70,13 +71,8 @@ fn answer_to<T: Threads + Wait + Sync, R: Read>(
     let text = read_text(alloc, input)?;
     let trace = parse(alloc, &text)?;
     drop(text);
-    let replies = replay(rt, alloc, &trace, options.settings, options.detail, &NoGate)?;
-    drop(trace);
-    Ok(lines(
-        alloc,
-        &replies,
-        options.addresses,
-        options.detail,
-        &options.settings,
-    )?)
+    let (settings, detail) = (options.settings, options.detail);
+    let mut answers = AnswerText::new(alloc, options.addresses, detail, settings);
+    replay_into(rt, alloc, &trace, settings, detail, &NoGate, &mut answers)?;
+    Ok(answers.into_text())
 }

@@ -86,7 +86,7 @@ holds_more old new block runs more b a holds gains runs_are more_are = subst (Ho
       (there_still old.words new.words (b ++ a) gains.opens.there
       (recursion_from_All (RunIsThere old.words) (b ++ a)
       (subst (All (RunIsThere old.words)) runs_are holds.there)))
-      (record { each = gains.opens.here; ends = gains.ends }));
+      (record { each = gains.opens.here; ends = omega (arith, gains.ends) }));
 })
   where
     run : ℕ × ℕ

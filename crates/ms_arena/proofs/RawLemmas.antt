@@ -33,7 +33,7 @@ opened old made new start end stay opens = record {
 pub gained : (old made new : BooksView) (kind : Kind) (count total more sum : ℕ) (words room opened_words : WordsView)
     (block : Block) (start n : ℕ)
     → IsSameBooks old made → StayWords words room → AwaitsBlock made.state new.state start n
-    → Opens room start (start + n) opened_words → start + n < 2 ^ 64 → more ≡ count + 1
+    → Opens room start (start + n) opened_words → start + n < 2 ^ 27 → more ≡ count + 1
     → sum ≡ (total + n) % 2 ^ 64 → block ≡ block_at start n → new.owner ≡ made.owner → new.space ≡ made.space
     → Gains (raw_over old kind count total words) block (raw_over new kind more sum opened_words)
 gained old made new kind count total more sum words room opened_words block start n same stay awaits opens ends

@@ -23,9 +23,9 @@ ghost use Rattle.ms_arena.specs.Alloc.{Allocates};
 ghost use Rattle.ms_arena.specs.ArenaSums.{AreSums};
 ghost use Rattle.ms_arena.specs.Raw.{Holds, live_in, with_live};
 
-use crate::raw::RawArena;
+use crate::raw::{RawArena, wanting_room};
 use crate::totals::ArenaTotals;
-use ms_base::{Block, Kind, ROOT_WORDS, Refusal};
+use ms_base::{Block, Kind, Refusal};
 use ms_pool::{Account, ChunkSource};
 use std::alloc::Global;
 use std::collections::HashMap;
@@ -217,17 +217,6 @@ fn made_room(live: &mut HashMap<u64, u64>, words: u64) -> Result<(), Refusal>
     match live.reserve(1) {
         Ok(()) => Ok(()),
         Err(_) => Err(wanting_room(words)),
-    }
-}
-
-/// Tells why a block of so many words is refused where it finds no room among the live ones.
-fn wanting_room(words: u64) -> Refusal
-    ensures { PlaceRefused words result }
-{
-    match words {
-        0 => Refusal::ZeroWords,
-        1..=ROOT_WORDS => Refusal::OutOfMemory,
-        _ => Refusal::TooLarge,
     }
 }
 

@@ -141,6 +141,7 @@ impl Books {
 
     /// Puts the free blocks in order, and makes room for so many more, and for one top more; all else
     /// stays.
+    #[inline(always)]
     pub fn make_room(&mut self, blocks: usize) -> Result<(), Refusal>
         ensures room { OnOk result (blocks ≤ self.new.room) }
         ensures ordered { OnOk result (self.new.came ≡ 0) }
@@ -195,6 +196,7 @@ impl Books {
 
     /// Places a block of n words where it needs no chunk: at the start of the free block that fits
     /// best, whose rest of at least two words stays; else at the top of the current chunk.
+    #[inline(always)]
     pub fn place(&mut self, n: u64) -> Option<u64>
         requires some { 2 ≤ n }
         requires fits { n ≤ size_of 0 }
@@ -286,6 +288,7 @@ impl Books {
 }
 
 /// Places a block of n words at the start of the free block that fits best, and keeps its rest.
+#[inline(always)]
 fn place_free(kept: &mut Kept, n: u64) -> Option<u64>
     requires some { 2 ≤ n }
     requires ordered { kept.old.came ≡ 0 }

@@ -76,6 +76,7 @@ impl Kept {
     }
 
     /// Puts all blocks in order, and makes room for so many more; the blocks stay.
+    #[inline(always)]
     pub fn make_room(&mut self, blocks: usize) -> Result<(), Refusal>
         ensures room { OnOk result (blocks ≤ self.new.room) }
         ensures ordered { OnOk result (self.new.came ≡ 0) }
@@ -83,7 +84,9 @@ impl Kept {
         ensures kept { self.new.kept ≡ self.old.kept }
         ensures refused { IfErr result (λ refusal. refusal ≡ Refusal.OutOfMemory) }
     {
-        self.order()?;
+        if !self.came.is_empty() {
+            self.order()?;
+        }
         match self.came.reserve(blocks.max(LEAST_ROOM)) {
             Ok(()) => Ok(()),
             Err(_) => Err(Refusal::OutOfMemory),
@@ -91,15 +94,13 @@ impl Kept {
     }
 
     /// Puts all blocks in order.
+    #[inline(never)]
     fn order(&mut self) -> Result<(), Refusal>
         ensures ordered { OnOk result (self.new.came ≡ 0) }
         ensures more { self.old.room ≤ self.new.room }
         ensures kept { self.new.kept ≡ self.old.kept }
         ensures refused { IfErr result (λ refusal. refusal ≡ Refusal.OutOfMemory) }
     {
-        if self.came.is_empty() {
-            return Ok(());
-        }
         self.ordered.reserve(self.came.len())?;
         add_all(&mut self.ordered, self.came.as_slice());
         self.came.clear();
@@ -121,6 +122,7 @@ impl Kept {
     }
 
     /// Takes out the best fit whole, where all blocks are in order.
+    #[inline(always)]
     pub fn remove(&mut self, words: u64) -> Option<Block>
         requires { self.old.came ≡ 0 }
         ensures best { IfSome result (λ block. IsBestFit self.old.kept words (run_of block)) }

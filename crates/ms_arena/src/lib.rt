@@ -17,5 +17,5 @@ mod totals;
 mod words;
 
 pub use arena::Arena;
-pub use raw::RawArena;
+pub use raw::{RawArena, wanting_room};
 pub use totals::ArenaTotals;

@@ -129,6 +129,7 @@ impl Pages {
     }
 
     /// Clears the words from one on up to an end.
+    #[inline(always)]
     pub fn clear(&mut self, from: usize, end: usize)
         requires { from ≤ end }
         ensures { Clears self.old from end self.new }
@@ -221,7 +222,9 @@ impl Pages {
             written: true,
         };
     }
+
     /// Clears the words of a page that lie between two.
+    #[inline(never)]
     fn clear_in(&mut self, number: usize, from: usize, end: usize)
         requires there { number < length self.old.pages }
         requires order { from ≤ end }

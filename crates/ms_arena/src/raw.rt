@@ -247,9 +247,21 @@ fn asked(words: u64) -> Result<u64, Refusal>
     }
 }
 
+/// Tells why a block of so many words is refused where whoever keeps it finds no room for it: as an arena
+/// refuses it that wants memory, so with `ZeroWords`, `TooLarge`, or `OutOfMemory`.
+pub fn wanting_room(words: u64) -> Refusal
+    ensures { PlaceRefused words result }
+{
+    match asked(words) {
+        Ok(_) => Refusal::OutOfMemory,
+        Err(refusal) => refusal,
+    }
+}
+
 /// Makes all room that a block of n words may need beside so many live ones: for its words, a top, and
 /// for free blocks, as many as live blocks and two more: its own when it is freed, and the rest of a
 /// chunk that retires.
+#[inline(always)]
 fn made_room(
     books: &mut Books,
     words: &mut Words,
@@ -277,6 +289,7 @@ fn made_room(
 }
 
 /// Makes a block of the words of a run, and counts it, in room that there is.
+#[inline(always)]
 fn entered(words: &mut Words, count: &mut usize, total: &mut u64, start: u64, n: u64) -> Block
     requires some { 0 < n }
     requires room { HasRoom words.old n }
@@ -314,6 +327,7 @@ fn start_of<S: ChunkSource>(
 }
 
 /// Finds where a block starts in a chunk that the source grows, or lends.
+#[inline(never)]
 fn start_in_chunk<S: ChunkSource>(
     books: &mut Books,
     source: &mut S,

@@ -78,6 +78,7 @@ impl Words {
     }
 
     /// Makes room for a run of n words; the words stay.
+    #[inline(always)]
     pub fn reserve(&mut self, alloc: Global, n: u64) -> Result<(), AllocError>
         ensures room { OnOk result (HasRoom self.new n) }
         ensures stay { StayWords self.old self.new }
@@ -91,6 +92,7 @@ impl Words {
     }
 
     /// Makes room for so many places more; the words stay.
+    #[inline(never)]
     fn make_room(&mut self, alloc: Global, more: usize) -> Result<(), AllocError>
         requires { more < 2 ^ 55 }
         ensures room { OnOk result (more ≤ self.new.ready) }
@@ -129,8 +131,28 @@ impl Words {
             .write((place - 1) * STRETCH + word as usize % STRETCH, value);
     }
 
-    /// Opens a run of n words, which are there and 0 then, in room that there is.
+    /// Opens a run of n words, which are there and 0 then, in room that there is. Most runs lie in one
+    /// stretch.
+    #[inline(always)]
     pub fn open(&mut self, start: u64, n: u64)
+        requires some { 0 < n }
+        requires room { HasRoom self.old n }
+        requires ends { start + n < 2 ^ 27 }
+        ensures { Opens self.old start (start + n) self.new }
+    {
+        let from = start as usize;
+        let end = from + n as usize;
+        let stretch = from / STRETCH;
+        if end > STRETCH * stretch + STRETCH {
+            self.open_across(start, n);
+        } else {
+            self.open_in(stretch, from, end);
+        }
+    }
+
+    /// Opens a run of n words stretch by stretch.
+    #[inline(never)]
+    fn open_across(&mut self, start: u64, n: u64)
         requires some { 0 < n }
         requires room { HasRoom self.old n }
         requires ends { start + n < 2 ^ 27 }
@@ -144,6 +166,7 @@ impl Words {
     }
 
     /// Opens the words from a start up to an end that lie in a stretch.
+    #[inline(always)]
     fn open_in(&mut self, stretch: usize, start: usize, end: usize)
         requires low { start < 2048 * stretch + 2048 }
         requires high { 2048 * stretch < end }
@@ -165,6 +188,7 @@ impl Words {
     }
 
     /// Gives the next place to a stretch that has none; its words are 0.
+    #[inline(never)]
     fn give(&mut self, stretch: usize)
         requires none { place_of self.old.places stretch ≡ 0 }
         requires within { stretch < 65536 }

@@ -31,7 +31,7 @@ pub use loaders::{Iter, Loaders, Values};
 pub use ms_arena::ArenaTotals;
 pub use ms_base::{Reply, Step};
 pub use peaks::Peaks;
-pub use replies::{Answer, Replies};
+pub use replies::{Answer, AnswerSink, Replies};
 pub use serving::serve;
 pub use system::{Allocation, GranuleRun, LoaderTotals, System};
 pub use totals::{LoaderRow, SpaceTotals, Totals};

@@ -13,17 +13,18 @@
 ghost use Rattle.std.specs.Prelude.{◌≡◌, ◌<◌, IfOk, IfNone, OnOk, [], nat_eq};
 ghost use Rattle.std.specs.Map.{lookup};
 ghost use Rattle.ms_base.specs.Names.{AreNamed, named, without};
-ghost use Rattle.ms_arena.specs.Arena.{PlaceRefused};
 ghost use Rattle.ms_arena.specs.Raw.{raw_account};
 ghost use Rattle.ms_pool.specs.Account.{AreChunks};
 ghost use Rattle.ms_pool.specs.Source.{LeavesRest};
 ghost use Rattle.ms_loaders.specs.Naming.{AllocatesNamed, IsStillNamed};
 
 mod finding;
+mod small_block;
 
-use ms_arena::RawArena;
-use ms_base::{Block, ROOT_WORDS, Refusal};
+use ms_arena::{RawArena, wanting_room};
+use ms_base::{Block, Refusal};
 use ms_pool::ChunkSource;
+use small_block::SmallBlock;
 use std::alloc::Global;
 use std::collections::HashMap;
 use std::collections::hash_map::Entry;
@@ -42,7 +43,7 @@ pub struct FoundName {
 #[derive(Drop)]
 pub struct Names {
     /// The block of each name: where it starts, and its words.
-    blocks: HashMap<u32, Block>,
+    blocks: HashMap<u32, SmallBlock>,
     /// The name that was found last to write, which mostly is the next one that is looked up.
     last: Option<FoundName>,
 }
@@ -109,12 +110,15 @@ impl Names {
         ensures unchanged { IfNone result (self.new ≡ self.old) }
     {
         self.last = None::<FoundName>;
-        self.blocks.remove(&name)
+        match self.blocks.remove(&name) {
+            Some(small) => Some(small.block()),
+            None => None,
+        }
     }
 }
 
 /// Finds the block of a name: by the name that was found last, where it is that one.
-fn find(last: &Option<FoundName>, blocks: &HashMap<u32, Block>, name: u32) -> Option<Block>
+fn find(last: &Option<FoundName>, blocks: &HashMap<u32, SmallBlock>, name: u32) -> Option<Block>
     requires { IsStillNamed blocks.now.entries last.now }
     ensures { result ≡ lookup (nat_eq name) blocks.now.entries }
 {
@@ -129,10 +133,13 @@ fn find(last: &Option<FoundName>, blocks: &HashMap<u32, Block>, name: u32) -> Op
 /// Finds the block of a name in the map. A function by itself in the program too, so that callers that
 /// find the name at once stay small.
 #[inline(never)]
-fn look_up(blocks: &HashMap<u32, Block>, name: u32) -> Option<Block>
+fn look_up(blocks: &HashMap<u32, SmallBlock>, name: u32) -> Option<Block>
     ensures { result ≡ lookup (nat_eq name) blocks.now.entries }
 {
-    blocks.get(&name).copied()
+    match blocks.get(&name) {
+        Some(small) => Some(small.block()),
+        None => None,
+    }
 }
 
 /// Allocates a block of so many words in the arena, under a new name. Refused with `BlockExists` where
@@ -157,21 +164,10 @@ pub fn allocate_in<S: ChunkSource>(
             let block = arena.alloc(source, words)?;
             // That the account's chunks are chunks of its space is learnt here.
             let _ = arena.account();
-            let _ = slot.insert(block);
+            let _ = slot.insert(SmallBlock::new(block));
             Ok(block)
         }
         Ok(Entry::Occupied(_found)) => Err(Refusal::BlockExists),
         Err(_) => Err(wanting_room(words)),
-    }
-}
-
-/// Tells why a block of so many words is refused where its name finds no room.
-fn wanting_room(words: u64) -> Refusal
-    ensures { PlaceRefused words result }
-{
-    match words {
-        0 => Refusal::ZeroWords,
-        1..=ROOT_WORDS => Refusal::OutOfMemory,
-        _ => Refusal::TooLarge,
     }
 }

@@ -20,6 +20,7 @@ use std::alloc::Global;
 /// changes no loader; what it leaves of the source, the source's own relations say. Words and indices
 /// are in words of 8 bytes. Takes memory for a new loader, a block and its chunk; waits as the source
 /// does. This project's choice.
+#[inline(always)]
 pub fn serve<S: AccountSource>(
     alloc: Global,
     source: &mut S,

@@ -180,6 +180,7 @@ impl System {
     /// changes nothing but, for want of memory for a new loader, its owner numbers. Words and indices
     /// are in words of 8 bytes. Takes memory for a new loader, a block and its chunk. This project's
     /// choice, as are the machine and its refusals.
+    #[inline(always)]
     pub fn step(&mut self, step: Step) -> Reply
         ensures step { Transition self.old step result self.new }
         ensures good { IsGood self.new }

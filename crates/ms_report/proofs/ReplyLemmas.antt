@@ -1,26 +1,19 @@
--- Answers one after the other: the refusals among the first ones, and the lines of the later ones. Used by
--- `lines`.
-use Rattle.std.proofs.Common.{◌≡◌, ◌<◌, ◌+◌, ℕ, Bool, List, [], ◌∷◌, ◌++◌, length, take, drop, get_or, cond}
-use Rattle.std.proofs.Common.{sym, ap, ◌∙◌}
+-- One answer more: its line, its report, and the refusals with it. Used by `answer_text`.
+use Rattle.std.proofs.Common.{◌≡◌, ◌<◌, ◌≤◌, ◌+◌, ℕ, Bool, true, false, List, [], ◌∷◌, ◌++◌, length, cond}
+use Rattle.std.proofs.Common.{sym, ap, ◌∙◌, refl, arith, append-nil}
+use Rattle.std.specs.Prelude.{codes, decimal}
 use Rattle.std.proofs.Math.Path.{fun_ext}
-use Rattle.std.proofs.lemmas.List.{map-append, take_more, drop_more, append_assoc}
+use Rattle.std.proofs.lemmas.List.{map-append, append_assoc, length-append}
 use Rattle.std.proofs.lemmas.List.Sums.{sum_by_push}
+use Rattle.ms_base.specs.ReplyText.{reply_text}
 use Rattle.ms_base.specs.declared.settings.Settings.{Settings}
 use Rattle.ms_base.specs.declared.step.Reply.{Reply}
 use Rattle.ms_loaders.specs.declared.details.Detail.{Detail}
 use Rattle.ms_loaders.specs.declared.replies.Answer.{Answer}
-use Rattle.ms_report.specs.Refused.{by_name, is_refused_as, refusals_of, with_reply}
-use Rattle.ms_report.specs.ReplyLines.{answer_text, later_text, replies_in}
+use Rattle.ms_report.specs.AnswerText.{AnswerTextView, Tells, no_answer}
+use Rattle.ms_report.specs.Refused.{AreFew, by_name, is_refused_as, refusals_of, with_reply}
+use Rattle.ms_report.specs.ReplyLines.{answer_text, answers_text, later_text, replies_in, report_after}
 use Rattle.ms_report.specs.declared.refused.Refusals.{Refusals}
-
--- The replies of the first answers, with one more.
-replies_more : (answers : List Answer) (at : ℕ) (other answer : Answer) → at < length answers
-    → answer ≡ get_or answers at other
-    → replies_in (take (at + 1) answers) ≡ replies_in (take at answers) ++ answer.reply ∷ []
-replies_more answers at other answer more is =
-    ap replies_in
-    (take_more answers at other more ∙ ap (λ (a : Answer). take at answers ++ a ∷ []) (sym is))
-    ∙ map-append (λ (a : Answer). a.reply) (take at answers) (answer ∷ [])
 
 -- The refusals among replies, with one more.
 refusals_more : (before : List Reply) (reply : Reply)
@@ -28,37 +21,125 @@ refusals_more : (before : List Reply) (reply : Reply)
 refusals_more before reply =
     ap by_name (fun_ext (λ name. sum_by_push (λ (r : Reply). cond (is_refused_as name r) 1 0) before reply))
 
--- So the refusals among the first answers, once one more is counted.
-pub counted_more : (answers : List Answer) (at : ℕ) (other answer : Answer) (refusals counted : Refusals)
-    → at < length answers → answer ≡ get_or answers at other → refusals ≡ refusals_of (replies_in (take at answers))
-    → counted ≡ with_reply refusals answer.reply → counted ≡ refusals_of (replies_in (take (at + 1) answers))
-counted_more answers at other answer refusals counted more is so_far one =
-    one
-    ∙ ap (λ (r : Refusals). with_reply r answer.reply) so_far
-    ∙ sym (refusals_more (replies_in (take at answers)) answer.reply)
-    ∙ ap refusals_of (sym (replies_more answers at other answer more is))
-
--- The text so far, and then the lines of the later answers, once one more is told.
-pub told_more : (addresses : Bool) (detail : Detail) (settings : Settings) (whole old new : List ℕ)
-    (answers : List Answer) (at : ℕ) (other answer : Answer) (refusals : Refusals) → at < length answers
-    → answer ≡ get_or answers at other → refusals ≡ refusals_of (replies_in (take at answers))
-    → whole ≡ old ++ later_text addresses detail settings (replies_in (take at answers)) (drop at answers)
-    → new ≡ old ++ answer_text addresses detail settings refusals answer
-    → whole ≡ new ++ later_text addresses detail settings (replies_in (take (at + 1) answers)) (drop (at + 1) answers)
-told_more addresses detail settings whole old new answers at other answer refusals more is counted so_far added =
-    so_far
-    ∙ ap (λ (l : List Answer). old ++ later_text addresses detail settings before l) (drop_more answers at other more)
-    ∙ ap (λ (a : Answer). old ++ (text (refusals_of before) a ++ later (before ++ a.reply ∷ []))) (sym is)
-    ∙ sym (append_assoc old (text (refusals_of before) answer) (later (before ++ answer.reply ∷ [])))
-    ∙ ap (λ (r : Refusals). (old ++ text r answer) ++ later (before ++ answer.reply ∷ [])) (sym counted)
-    ∙ ap (λ (t : List ℕ). t ++ later (before ++ answer.reply ∷ [])) (sym added)
-    ∙ ap (λ (b : List Reply). new ++ later b) (sym (replies_more answers at other answer more is))
+-- The lines of later answers, with one more.
+text_more : (addresses : Bool) (detail : Detail) (settings : Settings) (before : List Reply) (answers : List Answer)
+    (answer : Answer)
+    → later_text addresses detail settings before (answers ++ answer ∷ [])
+    ≡ later_text addresses detail settings before answers
+    ++ answer_text addresses detail settings (refusals_of (before ++ replies_in answers)) answer
+text_more addresses detail settings before [] answer =
+    append-nil (answer_text addresses detail settings (refusals_of before) answer)
+    ∙ ap (λ (b : List Reply). answer_text addresses detail settings (refusals_of b) answer) (sym (append-nil before))
+text_more addresses detail settings before (one ∷ answers) answer =
+    ap (λ (t : List ℕ). first ++ t) (text_more addresses detail settings (before ++ one.reply ∷ []) answers answer)
+    ∙ ap (λ (b : List Reply). first ++ (others ++ answer_text addresses detail settings (refusals_of b) answer))
+    (append_assoc before (one.reply ∷ []) (replies_in answers))
+    ∙ sym (append_assoc first others
+    (answer_text addresses detail settings (refusals_of (before ++ replies_in (one ∷ answers))) answer))
   where
-    before : List Reply
-    before = replies_in (take at answers)
+    first : List ℕ
+    first = answer_text addresses detail settings (refusals_of before) one
 
-    text : Refusals → Answer → List ℕ
-    text refused one = answer_text addresses detail settings refused one
+    others : List ℕ
+    others = later_text addresses detail settings (before ++ one.reply ∷ []) answers
 
-    later : List Reply → List ℕ
-    later replies = later_text addresses detail settings replies (drop (at + 1) answers)
+-- A text of no answer tells none, and one that gains an answer's text tells it too.
+pub tells_none : (addresses : Bool) (detail : Detail) (settings : Settings)
+    → Tells (no_answer addresses detail settings) (no_answer addresses detail settings) []
+tells_none addresses detail settings = record {
+  text = refl;
+  refusals = refl;
+  addresses = refl;
+  detail = refl;
+  settings = refl;
+}
+
+pub tells_more : (first old : AnswerTextView) (before : List Answer) (answer : Answer) (text : List ℕ)
+    (refusals : Refusals) → Tells first old before
+    → text ≡ old.text ++ answer_text old.addresses old.detail old.settings old.refusals answer
+    → refusals ≡ with_reply old.refusals answer.reply
+    → Tells first (record old { text = text; refusals = refusals }) (before ++ answer ∷ [])
+tells_more first old before answer text refusals its adds counts = record {
+  text = adds
+      ∙ ap (λ (t : List ℕ). t ++ answer_text old.addresses old.detail old.settings old.refusals answer) its.text
+      ∙ ap (λ (a : Bool). whole ++ answer_text a old.detail old.settings old.refusals answer) its.addresses
+      ∙ ap (λ (d : Detail). whole ++ answer_text first.addresses d old.settings old.refusals answer) its.detail
+      ∙ ap (λ (s : Settings). whole ++ answer_text first.addresses first.detail s old.refusals answer) its.settings
+      ∙ ap (λ (r : Refusals). whole ++ answer_text first.addresses first.detail first.settings r answer) its.refusals
+      ∙ sym (text_more first.addresses first.detail first.settings [] before answer);
+  refusals = counts
+      ∙ ap (λ (r : Refusals). with_reply r answer.reply) its.refusals
+      ∙ sym (refusals_more (replies_in before) answer.reply)
+      ∙ ap refusals_of (sym (map-append (λ (a : Answer). a.reply) before (answer ∷ [])));
+  addresses = its.addresses;
+  detail = its.detail;
+  settings = its.settings;
+}
+  where
+    whole : List ℕ
+    whole = answers_text first.addresses first.detail first.settings before
+
+-- Fewer than a bound are fewer than a greater one.
+pub few_below : (bound greater : ℕ) (counts : Refusals) → AreFew bound counts → bound ≤ greater → AreFew greater counts
+few_below bound greater counts few within = record {
+  loader_exists = omega (arith, few.loader_exists, within);
+  ids_used_up = omega (arith, few.ids_used_up, within);
+  no_loader = omega (arith, few.no_loader, within);
+  block_exists = omega (arith, few.block_exists, within);
+  zero_words = omega (arith, few.zero_words, within);
+  too_large = omega (arith, few.too_large, within);
+  out_of_memory = omega (arith, few.out_of_memory, within);
+  reserve_limit = omega (arith, few.reserve_limit, within);
+  commit_limit = omega (arith, few.commit_limit, within);
+  no_block = omega (arith, few.no_block, within);
+  out_of_range = omega (arith, few.out_of_range, within);
+}
+
+-- A count goes up by one at most.
+one_more : (name : List ℕ) (reply : Reply) (n bound : ℕ) → n < bound
+    → n + cond (is_refused_as name reply) 1 0 < bound + 1
+one_more name reply n bound less = at_most (is_refused_as name reply)
+  where
+    at_most : (b : Bool) → n + cond b 1 0 < bound + 1
+    at_most true = omega (arith, less)
+    at_most false = omega (arith, less)
+
+counts_more : (bound : ℕ) (counts : Refusals) (reply : Reply) → AreFew bound counts
+    → AreFew (bound + 1) (with_reply counts reply)
+counts_more bound counts reply few = record {
+  loader_exists = one_more (codes "LoaderExists") reply counts.loader_exists bound few.loader_exists;
+  ids_used_up = one_more (codes "IdsUsedUp") reply counts.ids_used_up bound few.ids_used_up;
+  no_loader = one_more (codes "NoLoader") reply counts.no_loader bound few.no_loader;
+  block_exists = one_more (codes "BlockExists") reply counts.block_exists bound few.block_exists;
+  zero_words = one_more (codes "ZeroWords") reply counts.zero_words bound few.zero_words;
+  too_large = one_more (codes "TooLarge") reply counts.too_large bound few.too_large;
+  out_of_memory = one_more (codes "OutOfMemory") reply counts.out_of_memory bound few.out_of_memory;
+  reserve_limit = one_more (codes "ReserveLimit") reply counts.reserve_limit bound few.reserve_limit;
+  commit_limit = one_more (codes "CommitLimit") reply counts.commit_limit bound few.commit_limit;
+  no_block = one_more (codes "NoBlock") reply counts.no_block bound few.no_block;
+  out_of_range = one_more (codes "OutOfRange") reply counts.out_of_range bound few.out_of_range;
+}
+
+-- A line has a byte at least.
+some_byte : (a b end rest : List ℕ) (byte : ℕ) → 1 ≤ length ((((a ++ byte ∷ []) ++ b) ++ end) ++ rest)
+some_byte a b end rest byte = omega (
+  arith,
+  length-append (((a ++ byte ∷ []) ++ b) ++ end) rest,
+  length-append ((a ++ byte ∷ []) ++ b) end,
+  length-append (a ++ byte ∷ []) b,
+  length-append a (byte ∷ []),
+)
+
+-- So no more answers are counted than the text has bytes.
+pub few_still : (text whole : List ℕ) (addresses : Bool) (detail : Detail) (settings : Settings) (refusals counted : Refusals)
+    (answer : Answer) → AreFew (length text + 1) refusals
+    → whole ≡ text ++ answer_text addresses detail settings refusals answer
+    → counted ≡ with_reply refusals answer.reply → AreFew (length whole + 1) counted
+few_still text whole addresses detail settings refusals counted answer few adds counts =
+    let line : List ℕ = answer_text addresses detail settings refusals answer in
+    let some : 1 ≤ length line =
+    some_byte (decimal answer.line) (reply_text addresses answer.reply) (codes "\n")
+    (report_after detail settings refusals answer.report) 32 in
+    let longer : length text + 1 + 1 ≤ length whole + 1 = omega (arith, ap length adds, length-append text line, some) in
+    rw counts (few_below (length text + 1 + 1) (length whole + 1) (with_reply refusals answer.reply)
+    (counts_more (length text + 1) refusals answer.reply few) longer)

@@ -10,5 +10,6 @@ pub mod Kinds
 pub mod Holdings
 pub mod Detailed
 pub mod ReplyLines
+pub mod AnswerText
 pub mod LayoutLaws
 pub mod Map

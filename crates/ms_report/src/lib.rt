@@ -3,7 +3,7 @@
 //!     System -- collecting --> Totals -- sections, layout --> the report's text
 //!                    Totals, Settings -- usage, detailed ---> the full report's text
 //!                      Details, Peaks -- kinds, holdings, peaks -> its tables
-//!                              Replies -- reply_lines ------> a line each, and reports
+//!                    an Answer, and the next -- answer_text --> a line each, and reports
 //!
 //! Kept true: each text is exactly the bytes that `specs/` gives for its numbers, and the totals
 //! of a system are the sums over the machine that it stands for. Apart because the text is a file
@@ -12,6 +12,7 @@
 //! waits.
 #![tactic(auto)]
 
+mod answer_text;
 mod collecting;
 mod columns;
 mod detailed;
@@ -29,12 +30,12 @@ mod setup;
 mod sizes;
 mod usage;
 
+pub use answer_text::{AnswerText, lines};
 pub use collecting::totals;
 pub use detailed::full_text;
 pub use kinds::{KindTotals, Kinds, sum_kinds};
 pub use maps::map_text;
 pub use ms_loaders::Detail;
 pub use refused::{Refusals, tally};
-pub use reply_lines::lines;
 pub use sections::text;
 pub use usage::{Amount, Usage, Usages, weigh};

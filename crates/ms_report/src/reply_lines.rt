@@ -4,45 +4,22 @@
 //!     Metaspace               .. then the report, where one was asked for
 //!       loaders          1
 //!
-//! Kept true: a line is the bytes that `ms_base/specs/ReplyText.antt` gives. `lines` takes memory
-//! for the text alone.
-ghost use Rattle.std.specs.Prelude.{◌≡◌, ◌++◌, IfOk, OnOk, OnErr, string_bytes, codes, decimal};
+//! Kept true: a line is the bytes that `ms_base/specs/ReplyText.antt` gives. Takes memory for the text
+//! alone.
+ghost use Rattle.std.specs.Prelude.{◌≡◌, ◌++◌, OnOk, string_bytes, codes, decimal};
 ghost use Rattle.ms_base.specs.ReplyText.{name_of, reply_text, reply_line};
-ghost use Rattle.ms_report.specs.ReplyLines.{report_after, answer_text, answers_text};
+ghost use Rattle.ms_report.specs.ReplyLines.{answer_text};
 
 use crate::columns::{push_before, push_both};
 use crate::detailed::push_detailed;
-use crate::refused::{NONE, Refusals, count};
+use crate::refused::Refusals;
 use ms_base::{Refusal, Reply, Settings};
-use ms_loaders::{Answer, Detail, Replies, Totals};
-use std::alloc::{AllocError, Global};
-
-/// Writes a line for each answer, in their order: the number of the trace's line, a space, the
-/// reply. Where a block starts, a word number, is told only if addresses are asked for. After an
-/// answer with totals comes their report, with as much detail as is asked for; the settings are
-/// those of the run, and the answers before it are those in which refused lines are counted. Takes
-/// memory for the text; an error means that a growth was refused. This project's choice.
-pub fn lines(
-    alloc: Global,
-    replies: &Replies,
-    addresses: bool,
-    detail: Detail,
-    settings: &Settings,
-) -> Result<String, AllocError>
-    ensures { IfOk result (λ text. string_bytes text
-        ≡ answers_text addresses detail settings.now replies.now.answers.items) }
-{
-    let mut text = String::new(alloc);
-    let mut refusals = NONE;
-    for answer in &replies.answers {
-        push_answer(&mut text, addresses, detail, settings, &refusals, answer)?;
-        count(&mut refusals, answer.reply);
-    }
-    Ok(text)
-}
+use ms_loaders::{Answer, Detail};
+use std::alloc::AllocError;
 
 /// Appends the line of an answer, and its report, with the refusals of the answers before it.
-fn push_answer(
+#[inline(always)]
+pub fn push_answer(
     text: &mut String,
     addresses: bool,
     detail: Detail,
@@ -62,6 +39,7 @@ fn push_answer(
 }
 
 /// Appends the line that answers the command on a line of the trace.
+#[inline(always)]
 fn push_reply_line(
     text: &mut String,
     addresses: bool,
@@ -80,6 +58,7 @@ fn push_reply_line(
 }
 
 /// Appends the line that says that a command is done.
+#[inline(always)]
 fn push_ok(text: &mut String, number: u64) -> Result<(), AllocError>
     ensures { OnOk result (string_bytes text.new
         ≡ string_bytes text.old ++ (decimal number ++ codes " ok\n")) }
@@ -88,6 +67,7 @@ fn push_ok(text: &mut String, number: u64) -> Result<(), AllocError>
 }
 
 /// Appends the line that tells where a block starts.
+#[inline(always)]
 fn push_at(text: &mut String, number: u64, start: u64) -> Result<(), AllocError>
     ensures { OnOk result (string_bytes text.new
         ≡ string_bytes text.old
@@ -97,6 +77,7 @@ fn push_at(text: &mut String, number: u64, start: u64) -> Result<(), AllocError>
 }
 
 /// Appends the line that tells a word's value.
+#[inline(always)]
 fn push_value(text: &mut String, number: u64, value: u64) -> Result<(), AllocError>
     ensures { OnOk result (string_bytes text.new
         ≡ string_bytes text.old

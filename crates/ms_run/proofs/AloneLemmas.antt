@@ -3,17 +3,21 @@ use Rattle.std.proofs.Common.{◌≡◌, ◌<◌, ◌+◌, ◌∙◌, ℕ, List,
 use Rattle.std.proofs.Common.{append_assoc, append-nil, sym, Bool, true, false, IsTrue}
 use Rattle.std.specs.Prelude.{◌||◌}
 use Rattle.std.proofs.lemmas.List.{take_more}
-use Rattle.ms_base.specs.State.{Machine}
+use Rattle.std.proofs.lemmas.List.Elements.{All-append, All-from_recursion, All-nil}
+use Rattle.ms_base.specs.State.{Limits, Machine, empty_machine}
 use Rattle.ms_base.specs.declared.step.Step.{Step}
 use Rattle.ms_base.specs.Transition.{Transition}
 use Rattle.ms_trace.specs.declared.trace.Command.TheVariants.{Step as Asks}
 use Rattle.ms_trace.specs.declared.trace.Line.{Line}
 use Rattle.ms_loaders.specs.declared.replies.Answer.{Answer}
-use Rattle.ms_run.specs.Counting.{HasAnswered, HasTaken}
+use Rattle.ms_loaders.specs.declared.details.Detail.{Detail}
+use Rattle.ms_run.specs.Counting.{AddsEnd, HasAnswered, HasTaken}
 use Rattle.ms_run.specs.Course.{Course, begun, on_to, passed}
 use Rattle.ms_run.specs.Peaks.{ArePeaksIfKept}
-use Rattle.ms_run.specs.Replay.{Answers}
+use Rattle.ms_run.specs.Replay.{Answers, IsDetailed}
+use Rattle.ms_run.specs.Sink.{AnswersAll, PutsAll}
 use Rattle.ms_run.specs.declared.alone.Metered.{Metered}
+use Rattle.ms_run.proofs.DetailLemmas.{plain}
 
 -- The answers to some lines, and then to others.
 pub answers_append : (old mid new : Course) (lines more : List Line) (answers added : List Answer)
@@ -30,47 +34,79 @@ answers_append old mid new (line ∷ lines) more (answer ∷ answers) added firs
 )
 
 -- No line is answered, and then one more.
-pub none_answered : (run : Metered) (answers : List Answer) → HasAnswered run [] answers answers run
-none_answered run answers = λ course taken. ([], course, sym (append-nil answers), (refl, refl), taken)
+pub none_answered : {S : Type 0} (took : S → S → List Answer → Type 0) (detail : Detail) (run : Metered) (sink : S)
+    → HasAnswered took detail run [] sink sink run
+none_answered took detail run sink = λ first said put. (
+  [],
+  subst (took first sink) (sym (append-nil said)) put,
+  All-nil (IsDetailed detail),
+  λ course taken. (course, (refl, refl), taken),
+)
 
-pub one_more_answered : (old mid new : Metered) (lines : List Line) (at : ℕ) (line : Line)
-    (before so_far whole : List Answer) → HasAnswered old (take at lines) before so_far mid → at < length lines
-    → HasAnswered mid (get_or lines at line ∷ []) so_far whole new
-    → HasAnswered old (take (at + 1) lines) before whole new
-one_more_answered old mid new lines at line before so_far whole first more next = λ course taken.
-    let told = first course taken in
-    let then = next told.1 told.4 in (
+pub one_more_answered : {S : Type 0} (took : S → S → List Answer → Type 0) (detail : Detail) (old mid new : Metered)
+    (lines : List Line) (at : ℕ) (line : Line) (before so_far whole : S)
+    → HasAnswered took detail old (take at lines) before so_far mid → at < length lines
+    → HasAnswered took detail mid (get_or lines at line ∷ []) so_far whole new
+    → HasAnswered took detail old (take (at + 1) lines) before whole new
+one_more_answered took detail old mid new lines at line before so_far whole answered more next = λ first said put.
+    let told = answered first said put in
+    let then = next first (said ++ told.0) told.1 in (
       told.0 ++ then.0,
-      then.1,
-      then.2 ∙ ap (λ (l : List Answer). l ++ then.0) told.2 ∙ append_assoc before told.0 then.0,
-      rw (take_more lines at line more)
-          (answers_append course told.1 then.1 (take at lines) (get_or lines at line ∷ []) told.0 then.0 told.3
-          then.3),
-      then.4,
+      subst (took first whole) (append_assoc said told.0 then.0) then.1,
+      All-append (IsDetailed detail) told.0 then.0 told.2 then.2,
+      λ course taken.
+          let one = told.3 course taken in
+          let other = then.3 one.0 one.2 in (
+            other.0,
+            rw (take_more lines at line more)
+                (answers_append course one.0 other.0 (take at lines) (get_or lines at line ∷ []) told.0 then.0 one.1
+                other.1),
+            other.2,
+          ),
     )
 
 -- A line that asks a step is answered: the course goes on to the state after it.
-pub step_answered : (old new : Metered) (line : Line) (step : Step) (answer : Answer) (answers whole : List Answer)
-    → line.command ≡ Asks step → whole ≡ answers ++ answer ∷ [] → answer.line ≡ line.number → answer.report ≡ None
-    → Transition old.system step answer.reply new.system
+pub step_answered : {S : Type 0} (took : S → S → List Answer → Type 0) (detail : Detail) (old new : Metered) (line : Line)
+    (step : Step) (answer : Answer) (sink whole : S)
+    → line.command ≡ Asks step → PutsAll took (answer ∷ []) sink whole → answer.line ≡ line.number
+    → answer.report ≡ None → Transition old.system step answer.reply new.system
     → ((states : List Machine) → ArePeaksIfKept states old.peaks → ArePeaksIfKept (new.system ∷ states) new.peaks)
-    → HasAnswered old (line ∷ []) answers whole new
-step_answered old new line step answer answers whole asks adds number none told raised = λ course taken. (
+    → HasAnswered took detail old (line ∷ []) sink whole new
+step_answered took detail old new line step answer sink whole asks puts number none told raised = λ first said put. (
   answer ∷ [],
-  on_to new.system course,
-  adds,
-  (
+  puts first said put,
+  All-from_recursion (IsDetailed detail) (answer ∷ []) (plain detail answer none, tt),
+  λ course taken. (
     on_to new.system course,
-    number,
-    rw asks (subst (λ (m : Machine). Transition m step answer.reply new.system) taken.state told, refl),
-    rw asks none,
-    (refl, refl),
+    (
+      on_to new.system course,
+      number,
+      rw asks (subst (λ (m : Machine). Transition m step answer.reply new.system) taken.state told, refl),
+      rw asks none,
+      (refl, refl),
+    ),
+    record {
+      state = refl;
+      peaks = raised (passed course) taken.peaks;
+    },
   ),
-  record {
-    state = refl;
-    peaks = raised (passed course) taken.peaks;
-  },
 )
+
+-- A line that asks none is answered.
+pub end_answered : {S : Type 0} (took : S → S → List Answer → Type 0) (detail : Detail) (run : Metered) (line : Line)
+    (sink whole : S) → AddsEnd took detail run line sink whole → HasAnswered took detail run (line ∷ []) sink whole run
+end_answered took detail run line sink whole adds = λ first said put.
+    let told = adds first said put in (
+      told.0 ∷ [],
+      told.1,
+      All-from_recursion (IsDetailed detail) (told.0 ∷ []) (told.2, tt),
+      λ course taken.
+          let ends = told.3 course taken in (
+            course,
+            (course, ends.number, rw ends.no_step (ends.done, refl), ends.report, (refl, refl)),
+            taken,
+          ),
+    )
 
 -- A run that begins has taken the course that begins there.
 pub begins : (run : Metered) (first : Machine) → run.system ≡ first → ArePeaksIfKept (run.system ∷ []) run.peaks
@@ -85,9 +121,15 @@ pub counted_if_kept : (looks kept : Bool) → kept ≡ true → IsTrue (looks ||
 counted_if_kept true kept is = refl
 counted_if_kept false kept is = is
 
--- Where there were no answers, all are these.
-pub answers_all : (first : Machine) (old new : Metered) (lines : List Line) (before after : List Answer)
-    → HasTaken (begun first) old → before ≡ [] → HasAnswered old lines before after new
-    → (last : Course) × Answers (begun first) lines after last
-answers_all first old new lines before after taken none told =
-    let its = told (begun first) taken in (its.1, rw (its.2, none) its.3)
+-- All lines are answered from the machine on that has nothing.
+pub all_answered : {S : Type 0} (took : S → S → List Answer → Type 0) (limits : Limits) (detail : Detail)
+    (lines : List Line) (old new : Metered) (sink whole : S) → HasTaken (begun (empty_machine limits)) old
+    → HasAnswered took detail old lines sink whole new → AnswersAll took limits detail lines sink whole
+all_answered took limits detail lines old new sink whole taken answered = λ first said put.
+    let told = answered first said put in
+    let ran = told.3 (begun (empty_machine limits)) taken in
+    (told.0, ran.0, told.1, ran.1, told.2)
+
+-- Where there were no answers, all are those that came.
+pub none_before : (before added whole : List Answer) → before ≡ [] → whole ≡ before ++ added → added ≡ whole
+none_before before added whole none is = sym (is ∙ ap (λ (l : List Answer). l ++ added) none)

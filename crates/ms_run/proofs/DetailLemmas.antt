@@ -12,7 +12,7 @@ use Rattle.ms_run.specs.Own.{Said}
 use Rattle.ms_run.specs.Replay.{AreSaid, HasDetail, IsDetailed}
 
 -- An answer without a report, and one more of them.
-plain : (detail : Detail) (answer : Answer) → answer.report ≡ None → IsDetailed detail answer
+pub plain : (detail : Detail) (answer : Answer) → answer.report ≡ None → IsDetailed detail answer
 plain detail answer none =
     subst (λ (report : Option (Box Totals Global)). IfSome report (λ totals. HasDetail detail totals.value)) (sym none)
     tt

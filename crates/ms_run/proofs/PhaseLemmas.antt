@@ -20,7 +20,7 @@ use Rattle.ms_shared.specs.SeatView.{LockState}
 use Rattle.ms_run.specs.Acts.{events_by}
 use Rattle.ms_run.specs.Joined.{IsMadeFrom, seat_of}
 use Rattle.ms_run.specs.Own.{Said, own_said, own_of, own_in, OwnRun, ArePurged}
-use Rattle.ms_run.specs.Counting.{HasAnswered}
+use Rattle.ms_run.specs.Counting.{GoesOnBy}
 use Rattle.ms_run.specs.Course.{Course, on_to, passed}
 use Rattle.ms_run.specs.Peaks.{ArePeaksIfKept}
 use Rattle.ms_run.specs.Replay.{AreSaid, IsOneRun, IsPhase, GoesOn, runs}
@@ -187,20 +187,21 @@ phase_added worker lines before after old new told raised = λ course taken. (
 
 -- So does one by whose worker alone the lines are answered.
 pub ended_alone : (worker : Option ℕ → ℕ) (lines : List Line) (before after : List Answer) (old new : Metered)
-    → IsGood old.system → IsGood new.system → AreSteps lines → HasAnswered old lines before after new
+    (added : List Answer)
+    → IsGood old.system → IsGood new.system → AreSteps lines → after ≡ before ++ added → GoesOnBy old lines added new
     → AddsPhase worker old lines before after new
-ended_alone worker lines before after old new was good steps answered = λ course taken.
-    let told = answered course taken in (
+ended_alone worker lines before after old new added was good steps adds goes = λ course taken.
+    let told = goes course taken in (
+      added,
       told.0,
-      told.1,
-      told.2,
+      adds,
       record {
         replays = λ trace workers first phase earlier said turns so_far.
-            steps_replay trace workers first phase worker turns course told.1 earlier lines said told.0
-            (recursion_from_All AsksStep lines steps) so_far (subst IsGood taken.state was) told.3;
-        good = subst IsGood told.4.state good;
+            steps_replay trace workers first phase worker turns course told.0 earlier lines said added
+            (recursion_from_All AsksStep lines steps) so_far (subst IsGood taken.state was) told.1;
+        good = subst IsGood told.2.state good;
       },
-      told.4,
+      told.2,
     )
 
 -- What merging adds.

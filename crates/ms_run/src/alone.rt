@@ -1,9 +1,9 @@
 //! Lines run by one worker: by the caller itself, line by line, over one system. They are a whole
 //! trace, or a phase of which one worker has all lines.
 //!
-//! Kept true: each line has one answer, in the trace's order; where they are counted, the words in
-//! use follow, and so do the peaks, for full reports. A line costs the same however many loaders
-//! stand by. Takes memory; nothing waits.
+//! Kept true: each line has one answer, in the trace's order, which goes to a sink: a list of answers, or
+//! what only tells them; where they are counted, the words in use follow, and so do the peaks, for full
+//! reports. A line costs the same however many loaders stand by. Takes memory; nothing waits.
 ghost use Rattle.std.specs.Prelude.{◌≡◌, IfOk, OnOk, [], ◌∷◌, IsTrue};
 ghost use Rattle.ms_base.specs.Good.{IsGood};
 ghost use Rattle.ms_base.specs.State.{empty_machine, limits_of};
@@ -12,12 +12,13 @@ ghost use Rattle.ms_run.specs.Course.{Course, begun};
 ghost use Rattle.ms_run.specs.Replay.{Answers, AreKept, IsDetailed};
 ghost use Rattle.ms_run.specs.Metering.{used_words_of};
 ghost use Rattle.ms_run.specs.Counting.{HasAnswered, HasTaken, IsCounted, used_around};
+ghost use Rattle.ms_run.specs.Sink.{AnswersAll};
 
 use crate::between::answer_between;
 use crate::gate::Gate;
 use crate::peaks::{begin, raise};
 use ms_base::{Settings, Step};
-use ms_loaders::{Answer, Detail, Peaks, Replies, System};
+use ms_loaders::{Answer, AnswerSink, Detail, Peaks, Replies, System};
 use ms_trace::{Command, Line};
 use std::alloc::{AllocError, Global};
 
@@ -32,7 +33,7 @@ pub struct Metered {
     pub peaks: Option<Peaks>,
 }
 
-/// Answers the lines in their order, from a system without loaders on.
+/// Answers the lines in their order, from a system without loaders on, and keeps the answers.
 pub fn answer_all<G: Gate>(
     alloc: Global,
     gate: &G,
@@ -51,22 +52,19 @@ pub fn answer_all<G: Gate>(
 }
 
 /// Answers the lines in their order, from a system without loaders on, that goes with them.
-fn answer_alone<G: Gate>(
+pub fn answer_alone<G: Gate, S: AnswerSink>(
     alloc: Global,
     gate: &G,
     settings: Settings,
     detail: Detail,
     lines: &[Line],
-    answers: &mut Vec<Answer>,
+    sink: &mut S,
 ) -> Result<(), AllocError>
-    requires { answers.old.items ≡ [] }
-    ensures run { OnOk result ((last : Course) × Answers
-        (begun (empty_machine (limits_of settings))) lines.now answers.new.items last) }
-    ensures detailed { OnOk result (All (IsDetailed detail) answers.new.items) }
+    ensures { OnOk result (AnswersAll S.took (limits_of settings) detail lines.now sink.old sink.new) }
 {
     let mut run = begin_run(alloc, settings, detail)?;
     let counts = gate.looks() | run.peaks.is_some();
-    answer_lines(gate, 0, counts, detail, lines, &mut run, answers)
+    answer_lines(alloc, gate, 0, counts, detail, lines, &mut run, sink)
 }
 
 /// Begins a run: a system without loaders, and peaks where reports shall be full.
@@ -88,52 +86,50 @@ pub fn begin_run(alloc: Global, settings: Settings, detail: Detail) -> Result<Me
 /// Answers the lines in their order, by the worker of a number. The words in use are counted on
 /// where that is asked for, and else are told as they were; for full reports they have to be, and
 /// peaks are kept from line to line.
-pub fn answer_lines<G: Gate>(
+pub fn answer_lines<G: Gate, S: AnswerSink>(
+    alloc: Global,
     gate: &G,
     worker: usize,
     counts: bool,
     detail: Detail,
     lines: &[Line],
     run: &mut Metered,
-    answers: &mut Vec<Answer>,
+    sink: &mut S,
 ) -> Result<(), AllocError>
     requires { IsCounted counts detail run.old }
     ensures answers { OnOk result
-        (HasAnswered run.old lines.now answers.old.items answers.new.items run.new) }
+        (HasAnswered S.took detail run.old lines.now sink.old sink.new run.new) }
     ensures counted { OnOk result (IsCounted counts detail run.new) }
-    ensures detailed { OnOk result (All (IsDetailed detail) answers.old.items
-        → All (IsDetailed detail) answers.new.items) }
 {
     for line in lines {
-        answer_line(gate, worker, counts, detail, line, run, answers)?;
+        answer_line(alloc, gate, worker, counts, detail, line, run, sink)?;
     }
     Ok(())
 }
 
 /// Answers a line: one that asks a step between the gate's two calls.
-fn answer_line<G: Gate>(
+fn answer_line<G: Gate, S: AnswerSink>(
+    alloc: Global,
     gate: &G,
     worker: usize,
     counts: bool,
     detail: Detail,
     line: &Line,
     run: &mut Metered,
-    answers: &mut Vec<Answer>,
+    sink: &mut S,
 ) -> Result<(), AllocError>
     requires { IsCounted counts detail run.old }
     ensures answered { OnOk result
-        (HasAnswered run.old (line.now ∷ []) answers.old.items answers.new.items run.new) }
+        (HasAnswered S.took detail run.old (line.now ∷ []) sink.old sink.new run.new) }
     ensures counted { OnOk result (IsCounted counts detail run.new) }
-    ensures detailed { OnOk result (All (IsDetailed detail) answers.old.items
-        → All (IsDetailed detail) answers.new.items) }
 {
     let Command::Step(step) = line.command else {
-        return answer_between(run, None, detail, line, answers);
+        return answer_between(alloc, run, None, detail, line, sink);
     };
     gate.before(worker, line.number);
     let before = used_by(counts, &run.system, &step);
     let reply = run.system.step(step);
-    answers.push(Answer {
+    sink.put(Answer {
         line: line.number,
         reply,
         report: None,

@@ -4,7 +4,6 @@
 //! loaders; its sums are the same. It has details and peaks only where it shall be full. Takes
 //! memory for a report and for answers; nothing waits.
 ghost use Rattle.std.specs.Prelude.{◌≡◌, ◌+◌, IfOk, IfSome, OnOk, None};
-ghost use Rattle.std.specs.List.{All};
 ghost use Rattle.std.specs.Option.{is_some};
 ghost use Rattle.ms_loaders.specs.Details.{details_in, details_of};
 ghost use Rattle.ms_base.specs.Totals.{sums_of};
@@ -12,41 +11,38 @@ ghost use Rattle.ms_loaders.specs.Sums.{sums_in};
 ghost use Rattle.ms_trace.specs.Steps.{step_of};
 ghost use Rattle.ms_run.specs.Course.{Course};
 ghost use Rattle.ms_run.specs.Counting.{AddsEnd, HasTaken};
-ghost use Rattle.ms_run.specs.Replay.{AreKept, AreOf, HasDetail, IsDetailed, Reports};
+ghost use Rattle.ms_run.specs.Replay.{AreKept, AreOf, HasDetail, Reports};
 ghost use Rattle.ms_run.specs.Replay.{is_full};
 ghost use Rattle.ms_run.specs.Metering.{used_words_of};
 
 use crate::alone::Metered;
 use ms_base::Reply;
-use ms_loaders::{Answer, Detail, Details, SpaceTotals, System, Totals};
+use ms_loaders::{Answer, AnswerSink, Detail, Details, SpaceTotals, System, Totals};
 use ms_trace::{Command, Line};
 use std::alloc::{AllocError, Global};
 
 /// Answers a line that asks no step: a report with the totals as they are, in so much detail, and
 /// with the peaks that are kept. The words in use, of both spaces, are taken from a count of them
 /// where there is one.
-pub fn answer_between(
+pub fn answer_between<S: AnswerSink>(
+    alloc: Global,
     run: &Metered,
     used: Option<u64>,
     detail: Detail,
     line: &Line,
-    answers: &mut Vec<Answer>,
+    sink: &mut S,
 ) -> Result<(), AllocError>
     requires no_step { step_of line.now.command ≡ None }
     requires used { IfSome used (λ words. words ≡ used_words_of run.now.system) }
     requires kept { AreKept detail run.now.peaks }
-    ensures answered { OnOk result
-        (AddsEnd run.now line.now answers.old.items answers.new.items) }
-    ensures detailed { OnOk result (All (IsDetailed detail) answers.old.items
-        → All (IsDetailed detail) answers.new.items) }
+    ensures { OnOk result (AddsEnd S.took detail run.now line.now sink.old sink.new) }
 {
-    let report = report_for(*answers.allocator(), run, used, detail, line.command)?;
-    answers.push(Answer {
+    let report = report_for(alloc, run, used, detail, line.command)?;
+    sink.put(Answer {
         line: line.number,
         reply: Reply::Ok,
         report,
-    })?;
-    Ok(())
+    })
 }
 
 /// Gathers the totals where a command asks for them, and boxes them.

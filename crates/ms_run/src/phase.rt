@@ -67,7 +67,16 @@ pub fn run_phase<R: Threads + Wait + Sync, G: Gate + Sync>(
     turn.activate(lines);
     if turn.shares() == 1 {
         let mut run = run;
-        answer_lines(gate, turn.worker(0), true, detail, lines, &mut run, answers)?;
+        answer_lines(
+            alloc,
+            gate,
+            turn.worker(0),
+            true,
+            detail,
+            lines,
+            &mut run,
+            answers,
+        )?;
         return Ok(run);
     }
     run_shares(rt, alloc, gate, turn, detail, lines, run, answers)

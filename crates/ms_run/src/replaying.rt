@@ -15,17 +15,18 @@ ghost use Rattle.ms_run.specs.Counting.{AddsEnd};
 ghost use Rattle.ms_run.specs.Course.{Course, begun};
 ghost use Rattle.ms_run.specs.Metering.{used_words_of};
 ghost use Rattle.ms_run.specs.Replay.{IsReplay, Answers, AreKept, IsDetailed, IsWanting};
+ghost use Rattle.ms_run.specs.Sink.{PutsAll, PutsReplay};
 ghost use Rattle.ms_run.specs.Shares.{AreSteps};
 ghost use Rattle.ms_run.specs.Turn.{AreFirst, IsNextTurn};
 
-use crate::alone::{Metered, answer_all, begin_run};
+use crate::alone::{Metered, answer_all, answer_alone, begin_run};
 use crate::between::answer_between;
 use crate::fault::RunFault;
 use crate::gate::Gate;
 use crate::phase::run_phase;
 use crate::turn::Turn;
 use ms_base::Settings;
-use ms_loaders::{Answer, Detail, Replies};
+use ms_loaders::{Answer, AnswerSink, Detail, Replies};
 use ms_trace::{Command, Line, Trace};
 use std::alloc::{AllocError, Global};
 use std::sync::Wait;
@@ -64,6 +65,43 @@ pub fn replay<R: Threads + Wait + Sync, G: Gate + Sync>(
     }
     let replies = answer_all(alloc, gate, settings, detail, lines)?;
     Ok(replies)
+}
+
+/// Replays a trace as `replay` does, and puts the answers into a sink in their order: those of one worker as
+/// they come, so that none is kept. An error leaves in the sink what it leaves. Takes memory, and waits as
+/// `replay` does. This project's choice.
+pub fn replay_into<R: Threads + Wait + Sync, G: Gate + Sync, S: AnswerSink>(
+    rt: &R,
+    alloc: Global,
+    trace: &Trace,
+    settings: Settings,
+    detail: Detail,
+    gate: &G,
+    sink: &mut S,
+) -> Result<(), RunFault>
+    ensures answers { OnOk result (PutsReplay S.took settings detail trace.now.lines sink.old sink.new) }
+    ensures wanting { IfErr result IsWanting }
+    ensures no_thread { settings.workers ≡ 1
+        → IfErr result (λ fault. fault ≡ RunFault.OutOfMemory) }
+{
+    let lines = trace.lines.as_slice();
+    if settings.workers != 1 {
+        let replies = run_phases(rt, alloc, gate, settings, detail, lines)?;
+        put_all(replies.answers, sink)?;
+        return Ok(());
+    }
+    answer_alone(alloc, gate, settings, detail, lines, sink)?;
+    Ok(())
+}
+
+/// Puts answers into a sink, in their order.
+fn put_all<S: AnswerSink>(answers: Vec<Answer>, sink: &mut S) -> Result<(), AllocError>
+    ensures { OnOk result (PutsAll S.took answers.items sink.old sink.new) }
+{
+    for answer in answers {
+        sink.put(answer)?;
+    }
+    Ok(())
 }
 
 /// Runs the lines phase by phase, with room for all answers.
@@ -133,7 +171,7 @@ fn answer_phases<R: Threads + Wait + Sync, G: Gate + Sync>(
         run = run_phase(rt, alloc, gate, turn, detail, steps, run, answers)?;
         at += count;
         if at < lines.len() {
-            end_phase(turn, &run, detail, &lines[at], answers)?;
+            end_phase(alloc, turn, &run, detail, &lines[at], answers)?;
             at += 1;
         }
     }
@@ -142,6 +180,7 @@ fn answer_phases<R: Threads + Wait + Sync, G: Gate + Sync>(
 
 /// Ends a phase: the line that asks no step is answered, and the next phase's turn comes.
 fn end_phase(
+    alloc: Global,
     turn: &mut Turn,
     run: &Metered,
     detail: Detail,
@@ -151,13 +190,11 @@ fn end_phase(
     requires no_step { step_of line.now.command ≡ None }
     requires used { run.now.used ≡ used_words_of run.now.system }
     requires kept { AreKept detail run.now.peaks }
-    ensures answered { OnOk result
-        (AddsEnd run.now line.now answers.old.items answers.new.items) }
+    ensures answered { OnOk result (AddsEnd ⟦<Vec<Answer> as AnswerSink>⟧.took detail run.now line.now
+        answers.old answers.new) }
     ensures turn { OnOk result (IsNextTurn turn.old turn.new) }
-    ensures detailed { OnOk result (All (IsDetailed detail) answers.old.items
-        → All (IsDetailed detail) answers.new.items) }
 {
-    answer_between(run, Some(run.used), detail, line, answers)?;
+    answer_between(alloc, run, Some(run.used), detail, line, answers)?;
     turn.go_on();
     Ok(())
 }

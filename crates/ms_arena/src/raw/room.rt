@@ -18,9 +18,9 @@ const SMALL_TOPS: usize = 64;
 const SMALL_PAGES: usize = 4;
 
 impl RawArena {
-    /// Tells whether the arena's memory is small: some 30 KiB at most, its chunks aside. A hint to whoever
-    /// keeps arenas to be renewed, of which nothing is promised. Takes no memory. This project's choice;
-    /// HotSpot's arenas are memory themselves.
+    /// Tells whether the arena's memory is small: some 30 KiB, its chunks aside, and the table of pages, which
+    /// is longer where a page far on was written. A hint to whoever keeps arenas to be renewed, of which
+    /// nothing is promised. Takes no memory. This project's choice; HotSpot's arenas are memory themselves.
     pub fn is_small(&self) -> bool {
         let (stretches, pages) = self.words.sizes();
         let (tops, blocks) = self.books.sizes();

@@ -5,6 +5,7 @@ ghost use Rattle.ms_base.specs.Names.{named};
 ghost use Rattle.ms_loaders.specs.Finding.{names_block};
 
 use super::Names;
+use super::small_block::SmallBlock;
 use ms_base::Block;
 use std::collections::HashMap;
 
@@ -20,13 +21,14 @@ impl Names {
 }
 
 /// Finds an entry with the block.
-fn name_in(blocks: &HashMap<u32, Block>, block: Block) -> Option<u32>
+fn name_in(blocks: &HashMap<u32, SmallBlock>, block: Block) -> Option<u32>
     ensures named { IfSome result
         (λ name. IsTrue (list_any (names_block name block) blocks.now.entries)) }
     ensures none { IfNone result
         ((name : ℕ) → IsFalse (list_any (names_block name block) blocks.now.entries)) }
 {
-    for (name, other) in blocks.iter() {
+    for (name, small) in blocks.iter() {
+        let other = small.block();
         if other.start == block.start && other.words == block.words {
             return Some(*name);
         }

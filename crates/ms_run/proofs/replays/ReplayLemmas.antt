@@ -17,10 +17,10 @@ use Rattle.ms_trace.specs.declared.trace.Command.TheVariants.{Step as Asks, Sync
 use Rattle.ms_trace.specs.declared.trace.Line.{Line}
 use Rattle.ms_trace.specs.Steps.{step_of}
 use Rattle.ms_loaders.specs.declared.replies.Answer.{Answer}
-use Rattle.ms_run.specs.Counting.{AddsEnd, HasTaken}
+use Rattle.ms_run.specs.Counting.{HasTaken}
 use Rattle.ms_run.specs.Course.{Course, begun}
 use Rattle.ms_run.specs.Metering.{used_words_of}
-use Rattle.ms_run.specs.Replay.{Answers, GoesOn, IsReplay, Replays, starts}
+use Rattle.ms_run.specs.Replay.{Answers, GoesOn, IsEnd, IsReplay, Replays, starts}
 use Rattle.ms_run.specs.Replay.{ends}
 use Rattle.ms_run.specs.Shares.{AreSteps}
 use Rattle.ms_run.specs.Turn.{TurnState, worker_in, worker_by, AreFirst, IsNextTurn, IsSameTurn}
@@ -154,19 +154,20 @@ next_phase phase at workers count is are =
     ∙ ap (λ (n : ℕ). n % workers) (let e : phase + 1 ≡ suc phase = omega arith in e)
 
 pub phases_next : (workers : ℕ) (first : Machine) (run : Metered) (old_turn turn : TurnState) (lines : List Line)
-    (at : ℕ) (line : Line) (answers whole : List Answer)
+    (at : ℕ) (line : Line) (answers whole : List Answer) (added : Answer)
     → PhasesFirst workers first lines at answers run old_turn
-    → at < length lines → AddsEnd run (get_or lines at line) answers whole → IsNextTurn old_turn turn
+    → at < length lines → whole ≡ answers ++ added ∷ []
+    → ((course : Course) → HasTaken course run → IsEnd course (get_or lines at line) added) → IsNextTurn old_turn turn
     → PhasesFirst workers first lines (at + 1) whole run turn
-phases_next workers first run old_turn turn lines at line answers whole so_far more adds next_turn =
-    let next = adds so_far.course so_far.taken in
+phases_next workers first run old_turn turn lines at line answers whole added so_far more adds end next_turn =
     record {
       within = omega (arith, more);
       phase = suc so_far.phase;
       course = so_far.course;
       replays =
-          rw (next.1, take_more lines at line more)
-          (ends so_far.phase (take at lines) answers so_far.course (get_or lines at line) next.0 so_far.replays next.2);
+          rw (adds, take_more lines at line more)
+          (ends so_far.phase (take at lines) answers so_far.course (get_or lines at line) added so_far.replays
+          (end so_far.course so_far.taken));
       taken = so_far.taken;
       good = so_far.good;
       numbered = subst (AreFirst lines workers) (sym next_turn.first) so_far.numbered;

@@ -1,7 +1,9 @@
-use Rattle.std.proofs.Common.{subst, arith, List, ℕ}
+use Rattle.std.proofs.Common.{subst, arith, List, [], ℕ, sym, ◌∙◌}
 use Rattle.std.proofs.lemmas.Result.{err_from_is_err_and}
 use Rattle.ms_trace.specs.Faults.{BlamesText}
 use Rattle.ms_trace.specs.Spelling.{ReadsAs}
+use Rattle.ms_report.specs.AnswerText.{AnswerTextView, Tells, no_answer}
+use Rattle.ms_report.proofs.ReplyLemmas.{tells_none}
 use Rattle.metarun.proofs.InputLemmas.{blames_whole, is_whole}
 use Rattle.metarun.proofs.SessionLemmas.{run_outputs}
 use Rattle.metarun.proofs.session.answer_to.Goals as goal
@@ -23,7 +25,12 @@ pub returns-clause-ok : goal.returns-clause-ok
 returns-clause-ok g c =
     let length_is = c.in_ok-text.text.ok.0 in
     let reads = subst (λ (bytes : List ℕ). ReadsAs bytes c.in_ok-trace.trace) c.deref.ensures.value
-    c.in_ok-trace.ensures.reads in (
+    c.in_ok-trace.ensures.reads in
+    let asked = c.args.options.now in
+    let told = c.in_ok-replay_into.ensures.answers (no_answer asked.addresses asked.detail asked.settings) []
+    (subst (λ (text : AnswerTextView). Tells (no_answer asked.addresses asked.detail asked.settings) text [])
+    (sym c.new-answers.ensures) (tells_none asked.addresses asked.detail asked.settings)) in
+    let output = c.into_text.ensures ∙ told.1.text in (
       c.in_ok-text.text.items,
       is_whole _ _ c.in_ok-text.text.items c.in_ok-trace.trace (record {
         beginning = c.in_ok-text.ensures.bytes;
@@ -32,12 +39,11 @@ returns-clause-ok g c =
       }) reads,
       record {
         trace = c.in_ok-trace.trace;
-        answers = c.in_ok-replies.replies.answers.items;
+        answers = told.0;
         reads = reads;
-        own = c.in_ok-replies.ensures.own;
-        detailed = c.in_ok-replies.ensures.detailed;
-        output_is = c.in_ok-lines.ensures;
-        run = run_outputs _ c.args.options.now _ _ _ _ c.in_ok-lines.ensures c.in_ok-replies.ensures.detailed
-            c.in_ok-replies.ensures.run;
+        own = told.2.own;
+        detailed = told.2.detailed;
+        output_is = output;
+        run = run_outputs _ asked _ _ _ _ output told.2.detailed told.2.run;
       },
     )

@@ -1,8 +1,7 @@
 use Rattle.std.proofs.Common.{◌∙◌}
 use Rattle.std.proofs.lemmas.Result.{on_ok_weaker}
-use Rattle.ms_base.specs.State.{empty_machine, limits_of}
-use Rattle.ms_run.proofs.AloneLemmas.{answers_all, counted_if_kept}
-use Rattle.ms_run.proofs.DetailLemmas.{none_detailed}
+use Rattle.ms_base.specs.State.{limits_of}
+use Rattle.ms_run.proofs.AloneLemmas.{all_answered, counted_if_kept}
 use Rattle.ms_run.proofs.alone.answer_alone.Goals as goal
 
 pub answer_lines-requires : goal.answer_lines-requires
@@ -14,13 +13,8 @@ answer_lines-requires g c = record {
       (c.is_some.ensures ∙ c.in_ok-run.ensures.kept ∙ full);
 }
 
-pub returns-clause-run : goal.returns-clause-run
-returns-clause-run g c = on_ok_weaker c.answer_lines.result (λ answered.
-    answers_all (empty_machine (limits_of c.args.settings)) _ _ c.args.lines.now _ _ c.in_ok-run.ensures.taken
-    c.requires answered)
+pub returns : goal.returns
+returns g c = on_ok_weaker c.answer_lines.result (λ answered.
+    all_answered g.S.AnswerSink.took (limits_of c.args.settings) c.args.detail c.args.lines.now _ _ c.args.sink.now
+    c.answer_lines.new.sink c.in_ok-run.ensures.taken answered)
     c.answer_lines.ensures.answers
-
-pub returns-clause-detailed : goal.returns-clause-detailed
-returns-clause-detailed g c = on_ok_weaker c.answer_lines.result (λ detailed.
-    detailed (none_detailed c.args.detail c.args.answers.now.items c.requires))
-    c.answer_lines.ensures.detailed

@@ -1,6 +1,5 @@
 use Rattle.std.proofs.Common.{refl, ◌∙◌, sym}
 use Rattle.ms_run.proofs.AloneLemmas.{step_answered}
-use Rattle.ms_run.proofs.DetailLemmas.{one_detailed}
 use Rattle.ms_run.proofs.metered.StepUseLemmas.{counted_on, counted_use}
 use Rattle.ms_run.proofs.alone.answer_line.Goals as goal
 
@@ -12,8 +11,8 @@ raise-requires g c = λ kept.
 
 pub returns-clause-answered : goal.returns-clause-answered
 returns-clause-answered g c =
-    step_answered c.args.run.now _ c.args.line.now c.in-Step.step _ c.args.answers.now.items _ c.in-Step.is
-    c.in_ok-push.ensures.items refl refl c.step-reply.ensures.step c.raise.ensures.peaks
+    step_answered g.S.AnswerSink.took c.args.detail c.args.run.now _ c.args.line.now c.in-Step.step _ c.args.sink.now
+    c.put.new.self c.in-Step.is c.in_ok-put.ensures refl refl c.step-reply.ensures.step c.raise.ensures.peaks
 
 pub returns-clause-counted : goal.returns-clause-counted
 returns-clause-counted g c =
@@ -21,7 +20,3 @@ returns-clause-counted g c =
     (counted_use c.args.counts c.args.detail c.args.run.now _ c.in-Step.step c.step-reply.result c.used_by-before.result
     c.used_by-after.result _ c.requires c.step-reply.ensures.step c.step-reply.ensures.good c.used_by-before.ensures
     c.used_by-after.ensures c.used_by-before.type_inv refl) c.raise.ensures.kept
-
-pub returns-clause-detailed : goal.returns-clause-detailed
-returns-clause-detailed g c =
-    one_detailed c.args.detail c.args.answers.now.items _ _ c.in_ok-push.ensures.items tt

@@ -7,29 +7,25 @@ use Rattle.ms_run.proofs.alone.answer_lines.Goals as goal
 
 pub loop-line-init : goal.loop-line-init
 loop-line-init g c = record {
-  answers = none_answered c.args.run.now c.args.answers.now.items;
+  answers = none_answered g.S.AnswerSink.took c.args.detail c.args.run.now c.args.sink.now;
   counted = c.requires;
-  detailed = λ before. before;
 }
 
 pub loop-line-preserved : goal.loop-line-preserved
 loop-line-preserved g c = record {
-  answers = one_more_answered _ _ _ c.args.lines.now c.loop-line.line-index _ _ _ _ c.loop-line.invariant.answers
+  answers = one_more_answered g.S.AnswerSink.took c.args.detail _ _ _ c.args.lines.now c.loop-line.line-index _
+      c.args.sink.now c.loop-line.sink c.answer_line.new.sink c.loop-line.invariant.answers
       c.loop-line-test.true c.in_ok-answer_line.ensures.answered;
   counted = c.in_ok-answer_line.ensures.counted;
-  detailed = λ before. c.in_ok-answer_line.ensures.detailed (c.loop-line.invariant.detailed before);
 }
 
 pub returns-clause-answers : goal.returns-clause-answers
 returns-clause-answers g c =
     let ends : c.loop-line.line-index ≡ length c.args.lines.now =
     omega (arith, c.loop-line-test.false, c.loop-line.auto.line-index-end) in
-    subst (λ (lines : List Line). HasAnswered c.args.run.now lines c.args.answers.now.items c.loop-line.answers.items
-    c.loop-line.run)
+    subst (λ (lines : List Line). HasAnswered g.S.AnswerSink.took c.args.detail c.args.run.now lines c.args.sink.now
+    c.loop-line.sink c.loop-line.run)
     (ap (λ (n : ℕ). take n c.args.lines.now) ends ∙ take-length c.args.lines.now) c.loop-line.invariant.answers
 
 pub returns-clause-counted : goal.returns-clause-counted
 returns-clause-counted g c = c.loop-line.invariant.counted
-
-pub returns-clause-detailed : goal.returns-clause-detailed
-returns-clause-detailed g c = c.loop-line.invariant.detailed

@@ -1,8 +1,8 @@
-use Rattle.std.proofs.Common.{arith, subst, sym}
+use Rattle.std.proofs.Common.{arith, append-nil, [], subst, sym}
 use Rattle.ms_base.specs.Good.{IsGood}
 use Rattle.ms_run.proofs.replays.ReplayLemmas.{phases_start, steps_there, stops_next, phases_more, phases_next}
 use Rattle.ms_run.proofs.replays.ReplayLemmas.{phases_end}
-use Rattle.ms_run.proofs.DetailLemmas.{none_detailed}
+use Rattle.ms_run.proofs.DetailLemmas.{none_detailed, one_detailed}
 use Rattle.ms_run.proofs.replaying.answer_phases.Goals as goal
 
 pub loop-at-init : goal.loop-at-init
@@ -33,12 +33,14 @@ loop-at-preserved-then-at-lines g c =
     let more =
     phases_more _ _ _ _ c.loop-at.turn _ c.args.lines.now c.loop-at.at c.steps_first-count.result _ _
     c.loop-at.invariant.phases c.steps_first-count.ensures.within c.in_ok-run-2.ensures.phase c.in_ok-run-2.ensures.turn in
+    let told = c.in_ok-end_phase.ensures.answered c.run_phase.new.answers []
+    (sym (append-nil c.run_phase.new.answers.items)) in
     record {
-      phases = phases_next _ _ _ _ _ c.args.lines.now _ _ _ _ more c.if-at-lines.true
-          c.in_ok-end_phase.ensures.answered c.in_ok-end_phase.ensures.turn;
+      phases = phases_next _ _ _ _ _ c.args.lines.now _ _ _ _ told.0 more c.if-at-lines.true told.1 told.3
+          c.in_ok-end_phase.ensures.turn;
       kept = c.in_ok-run-2.ensures.kept;
       used = c.in_ok-run-2.ensures.used;
-      detailed = c.in_ok-end_phase.ensures.detailed
+      detailed = one_detailed c.args.detail c.run_phase.new.answers.items _ told.0 told.1 told.2
           (c.in_ok-run-2.ensures.detailed c.loop-at.invariant.detailed);
     }
 

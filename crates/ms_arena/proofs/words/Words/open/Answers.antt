@@ -1,23 +1,15 @@
-use Rattle.std.proofs.Common.{◌/◌, ◌∙◌, arith, inl, inr}
-use Rattle.std.proofs.lemmas.Bool.{cases_eq}
+-- A run that lies in one stretch.
+use Rattle.std.proofs.Common.{arith}
 use Rattle.ms_arena.proofs.words.Words.open.Goals as goal
 
-pub loop-stretch-preserved : goal.loop-stretch-preserved
-loop-stretch-preserved c =
-    let so_far = c.loop-stretch.invariant in
+pub returns-else-end-stretch : goal.returns-else-end-stretch
+returns-else-end-stretch c =
     let opens = c.open_in.ensures.opens in
-    let stretch = c.loop-stretch.stretch in
+    let low_enough = c.if-end-stretch.false in
     record {
-      zero = λ word low high below. elim (cases_eq (word / 2048) stretch) [
-        | inl same ↦ opens.zero word same low high
-        | inr differ ↦ opens.elsewhere word differ ∙ so_far.zero word low high (omega (arith, below, differ))
-      ];
-      here = λ word low high below. elim (cases_eq (word / 2048) stretch) [
-        | inl same ↦ opens.here word same
-        | inr differ ↦ opens.there word (so_far.here word low high (omega (arith, below, differ)))
-      ];
-      there = λ word there. opens.there word (so_far.there word there);
-      before = λ word low. opens.before word low ∙ so_far.before word low;
-      after = λ word high. opens.after word high ∙ so_far.after word high;
-      room = omega (arith, so_far.room, c.open_in.ensures.room, c.loop-stretch.auto.stretch);
+      zero = λ word low high. opens.zero word (omega (arith, low, high, low_enough)) low high;
+      here = λ word low high. opens.here word (omega (arith, low, high, low_enough));
+      there = λ word there. opens.there word there;
+      before = λ word low. opens.before word low;
+      after = λ word high. opens.after word high;
     }

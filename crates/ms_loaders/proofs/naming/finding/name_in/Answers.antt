@@ -17,4 +17,5 @@ pub returns-then-other-block-2-clause-named : goal.returns-then-other-block-2-cl
 returns-then-other-block-2-clause-named c =
     sym (c.loop-name.invariant c.in-Some.name.now)
     ∙ ap (list_any (names_block c.in-Some.name.now c.args.block)) c.in-Some.ensures.steps
-    ∙ its_here c.in-Some.name.now c.args.block c.in-Some.other.now c.next.new.self c.if-other-block.true c.if-other-block-2.true
+    ∙ its_here c.in-Some.name.now c.args.block c.in-Some.small.now c.next.new.self
+    (rw c.block-other.ensures at c.if-other-block.true) (rw c.block-other.ensures at c.if-other-block-2.true)

@@ -1,6 +1,6 @@
 use Rattle.std.proofs.Common.{◌≡◌, ℕ, ◌+◌, ◌-◌, ◌*◌, ◌/◌, ◌<◌, ◌≤◌}
 use Rattle.ms_arena.specs.Words.{WordsView, IsThere, value_at}
-use Rattle.ms_arena.proofs.words.Words.open.Given as goal
+use Rattle.ms_arena.proofs.words.Words.open_across.Given as goal
 
 -- The words of the stretches so far are opened, and the others stay.
 pub record OpensBelow (old : WordsView) (start end stretch : ℕ) (new : WordsView) : Type 0 where

@@ -1,0 +1,137 @@
+//! The text of the answers to a trace, put together as they come.
+//!
+//!     Answer ── push ──> its line, its report ──> the text
+//!                  `──> refusals so far, for the reports after it
+//!
+//! No answer has to be kept until all are there. Kept true: no more answers are counted than the text has
+//! bytes, so no count wraps. Stands on `reply_lines`. Takes memory for the text alone.
+ghost use Rattle.std.specs.Prelude.{◌≡◌, ◌++◌, ◌∷◌, [], List, IfOk, OnErr, OnOk, string_bytes};
+ghost use Rattle.ms_loaders.specs.declared.replies.Answer.{Answer as AnswerOf};
+ghost use Rattle.ms_report.specs.AnswerText.{AnswerTextView, Tells, no_answer};
+ghost use Rattle.ms_report.specs.ReplyLines.{answers_text};
+
+use crate::refused::{NONE, Refusals, count};
+use crate::reply_lines::push_answer;
+use ms_base::Settings;
+use ms_loaders::{Answer, AnswerSink, Detail, Replies};
+use std::alloc::{AllocError, Global};
+use std::marker::Model;
+
+/// A line for each answer that was put, in their order: the number of the trace's line, a space, the
+/// reply; after an answer with totals comes their report. This project's choice.
+#[derive(Drop)]
+pub struct AnswerText {
+    // The lines and reports so far.
+    text: String,
+    // The refusals so far, which full reports tell.
+    refusals: Refusals,
+    // Whether a line tells where a block starts.
+    addresses: bool,
+    // With how much detail reports are told.
+    detail: Detail,
+    // The settings of the run.
+    settings: Settings,
+}
+
+impl Model for AnswerText {
+    ghost use Rattle.std.specs.Prelude.{◌+◌, length, string_bytes};
+    ghost use Rattle.ms_report.specs.AnswerText.{AnswerTextView};
+    ghost use Rattle.ms_report.specs.Refused.{AreFew};
+
+    ghost Value = { AnswerTextView };
+
+    ghost view = { λ a. record {
+      text = string_bytes a.text;
+      refusals = a.refusals;
+      addresses = a.addresses;
+      detail = a.detail;
+      settings = a.settings;
+    } };
+
+    ghost invariant = { λ a. AreFew (length (string_bytes a.text) + 1) a.refusals };
+}
+
+impl AnswerText {
+    /// Makes the text of no answer. Where a block starts, a word number, is told only if addresses are asked
+    /// for, and reports are told with as much detail as is asked for; the settings are those of the run.
+    /// Takes no memory yet.
+    pub fn new(alloc: Global, addresses: bool, detail: Detail, settings: Settings) -> AnswerText
+        ensures { result ≡ no_answer addresses detail settings }
+    {
+        AnswerText {
+            text: String::new(alloc),
+            refusals: NONE,
+            addresses,
+            detail,
+            settings,
+        }
+    }
+
+    /// Appends the line of one answer more, and its report, with the refusals of the answers before it. An
+    /// error means that a growth was refused; then the text is that of no answer. Takes memory.
+    #[inline(always)]
+    pub fn push(&mut self, answer: &Answer) -> Result<(), AllocError>
+        ensures told { OnOk result ((first : AnswerTextView) (before : List AnswerOf) → Tells first self.old before
+            → Tells first self.new (before ++ answer.now ∷ [])) }
+        ensures emptied { OnErr result
+            (self.new ≡ no_answer self.old.addresses self.old.detail self.old.settings) }
+    {
+        let pushed = push_answer(
+            &mut self.text,
+            self.addresses,
+            self.detail,
+            &self.settings,
+            &self.refusals,
+            answer,
+        );
+        match pushed {
+            Ok(()) => {
+                count(&mut self.refusals, answer.reply);
+                Ok(())
+            }
+            Err(error) => {
+                self.text.clear();
+                self.refusals = NONE;
+                Err(error)
+            }
+        }
+    }
+
+    /// Gives the text. Takes no memory.
+    pub fn into_text(self) -> String
+        ensures { string_bytes result ≡ self.text }
+    {
+        self.text
+    }
+}
+
+impl AnswerSink for AnswerText {
+    ghost took = { Tells };
+
+    #[inline(always)]
+    fn put(&mut self, answer: Answer) -> Result<(), AllocError> {
+        self.push(&answer)
+    }
+}
+
+/// Writes a line for each answer, in their order: the number of the trace's line, a space, the
+/// reply. Where a block starts, a word number, is told only if addresses are asked for. After an
+/// answer with totals comes their report, with as much detail as is asked for; the settings are
+/// those of the run, and the answers before it are those in which refused lines are counted. Takes
+/// memory for the text; an error means that a growth was refused. This project's choice.
+pub fn lines(
+    alloc: Global,
+    replies: &Replies,
+    addresses: bool,
+    detail: Detail,
+    settings: &Settings,
+) -> Result<String, AllocError>
+    ensures { IfOk result (λ text. string_bytes text
+        ≡ answers_text addresses detail settings.now replies.now.answers.items) }
+{
+    let mut text = AnswerText::new(alloc, addresses, detail, *settings);
+    for answer in &replies.answers {
+        text.push(answer)?;
+    }
+    Ok(text.into_text())
+}

@@ -1,0 +1,37 @@
+use Rattle.std.proofs.Common.{arith, List, subst}
+use Rattle.ms_base.specs.State.{empty_machine, limits_of}
+use Rattle.ms_trace.specs.declared.trace.Line.{Line}
+use Rattle.ms_run.specs.Course.{begun}
+use Rattle.ms_run.specs.Replay.{Answers, IsReplay}
+use Rattle.ms_run.proofs.replays.ReplayLemmas.{alone_replays}
+use Rattle.ms_run.proofs.replaying.replay_into.Goals as goal
+
+pub returns-then-settings-ne1-clause-answers : goal.returns-then-settings-ne1-clause-answers
+returns-then-settings-ne1-clause-answers g c = λ first said put. (
+  c.in_ok-replies.replies.answers.items,
+  c.in_ok-put_all.ensures first said put,
+  record {
+    own = subst (λ (l : List Line).
+        IsReplay (limits_of c.args.settings) c.args.settings.workers l c.in_ok-replies.replies.answers.items)
+        c.as_slice-lines.ensures c.in_ok-replies.ensures.own;
+    run = λ one. absurd (c.if-settings-ne1.true one);
+    detailed = c.in_ok-replies.ensures.detailed;
+  },
+)
+
+pub returns-clause-answers : goal.returns-clause-answers
+returns-clause-answers g c = λ first said put.
+    let told = c.in_ok-answer_alone.ensures first said put in (
+      told.0,
+      told.2,
+      record {
+        own = alone_replays c.args.settings c.args.trace.now.lines _ told.0
+            (let one = c.if-settings-ne1.false in omega (arith, one)) c.as_slice-lines.ensures (told.1, told.3);
+        run = λ one. (
+          told.1,
+          subst (λ (l : List Line). Answers (begun (empty_machine (limits_of c.args.settings))) l told.0 told.1)
+              c.as_slice-lines.ensures told.3,
+        );
+        detailed = told.4;
+      },
+    )
