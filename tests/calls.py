@@ -36,6 +36,7 @@ def sums_line(about, name, **sums):
 
 # Lines that stand in a row, in this order among others, worked by hand.
 SAID = {
+    "blocks": ("reserve all Err(OutOfMemory)",),
     "tree": ("count (9, 1)", "count (10, 0)", "count (11, 1)", "count (12, 1)", "count (11, 1)", "count (12, 0)",
              "count (10, 1)", "count (8, 0)", "count (9, 0)"),
     "arena": ("write (3999, Ok(()))", "read (1, Ok(0))", "read (3999, Ok(7))",

@@ -1,6 +1,6 @@
 -- What `Books::take` and `Books::grow` make of an allocation as a whole. `start_in_taken`,
 -- `start_in_grown` and `Arena::alloc` use it.
-use Rattle.std.proofs.Common.{◌≡◌, ℕ, Bool, Result, Ok, Err, List, refl, sym, ap, ◌∙◌, subst, arith, replicate}
+use Rattle.std.proofs.Common.{◌≡◌, ℕ, Bool, Result, Ok, Err, List, refl, ap, ◌∙◌, subst, arith}
 use Rattle.std.specs.Result.{IfOk, IfErr}
 use Rattle.ms_base.specs.declared.policy.Policy.{Policy}
 use Rattle.ms_base.specs.declared.kind.Kind.{Kind}
@@ -10,10 +10,8 @@ use Rattle.ms_base.specs.declared.refusal.Refusal.{Refusal}
 use Rattle.ms_base.specs.Level.{level_that_holds}
 use Rattle.ms_base.specs.State.{ArenaState}
 use Rattle.ms_base.specs.Asks.{wanted_level}
-use Rattle.ms_base.specs.Names.{with_new}
-use Rattle.ms_base.specs.Place.{placed}
-use Rattle.ms_arena.specs.Arena.{ArenaView, block_at, with_books, with_zeros}
-use Rattle.ms_arena.specs.Alloc.{FindsPlace, GrowRelation, TakeRelation, TakesNew}
+use Rattle.ms_arena.specs.Arena.{block_at, with_books, with_zeros}
+use Rattle.ms_arena.specs.Alloc.{GrowRelation, TakeRelation, TakesNew}
 use Rattle.ms_arena.specs.Books.{AwaitsBlock, BooksView, HasGrown, HasTaken, Leaves, account_in, arena_over, answer_at}
 use Rattle.ms_arena.specs.Books.{arena_then}
 
@@ -55,23 +53,3 @@ grown_leaves grew policy old chunk total may before new after n start grown awai
   space = ap (λ (books : BooksView). books.space) grown.state;
   unchanged = tt;
 }
-
--- A place that was found by an arena's books, once there is room, is one that the arena finds.
-pub finds_from : {S : Type 0} (grew : GrowRelation S) (took : TakeRelation S) (policy : Policy) (old : ArenaView)
-    (made new : BooksView) (kind : Kind) (live rows : List (ℕ × List ℕ)) (n words start : ℕ) (before after : S)
-    → n ≡ words → arena_over made kind live ≡ old → new.owner ≡ made.owner → new.space ≡ made.space
-    → rows ≡ with_new live start (replicate n 0)
-    → FindsPlace grew took policy (arena_over made kind live) n (placed made.state n) before (Ok (block_at start n))
-    (with_zeros (with_books (arena_over made kind live) new.state) start n) after
-    → FindsPlace grew took policy old words (placed old.books words) before (Ok (block_at start n))
-    (arena_over new kind rows) after
-finds_from grew took policy old made new kind live rows n words start before after is same owner space more found =
-    subst (λ (arena : ArenaView). FindsPlace grew took policy arena words (placed arena.books words) before
-    (Ok (block_at start n)) (arena_over new kind rows) after) same
-    (subst (λ (k : ℕ). FindsPlace grew took policy (arena_over made kind live) k (placed made.state k) before
-    (Ok (block_at start n)) (arena_over new kind rows) after) is
-    (subst (λ (arena : ArenaView). FindsPlace grew took policy (arena_over made kind live) n (placed made.state n) before
-    (Ok (block_at start n)) arena after) (sym new_is) found))
-  where
-    new_is : arena_over new kind rows ≡ with_zeros (with_books (arena_over made kind live) new.state) start n
-    new_is = λ i. record { owner = owner i; space = space i; kind = kind; books = new.state; live = more i }

@@ -11,7 +11,7 @@ use Rattle.ms_trace.specs.declared.trace.Command.TheVariants.{Step as Asks}
 use Rattle.ms_trace.specs.declared.trace.Line.{Line}
 use Rattle.ms_loaders.specs.declared.replies.Answer.{Answer}
 use Rattle.ms_loaders.specs.declared.details.Detail.{Detail}
-use Rattle.ms_run.specs.Counting.{AddsEnd, HasAnswered, HasTaken}
+use Rattle.ms_run.specs.Counting.{HasAnswered, HasTaken}
 use Rattle.ms_run.specs.Course.{Course, begun, on_to, passed}
 use Rattle.ms_run.specs.Peaks.{ArePeaksIfKept}
 use Rattle.ms_run.specs.Replay.{Answers, IsDetailed}
@@ -91,22 +91,6 @@ step_answered took detail old new line step answer sink whole asks puts number n
     },
   ),
 )
-
--- A line that asks none is answered.
-pub end_answered : {S : Type 0} (took : S → S → List Answer → Type 0) (detail : Detail) (run : Metered) (line : Line)
-    (sink whole : S) → AddsEnd took detail run line sink whole → HasAnswered took detail run (line ∷ []) sink whole run
-end_answered took detail run line sink whole adds = λ first said put.
-    let told = adds first said put in (
-      told.0 ∷ [],
-      told.1,
-      All-from_recursion (IsDetailed detail) (told.0 ∷ []) (told.2, tt),
-      λ course taken.
-          let ends = told.3 course taken in (
-            course,
-            (course, ends.number, rw ends.no_step (ends.done, refl), ends.report, (refl, refl)),
-            taken,
-          ),
-    )
 
 -- A run that begins has taken the course that begins there.
 pub begins : (run : Metered) (first : Machine) → run.system ≡ first → ArePeaksIfKept (run.system ∷ []) run.peaks

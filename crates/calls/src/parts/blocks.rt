@@ -26,6 +26,7 @@ pub fn tell_all(rt: &HostRuntime) -> io::Result<()> {
         tell_removed(rt, &mut blocks, words);
     }
     line(rt, "blocks reserve", &blocks.reserve(3));
+    line(rt, "blocks reserve all", &blocks.reserve(usize::MAX));
     Ok(())
 }
 

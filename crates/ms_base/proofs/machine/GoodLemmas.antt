@@ -138,7 +138,7 @@ empty_arenas : (kind : Kind) (space : Space) → arena_of space (empty_loader ki
 empty_arenas kind NonClass = refl
 empty_arenas kind Class = refl
 
-empty_is_sound : IsSound empty_arena []
+pub empty_is_sound : IsSound empty_arena []
 empty_is_sound =
     record {
       apart = refl;

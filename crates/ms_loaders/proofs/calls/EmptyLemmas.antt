@@ -1,6 +1,6 @@
 -- A loader with no name, whose arenas are new: it is the new one, and they hold nothing. `Loader::new` and
 -- `Loader::renew` use these.
-use Rattle.std.proofs.Common.{◌≡◌, ℕ, List, [], ◌∙◌, refl, sym, subst, arith, rules}
+use Rattle.std.proofs.Common.{◌≡◌, ℕ, List, [], ◌∙◌, sym, subst, arith, rules}
 use Rattle.std.proofs.lemmas.List.Elements.{All-from_recursion}
 use Rattle.ms_base.specs.declared.kind.Kind.{Kind}
 use Rattle.ms_base.specs.declared.kind.Space.{Space}
@@ -9,6 +9,7 @@ use Rattle.ms_base.specs.declared.span.Block.{Block}
 use Rattle.ms_base.specs.State.{ArenaState}
 use Rattle.ms_base.specs.Good.{IsSound}
 use Rattle.ms_base.specs.Names.{AreNamed}
+use Rattle.ms_base.proofs.machine.GoodLemmas.{empty_is_sound}
 use Rattle.ms_pool.specs.Account.{AccountState, AreChunks}
 use Rattle.ms_arena.specs.Raw.{RawView, IsNewRaw, Holds, RunIsThere}
 use Rattle.ms_loaders.specs.Loader.{new_loader}
@@ -18,14 +19,7 @@ use Rattle.ms_loaders.specs.Naming.{BlockNames}
 -- An arena with nothing is sound, and holds no block.
 pub nothing_held : (account : AccountState) (kind : Kind) (raw : RawView) → IsNewRaw account kind raw → Holds raw []
 nothing_held account kind raw new = record {
-  sound = subst (λ (books : ArenaState). IsSound books []) (sym new.books) (record {
-    apart = refl;
-    long = refl;
-    inside = refl;
-    few = omega arith;
-    tops = refl;
-    kept = λ k h. absurd (omega arith);
-  });
+  sound = subst (λ (books : ArenaState). IsSound books []) (sym new.books) empty_is_sound;
   counted = new.count;
   summed = new.total;
   there = All-from_recursion (RunIsThere raw.words) [] tt;
