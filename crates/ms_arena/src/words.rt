@@ -23,6 +23,9 @@ use std::marker::Model;
 /// The words of a stretch.
 const STRETCH: usize = 2048;
 
+/// For how many places room is made at least.
+const LEAST: usize = 4;
+
 /// Below which the number of places stays: more memory than a process has.
 const MOST: usize = 1 << 32;
 
@@ -88,7 +91,7 @@ impl Words {
         if more <= self.ready {
             return Ok(());
         }
-        self.make_room(alloc, more)
+        self.make_room(alloc, more.max(LEAST))
     }
 
     /// Makes room for so many places more; the words stay.

@@ -10,7 +10,7 @@
 //! Making room for a name takes memory, so it is done before the arena is asked; the room is then held
 //! until the block is known, and the name enters it with no second search. Where the arena refuses, no
 //! name was ever entered, and the room stays for a later one.
-ghost use Rattle.std.specs.Prelude.{◌≡◌, ◌<◌, IfOk, IfNone, OnOk, [], nat_eq};
+ghost use Rattle.std.specs.Prelude.{◌≡◌, ◌<◌, IfOk, IfNone, OnErr, OnOk, [], nat_eq};
 ghost use Rattle.std.specs.Map.{lookup};
 ghost use Rattle.ms_base.specs.Names.{AreNamed, named, without};
 ghost use Rattle.ms_arena.specs.Raw.{raw_account};
@@ -22,13 +22,16 @@ mod finding;
 mod small_block;
 
 use ms_arena::{RawArena, wanting_room};
-use ms_base::{Block, Refusal};
+use ms_base::{Block, Kind, Refusal};
 use ms_pool::ChunkSource;
 use small_block::SmallBlock;
-use std::alloc::Global;
+use std::alloc::{AllocError, Global};
 use std::collections::HashMap;
 use std::collections::hash_map::Entry;
 use std::marker::Model;
+
+/// For how many names room is made at once for a loader that mostly has many.
+const FIRST_NAMES: usize = 28;
 
 /// A name that was found, and its block.
 #[derive(Clone, Copy, Drop)]
@@ -81,6 +84,19 @@ impl Names {
     /// Tells for how many names there is memory.
     pub fn capacity(&self) -> usize {
         self.blocks.capacity()
+    }
+
+    /// Makes room for the first names at once, where a loader of that kind mostly has many; the names stay.
+    /// Refused only where there is no name. Takes memory.
+    #[inline(always)]
+    fn make_first(&mut self, kind: Kind) -> Result<(), AllocError>
+        ensures unchanged { self.new ≡ self.old }
+        ensures none { OnErr result (self.old.entries ≡ []) }
+    {
+        if !self.blocks.is_empty() || kind == Kind::Hidden || kind == Kind::Reflection {
+            return Ok(());
+        }
+        self.blocks.reserve(FIRST_NAMES)
     }
 
     /// Tells which block has a name, if one has. Takes no memory.
@@ -159,6 +175,9 @@ pub fn allocate_in<S: ChunkSource>(
         arena.old name words source.old result names.new.entries arena.new source.new }
     ensures chunks { OnOk result (AreChunks arena.new.space arena.new.books.chunks) }
 {
+    if names.make_first(arena.kind()).is_err() {
+        return Err(wanting_room(words));
+    }
     match names.blocks.entry(name) {
         Ok(Entry::Vacant(slot)) => {
             let block = arena.alloc(source, words)?;

@@ -24,6 +24,7 @@ ghost use Rattle.ms_pool.specs.Keeping.{IsCounted, IsKept, ledger_of};
 
 use crate::account::Account;
 use crate::lent::Lent;
+use crate::spare::Spare;
 use crate::trees::Trees;
 use ms_base::{Policy, Refusal, SLOTS, Settings, Space, granule};
 use ms_commit::Nodes;
@@ -65,6 +66,8 @@ pub(crate) struct Lender {
     pub(crate) class_opened: u32,
     /// How often each refusal was given.
     pub(crate) counts: Counts,
+    /// The list of a closed account, for the next one.
+    pub(crate) spare: Spare,
 }
 
 impl Lender {
@@ -96,6 +99,7 @@ impl Lender {
                 grow_room: 0,
                 open_ids: 0,
             },
+            spare: Spare::new(alloc),
         })
     }
 
@@ -149,7 +153,7 @@ impl Lender {
         Account {
             owner: self.given,
             space,
-            chunks: Vec::new(self.alloc),
+            chunks: self.spare.take(self.alloc),
         }
     }
 

@@ -17,6 +17,7 @@ mod mapping;
 mod pool;
 mod search;
 mod source;
+mod spare;
 mod totals;
 mod trees;
 

@@ -127,7 +127,8 @@ impl Pool {
         requires counted { 0 < opened_in self.old account.space }
         ensures { Closed self.old account self.new }
     {
-        self.lender.close(&account)
+        self.lender.close(&account);
+        self.lender.spare.keep(account);
     }
 
     /// Takes all chunks of the accounts of both spaces back, by one event; the first is not the
@@ -139,6 +140,8 @@ impl Pool {
         ensures { ClosedBoth self.old account class_account self.new }
     {
         self.lender.close_both(&account, &class_account);
+        self.lender.spare.keep(account);
+        self.lender.spare.keep(class_account);
     }
 
     /// Drops the nodes that hold no chunk, their granules with them, and answers how many they

@@ -3,7 +3,7 @@
 use Rattle.std.proofs.Common.{◌≡◌, List, [], ◌∷◌, ◌++◌, Option, None, Box, Global, sym, subst}
 use Rattle.std.specs.Prelude.{IfSome}
 use Rattle.std.specs.List.{All, AllByRecursion}
-use Rattle.std.proofs.lemmas.List.Elements.{All-append, All-from_recursion, All-nil}
+use Rattle.std.proofs.lemmas.List.Elements.{All-append, All-from_recursion}
 use Rattle.ms_trace.specs.declared.trace.Line.{Line}
 use Rattle.ms_loaders.specs.declared.details.Detail.{Detail}
 use Rattle.ms_loaders.specs.declared.totals.Totals.{Totals}
@@ -17,12 +17,11 @@ plain detail answer none =
     subst (λ (report : Option (Box Totals Global)). IfSome report (λ totals. HasDetail detail totals.value)) (sym none)
     tt
 
-pub one_detailed : (detail : Detail) (answers whole : List Answer) (answer : Answer) → whole ≡ answers ++ answer ∷ []
-    → IsDetailed detail answer → All (IsDetailed detail) answers → All (IsDetailed detail) whole
-one_detailed detail answers whole answer is its so_far =
-    subst (λ (l : List Answer). All (IsDetailed detail) l) (sym is)
-    (All-append (IsDetailed detail) answers (answer ∷ []) so_far
-    (All-from_recursion (IsDetailed detail) (answer ∷ []) (its, tt)))
+pub one_detailed : (detail : Detail) (answers : List Answer) (answer : Answer) → IsDetailed detail answer
+    → All (IsDetailed detail) answers → All (IsDetailed detail) (answers ++ answer ∷ [])
+one_detailed detail answers answer its so_far =
+    All-append (IsDetailed detail) answers (answer ∷ []) so_far
+    (All-from_recursion (IsDetailed detail) (answer ∷ []) (its, tt))
 
 -- Those of lines that ask steps.
 plain_by : (detail : Detail) (lines : List Line) (answers : List Answer) (said : List Said)
@@ -36,14 +35,7 @@ plain_by detail (line ∷ lines) (answer ∷ answers) [] told = absurd told
 plain_by detail (line ∷ lines) (answer ∷ answers) (s ∷ said) told =
     (plain detail answer told.3, plain_by detail lines answers said told.4)
 
-pub said_detailed : (detail : Detail) (lines : List Line) (answers added whole : List Answer) (said : List Said)
-    → whole ≡ answers ++ added → AreSaid lines added said → All (IsDetailed detail) answers
-    → All (IsDetailed detail) whole
-said_detailed detail lines answers added whole said is told so_far =
-    subst (λ (l : List Answer). All (IsDetailed detail) l) (sym is)
-    (All-append (IsDetailed detail) answers added so_far
-    (All-from_recursion (IsDetailed detail) added (plain_by detail lines added said told)))
-
-pub none_detailed : (detail : Detail) (answers : List Answer) → answers ≡ [] → All (IsDetailed detail) answers
-none_detailed detail answers none =
-    subst (λ (l : List Answer). All (IsDetailed detail) l) (sym none) (All-nil (IsDetailed detail))
+pub said_detailed : (detail : Detail) (lines : List Line) (added : List Answer) (said : List Said)
+    → AreSaid lines added said → All (IsDetailed detail) added
+said_detailed detail lines added said told =
+    All-from_recursion (IsDetailed detail) added (plain_by detail lines added said told)

@@ -20,7 +20,7 @@ use Rattle.ms_shared.specs.SeatView.{LockState}
 use Rattle.ms_run.specs.Acts.{events_by}
 use Rattle.ms_run.specs.Joined.{IsMadeFrom, seat_of}
 use Rattle.ms_run.specs.Own.{Said, own_said, own_of, own_in, OwnRun, ArePurged}
-use Rattle.ms_run.specs.Counting.{GoesOnBy}
+use Rattle.ms_run.specs.Counting.{GoesOnBy, GoesOnTo}
 use Rattle.ms_run.specs.Course.{Course, on_to, passed}
 use Rattle.ms_run.specs.Peaks.{ArePeaksIfKept}
 use Rattle.ms_run.specs.Replay.{AreSaid, IsOneRun, IsPhase, GoesOn, runs}
@@ -34,7 +34,6 @@ use Rattle.ms_run.specs.Shares.{IsGathered, AreSteps}
 use Rattle.std.specs.Prelude.{slice_index_or}
 use Rattle.ms_run.proofs.sharing.StandByLemmas.{same_merged, all_placed}
 use Rattle.ms_run.specs.Turn.{TurnState, place_in, place_of, worker_in, IsSameTurn}
-use Rattle.ms_run.proofs.replays.ReplayLemmas.{AddsPhase}
 use Rattle.ms_run.proofs.replays.StepReplayLemmas.{AsksStep, steps_replay}
 use Rattle.ms_run.specs.declared.share.Task.{Task}
 use Rattle.ms_run.specs.declared.share.Share.{Share}
@@ -163,22 +162,15 @@ goes_on worker lines added course new its = record {
   good = its.good;
 }
 
--- What has been answered, with the answers of a phase.
-abbrev pub AddsAnswers : (Option ℕ → ℕ) → List Line → List Answer → List Answer → Machine → Machine → Type 0
-AddsAnswers worker lines before after old new =
-    (added : List Answer) × (after ≡ before ++ added) × IsPhase worker old lines added new
-
 -- A run whose system goes through a phase, and whose peaks are raised at its end, goes on.
-pub phase_added : (worker : Option ℕ → ℕ) (lines : List Line) (before after : List Answer) (old new : Metered)
-    → AddsAnswers worker lines before after old.system new.system
+pub phase_added : (worker : Option ℕ → ℕ) (lines : List Line) (added : List Answer) (old new : Metered)
+    → IsPhase worker old.system lines added new.system
     → ((states : List Machine) → ArePeaksIfKept states old.peaks → ArePeaksIfKept (new.system ∷ states) new.peaks)
-    → AddsPhase worker old lines before after new
-phase_added worker lines before after old new told raised = λ course taken. (
-  told.0,
+    → GoesOnTo worker old lines added new
+phase_added worker lines added old new is raised = λ course taken. (
   on_to new.system course,
-  told.1,
-  goes_on worker lines told.0 course new.system
-      (subst (λ (m : Machine). IsPhase worker m lines told.0 new.system) taken.state told.2),
+  goes_on worker lines added course new.system
+      (subst (λ (m : Machine). IsPhase worker m lines added new.system) taken.state is),
   record {
     state = refl;
     peaks = raised (passed course) taken.peaks;
@@ -186,15 +178,12 @@ phase_added worker lines before after old new told raised = λ course taken. (
 )
 
 -- So does one by whose worker alone the lines are answered.
-pub ended_alone : (worker : Option ℕ → ℕ) (lines : List Line) (before after : List Answer) (old new : Metered)
-    (added : List Answer)
-    → IsGood old.system → IsGood new.system → AreSteps lines → after ≡ before ++ added → GoesOnBy old lines added new
-    → AddsPhase worker old lines before after new
-ended_alone worker lines before after old new added was good steps adds goes = λ course taken.
+pub ended_alone : (worker : Option ℕ → ℕ) (lines : List Line) (old new : Metered) (added : List Answer)
+    → IsGood old.system → IsGood new.system → AreSteps lines → GoesOnBy old lines added new
+    → GoesOnTo worker old lines added new
+ended_alone worker lines old new added was good steps goes = λ course taken.
     let told = goes course taken in (
-      added,
       told.0,
-      adds,
       record {
         replays = λ trace workers first phase earlier said turns so_far.
             steps_replay trace workers first phase worker turns course told.0 earlier lines said added
@@ -203,22 +192,6 @@ ended_alone worker lines before after old new added was good steps adds goes = �
       },
       told.2,
     )
-
--- What merging adds.
-abbrev pub Merges : Place → List Share → List Line → List Answer → List Answer → Type 0
-Merges place others lines before after =
-    (added : List Answer) × (said : List Said) × (after ≡ before ++ added) × AreSaid lines added said
-    × AreMerged place others said
-
-merges_still : (place : Place) (others : List Share) (lines : List Line) (before after : List Answer)
-    → Merges place others lines before after → Merges (place_for place lines) others lines before after
-merges_still place others lines before after told = (
-  told.0,
-  told.1,
-  told.2,
-  told.3,
-  same_merged place others lines told.0 told.1 told.3 told.4,
-)
 
 -- All of a worker's lines go to its share, once it is found which workers have lines.
 same_worker : (old new : TurnState) → IsSameTurn old new → (name : Option ℕ)
@@ -230,24 +203,21 @@ same_worker old new same (Some name) = ap (place_of new)
     ∙ ap (λ (n : ℕ). (slice_index_or old.first name 0 + old.phase) % n) same.workers)
 
 pub ended : (old_turn turn : TurnState) (shared : LockState) (shares others : List Share) (lines : List Line)
-    (before after : List Answer) (loaders : List (ℕ × LoaderView)) (old new : Machine)
+    (added : List Answer) (said : List Said) (loaders : List (ℕ × LoaderView)) (old new : Machine)
     → IsSameTurn old_turn turn
     → old.loaders ≡ states_of loaders → AreDealt (place_for (place_in turn) lines) shared shares lines loaders
     → AllWorked shares others
-    → Merges (place_in turn) others lines before after
+    → AreSaid lines added said → AreMerged (place_in turn) others said
     → ((where_to : Place) → AreApart where_to others → IsGathered where_to others new.loaders) → IsGood new
     → old ≡ machine_of shared.first loaders → AreTogether shared.first loaders → IsMadeFrom shared.first others new
     → new.limits ≡ shared.first.limits → shared.first.limits ≡ old.limits
-    → AddsAnswers (worker_in old_turn) lines before after old new
-ended old_turn turn shared shares others lines before after loaders old new same_turn old_is dealt all merges gathered
-    good machine together made limits same =
+    → IsPhase (worker_in old_turn) old lines added new
+ended old_turn turn shared shares others lines added said loaders old new same_turn old_is dealt all said_are merged
+    gathered good machine together made limits same =
     let place : Place = place_for (place_in turn) lines in
-    let still = merges_still (place_in turn) others lines before after merges in (
-      still.0,
-      still.2,
-      phase_of (worker_in old_turn) (place_of turn) place shared shares others lines still.0 still.1 loaders old new old_is dealt
-          all still.3 still.4 (gathered place (still_apart place shares others lines dealt.apart dealt.tasks all)) good machine
-          together made (limits ∙ same)
-          (all_placed (place_in turn) (λ name. place_of turn (worker_in old_turn name))
-          (same_worker old_turn turn same_turn) lines still.0 still.1 still.3),
-    )
+    phase_of (worker_in old_turn) (place_of turn) place shared shares others lines added said loaders old new old_is
+    dealt all said_are (same_merged (place_in turn) others lines added said said_are merged)
+    (gathered place (still_apart place shares others lines dealt.apart dealt.tasks all)) good machine together made
+    (limits ∙ same)
+    (all_placed (place_in turn) (λ name. place_of turn (worker_in old_turn name))
+    (same_worker old_turn turn same_turn) lines added said said_are)

@@ -1,5 +1,5 @@
 -- The words in use and the peaks, counted on by one worker from step to step.
-use Rattle.std.specs.Prelude.{◌≡◌, ℕ, Bool, true, List, [], ◌∷◌, ◌++◌, IsTrue}
+use Rattle.std.specs.Prelude.{◌≡◌, ℕ, Bool, true, Option, List, [], ◌∷◌, ◌++◌, IsTrue}
 use Rattle.std.specs.List.{All}
 use Rattle.ms_base.specs.declared.step.Step.{Step}
 use Rattle.ms_base.specs.declared.step.Step.TheVariants.{Alloc, Calloc, Unload}
@@ -14,7 +14,7 @@ use Rattle.ms_run.specs.declared.alone.Metered.{Metered}
 use Rattle.ms_run.specs.Course.{Course, passed}
 use Rattle.ms_run.specs.Metering.{used_words_of}
 use Rattle.ms_run.specs.Peaks.{ArePeaksIfKept}
-use Rattle.ms_run.specs.Replay.{Answers, AreKept, IsDetailed, IsEnd, is_full}
+use Rattle.ms_run.specs.Replay.{Answers, AreKept, GoesOn, IsDetailed, IsEnd, is_full}
 
 -- The words in use of the loader whose tops a step may move, and 0 where it moves none.
 abbrev pub used_around : Step → List (ℕ × LoaderState) → ℕ
@@ -42,6 +42,12 @@ abbrev pub GoesOnBy : Metered → List Line → List Answer → Metered → Type
 GoesOnBy old lines answers new =
     (course : Course) → HasTaken course old
     → (later : Course) × Answers course lines answers later × HasTaken later new
+
+-- And it goes on as lines are answered by the workers of a phase, or of a part of one.
+abbrev pub GoesOnTo : (Option ℕ → ℕ) → Metered → List Line → List Answer → Metered → Type 0
+GoesOnTo worker old lines answers new =
+    (course : Course) → HasTaken course old
+    → (later : Course) × GoesOn worker course lines answers later × HasTaken later new
 
 -- Lines are answered: the sink takes the answers, after those that it took since it was first as it was, and reports
 -- have the details that are asked for.

@@ -33,24 +33,6 @@ pub struct Metered {
     pub peaks: Option<Peaks>,
 }
 
-/// Answers the lines in their order, from a system without loaders on, and keeps the answers.
-pub fn answer_all<G: Gate>(
-    alloc: Global,
-    gate: &G,
-    settings: Settings,
-    detail: Detail,
-    lines: &[Line],
-) -> Result<Replies, AllocError>
-    ensures run { IfOk result (λ replies. (last : Course) × Answers
-        (begun (empty_machine (limits_of settings))) lines.now replies.answers.items last) }
-    ensures detailed { IfOk result (λ replies. All (IsDetailed detail) replies.answers.items) }
-{
-    // Room for all answers, so that no push takes memory once a step is done.
-    let mut answers = Vec::with_capacity(alloc, lines.len())?;
-    answer_alone(alloc, gate, settings, detail, lines, &mut answers)?;
-    Ok(Replies { answers })
-}
-
 /// Answers the lines in their order, from a system without loaders on, that goes with them.
 pub fn answer_alone<G: Gate, S: AnswerSink>(
     alloc: Global,

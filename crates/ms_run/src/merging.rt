@@ -1,44 +1,46 @@
 //! Merging the replies of a phase's shares: an answer to each line, in the trace's order.
 //!
-//! Kept true: of each share, as many replies are taken as it had lines so far. Takes memory for the
-//! answers, and for a number for each share; nothing waits.
-ghost use Rattle.std.specs.Prelude.{◌≡◌, ◌<◌, ◌++◌, List, OnOk, Some, vec_len};
+//! Kept true: of each share, as many replies are taken as it had lines so far. Takes memory as the sink
+//! does, and for a number for each share; nothing waits.
+ghost use Rattle.std.specs.Prelude.{◌≡◌, ◌<◌, List, OnOk, Some, vec_len};
 ghost use Rattle.ms_base.specs.declared.step.Step.{Step as Asked};
 ghost use Rattle.ms_base.specs.Request.{loader_of};
 ghost use Rattle.ms_trace.specs.Steps.{step_of};
 ghost use Rattle.ms_loaders.specs.declared.replies.Answer.{Answer};
 ghost use Rattle.ms_run.specs.Replay.{AreSaid};
 ghost use Rattle.ms_run.specs.Own.{Said};
+ghost use Rattle.ms_run.specs.Sink.{PutsAll};
 ghost use Rattle.ms_run.specs.Turn.{shares_in, place_in};
 ghost use Rattle.ms_run.specs.Shares.{AreAnswered, AreMerged, AreSteps};
 
 use crate::share::Share;
 use crate::turn::{Turn, loader_named};
-use ms_loaders::Answer;
+use ms_loaders::{Answer, AnswerSink};
 use ms_trace::{Command, Line};
-use std::alloc::AllocError;
+use std::alloc::{AllocError, Global};
 
-/// Appends an answer to each line, with the reply in its share.
-pub fn merge(
+/// Puts an answer to each line into a sink, with the reply in its share.
+pub fn merge<S: AnswerSink>(
+    alloc: Global,
     turn: &Turn,
     lines: &[Line],
     shares: &Vec<Share>,
-    answers: &mut Vec<Answer>,
+    sink: &mut S,
 ) -> Result<(), AllocError>
     requires count { vec_len shares.now ≡ shares_in turn.now }
     requires answered { AreAnswered (place_in turn.now) shares.now.items lines.now }
     requires steps { AreSteps lines.now }
     ensures { OnOk result ((added : List Answer) × (said : List Said)
-        × (answers.new.items ≡ answers.old.items ++ added) × AreSaid lines.now added said
+        × PutsAll S.took added sink.old sink.new × AreSaid lines.now added said
         × AreMerged (place_in turn.now) shares.now.items said) }
 {
-    let mut taken = vec![in *answers.allocator(); 0; shares.len()]?;
+    let mut taken = vec![in alloc; 0; shares.len()]?;
     for line in lines {
         let place = place_of(turn, line);
         let next = taken[place];
         let reply = shares[place].replies[next];
         taken[place] = next + 1;
-        answers.push(Answer {
+        sink.put(Answer {
             line: line.number,
             reply,
             report: None,

@@ -2,19 +2,17 @@
 //! worker has all lines is answered by the caller, over the system as it is.
 //!
 //!     System ── deal ──> shares ── work_all ──> shares ── gather ──> System
-//!                                                   └──── merge ───> answers
+//!                                                   └──── merge ───> sink
 //!
 //! Kept true: the system is good before and after, and nothing of it is lost between; the phase's
 //! meter moved as its words in use did. Peaks are raised at the end, or line by line by one worker.
 //! Takes memory; waits for the lock and for threads where two
 //! workers have lines.
-ghost use Rattle.std.specs.Prelude.{◌≡◌, ◌++◌, ℕ, List, IsOk, IfOk, IfErr, map, vec_len};
+ghost use Rattle.std.specs.Prelude.{◌≡◌, ℕ, IsOk, IfOk, IfErr, OnOk, map, vec_len};
 ghost use Rattle.std.specs.List.{All};
 ghost use Rattle.ms_base.specs.Good.{IsGood};
-ghost use Rattle.ms_loaders.specs.declared.replies.Answer.{Answer as AnswerOf};
-ghost use Rattle.ms_run.specs.Counting.{HasTaken};
-ghost use Rattle.ms_run.specs.Course.{Course};
-ghost use Rattle.ms_run.specs.Replay.{AreKept, GoesOn, IsDetailed, IsWanting};
+ghost use Rattle.ms_run.specs.Replay.{AreKept, IsWanting};
+ghost use Rattle.ms_run.specs.Sink.{PutsAll, PutsPhase};
 ghost use Rattle.ms_shared.specs.MeterRule.{MeterSeatState};
 ghost use Rattle.ms_run.specs.Joined.{IsMadeFrom};
 ghost use Rattle.ms_run.specs.Shares.{AreApart, AreSteps, IsGathered, Place, StandOver};
@@ -31,15 +29,15 @@ use crate::peaks::raise;
 use crate::share::Share;
 use crate::turn::Turn;
 use crate::working::work_all;
-use ms_loaders::{Answer, Detail, System};
+use ms_loaders::{Answer, AnswerSink, Detail, System};
 use ms_shared::{MeterSeat, SharedPool, UsedMeter};
 use ms_trace::Line;
-use std::alloc::Global;
+use std::alloc::{AllocError, Global};
 use std::sync::Wait;
 use std::thread::Threads;
 
-/// Runs a phase, and appends the answers to its lines.
-pub fn run_phase<R: Threads + Wait + Sync, G: Gate + Sync>(
+/// Runs a phase, and puts the answers to its lines into a sink.
+pub fn run_phase<R: Threads + Wait + Sync, G: Gate + Sync, S: AnswerSink>(
     rt: &R,
     alloc: Global,
     gate: &G,
@@ -47,26 +45,24 @@ pub fn run_phase<R: Threads + Wait + Sync, G: Gate + Sync>(
     detail: Detail,
     lines: &[Line],
     run: Metered,
-    answers: &mut Vec<Answer>,
+    sink: &mut S,
 ) -> Result<Metered, RunFault>
     requires good { IsGood run.system }
     requires used { run.used ≡ used_words_of run.system }
     requires steps { AreSteps lines.now }
     requires kept { AreKept detail run.peaks }
-    ensures phase { IfOk result (λ after. (course : Course) → HasTaken course run
-        → (added : List AnswerOf) × (later : Course)
-        × (answers.new.items ≡ answers.old.items ++ added)
-        × GoesOn (worker_in turn.old) course lines.now added later × HasTaken later after) }
+    ensures phase { IfOk result (PutsPhase S.took detail (worker_in turn.old) run lines.now sink.old sink.new) }
+    ensures good { IfOk result (λ after. IsGood after.system) }
     ensures turn { IsSameTurn turn.old turn.new }
     ensures used { IfOk result (λ after. after.used ≡ used_words_of after.system) }
     ensures kept { IfOk result (λ after. AreKept detail after.peaks) }
     ensures wanting { IfErr result IsWanting }
-    ensures detailed { IfOk result (λ after. All (IsDetailed detail) answers.old.items
-        → All (IsDetailed detail) answers.new.items) }
 {
     turn.activate(lines);
     if turn.shares() == 1 {
         let mut run = run;
+        // Into a list, so that the loop that puts each answer into the sink has one user, and is inlined there.
+        let mut answers = Vec::new(alloc);
         answer_lines(
             alloc,
             gate,
@@ -75,15 +71,26 @@ pub fn run_phase<R: Threads + Wait + Sync, G: Gate + Sync>(
             detail,
             lines,
             &mut run,
-            answers,
+            &mut answers,
         )?;
+        put_all(answers, sink)?;
         return Ok(run);
     }
-    run_shares(rt, alloc, gate, turn, detail, lines, run, answers)
+    run_shares(rt, alloc, gate, turn, detail, lines, run, sink)
+}
+
+/// Puts answers into a sink, in their order.
+fn put_all<S: AnswerSink>(answers: Vec<Answer>, sink: &mut S) -> Result<(), AllocError>
+    ensures { OnOk result (PutsAll S.took answers.items sink.old sink.new) }
+{
+    for answer in answers {
+        sink.put(answer)?;
+    }
+    Ok(())
 }
 
 /// Runs a phase of several workers with lines, each with its share.
-fn run_shares<R: Threads + Wait + Sync, G: Gate + Sync>(
+fn run_shares<R: Threads + Wait + Sync, G: Gate + Sync, S: AnswerSink>(
     rt: &R,
     alloc: Global,
     gate: &G,
@@ -91,22 +98,18 @@ fn run_shares<R: Threads + Wait + Sync, G: Gate + Sync>(
     detail: Detail,
     lines: &[Line],
     run: Metered,
-    answers: &mut Vec<Answer>,
+    sink: &mut S,
 ) -> Result<Metered, RunFault>
     requires good { IsGood run.system }
     requires used { run.used ≡ used_words_of run.system }
     requires steps { AreSteps lines.now }
     requires kept { AreKept detail run.peaks }
     ensures phase { (before : TurnState) → IsSameTurn before turn.now
-        → IfOk result (λ after. (course : Course) → HasTaken course run
-        → (added : List AnswerOf) × (later : Course)
-        × (answers.new.items ≡ answers.old.items ++ added)
-        × GoesOn (worker_in before) course lines.now added later × HasTaken later after) }
+        → IfOk result (PutsPhase S.took detail (worker_in before) run lines.now sink.old sink.new) }
+    ensures good { IfOk result (λ after. IsGood after.system) }
     ensures used { IfOk result (λ after. after.used ≡ used_words_of after.system) }
     ensures kept { IfOk result (λ after. AreKept detail after.peaks) }
     ensures wanting { IfErr result IsWanting }
-    ensures detailed { IfOk result (λ after. All (IsDetailed detail) answers.old.items
-        → All (IsDetailed detail) answers.new.items) }
 {
     let Metered {
         system,
@@ -116,7 +119,7 @@ fn run_shares<R: Threads + Wait + Sync, G: Gate + Sync>(
     let (pool, loaders) = system.into_parts();
     let (shared, shares, meter) = deal(alloc, turn, lines, pool, loaders)?;
     let shares = work_all(rt, alloc, &shared, &meter, used, gate, shares)?;
-    merge(turn, lines, &shares, answers)?;
+    merge(alloc, turn, lines, &shares, sink)?;
     let (system, amount) = end_shares(alloc, shared, shares, meter)?;
     let used = used.wrapping_add(amount);
     raise(&mut peaks, &system, used);

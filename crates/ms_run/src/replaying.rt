@@ -5,7 +5,7 @@
 //!
 //! Kept true: between two phases all is one good system, and each line so far has its answer. Takes
 //! memory; waits as its phases do.
-ghost use Rattle.std.specs.Prelude.{◌≡◌, ◌≤◌, ℕ, IfOk, IfErr, OnOk, Some, None, [], length, take};
+ghost use Rattle.std.specs.Prelude.{◌≡◌, ◌≤◌, ℕ, IfOk, IfErr, OnOk, Some, None, length, take};
 ghost use Rattle.std.specs.Prelude.{slice_get};
 ghost use Rattle.ms_base.specs.State.{empty_machine, limits_of};
 ghost use Rattle.ms_trace.specs.declared.trace.Line.{Line as LineOf};
@@ -15,18 +15,18 @@ ghost use Rattle.ms_run.specs.Counting.{AddsEnd};
 ghost use Rattle.ms_run.specs.Course.{Course, begun};
 ghost use Rattle.ms_run.specs.Metering.{used_words_of};
 ghost use Rattle.ms_run.specs.Replay.{IsReplay, Answers, AreKept, IsDetailed, IsWanting};
-ghost use Rattle.ms_run.specs.Sink.{PutsAll, PutsReplay};
+ghost use Rattle.ms_run.specs.Sink.{PutsPhases, PutsReplay};
 ghost use Rattle.ms_run.specs.Shares.{AreSteps};
 ghost use Rattle.ms_run.specs.Turn.{AreFirst, IsNextTurn};
 
-use crate::alone::{Metered, answer_all, answer_alone, begin_run};
+use crate::alone::{Metered, answer_alone, begin_run};
 use crate::between::answer_between;
 use crate::fault::RunFault;
 use crate::gate::Gate;
 use crate::phase::run_phase;
 use crate::turn::Turn;
 use ms_base::Settings;
-use ms_loaders::{Answer, AnswerSink, Detail, Replies};
+use ms_loaders::{AnswerSink, Detail, Replies};
 use ms_trace::{Command, Line, Trace};
 use std::alloc::{AllocError, Global};
 use std::sync::Wait;
@@ -59,17 +59,15 @@ pub fn replay<R: Threads + Wait + Sync, G: Gate + Sync>(
     ensures no_thread { settings.workers ≡ 1
         → IfErr result (λ fault. fault ≡ RunFault.OutOfMemory) }
 {
-    let lines = trace.lines.as_slice();
-    if settings.workers != 1 {
-        return run_phases(rt, alloc, gate, settings, detail, lines);
-    }
-    let replies = answer_all(alloc, gate, settings, detail, lines)?;
-    Ok(replies)
+    // Room for all answers, so that no push takes memory once a step is done.
+    let mut answers = Vec::with_capacity(alloc, trace.lines.as_slice().len())?;
+    replay_into(rt, alloc, trace, settings, detail, gate, &mut answers)?;
+    Ok(Replies { answers })
 }
 
-/// Replays a trace as `replay` does, and puts the answers into a sink in their order: those of one worker as
-/// they come, so that none is kept. An error leaves in the sink what it leaves. Takes memory, and waits as
-/// `replay` does. This project's choice.
+/// Replays a trace as `replay` does, and puts the answers into a sink in their order, so that none is kept:
+/// those of one worker as they come, and those of a phase of several once it has been worked. An error
+/// leaves in the sink what it leaves. Takes memory, and waits as `replay` does. This project's choice.
 pub fn replay_into<R: Threads + Wait + Sync, G: Gate + Sync, S: AnswerSink>(
     rt: &R,
     alloc: Global,
@@ -86,65 +84,31 @@ pub fn replay_into<R: Threads + Wait + Sync, G: Gate + Sync, S: AnswerSink>(
 {
     let lines = trace.lines.as_slice();
     if settings.workers != 1 {
-        let replies = run_phases(rt, alloc, gate, settings, detail, lines)?;
-        put_all(replies.answers, sink)?;
-        return Ok(());
+        return take_turns(rt, alloc, gate, settings, detail, lines, sink);
     }
     answer_alone(alloc, gate, settings, detail, lines, sink)?;
     Ok(())
 }
 
-/// Puts answers into a sink, in their order.
-fn put_all<S: AnswerSink>(answers: Vec<Answer>, sink: &mut S) -> Result<(), AllocError>
-    ensures { OnOk result (PutsAll S.took answers.items sink.old sink.new) }
-{
-    for answer in answers {
-        sink.put(answer)?;
-    }
-    Ok(())
-}
-
-/// Runs the lines phase by phase, with room for all answers.
-fn run_phases<R: Threads + Wait + Sync, G: Gate + Sync>(
-    rt: &R,
-    alloc: Global,
-    gate: &G,
-    settings: Settings,
-    detail: Detail,
-    lines: &[Line],
-) -> Result<Replies, RunFault>
-    ensures own { IfOk result (λ replies. IsReplay (limits_of settings) settings.workers
-        lines.now replies.answers.items) }
-    ensures detailed { IfOk result (λ replies. All (IsDetailed detail) replies.answers.items) }
-    ensures wanting { IfErr result IsWanting }
-{
-    let mut answers = Vec::with_capacity(alloc, lines.len())?;
-    take_turns(rt, alloc, gate, settings, detail, lines, &mut answers)?;
-    Ok(Replies { answers })
-}
-
 /// Answers the lines phase by phase, by turns from the first phase's on.
-fn take_turns<R: Threads + Wait + Sync, G: Gate + Sync>(
+fn take_turns<R: Threads + Wait + Sync, G: Gate + Sync, S: AnswerSink>(
     rt: &R,
     alloc: Global,
     gate: &G,
     settings: Settings,
     detail: Detail,
     lines: &[Line],
-    answers: &mut Vec<Answer>,
+    sink: &mut S,
 ) -> Result<(), RunFault>
-    requires { answers.old.items ≡ [] }
-    ensures own { OnOk result (IsReplay (limits_of settings) settings.workers
-        lines.now answers.new.items) }
-    ensures detailed { OnOk result (All (IsDetailed detail) answers.new.items) }
+    ensures answers { OnOk result (PutsPhases S.took settings detail lines.now sink.old sink.new) }
     ensures wanting { IfErr result IsWanting }
 {
     let mut turn = Turn::new(alloc, settings, lines)?;
-    answer_phases(rt, alloc, gate, settings, detail, lines, &mut turn, answers)
+    answer_phases(rt, alloc, gate, settings, detail, lines, &mut turn, sink)
 }
 
 /// Answers the lines phase by phase, from a system without loaders on.
-fn answer_phases<R: Threads + Wait + Sync, G: Gate + Sync>(
+fn answer_phases<R: Threads + Wait + Sync, G: Gate + Sync, S: AnswerSink>(
     rt: &R,
     alloc: Global,
     gate: &G,
@@ -152,15 +116,12 @@ fn answer_phases<R: Threads + Wait + Sync, G: Gate + Sync>(
     detail: Detail,
     lines: &[Line],
     turn: &mut Turn,
-    answers: &mut Vec<Answer>,
+    sink: &mut S,
 ) -> Result<(), RunFault>
-    requires none { answers.old.items ≡ [] }
     requires numbered { AreFirst lines.now settings.workers turn.old.first }
     requires workers { turn.old.workers ≡ settings.workers }
     requires phase { turn.old.phase ≡ 0 }
-    ensures own { OnOk result (IsReplay (limits_of settings) settings.workers
-        lines.now answers.new.items) }
-    ensures detailed { OnOk result (All (IsDetailed detail) answers.new.items) }
+    ensures answers { OnOk result (PutsPhases S.took settings detail lines.now sink.old sink.new) }
     ensures wanting { IfErr result IsWanting }
 {
     let mut run = begin_run(alloc, settings, detail)?;
@@ -168,10 +129,10 @@ fn answer_phases<R: Threads + Wait + Sync, G: Gate + Sync>(
     while at < lines.len() {
         let count = steps_first(&lines[at..]);
         let steps = &lines[at..at + count];
-        run = run_phase(rt, alloc, gate, turn, detail, steps, run, answers)?;
+        run = run_phase(rt, alloc, gate, turn, detail, steps, run, sink)?;
         at += count;
         if at < lines.len() {
-            end_phase(alloc, turn, &run, detail, &lines[at], answers)?;
+            end_phase(alloc, turn, &run, detail, &lines[at], sink)?;
             at += 1;
         }
     }
@@ -179,22 +140,21 @@ fn answer_phases<R: Threads + Wait + Sync, G: Gate + Sync>(
 }
 
 /// Ends a phase: the line that asks no step is answered, and the next phase's turn comes.
-fn end_phase(
+fn end_phase<S: AnswerSink>(
     alloc: Global,
     turn: &mut Turn,
     run: &Metered,
     detail: Detail,
     line: &Line,
-    answers: &mut Vec<Answer>,
+    sink: &mut S,
 ) -> Result<(), AllocError>
     requires no_step { step_of line.now.command ≡ None }
     requires used { run.now.used ≡ used_words_of run.now.system }
     requires kept { AreKept detail run.now.peaks }
-    ensures answered { OnOk result (AddsEnd ⟦<Vec<Answer> as AnswerSink>⟧.took detail run.now line.now
-        answers.old answers.new) }
+    ensures answered { OnOk result (AddsEnd S.took detail run.now line.now sink.old sink.new) }
     ensures turn { OnOk result (IsNextTurn turn.old turn.new) }
 {
-    answer_between(alloc, run, Some(run.used), detail, line, answers)?;
+    answer_between(alloc, run, Some(run.used), detail, line, sink)?;
     turn.go_on();
     Ok(())
 }

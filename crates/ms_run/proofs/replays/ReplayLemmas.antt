@@ -1,6 +1,6 @@
 -- A replay phase by phase, and by one worker: each line that asks a step is a phase of its own; for
 -- `replaying`.
-use Rattle.std.proofs.Common.{◌≡◌, ◌≤◌, ◌<◌, ◌+◌, ℕ, Option, Some, None, List, [], ◌∷◌}
+use Rattle.std.proofs.Common.{◌≡◌, ◌≤◌, ◌<◌, ◌+◌, ℕ, Some, None, List, [], ◌∷◌}
 use Rattle.std.proofs.Common.{◌++◌, length, take, drop, ◌-◌, get_or, slice_get, refl, sym, ap, ◌∙◌, subst}
 use Rattle.std.proofs.Common.{arith, suc, ◌%◌}
 use Rattle.ms_base.specs.declared.settings.Settings.{Settings}
@@ -17,10 +17,10 @@ use Rattle.ms_trace.specs.declared.trace.Command.TheVariants.{Step as Asks, Sync
 use Rattle.ms_trace.specs.declared.trace.Line.{Line}
 use Rattle.ms_trace.specs.Steps.{step_of}
 use Rattle.ms_loaders.specs.declared.replies.Answer.{Answer}
-use Rattle.ms_run.specs.Counting.{HasTaken}
+use Rattle.ms_run.specs.Counting.{GoesOnTo, HasTaken}
 use Rattle.ms_run.specs.Course.{Course, begun}
 use Rattle.ms_run.specs.Metering.{used_words_of}
-use Rattle.ms_run.specs.Replay.{Answers, GoesOn, IsEnd, IsReplay, Replays, starts}
+use Rattle.ms_run.specs.Replay.{Answers, IsEnd, IsReplay, Replays, starts}
 use Rattle.ms_run.specs.Replay.{ends}
 use Rattle.ms_run.specs.Shares.{AreSteps}
 use Rattle.ms_run.specs.Turn.{TurnState, worker_in, worker_by, AreFirst, IsNextTurn, IsSameTurn}
@@ -76,16 +76,16 @@ pub used_none : (state : Machine) (settings : Settings) → state ≡ empty_mach
     → 0 ≡ used_words_of state
 used_none state settings is = sym (ap used_words_of is)
 
-pub phases_start : (settings : Settings) (lines : List Line) (answers : List Answer) (run : Metered) (turn : TurnState)
-    → answers ≡ [] → HasTaken (begun (empty_machine (limits_of settings))) run
+pub phases_start : (settings : Settings) (lines : List Line) (run : Metered) (turn : TurnState)
+    → HasTaken (begun (empty_machine (limits_of settings))) run
     → AreFirst lines settings.workers turn.first → turn.workers ≡ settings.workers → turn.phase ≡ 0
     → 1 ≤ settings.workers
-    → PhasesFirst settings.workers (empty_machine (limits_of settings)) lines 0 answers run turn
-phases_start settings lines answers run turn none taken numbered workers_are phase some = record {
+    → PhasesFirst settings.workers (empty_machine (limits_of settings)) lines 0 [] run turn
+phases_start settings lines run turn taken numbered workers_are phase some = record {
   within = omega arith;
   phase = 0;
   course = begun (empty_machine (limits_of settings));
-  replays = rw none starts;
+  replays = starts;
   taken = taken;
   good = good_when_empty (limits_of settings) (omega (arith, settings.class_nodes_few));
   numbered = numbered;
@@ -111,35 +111,29 @@ stops_next lines at count line stops more =
     (left (get_or (drop at lines) count line) found)
 
 -- Some lines more, which from each course that the run may have taken are answered.
-abbrev pub AddsPhase : (Option ℕ → ℕ) → Metered → List Line → List Answer → List Answer → Metered → Type 0
-AddsPhase worker old lines answers whole new =
-    (course : Course) → HasTaken course old
-    → (added : List Answer) × (later : Course)
-    × (whole ≡ answers ++ added) × GoesOn worker course lines added later × HasTaken later new
-
 pub phases_more : (workers : ℕ) (first : Machine) (old new : Metered) (old_turn turn : TurnState) (lines : List Line)
-    (at count : ℕ) (answers whole : List Answer) → PhasesFirst workers first lines at answers old old_turn
+    (at count : ℕ) (answers added : List Answer) → PhasesFirst workers first lines at answers old old_turn
     → count ≤ length (take (length lines - at) (drop at lines))
-    → AddsPhase (worker_in old_turn) old (take (at + count - at) (drop at lines)) answers whole new
+    → GoesOnTo (worker_in old_turn) old (take (at + count - at) (drop at lines)) added new
     → IsSameTurn old_turn turn
-    → PhasesFirst workers first lines (at + count) whole new turn
-phases_more workers first old new old_turn turn lines at count answers whole so_far within adds same_turn =
+    → PhasesFirst workers first lines (at + count) (answers ++ added) new turn
+phases_more workers first old new old_turn turn lines at count answers added so_far within adds same_turn =
     let fits = rw (take_rest lines at, length-drop at lines) at within in
     let same : at + count - at ≡ count = omega arith in
     let more = adds so_far.course so_far.taken in
-    let its = rw same at more.3 in
+    let its = rw same at more.1 in
     record {
       within = omega (arith, fits, so_far.within);
       phase = so_far.phase;
-      course = more.1;
+      course = more.0;
       replays =
-          rw (more.2, take-add at count lines)
+          rw (take-add at count lines)
           (its.replays lines workers first so_far.phase (take at lines) answers
           (subst (λ (n : ℕ). IsByTurn lines workers so_far.phase (worker_by old_turn.first old_turn.phase n))
           (sym so_far.workers_are)
           (by_turn lines workers old_turn.first old_turn.phase so_far.phase so_far.numbered so_far.phase_is))
           so_far.replays);
-      taken = more.4;
+      taken = more.2;
       good = its.good;
       numbered = subst (AreFirst lines workers) (sym same_turn.first) so_far.numbered;
       workers_are = same_turn.workers ∙ so_far.workers_are;
@@ -154,18 +148,18 @@ next_phase phase at workers count is are =
     ∙ ap (λ (n : ℕ). n % workers) (let e : phase + 1 ≡ suc phase = omega arith in e)
 
 pub phases_next : (workers : ℕ) (first : Machine) (run : Metered) (old_turn turn : TurnState) (lines : List Line)
-    (at : ℕ) (line : Line) (answers whole : List Answer) (added : Answer)
+    (at : ℕ) (line : Line) (answers : List Answer) (added : Answer)
     → PhasesFirst workers first lines at answers run old_turn
-    → at < length lines → whole ≡ answers ++ added ∷ []
+    → at < length lines
     → ((course : Course) → HasTaken course run → IsEnd course (get_or lines at line) added) → IsNextTurn old_turn turn
-    → PhasesFirst workers first lines (at + 1) whole run turn
-phases_next workers first run old_turn turn lines at line answers whole added so_far more adds end next_turn =
+    → PhasesFirst workers first lines (at + 1) (answers ++ added ∷ []) run turn
+phases_next workers first run old_turn turn lines at line answers added so_far more end next_turn =
     record {
       within = omega (arith, more);
       phase = suc so_far.phase;
       course = so_far.course;
       replays =
-          rw (adds, take_more lines at line more)
+          rw (take_more lines at line more)
           (ends so_far.phase (take at lines) answers so_far.course (get_or lines at line) added so_far.replays
           (end so_far.course so_far.taken));
       taken = so_far.taken;

@@ -60,7 +60,7 @@ loaders_send = search (page_send, owners.the_send, spares_send, sendable, crosse
 seat_send : IsSend seat.the_row
 seat_send =
     search (sendable, crosses, option.the_send, table_seat.the_send, node.send-Node, mask.the_send, nodes.the_send)
-    depth 60
+    depth 60 fits 30000
 
 meter_seat_send : IsSend meter_seat.the_row
 meter_seat_send = search (sendable, crosses, table_seat.the_send) depth 20

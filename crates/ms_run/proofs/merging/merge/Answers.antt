@@ -1,23 +1,28 @@
-use Rattle.std.proofs.Common.{◌<◌, length, sym, ◌∙◌, arith}
+use Rattle.std.proofs.Common.{◌<◌, ◌∙◌, ◌++◌, ◌∷◌, [], List, append-nil, append_assoc, arith, length, subst, sym}
 use Rattle.std.proofs.lemmas.Option.{slice_get_read}
+use Rattle.ms_loaders.specs.declared.replies.Answer.{Answer}
+use Rattle.ms_run.specs.Sink.{PutsAll}
 use Rattle.ms_run.specs.Turn.{place_in}
 use Rattle.ms_run.proofs.sharing.MergeLemmas.{starts, next_line, has_reply, merges_next, all_merged}
 use Rattle.ms_run.proofs.merging.merge.Goals as goal
 
 pub loop-line-init : goal.loop-line-init
-loop-line-init c =
-    starts (place_in c.args.turn.now) c.args.lines.now c.args.shares.now.items c.args.answers.now.items c.len.result
-    c.in_ok-taken.taken.items
-    (c.in_ok-taken.ensures.items_if_clones_equal (λ y same. same))
-    (sym c.in_ok-taken.taken.ok.0 ∙ c.in_ok-taken.ensures.len)
-    (c.len.ensures ∙ c.args.shares.now.ok.0)
+loop-line-init g c = (
+  [],
+  starts (place_in c.args.turn.now) c.args.lines.now c.args.shares.now.items [] c.len.result
+      c.in_ok-taken.taken.items
+      (c.in_ok-taken.ensures.items_if_clones_equal (λ y same. same))
+      (sym c.in_ok-taken.taken.ok.0 ∙ c.in_ok-taken.ensures.len)
+      (c.len.ensures ∙ c.args.shares.now.ok.0),
+  λ first said put. subst (g.S.AnswerSink.took first c.args.sink.now) (sym (append-nil said)) put,
+)
 
 pub index-reply-requires : goal.index-reply-requires
-index-reply-requires c =
+index-reply-requires g c =
     let within : c.loop-line.line-index < length c.args.lines.now =
     omega (arith, c.loop-line-test.true, c.loop-line.auto.line-index-end) in
     let asked = c.requires.steps c.loop-line.line-index _ within in
-    let has = has_reply _ _ _ _ _ _ _ _ _ _ _ _ c.requires.answered c.loop-line.invariant
+    let has = has_reply _ _ _ _ _ _ _ _ _ _ _ _ c.requires.answered c.loop-line.invariant.1
     (next_line (place_in c.args.turn.now) c.args.lines.now c.args.shares.now.items c.loop-line.line-index
     c.loop-line.taken.items _ _ _ _
     asked c.place_of-place.ensures.place within
@@ -27,11 +32,11 @@ index-reply-requires c =
     omega (arith, has.in_replies, c.index.result.now.replies.ok.0)
 
 pub overflow_add-next : goal.overflow_add-next
-overflow_add-next c =
+overflow_add-next g c =
     let within : c.loop-line.line-index < length c.args.lines.now =
     omega (arith, c.loop-line-test.true, c.loop-line.auto.line-index-end) in
     let asked = c.requires.steps c.loop-line.line-index _ within in
-    let has = has_reply _ _ _ _ _ _ _ _ _ _ _ _ c.requires.answered c.loop-line.invariant
+    let has = has_reply _ _ _ _ _ _ _ _ _ _ _ _ c.requires.answered c.loop-line.invariant.1
     (next_line (place_in c.args.turn.now) c.args.lines.now c.args.shares.now.items c.loop-line.line-index
     c.loop-line.taken.items _ _ _ _
     asked c.place_of-place.ensures.place within
@@ -42,21 +47,33 @@ overflow_add-next c =
     omega (arith, has.in_replies, replies.ok.0, replies.ok.1, replies.small)
 
 pub loop-line-preserved : goal.loop-line-preserved
-loop-line-preserved c =
+loop-line-preserved g c =
     let within : c.loop-line.line-index < length c.args.lines.now =
     omega (arith, c.loop-line-test.true, c.loop-line.auto.line-index-end) in
     let asked = c.requires.steps c.loop-line.line-index _ within in
-    let grown = merges_next _ _ _ _ _ _ _ _ _ _ _ _ _ c.requires.answered c.loop-line.invariant
+    let so_far = c.loop-line.invariant in
+    let grown = merges_next _ _ _ _ _ _ _ _ _ _ _ _ _ c.requires.answered so_far.1
     (next_line (place_in c.args.turn.now) c.args.lines.now c.args.shares.now.items c.loop-line.line-index
     c.loop-line.taken.items _ _ _ _
     asked c.place_of-place.ensures.place within
     (slice_get_read c.args.shares.now.items _ _ _ c.args.shares.now.ok.0
     (omega (arith, c.place_of-place.ensures.within, c.requires.count)) c.index.ensures)
     c.index-next.ensures)
-    c.index-reply.ensures in
-    rw c.in_ok-push.ensures.items grown
+    c.index-reply.ensures in (
+      _,
+      grown,
+      λ first said put. subst (g.S.AnswerSink.took first c.put.new.self) (append_assoc said so_far.0 (_ ∷ []))
+          (c.in_ok-put.ensures first (said ++ so_far.0) (so_far.2 first said put)),
+    )
 
 pub returns : goal.returns
-returns c =
-    all_merged _ _ _ _ _ _ _ c.requires.answered c.loop-line.invariant
-    (omega (arith, c.loop-line-test.false, c.loop-line.auto.line-index-end))
+returns g c =
+    let so_far = c.loop-line.invariant in
+    let all = all_merged _ _ _ _ _ _ _ c.requires.answered so_far.1
+    (omega (arith, c.loop-line-test.false, c.loop-line.auto.line-index-end)) in (
+      all.0,
+      all.1,
+      subst (λ (l : List Answer). PutsAll g.S.AnswerSink.took l c.args.sink.now c.loop-line.sink) all.2 so_far.2,
+      all.3,
+      all.4,
+    )

@@ -1,23 +1,28 @@
-use Rattle.std.proofs.Common.{arith, append-nil, [], subst, sym}
-use Rattle.ms_base.specs.Good.{IsGood}
+use Rattle.std.proofs.Common.{◌∙◌, ◌++◌, ◌∷◌, [], List, ap, append-nil, append_assoc, arith, subst, sym}
+use Rattle.std.proofs.lemmas.List.Elements.{All-append, All-nil}
+use Rattle.ms_loaders.specs.declared.replies.Answer.{Answer}
+use Rattle.ms_run.specs.Replay.{IsDetailed}
 use Rattle.ms_run.proofs.replays.ReplayLemmas.{phases_start, steps_there, stops_next, phases_more, phases_next}
 use Rattle.ms_run.proofs.replays.ReplayLemmas.{phases_end}
-use Rattle.ms_run.proofs.DetailLemmas.{none_detailed, one_detailed}
+use Rattle.ms_run.proofs.DetailLemmas.{one_detailed}
 use Rattle.ms_run.proofs.replaying.answer_phases.Goals as goal
 
 pub loop-at-init : goal.loop-at-init
 loop-at-init g c = record {
-  phases = phases_start c.args.settings c.args.lines.now c.args.answers.now.items _ c.args.turn.now
-      c.requires.none c.in_ok-run.ensures.taken
-      c.requires.numbered c.requires.workers c.requires.phase c.args.settings.workers_some;
-  kept = c.in_ok-run.ensures.kept;
+  phases = λ first said put. (
+    [],
+    subst (g.S.AnswerSink.took first c.args.sink.now) (sym (append-nil said)) put,
+    phases_start c.args.settings c.args.lines.now _ c.args.turn.now c.in_ok-run.ensures.taken
+        c.requires.numbered c.requires.workers c.requires.phase c.args.settings.workers_some,
+    All-nil (IsDetailed c.args.detail),
+  );
+  good = c.in_ok-run.ensures.good;
   used = c.in_ok-run.ensures.used;
-  detailed = none_detailed c.args.detail c.args.answers.now.items c.requires.none;
+  kept = c.in_ok-run.ensures.kept;
 }
 
 pub run_phase-requires-clause-good : goal.run_phase-requires-clause-good
-run_phase-requires-clause-good g c κs within =
-    subst IsGood (sym c.loop-at.invariant.phases.taken.state) c.loop-at.invariant.phases.good
+run_phase-requires-clause-good g c κs within = c.loop-at.invariant.good
 
 pub run_phase-requires-clause-steps : goal.run_phase-requires-clause-steps
 run_phase-requires-clause-steps g c κs within =
@@ -29,32 +34,49 @@ end_phase-requires-clause-no_step g c =
     c.if-at-lines.true
 
 pub loop-at-preserved-then-at-lines : goal.loop-at-preserved-then-at-lines
-loop-at-preserved-then-at-lines g c =
-    let more =
-    phases_more _ _ _ _ c.loop-at.turn _ c.args.lines.now c.loop-at.at c.steps_first-count.result _ _
-    c.loop-at.invariant.phases c.steps_first-count.ensures.within c.in_ok-run-2.ensures.phase c.in_ok-run-2.ensures.turn in
-    let told = c.in_ok-end_phase.ensures.answered c.run_phase.new.answers []
-    (sym (append-nil c.run_phase.new.answers.items)) in
-    record {
-      phases = phases_next _ _ _ _ _ c.args.lines.now _ _ _ _ told.0 more c.if-at-lines.true told.1 told.3
-          c.in_ok-end_phase.ensures.turn;
-      kept = c.in_ok-run-2.ensures.kept;
-      used = c.in_ok-run-2.ensures.used;
-      detailed = one_detailed c.args.detail c.run_phase.new.answers.items _ told.0 told.1 told.2
-          (c.in_ok-run-2.ensures.detailed c.loop-at.invariant.detailed);
-    }
+loop-at-preserved-then-at-lines g c = record {
+  phases = λ first said put.
+      let so_far = c.loop-at.invariant.phases first said put in
+      let worked = c.in_ok-run-2.ensures.phase first (said ++ so_far.0) so_far.1 in
+      let told = c.in_ok-end_phase.ensures.answered first ((said ++ so_far.0) ++ worked.0) worked.1 in
+      let more = phases_more _ _ _ _ c.loop-at.turn _ c.args.lines.now c.loop-at.at c.steps_first-count.result
+      so_far.0 worked.0 so_far.2 c.steps_first-count.ensures.within worked.3 c.in_ok-run-2.ensures.turn in (
+        (so_far.0 ++ worked.0) ++ told.0 ∷ [],
+        subst (g.S.AnswerSink.took first c.end_phase.new.sink)
+            (ap (λ (l : List Answer). l ++ told.0 ∷ []) (append_assoc said so_far.0 worked.0)
+            ∙ append_assoc said (so_far.0 ++ worked.0) (told.0 ∷ [])) told.1,
+        phases_next _ _ _ _ _ c.args.lines.now _ _ (so_far.0 ++ worked.0) told.0 more c.if-at-lines.true told.3
+            c.in_ok-end_phase.ensures.turn,
+        one_detailed c.args.detail (so_far.0 ++ worked.0) told.0 told.2
+            (All-append (IsDetailed c.args.detail) so_far.0 worked.0 so_far.3 worked.2),
+      );
+  good = c.in_ok-run-2.ensures.good;
+  used = c.in_ok-run-2.ensures.used;
+  kept = c.in_ok-run-2.ensures.kept;
+}
 
 pub loop-at-preserved : goal.loop-at-preserved
 loop-at-preserved g c = record {
-  phases =
-      phases_more _ _ _ _ c.loop-at.turn _ c.args.lines.now c.loop-at.at c.steps_first-count.result _ _
-      c.loop-at.invariant.phases c.steps_first-count.ensures.within c.in_ok-run-2.ensures.phase c.in_ok-run-2.ensures.turn;
-  kept = c.in_ok-run-2.ensures.kept;
+  phases = λ first said put.
+      let so_far = c.loop-at.invariant.phases first said put in
+      let worked = c.in_ok-run-2.ensures.phase first (said ++ so_far.0) so_far.1 in (
+        so_far.0 ++ worked.0,
+        subst (g.S.AnswerSink.took first c.run_phase.new.sink) (append_assoc said so_far.0 worked.0) worked.1,
+        phases_more _ _ _ _ c.loop-at.turn _ c.args.lines.now c.loop-at.at c.steps_first-count.result
+            so_far.0 worked.0 so_far.2 c.steps_first-count.ensures.within worked.3 c.in_ok-run-2.ensures.turn,
+        All-append (IsDetailed c.args.detail) so_far.0 worked.0 so_far.3 worked.2,
+      );
+  good = c.in_ok-run-2.ensures.good;
   used = c.in_ok-run-2.ensures.used;
-  detailed = c.in_ok-run-2.ensures.detailed c.loop-at.invariant.detailed;
+  kept = c.in_ok-run-2.ensures.kept;
 }
 
-pub returns-clause-own : goal.returns-clause-own
-returns-clause-own g c =
-    phases_end c.args.settings c.args.lines.now c.loop-at.at c.loop-at.answers.items c.loop-at.run
-    c.loop-at.turn c.loop-at.invariant.phases (omega (arith, c.loop-at-test.false))
+pub returns-clause-answers : goal.returns-clause-answers
+returns-clause-answers g c = λ first said put.
+    let so_far = c.loop-at.invariant.phases first said put in (
+      so_far.0,
+      so_far.1,
+      phases_end c.args.settings c.args.lines.now c.loop-at.at so_far.0 c.loop-at.run
+          c.loop-at.turn so_far.2 (omega (arith, c.loop-at-test.false)),
+      so_far.3,
+    )

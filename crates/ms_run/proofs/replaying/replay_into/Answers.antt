@@ -1,4 +1,5 @@
 use Rattle.std.proofs.Common.{arith, List, subst}
+use Rattle.std.proofs.lemmas.Result.{on_ok_weaker}
 use Rattle.ms_base.specs.State.{empty_machine, limits_of}
 use Rattle.ms_trace.specs.declared.trace.Line.{Line}
 use Rattle.ms_run.specs.Course.{begun}
@@ -7,17 +8,18 @@ use Rattle.ms_run.proofs.replays.ReplayLemmas.{alone_replays}
 use Rattle.ms_run.proofs.replaying.replay_into.Goals as goal
 
 pub returns-then-settings-ne1-clause-answers : goal.returns-then-settings-ne1-clause-answers
-returns-then-settings-ne1-clause-answers g c = λ first said put. (
-  c.in_ok-replies.replies.answers.items,
-  c.in_ok-put_all.ensures first said put,
-  record {
-    own = subst (λ (l : List Line).
-        IsReplay (limits_of c.args.settings) c.args.settings.workers l c.in_ok-replies.replies.answers.items)
-        c.as_slice-lines.ensures c.in_ok-replies.ensures.own;
-    run = λ one. absurd (c.if-settings-ne1.true one);
-    detailed = c.in_ok-replies.ensures.detailed;
-  },
-)
+returns-then-settings-ne1-clause-answers g c = on_ok_weaker c.take_turns.result (λ answered first said put.
+    let told = answered first said put in (
+      told.0,
+      told.1,
+      record {
+        own = subst (λ (l : List Line). IsReplay (limits_of c.args.settings) c.args.settings.workers l told.0)
+            c.as_slice-lines.ensures told.2;
+        run = λ one. absurd (c.if-settings-ne1.true one);
+        detailed = told.3;
+      },
+    ))
+    c.take_turns.ensures.answers
 
 pub returns-clause-answers : goal.returns-clause-answers
 returns-clause-answers g c = λ first said put.

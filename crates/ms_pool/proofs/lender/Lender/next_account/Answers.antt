@@ -34,6 +34,6 @@ returns-clause-account c =
     let account : ℕ → List Chunk → AccountState =
     λ owner chunks. record { owner = owner; space = c.args.space; chunks = chunks } in
     elim c.match-space.branch [
-      | in-NonClass w ↦ ap₂ account (ap (λ (lender : Lender). lender.given) w.self-is) c.new.ensures.items
-      | in-Class w ↦ ap₂ account (ap (λ (lender : Lender). lender.given) w.self-is) c.new.ensures.items
+      | in-NonClass w ↦ ap₂ account (ap (λ (lender : Lender). lender.given) w.self-is) c.take.ensures
+      | in-Class w ↦ ap₂ account (ap (λ (lender : Lender). lender.given) w.self-is) c.take.ensures
     ]

@@ -1,7 +1,7 @@
 use Rattle.std.proofs.Common.{◌≡◌, ◌++◌, List}
 use Rattle.ms_loaders.specs.declared.replies.Answer.{Answer}
 use Rattle.ms_run.specs.Sink.{PutsAll}
-use Rattle.ms_run.proofs.replaying.put_all.Given as goal
+use Rattle.ms_run.proofs.phase.put_all.Given as goal
 
 -- the first answers are put, and the others are left
 abbrev pub invariant-loop-answer : goal.invariant-loop-answer

@@ -3,7 +3,7 @@ use Rattle.std.proofs.Common.{◌∙◌, ◌++◌, ◌∷◌, [], List, ap, appe
 use Rattle.std.proofs.lemmas.List.{nil_from_length}
 use Rattle.ms_loaders.specs.declared.replies.Answer.{Answer}
 use Rattle.ms_run.specs.Sink.{PutsAll}
-use Rattle.ms_run.proofs.replaying.put_all.Goals as goal
+use Rattle.ms_run.proofs.phase.put_all.Goals as goal
 
 pub loop-answer-init : goal.loop-answer-init
 loop-answer-init g c = (
