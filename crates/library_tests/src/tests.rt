@@ -1,8 +1,10 @@
 //! By subject, lowest first: sizes and refusals of the `base`, `nodes` and their granules, split `trees`,
-//! the `pool`, `loaders`, `reports` and `traces` as texts, the pool behind a lock (`locked_pool`), the
-//! `used_meter`, and `runs` by several workers. Each says what no clause does. That free blocks, arenas and
-//! systems find memory which is there is shown by the rows of the program `calls`.
+//! `free_blocks`, the `pool` and `arenas` over it, `loaders` and systems, `reports` and `traces` as texts,
+//! the pool behind a lock (`locked_pool`), the `used_meter`, and `runs` by several workers. Each says what
+//! no clause does.
+mod arenas;
 mod base;
+mod free_blocks;
 mod loaders;
 mod locked_pool;
 mod nodes;

@@ -1,9 +1,11 @@
-//! What no clause says: that memory which is there is given, to a loader over a pool and to a step that
-//! is served over one. Each expected value was worked out apart from ms_loaders; traces that were worked
-//! by hand are rows of the system tests, which ask it of the program and, growth by growth, of calls.
+//! What no clause says: that memory which is there is given, to a loader over a pool and to a system
+//! that is run. Each expected value was worked out apart from ms_loaders; traces that were worked by
+//! hand are rows of the system tests, which ask it of the program and, growth by growth, of calls.
+use super::reports::ONE_BLOCK;
 use ms_base::{Block, Kind, Policy, Refusal, Reply, Settings, Space, Step};
-use ms_loaders::{Loader, Loaders, serve};
-use ms_pool::Pool;
+use ms_loaders::{ArenaTotals, Details, Loader, LoaderDetails, Loaders, System, Totals, serve};
+use ms_pool::{Place, Pool, RootMap};
+use ms_report::{text, totals};
 use std::alloc::{AllocError, Global};
 use std::test::Fail;
 
@@ -90,5 +92,73 @@ fn a_step_is_served_over_a_pool(rt: HostRuntime) -> Result<(), Fail> {
     let refused = served(rt.alloc(), STEPS[1])?;
     assert_eq!(rt; made, (Reply::Ok, 1));
     assert_eq!(rt; refused, (Reply::Refused(Refusal::NoLoader), 0));
+    Ok(())
+}
+
+/// Runs steps by a new system: the replies, and the totals after the last.
+fn ran(alloc: Global, steps: &[Step]) -> Result<(Vec<Reply>, Totals), AllocError> {
+    let mut system = System::new(alloc, Settings::DEFAULT)?;
+    let (replies, sums) = (system.run(steps), totals(&system));
+    drop(system);
+    Ok((replies?, sums?))
+}
+
+#[test]
+fn a_run_answers_each_step_and_is_reported(rt: HostRuntime) -> Result<(), Fail> {
+    let (replies, sums) = ran(rt.alloc(), &STEPS)?;
+    let report = text(rt.alloc(), &sums);
+    drop(sums);
+    let report = report?;
+    assert_eq!(rt;
+        (replies.as_slice(), report.as_str()),
+        ([Reply::Ok, Reply::At(0)].as_slice(), ONE_BLOCK)
+    );
+    Ok(())
+}
+
+/// Takes steps by a new system: the maps of its roots after the last, and the details.
+fn mapped(alloc: Global, steps: &[Step]) -> Result<(Vec<RootMap>, Details), AllocError> {
+    let mut system = System::new(alloc, Settings::DEFAULT)?;
+    for step in steps {
+        let _ = system.step(*step);
+    }
+    let (maps, details) = (system.maps(), system.details());
+    drop(system);
+    Ok((maps?, details?))
+}
+
+/// The sums of an arena whose chunks hold one block of so many words and nothing else.
+fn with_block(chunks: u32, capacity: u64, words: u64) -> ArenaTotals {
+    ArenaTotals {
+        chunks,
+        capacity,
+        fronts: capacity,
+        used: words,
+        live: words,
+        free_blocks: 0,
+        waste: 0,
+    }
+}
+
+/// A node of two roots is reserved; the block has 10 words of a chunk of 512 in the first place.
+#[test]
+fn a_run_is_mapped_and_told_in_detail(rt: HostRuntime) -> Result<(), Fail> {
+    let (maps, details) = mapped(rt.alloc(), &STEPS)?;
+    let mut places = [Place::Free; 64];
+    places[0] = Place::LentPartly;
+    let first = RootMap { root: 0, places };
+    let (root, places) = (1, [Place::Free; 64]);
+    let roots = [first, RootMap { root, places }];
+    assert_eq!(rt;
+        (maps.as_slice(), details.roots.as_slice()),
+        (roots.as_slice(), roots.as_slice())
+    );
+    let loader = LoaderDetails {
+        name: 1,
+        kind: Kind::Standard,
+        space: with_block(1, 512, 10),
+        class_space: with_block(0, 0, 0),
+    };
+    assert_eq!(rt; details.loaders.as_slice(), [loader].as_slice());
     Ok(())
 }

@@ -12,6 +12,40 @@ use ms_report::{Detail, full_text, lines, map_text, tally};
 use std::alloc::{AllocError, Global};
 use std::test::Fail;
 
+/// The report of `new 1 standard`, `alloc 1 1 10`.
+pub(super) const ONE_BLOCK: &str = "Metaspace
+  loaders                1
+  nodes                  1
+  reserved         1048576
+  granules               1
+  committed           8192
+  chunks                 1
+  capacity             512
+  fronts               512
+  used                  10
+  live                  10
+  free blocks            0
+  waste                  0
+Chunks by level
+  level   words    held    free
+      0  524288       0       1
+      1  262144       0       1
+      2  131072       0       1
+      3   65536       0       1
+      4   32768       0       1
+      5   16384       0       1
+      6    8192       0       1
+      7    4096       0       1
+      8    2048       0       1
+      9    1024       0       1
+     10     512       1       1
+     11     256       0       0
+     12     128       0       0
+Loaders
+   name        kind  chunks  capacity      used      live
+      1    standard       1       512        10        10
+";
+
 /// More than any space has: each number as large as a limit lets one of the two be.
 fn largest_space() -> SpaceTotals {
     SpaceTotals {

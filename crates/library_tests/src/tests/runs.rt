@@ -5,7 +5,8 @@ ghost use Rattle.std.specs.Prelude.{◌≤◌};
 
 use ms_base::{Policy, Reply, Settings};
 use ms_loaders::Detail;
-use ms_run::{Gate, replay};
+use ms_report::AnswerText;
+use ms_run::{Gate, NoGate, replay, replay_into};
 use ms_trace::parse;
 use std::alloc::{AllocError, Global};
 use std::sync::Wait;
@@ -53,6 +54,36 @@ fn replayed<G: Gate + Sync>(
         told.push(answer.reply)?;
     }
     Ok(told)
+}
+
+/// One loader with a block that is written and read, and one that isn't there.
+const ONE_BLOCK: &str = "new 1 standard\nalloc 1 7 10\nwrite 1 7 3 5\nread 1 7 3\nfree 2 1\n";
+
+#[test]
+fn a_text_takes_the_answers_as_they_come(rt: HostRuntime) -> Result<(), Fail> {
+    let trace = parse(rt.alloc(), ONE_BLOCK.as_bytes())
+        .ok()
+        .ok_or("no trace")?;
+    for workers in [1, 2] {
+        let settings = settings(workers);
+        let mut answers = AnswerText::new(rt.alloc(), false, Detail::Basic, settings);
+        let replayed = replay_into(
+            &rt,
+            rt.alloc(),
+            &trace,
+            settings,
+            Detail::Basic,
+            &NoGate,
+            &mut answers,
+        );
+        replayed.ok().ok_or("no answers")?;
+        let text = answers.into_text();
+        assert_eq!(rt;
+            text.as_str(),
+            "1 ok\n2 ok\n3 ok\n4 value 5\n5 refused NoLoader\n"
+        );
+    }
+    Ok(())
 }
 
 /// Holds each of two workers at its first line until the other has come to its own.

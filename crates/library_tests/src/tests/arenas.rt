@@ -1,0 +1,66 @@
+//! An arena over a pool: what no clause says is that memory which is there is given.
+ghost use Rattle.ms_pool.specs.Ledger.{Serves};
+ghost use Rattle.ms_arena.specs.Arena.{account_of};
+
+use ms_arena::{Arena, ArenaTotals};
+use ms_base::{Block, Kind, Refusal, Settings, Space};
+use ms_pool::Pool;
+use std::alloc::Global;
+use std::test::Fail;
+
+/// A block that is placed, where there is a place.
+type Placed = Result<Option<Block>, Refusal>;
+
+/// The blocks that an arena placed, the one that it allocated, and its sums after them.
+type Told = ([Placed; 4], Result<Block, Refusal>, ArenaTotals);
+
+/// Calls an arena of the pool.
+fn called(pool: &mut Pool, arena: &mut Arena) -> Told
+    requires { Serves pool.old (account_of arena.old) }
+{
+    let none = arena.place(10);
+    let allocated = arena.alloc(pool, 10);
+    let next = arena.place(10);
+    let _ = arena.free(block(0, 10));
+    let again = arena.place(4);
+    let over = arena.place(600);
+    ([none, next, again, over], allocated, arena.totals())
+}
+
+/// Calls a new arena of the pool.
+fn called_anew(alloc: Global, pool: &mut Pool) -> Option<Told> {
+    let Ok(account) = pool.open(Space::NonClass) else {
+        return None;
+    };
+    let mut arena = Arena::new(alloc, account, Kind::Standard);
+    Some(called(pool, &mut arena))
+}
+
+fn block(start: u64, words: u64) -> Block {
+    Block { start, words }
+}
+
+#[test]
+fn calls_that_find_memory_are_served_at_once(rt: HostRuntime) -> Result<(), Fail> {
+    let mut pool = Pool::new(rt.alloc(), Settings::DEFAULT)?;
+    let told = called_anew(rt.alloc(), &mut pool);
+    drop(pool);
+    let placed = [
+        Ok(None),
+        Ok(Some(block(10, 10))),
+        Ok(Some(block(0, 4))),
+        Ok(None),
+    ];
+    let totals = ArenaTotals {
+        chunks: 1,
+        capacity: 512,
+        fronts: 512,
+        used: 20,
+        live: 14,
+        free_blocks: 6,
+        waste: 0,
+    };
+    let allocated = Ok(block(0, 10));
+    assert_eq!(rt; told, Some((placed, allocated, totals)));
+    Ok(())
+}

@@ -1,0 +1,43 @@
+//! What no clause says: that memory which is there is given and goes back, that more than can be is
+//! refused, and that the best fit is the one meant, by blocks worked out by hand.
+ghost use Rattle.std.specs.Prelude.{◌≡◌};
+
+use linked_list_allocator::LocalHeap;
+use ms_base::{Block, Refusal};
+use ms_blocks::FreeBlocks;
+use std::test::Fail;
+
+fn block(start: u64, words: u64) -> Block
+    ensures start { result.start ≡ start }
+    ensures words { result.words ≡ words }
+{
+    Block { start, words }
+}
+
+/// What three blocks are answered: room for as many as can't be, the best fits, and what is left.
+type Answers = (Result<(), Refusal>, [Option<Block>; 3], (usize, u64, usize));
+
+/// Calls free blocks: none where there is no room for three.
+fn called(heap: &LocalHeap) -> Option<Answers> {
+    let mut blocks = FreeBlocks::new(heap);
+    if blocks.reserve(3).is_err() {
+        return None;
+    }
+    blocks.add(block(0, 10));
+    blocks.add(block(20, 4));
+    blocks.add(block(40, 4));
+    let fits = [blocks.remove(3), blocks.remove(5), blocks.remove(5)];
+    let refused = blocks.reserve(usize::MAX);
+    Some((refused, fits, (blocks.len(), blocks.total(), blocks.room())))
+}
+
+#[test]
+fn the_best_fit_comes_whole(rt: HostRuntime) -> Result<(), Fail> {
+    let heap = LocalHeap::new(rt.alloc(), 4096)?;
+    let fits = [Some(block(20, 4)), Some(block(0, 10)), None];
+    let wanted = (Err(Refusal::OutOfMemory), fits, (1, 4, 2));
+    let told = (called(&heap), heap.used());
+    drop(heap);
+    assert_eq!(rt; told, (Some(wanted), 0));
+    Ok(())
+}
