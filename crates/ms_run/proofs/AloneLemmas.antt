@@ -11,11 +11,11 @@ use Rattle.ms_trace.specs.declared.trace.Command.TheVariants.{Step as Asks}
 use Rattle.ms_trace.specs.declared.trace.Line.{Line}
 use Rattle.ms_loaders.specs.declared.replies.Answer.{Answer}
 use Rattle.ms_loaders.specs.declared.details.Detail.{Detail}
-use Rattle.ms_run.specs.Counting.{HasAnswered, HasTaken}
+use Rattle.ms_run.specs.Counting.{HasTaken}
 use Rattle.ms_run.specs.Course.{Course, begun, on_to, passed}
 use Rattle.ms_run.specs.Peaks.{ArePeaksIfKept}
 use Rattle.ms_run.specs.Replay.{Answers, IsDetailed}
-use Rattle.ms_run.specs.Sink.{AnswersAll, PutsAll}
+use Rattle.ms_run.specs.Sink.{AreOfLines, AreOfRun, Puts, PutsAll}
 use Rattle.ms_run.specs.declared.alone.Metered.{Metered}
 use Rattle.ms_run.proofs.DetailLemmas.{plain}
 
@@ -33,37 +33,45 @@ answers_append old mid new (line ∷ lines) more (answer ∷ answers) added firs
   answers_append first.0 mid new lines more answers added first.4 second,
 )
 
+-- No answer is put, and then more.
+pub puts_none : {S : Type 0} (took : S → S → List Answer → Type 0) (sink : S) → PutsAll took [] sink sink
+puts_none took sink = λ first said put. subst (took first sink) (sym (append-nil said)) put
+
+pub puts_more : {S : Type 0} (took : S → S → List Answer → Type 0) (done more : List Answer) (before so_far after : S)
+    → PutsAll took done before so_far → PutsAll took more so_far after → PutsAll took (done ++ more) before after
+puts_more took done more before so_far after first_puts then_puts = λ first said put.
+    subst (took first after) (append_assoc said done more) (then_puts first (said ++ done) (first_puts first said put))
+
 -- No line is answered, and then one more.
 pub none_answered : {S : Type 0} (took : S → S → List Answer → Type 0) (detail : Detail) (run : Metered) (sink : S)
-    → HasAnswered took detail run [] sink sink run
-none_answered took detail run sink = λ first said put. (
+    → Puts took (AreOfLines detail run [] run) sink sink
+none_answered took detail run sink = (
   [],
-  subst (took first sink) (sym (append-nil said)) put,
-  All-nil (IsDetailed detail),
-  λ course taken. (course, (refl, refl), taken),
+  puts_none took sink,
+  (All-nil (IsDetailed detail), λ course taken. (course, (refl, refl), taken)),
 )
 
 pub one_more_answered : {S : Type 0} (took : S → S → List Answer → Type 0) (detail : Detail) (old mid new : Metered)
     (lines : List Line) (at : ℕ) (line : Line) (before so_far whole : S)
-    → HasAnswered took detail old (take at lines) before so_far mid → at < length lines
-    → HasAnswered took detail mid (get_or lines at line ∷ []) so_far whole new
-    → HasAnswered took detail old (take (at + 1) lines) before whole new
-one_more_answered took detail old mid new lines at line before so_far whole answered more next = λ first said put.
-    let told = answered first said put in
-    let then = next first (said ++ told.0) told.1 in (
-      told.0 ++ then.0,
-      subst (took first whole) (append_assoc said told.0 then.0) then.1,
-      All-append (IsDetailed detail) told.0 then.0 told.2 then.2,
-      λ course taken.
-          let one = told.3 course taken in
-          let other = then.3 one.0 one.2 in (
-            other.0,
-            rw (take_more lines at line more)
-                (answers_append course one.0 other.0 (take at lines) (get_or lines at line ∷ []) told.0 then.0 one.1
-                other.1),
-            other.2,
-          ),
-    )
+    → Puts took (AreOfLines detail old (take at lines) mid) before so_far → at < length lines
+    → Puts took (AreOfLines detail mid (get_or lines at line ∷ []) new) so_far whole
+    → Puts took (AreOfLines detail old (take (at + 1) lines) new) before whole
+one_more_answered took detail old mid new lines at line before so_far whole told more then = (
+  told.0 ++ then.0,
+  puts_more took told.0 then.0 before so_far whole told.1 then.1,
+  (
+    All-append (IsDetailed detail) told.0 then.0 told.2.0 then.2.0,
+    λ course taken.
+        let one = told.2.1 course taken in
+        let other = then.2.1 one.0 one.2 in (
+          other.0,
+          rw (take_more lines at line more)
+              (answers_append course one.0 other.0 (take at lines) (get_or lines at line ∷ []) told.0 then.0 one.1
+              other.1),
+          other.2,
+        ),
+  ),
+)
 
 -- A line that asks a step is answered: the course goes on to the state after it.
 pub step_answered : {S : Type 0} (took : S → S → List Answer → Type 0) (detail : Detail) (old new : Metered) (line : Line)
@@ -71,24 +79,26 @@ pub step_answered : {S : Type 0} (took : S → S → List Answer → Type 0) (de
     → line.command ≡ Asks step → PutsAll took (answer ∷ []) sink whole → answer.line ≡ line.number
     → answer.report ≡ None → Transition old.system step answer.reply new.system
     → ((states : List Machine) → ArePeaksIfKept states old.peaks → ArePeaksIfKept (new.system ∷ states) new.peaks)
-    → HasAnswered took detail old (line ∷ []) sink whole new
-step_answered took detail old new line step answer sink whole asks puts number none told raised = λ first said put. (
+    → Puts took (AreOfLines detail old (line ∷ []) new) sink whole
+step_answered took detail old new line step answer sink whole asks puts number none told raised = (
   answer ∷ [],
-  puts first said put,
-  All-from_recursion (IsDetailed detail) (answer ∷ []) (plain detail answer none, tt),
-  λ course taken. (
-    on_to new.system course,
-    (
+  puts,
+  (
+    All-from_recursion (IsDetailed detail) (answer ∷ []) (plain detail answer none, tt),
+    λ course taken. (
       on_to new.system course,
-      number,
-      rw asks (subst (λ (m : Machine). Transition m step answer.reply new.system) taken.state told, refl),
-      rw asks none,
-      (refl, refl),
+      (
+        on_to new.system course,
+        number,
+        rw asks (subst (λ (m : Machine). Transition m step answer.reply new.system) taken.state told, refl),
+        rw asks none,
+        (refl, refl),
+      ),
+      record {
+        state = refl;
+        peaks = raised (passed course) taken.peaks;
+      },
     ),
-    record {
-      state = refl;
-      peaks = raised (passed course) taken.peaks;
-    },
   ),
 )
 
@@ -108,11 +118,10 @@ counted_if_kept false kept is = is
 -- All lines are answered from the machine on that has nothing.
 pub all_answered : {S : Type 0} (took : S → S → List Answer → Type 0) (limits : Limits) (detail : Detail)
     (lines : List Line) (old new : Metered) (sink whole : S) → HasTaken (begun (empty_machine limits)) old
-    → HasAnswered took detail old lines sink whole new → AnswersAll took limits detail lines sink whole
-all_answered took limits detail lines old new sink whole taken answered = λ first said put.
-    let told = answered first said put in
-    let ran = told.3 (begun (empty_machine limits)) taken in
-    (told.0, ran.0, told.1, ran.1, told.2)
+    → Puts took (AreOfLines detail old lines new) sink whole → Puts took (AreOfRun limits detail lines) sink whole
+all_answered took limits detail lines old new sink whole taken told =
+    let ran = told.2.1 (begun (empty_machine limits)) taken in
+    (told.0, told.1, (ran.0, ran.1, told.2.0))
 
 -- Where there were no answers, all are those that came.
 pub none_before : (before added whole : List Answer) → before ≡ [] → whole ≡ before ++ added → added ≡ whole

@@ -1,6 +1,5 @@
 -- The words in use and the peaks, counted on by one worker from step to step.
-use Rattle.std.specs.Prelude.{◌≡◌, ℕ, Bool, true, Option, List, [], ◌∷◌, ◌++◌, IsTrue}
-use Rattle.std.specs.List.{All}
+use Rattle.std.specs.Prelude.{◌≡◌, ℕ, Bool, true, Option, List, IsTrue}
 use Rattle.ms_base.specs.declared.step.Step.{Step}
 use Rattle.ms_base.specs.declared.step.Step.TheVariants.{Alloc, Calloc, Unload}
 use Rattle.ms_base.specs.Names.{named}
@@ -14,7 +13,7 @@ use Rattle.ms_run.specs.declared.alone.Metered.{Metered}
 use Rattle.ms_run.specs.Course.{Course, passed}
 use Rattle.ms_run.specs.Metering.{used_words_of}
 use Rattle.ms_run.specs.Peaks.{ArePeaksIfKept}
-use Rattle.ms_run.specs.Replay.{Answers, AreKept, GoesOn, IsDetailed, IsEnd, is_full}
+use Rattle.ms_run.specs.Replay.{Answers, AreKept, GoesOn, is_full}
 
 -- The words in use of the loader whose tops a step may move, and 0 where it moves none.
 abbrev pub used_around : Step → List (ℕ × LoaderState) → ℕ
@@ -48,20 +47,3 @@ abbrev pub GoesOnTo : (Option ℕ → ℕ) → Metered → List Line → List An
 GoesOnTo worker old lines answers new =
     (course : Course) → HasTaken course old
     → (later : Course) × GoesOn worker course lines answers later × HasTaken later new
-
--- Lines are answered: the sink takes the answers, after those that it took since it was first as it was, and reports
--- have the details that are asked for.
-abbrev pub HasAnswered : {S : Type 0} → (S → S → List Answer → Type 0) → Detail → Metered → List Line → S → S → Metered
-    → Type 0
-HasAnswered took detail old lines before after new =
-    (first : _) (said : List Answer) → took first before said
-    → (added : List Answer)
-    × took first after (said ++ added) × All (IsDetailed detail) added × GoesOnBy old lines added new
-
--- A line that asks no step is answered.
-abbrev pub AddsEnd : {S : Type 0} → (S → S → List Answer → Type 0) → Detail → Metered → Line → S → S → Type 0
-AddsEnd took detail run line before after =
-    (first : _) (said : List Answer) → took first before said
-    → (added : Answer)
-    × took first after (said ++ added ∷ []) × IsDetailed detail added
-    × ((course : Course) → HasTaken course run → IsEnd course line added)

@@ -1,14 +1,14 @@
 -- What a sink is given of a replay (this project's choice).
-use Rattle.std.specs.Prelude.{◌≡◌, ℕ, Option, List, ◌++◌}
+use Rattle.std.specs.Prelude.{◌≡◌, ℕ, Option, List, [], ◌∷◌, ◌++◌}
 use Rattle.std.specs.List.{All}
 use Rattle.ms_base.specs.State.{Limits, empty_machine, limits_of}
 use Rattle.ms_base.specs.declared.settings.Settings.{Settings}
 use Rattle.ms_trace.specs.declared.trace.Line.{Line}
 use Rattle.ms_loaders.specs.declared.details.Detail.{Detail}
 use Rattle.ms_loaders.specs.declared.replies.Answer.{Answer}
-use Rattle.ms_run.specs.Counting.{GoesOnTo}
+use Rattle.ms_run.specs.Counting.{GoesOnBy, GoesOnTo, HasTaken}
 use Rattle.ms_run.specs.Course.{Course, begun}
-use Rattle.ms_run.specs.Replay.{Answers, IsDetailed, IsReplay}
+use Rattle.ms_run.specs.Replay.{Answers, IsDetailed, IsEnd, IsReplay}
 use Rattle.ms_run.specs.declared.alone.Metered.{Metered}
 
 -- A sink takes these answers, after those that it took since it was first as it was.
@@ -16,30 +16,33 @@ abbrev pub PutsAll : {S : Type 0} → (S → S → List Answer → Type 0) → L
 PutsAll took answers old new =
     (first : _) (said : List Answer) → took first old said → took first new (said ++ answers)
 
--- A sink takes the answers to all lines of one run, from the machine on that has nothing.
-abbrev pub AnswersAll : {S : Type 0} → (S → S → List Answer → Type 0) → Limits → Detail → List Line → S → S → Type 0
-AnswersAll took limits detail lines old new =
-    (first : _) (said : List Answer) → took first old said
-    → (added : List Answer) × (last : Course)
-    × took first new (said ++ added) × Answers (begun (empty_machine limits)) lines added last
-    × All (IsDetailed detail) added
+-- A sink takes answers of which this is true.
+abbrev pub Puts : {S : Type 0} → (S → S → List Answer → Type 0) → (List Answer → Type 0) → S → S → Type 0
+Puts took are old new = (added : List Answer) × PutsAll took added old new × are added
 
--- A sink takes the answers to a phase, or to a part of one, by the workers that it has: from each course on that
--- the run may have taken, they are answered so.
-abbrev pub PutsPhase : {S : Type 0} → (S → S → List Answer → Type 0) → Detail → (Option ℕ → ℕ) → Metered → List Line
-    → S → S → Metered → Type 0
-PutsPhase took detail worker run lines old new after =
-    (first : _) (said : List Answer) → took first old said
-    → (added : List Answer)
-    × took first new (said ++ added) × All (IsDetailed detail) added × GoesOnTo worker run lines added after
+-- Answers are those to some lines by one worker, as a run goes on.
+abbrev pub AreOfLines : Detail → Metered → List Line → Metered → List Answer → Type 0
+AreOfLines detail old lines new answers = All (IsDetailed detail) answers × GoesOnBy old lines answers new
 
--- A sink takes the answers to all lines, phase by phase.
-abbrev pub PutsPhases : {S : Type 0} → (S → S → List Answer → Type 0) → Settings → Detail → List Line → S → S → Type 0
-PutsPhases took settings detail lines old new =
-    (first : _) (said : List Answer) → took first old said
-    → (added : List Answer)
-    × took first new (said ++ added) × IsReplay (limits_of settings) settings.workers lines added
-    × All (IsDetailed detail) added
+-- They are those to all lines of one run, from the machine on that has nothing.
+abbrev pub AreOfRun : Limits → Detail → List Line → List Answer → Type 0
+AreOfRun limits detail lines answers =
+    (last : Course) × Answers (begun (empty_machine limits)) lines answers last × All (IsDetailed detail) answers
+
+-- They are those to a phase, or to a part of one, by the workers that it has, as a run goes on.
+abbrev pub AreOfPhase : Detail → (Option ℕ → ℕ) → Metered → List Line → Metered → List Answer → Type 0
+AreOfPhase detail worker old lines new answers = All (IsDetailed detail) answers × GoesOnTo worker old lines answers new
+
+-- There is one answer, to a line that asks no step.
+abbrev pub IsOfEnd : Detail → Metered → Line → List Answer → Type 0
+IsOfEnd detail run line answers =
+    (answer : Answer) × answers ≡ answer ∷ [] × IsDetailed detail answer
+    × ((course : Course) → HasTaken course run → IsEnd course line answer)
+
+-- They are those to all lines, phase by phase.
+abbrev pub AreOfPhases : Settings → Detail → List Line → List Answer → Type 0
+AreOfPhases settings detail lines answers =
+    IsReplay (limits_of settings) settings.workers lines answers × All (IsDetailed detail) answers
 
 -- Answers are those to a trace: answered phase by phase by so many workers, with one of them as one run of the
 -- machine in the order of the lines, and reports have the details that are asked for.
@@ -49,9 +52,3 @@ pub record AreToTrace (settings : Settings) (detail : Detail) (lines : List Line
   pub run : settings.workers ≡ 1
       → (last : Course) × Answers (begun (empty_machine (limits_of settings))) lines answers last
   pub detailed : All (IsDetailed detail) answers
-
--- A sink takes the answers to a trace.
-abbrev pub PutsReplay : {S : Type 0} → (S → S → List Answer → Type 0) → Settings → Detail → List Line → S → S → Type 0
-PutsReplay took settings detail lines old new =
-    (first : _) (said : List Answer) → took first old said
-    → (added : List Answer) × took first new (said ++ added) × AreToTrace settings detail lines added

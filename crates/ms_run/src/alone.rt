@@ -11,8 +11,8 @@ ghost use Rattle.std.specs.List.{All};
 ghost use Rattle.ms_run.specs.Course.{Course, begun};
 ghost use Rattle.ms_run.specs.Replay.{Answers, AreKept, IsDetailed};
 ghost use Rattle.ms_run.specs.Metering.{used_words_of};
-ghost use Rattle.ms_run.specs.Counting.{HasAnswered, HasTaken, IsCounted, used_around};
-ghost use Rattle.ms_run.specs.Sink.{AnswersAll};
+ghost use Rattle.ms_run.specs.Counting.{HasTaken, IsCounted, used_around};
+ghost use Rattle.ms_run.specs.Sink.{AreOfLines, AreOfRun, Puts};
 
 use crate::between::answer_between;
 use crate::gate::Gate;
@@ -42,7 +42,7 @@ pub fn answer_alone<G: Gate, S: AnswerSink>(
     lines: &[Line],
     sink: &mut S,
 ) -> Result<(), AllocError>
-    ensures { OnOk result (AnswersAll S.took (limits_of settings) detail lines.now sink.old sink.new) }
+    ensures { OnOk result (Puts S.took (AreOfRun (limits_of settings) detail lines.now) sink.old sink.new) }
 {
     let mut run = begin_run(alloc, settings, detail)?;
     let counts = gate.looks() | run.peaks.is_some();
@@ -80,7 +80,7 @@ pub fn answer_lines<G: Gate, S: AnswerSink>(
 ) -> Result<(), AllocError>
     requires { IsCounted counts detail run.old }
     ensures answers { OnOk result
-        (HasAnswered S.took detail run.old lines.now sink.old sink.new run.new) }
+        (Puts S.took (AreOfLines detail run.old lines.now run.new) sink.old sink.new) }
     ensures counted { OnOk result (IsCounted counts detail run.new) }
 {
     for line in lines {
@@ -102,7 +102,7 @@ fn answer_line<G: Gate, S: AnswerSink>(
 ) -> Result<(), AllocError>
     requires { IsCounted counts detail run.old }
     ensures answered { OnOk result
-        (HasAnswered S.took detail run.old (line.now ∷ []) sink.old sink.new run.new) }
+        (Puts S.took (AreOfLines detail run.old (line.now ∷ []) run.new) sink.old sink.new) }
     ensures counted { OnOk result (IsCounted counts detail run.new) }
 {
     let Command::Step(step) = line.command else {

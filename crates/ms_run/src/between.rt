@@ -10,9 +10,10 @@ ghost use Rattle.ms_base.specs.Totals.{sums_of};
 ghost use Rattle.ms_loaders.specs.Sums.{sums_in};
 ghost use Rattle.ms_trace.specs.Steps.{step_of};
 ghost use Rattle.ms_run.specs.Course.{Course};
-ghost use Rattle.ms_run.specs.Counting.{AddsEnd, HasTaken};
+ghost use Rattle.ms_run.specs.Counting.{HasTaken};
 ghost use Rattle.ms_run.specs.Replay.{AreKept, AreOf, HasDetail, Reports};
 ghost use Rattle.ms_run.specs.Replay.{is_full};
+ghost use Rattle.ms_run.specs.Sink.{IsOfEnd, Puts};
 ghost use Rattle.ms_run.specs.Metering.{used_words_of};
 
 use crate::alone::Metered;
@@ -35,7 +36,7 @@ pub fn answer_between<S: AnswerSink>(
     requires no_step { step_of line.now.command ≡ None }
     requires used { IfSome used (λ words. words ≡ used_words_of run.now.system) }
     requires kept { AreKept detail run.now.peaks }
-    ensures { OnOk result (AddsEnd S.took detail run.now line.now sink.old sink.new) }
+    ensures { OnOk result (Puts S.took (IsOfEnd detail run.now line.now) sink.old sink.new) }
 {
     let report = report_for(alloc, run, used, detail, line.command)?;
     sink.put(Answer {

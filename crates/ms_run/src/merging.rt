@@ -9,7 +9,7 @@ ghost use Rattle.ms_trace.specs.Steps.{step_of};
 ghost use Rattle.ms_loaders.specs.declared.replies.Answer.{Answer};
 ghost use Rattle.ms_run.specs.Replay.{AreSaid};
 ghost use Rattle.ms_run.specs.Own.{Said};
-ghost use Rattle.ms_run.specs.Sink.{PutsAll};
+ghost use Rattle.ms_run.specs.Sink.{Puts};
 ghost use Rattle.ms_run.specs.Turn.{shares_in, place_in};
 ghost use Rattle.ms_run.specs.Shares.{AreAnswered, AreMerged, AreSteps};
 
@@ -30,9 +30,8 @@ pub fn merge<S: AnswerSink>(
     requires count { vec_len shares.now ≡ shares_in turn.now }
     requires answered { AreAnswered (place_in turn.now) shares.now.items lines.now }
     requires steps { AreSteps lines.now }
-    ensures { OnOk result ((added : List Answer) × (said : List Said)
-        × PutsAll S.took added sink.old sink.new × AreSaid lines.now added said
-        × AreMerged (place_in turn.now) shares.now.items said) }
+    ensures { OnOk result (Puts S.took (λ answers. (said : List Said) × AreSaid lines.now answers said
+        × AreMerged (place_in turn.now) shares.now.items said) sink.old sink.new) }
 {
     let mut taken = vec![in alloc; 0; shares.len()]?;
     for line in lines {

@@ -12,7 +12,7 @@ ghost use Rattle.std.specs.Prelude.{◌≡◌, ℕ, IsOk, IfOk, IfErr, OnOk, map
 ghost use Rattle.std.specs.List.{All};
 ghost use Rattle.ms_base.specs.Good.{IsGood};
 ghost use Rattle.ms_run.specs.Replay.{AreKept, IsWanting};
-ghost use Rattle.ms_run.specs.Sink.{PutsAll, PutsPhase};
+ghost use Rattle.ms_run.specs.Sink.{AreOfPhase, Puts, PutsAll};
 ghost use Rattle.ms_shared.specs.MeterRule.{MeterSeatState};
 ghost use Rattle.ms_run.specs.Joined.{IsMadeFrom};
 ghost use Rattle.ms_run.specs.Shares.{AreApart, AreSteps, IsGathered, Place, StandOver};
@@ -51,7 +51,8 @@ pub fn run_phase<R: Threads + Wait + Sync, G: Gate + Sync, S: AnswerSink>(
     requires used { run.used ≡ used_words_of run.system }
     requires steps { AreSteps lines.now }
     requires kept { AreKept detail run.peaks }
-    ensures phase { IfOk result (PutsPhase S.took detail (worker_in turn.old) run lines.now sink.old sink.new) }
+    ensures phase { IfOk result (λ after. Puts S.took
+        (AreOfPhase detail (worker_in turn.old) run lines.now after) sink.old sink.new) }
     ensures good { IfOk result (λ after. IsGood after.system) }
     ensures turn { IsSameTurn turn.old turn.new }
     ensures used { IfOk result (λ after. after.used ≡ used_words_of after.system) }
@@ -105,7 +106,8 @@ fn run_shares<R: Threads + Wait + Sync, G: Gate + Sync, S: AnswerSink>(
     requires steps { AreSteps lines.now }
     requires kept { AreKept detail run.peaks }
     ensures phase { (before : TurnState) → IsSameTurn before turn.now
-        → IfOk result (PutsPhase S.took detail (worker_in before) run lines.now sink.old sink.new) }
+        → IfOk result (λ after. Puts S.took
+        (AreOfPhase detail (worker_in before) run lines.now after) sink.old sink.new) }
     ensures good { IfOk result (λ after. IsGood after.system) }
     ensures used { IfOk result (λ after. after.used ≡ used_words_of after.system) }
     ensures kept { IfOk result (λ after. AreKept detail after.peaks) }

@@ -11,11 +11,10 @@ ghost use Rattle.ms_base.specs.State.{empty_machine, limits_of};
 ghost use Rattle.ms_trace.specs.declared.trace.Line.{Line as LineOf};
 ghost use Rattle.ms_trace.specs.Steps.{step_of};
 ghost use Rattle.std.specs.List.{All};
-ghost use Rattle.ms_run.specs.Counting.{AddsEnd};
 ghost use Rattle.ms_run.specs.Course.{Course, begun};
 ghost use Rattle.ms_run.specs.Metering.{used_words_of};
 ghost use Rattle.ms_run.specs.Replay.{IsReplay, Answers, AreKept, IsDetailed, IsWanting};
-ghost use Rattle.ms_run.specs.Sink.{PutsPhases, PutsReplay};
+ghost use Rattle.ms_run.specs.Sink.{AreOfPhases, AreToTrace, IsOfEnd, Puts};
 ghost use Rattle.ms_run.specs.Shares.{AreSteps};
 ghost use Rattle.ms_run.specs.Turn.{AreFirst, IsNextTurn};
 
@@ -77,7 +76,7 @@ pub fn replay_into<R: Threads + Wait + Sync, G: Gate + Sync, S: AnswerSink>(
     gate: &G,
     sink: &mut S,
 ) -> Result<(), RunFault>
-    ensures answers { OnOk result (PutsReplay S.took settings detail trace.now.lines sink.old sink.new) }
+    ensures answers { OnOk result (Puts S.took (AreToTrace settings detail trace.now.lines) sink.old sink.new) }
     ensures wanting { IfErr result IsWanting }
     ensures no_thread { settings.workers ≡ 1
         → IfErr result (λ fault. fault ≡ RunFault.OutOfMemory) }
@@ -100,7 +99,7 @@ fn take_turns<R: Threads + Wait + Sync, G: Gate + Sync, S: AnswerSink>(
     lines: &[Line],
     sink: &mut S,
 ) -> Result<(), RunFault>
-    ensures answers { OnOk result (PutsPhases S.took settings detail lines.now sink.old sink.new) }
+    ensures answers { OnOk result (Puts S.took (AreOfPhases settings detail lines.now) sink.old sink.new) }
     ensures wanting { IfErr result IsWanting }
 {
     let mut turn = Turn::new(alloc, settings, lines)?;
@@ -121,7 +120,7 @@ fn answer_phases<R: Threads + Wait + Sync, G: Gate + Sync, S: AnswerSink>(
     requires numbered { AreFirst lines.now settings.workers turn.old.first }
     requires workers { turn.old.workers ≡ settings.workers }
     requires phase { turn.old.phase ≡ 0 }
-    ensures answers { OnOk result (PutsPhases S.took settings detail lines.now sink.old sink.new) }
+    ensures answers { OnOk result (Puts S.took (AreOfPhases settings detail lines.now) sink.old sink.new) }
     ensures wanting { IfErr result IsWanting }
 {
     let mut run = begin_run(alloc, settings, detail)?;
@@ -151,7 +150,7 @@ fn end_phase<S: AnswerSink>(
     requires no_step { step_of line.now.command ≡ None }
     requires used { run.now.used ≡ used_words_of run.now.system }
     requires kept { AreKept detail run.now.peaks }
-    ensures answered { OnOk result (AddsEnd S.took detail run.now line.now sink.old sink.new) }
+    ensures answered { OnOk result (Puts S.took (IsOfEnd detail run.now line.now) sink.old sink.new) }
     ensures turn { OnOk result (IsNextTurn turn.old turn.new) }
 {
     answer_between(alloc, run, Some(run.used), detail, line, sink)?;

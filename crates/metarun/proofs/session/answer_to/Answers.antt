@@ -27,10 +27,11 @@ returns-clause-ok g c =
     let reads = subst (λ (bytes : List ℕ). ReadsAs bytes c.in_ok-trace.trace) c.deref.ensures.value
     c.in_ok-trace.ensures.reads in
     let asked = c.args.options.now in
-    let told = c.in_ok-replay_into.ensures.answers (no_answer asked.addresses asked.detail asked.settings) []
+    let told = c.in_ok-replay_into.ensures.answers in
+    let tells = told.1 (no_answer asked.addresses asked.detail asked.settings) []
     (subst (λ (text : AnswerTextView). Tells (no_answer asked.addresses asked.detail asked.settings) text [])
     (sym c.new-answers.ensures) (tells_none asked.addresses asked.detail asked.settings)) in
-    let output = c.into_text.ensures ∙ told.1.text in (
+    let output = c.into_text.ensures ∙ tells.text in (
       c.in_ok-text.text.items,
       is_whole _ _ c.in_ok-text.text.items c.in_ok-trace.trace (record {
         beginning = c.in_ok-text.ensures.bytes;

@@ -1,7 +1,7 @@
 use Rattle.std.proofs.Common.{◌≡◌, ◌∙◌, ℕ, List, ap, arith, length, subst, take}
 use Rattle.std.proofs.Math.Seq.{take-length}
 use Rattle.ms_trace.specs.declared.trace.Line.{Line}
-use Rattle.ms_run.specs.Counting.{HasAnswered}
+use Rattle.ms_run.specs.Sink.{AreOfLines, Puts}
 use Rattle.ms_run.proofs.AloneLemmas.{none_answered, one_more_answered}
 use Rattle.ms_run.proofs.alone.answer_lines.Goals as goal
 
@@ -23,8 +23,8 @@ pub returns-clause-answers : goal.returns-clause-answers
 returns-clause-answers g c =
     let ends : c.loop-line.line-index ≡ length c.args.lines.now =
     omega (arith, c.loop-line-test.false, c.loop-line.auto.line-index-end) in
-    subst (λ (lines : List Line). HasAnswered g.S.AnswerSink.took c.args.detail c.args.run.now lines c.args.sink.now
-    c.loop-line.sink c.loop-line.run)
+    subst (λ (lines : List Line). Puts g.S.AnswerSink.took
+    (AreOfLines c.args.detail c.args.run.now lines c.loop-line.run) c.args.sink.now c.loop-line.sink)
     (ap (λ (n : ℕ). take n c.args.lines.now) ends ∙ take-length c.args.lines.now) c.loop-line.invariant.answers
 
 pub returns-clause-counted : goal.returns-clause-counted

@@ -1,10 +1,11 @@
 use Rattle.std.proofs.Common.{take}
-use Rattle.ms_run.specs.Counting.{HasAnswered, IsCounted}
+use Rattle.ms_run.specs.Counting.{IsCounted}
+use Rattle.ms_run.specs.Sink.{AreOfLines, Puts}
 use Rattle.ms_run.proofs.alone.answer_lines.Given as goal
 
 -- the first lines are answered, and words in use and peaks counted on
 abbrev pub invariant-loop-line : goal.invariant-loop-line
 invariant-loop-line g l = record {
-  answers : HasAnswered g.S.AnswerSink.took l.fn.detail l.fn.run (take l.line-index l.lines) l.fn.sink l.sink l.run;
+  answers : Puts g.S.AnswerSink.took (AreOfLines l.fn.detail l.fn.run (take l.line-index l.lines) l.run) l.fn.sink l.sink;
   counted : IsCounted l.fn.counts l.fn.detail l.run;
 }

@@ -1,8 +1,9 @@
-use Rattle.std.proofs.Common.{◌<◌, ◌∙◌, ◌++◌, ◌∷◌, [], List, append-nil, append_assoc, arith, length, subst, sym}
+use Rattle.std.proofs.Common.{◌<◌, ◌∙◌, ◌∷◌, [], List, arith, length, subst, sym}
 use Rattle.std.proofs.lemmas.Option.{slice_get_read}
 use Rattle.ms_loaders.specs.declared.replies.Answer.{Answer}
 use Rattle.ms_run.specs.Sink.{PutsAll}
 use Rattle.ms_run.specs.Turn.{place_in}
+use Rattle.ms_run.proofs.AloneLemmas.{puts_more, puts_none}
 use Rattle.ms_run.proofs.sharing.MergeLemmas.{starts, next_line, has_reply, merges_next, all_merged}
 use Rattle.ms_run.proofs.merging.merge.Goals as goal
 
@@ -14,7 +15,7 @@ loop-line-init g c = (
       (c.in_ok-taken.ensures.items_if_clones_equal (λ y same. same))
       (sym c.in_ok-taken.taken.ok.0 ∙ c.in_ok-taken.ensures.len)
       (c.len.ensures ∙ c.args.shares.now.ok.0),
-  λ first said put. subst (g.S.AnswerSink.took first c.args.sink.now) (sym (append-nil said)) put,
+  puts_none g.S.AnswerSink.took c.args.sink.now,
 )
 
 pub index-reply-requires : goal.index-reply-requires
@@ -62,8 +63,8 @@ loop-line-preserved g c =
     c.index-reply.ensures in (
       _,
       grown,
-      λ first said put. subst (g.S.AnswerSink.took first c.put.new.self) (append_assoc said so_far.0 (_ ∷ []))
-          (c.in_ok-put.ensures first (said ++ so_far.0) (so_far.2 first said put)),
+      puts_more g.S.AnswerSink.took so_far.0 (_ ∷ []) c.args.sink.now c.loop-line.sink c.put.new.self so_far.2
+          c.in_ok-put.ensures,
     )
 
 pub returns : goal.returns
@@ -72,8 +73,6 @@ returns g c =
     let all = all_merged _ _ _ _ _ _ _ c.requires.answered so_far.1
     (omega (arith, c.loop-line-test.false, c.loop-line.auto.line-index-end)) in (
       all.0,
-      all.1,
       subst (λ (l : List Answer). PutsAll g.S.AnswerSink.took l c.args.sink.now c.loop-line.sink) all.2 so_far.2,
-      all.3,
-      all.4,
+      (all.1, all.3, all.4),
     )

@@ -3,13 +3,14 @@ use Rattle.std.proofs.Common.{◌∙◌, ◌++◌, ◌∷◌, [], List, ap, appe
 use Rattle.std.proofs.lemmas.List.{nil_from_length}
 use Rattle.ms_loaders.specs.declared.replies.Answer.{Answer}
 use Rattle.ms_run.specs.Sink.{PutsAll}
+use Rattle.ms_run.proofs.AloneLemmas.{puts_more, puts_none}
 use Rattle.ms_run.proofs.phase.put_all.Goals as goal
 
 pub loop-answer-init : goal.loop-answer-init
 loop-answer-init g c = (
   [],
   sym c.into_iter-answer-iterator.ensures.into_iter_gives.0,
-  λ first said put. subst (g.S.AnswerSink.took first c.args.sink.now) (sym (append-nil said)) put,
+  puts_none g.S.AnswerSink.took c.args.sink.now,
 )
 
 pub loop-answer-preserved : goal.loop-answer-preserved
@@ -20,8 +21,8 @@ loop-answer-preserved g c =
       so_far.1
           ∙ ap (λ (l : List Answer). so_far.0 ++ l) c.in-Some.ensures.steps.0
           ∙ sym (append_assoc so_far.0 (answer ∷ []) c.next.new.self.rest.items),
-      λ first said put. subst (g.S.AnswerSink.took first c.put.new.self) (append_assoc said so_far.0 (answer ∷ []))
-          (c.in_ok-put.ensures first (said ++ so_far.0) (so_far.2 first said put)),
+      puts_more g.S.AnswerSink.took so_far.0 (answer ∷ []) c.args.sink.now c.loop-answer.sink c.put.new.self so_far.2
+          c.in_ok-put.ensures,
     )
 
 pub returns : goal.returns

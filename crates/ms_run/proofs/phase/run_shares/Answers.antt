@@ -58,27 +58,29 @@ end_shares-requires-clause-count g c =
     ∙ sym (same_count _ _ c.in_ok-shares.ensures.worked) ∙ sym c.in_ok-shares.shares.ok.0
 
 pub returns-clause-phase : goal.returns-clause-phase
-returns-clause-phase g c = λ before same first said put.
+returns-clause-phase g c = λ before same.
     let merged = c.in_ok-merge.ensures in (
       merged.0,
-      merged.2 first said put,
-      said_detailed c.args.detail c.args.lines.now merged.0 merged.1 merged.3,
-      phase_added (worker_in before) c.args.lines.now merged.0 c.args.run _
-          (ended before c.args.turn.now c.in_ok-shared.shared c.in_ok-shared.shares.items
-          c.in_ok-shares.shares.items c.args.lines.now
-          merged.0 merged.1 c.into_parts-pool.result.1 c.args.run.system _ same
-          (ap (λ (m : Machine). m.loaders) (sym c.into_parts-pool.ensures.machine))
-          c.in_ok-shared.ensures.dealt c.in_ok-shares.ensures.worked
-          merged.3 merged.4
-          c.in_ok-system.ensures.gathered c.in_ok-system.ensures.good
-          (sym c.into_parts-pool.ensures.machine
-          ∙ ap (λ (l : Ledger). machine_of l c.into_parts-pool.result.1) (sym c.in_ok-shared.ensures.first))
-          (subst (λ (l : Ledger). AreTogether l c.into_parts-pool.result.1) (sym c.in_ok-shared.ensures.first)
-          c.into_parts-pool.ensures.together)
-          c.in_ok-system.ensures.history c.in_ok-system.ensures.limits
-          (ap (λ (l : Ledger). l.limits) c.in_ok-shared.ensures.first
-          ∙ ap (λ (m : Machine). m.limits) c.into_parts-pool.ensures.machine))
-          c.raise.ensures.peaks,
+      merged.1,
+      (
+        said_detailed c.args.detail c.args.lines.now merged.0 merged.2.0 merged.2.1,
+        phase_added (worker_in before) c.args.lines.now merged.0 c.args.run _
+            (ended before c.args.turn.now c.in_ok-shared.shared c.in_ok-shared.shares.items
+            c.in_ok-shares.shares.items c.args.lines.now
+            merged.0 merged.2.0 c.into_parts-pool.result.1 c.args.run.system _ same
+            (ap (λ (m : Machine). m.loaders) (sym c.into_parts-pool.ensures.machine))
+            c.in_ok-shared.ensures.dealt c.in_ok-shares.ensures.worked
+            merged.2.1 merged.2.2
+            c.in_ok-system.ensures.gathered c.in_ok-system.ensures.good
+            (sym c.into_parts-pool.ensures.machine
+            ∙ ap (λ (l : Ledger). machine_of l c.into_parts-pool.result.1) (sym c.in_ok-shared.ensures.first))
+            (subst (λ (l : Ledger). AreTogether l c.into_parts-pool.result.1) (sym c.in_ok-shared.ensures.first)
+            c.into_parts-pool.ensures.together)
+            c.in_ok-system.ensures.history c.in_ok-system.ensures.limits
+            (ap (λ (l : Ledger). l.limits) c.in_ok-shared.ensures.first
+            ∙ ap (λ (m : Machine). m.limits) c.into_parts-pool.ensures.machine))
+            c.raise.ensures.peaks,
+      ),
     )
 
 pub raise-requires : goal.raise-requires

@@ -1,7 +1,9 @@
-use Rattle.std.proofs.Common.{◌∙◌, ◌++◌, ◌∷◌, [], List, ap, append-nil, append_assoc, arith, subst, sym}
+use Rattle.std.proofs.Common.{◌++◌, ◌∷◌, [], List, arith, subst}
 use Rattle.std.proofs.lemmas.List.Elements.{All-append, All-nil}
 use Rattle.ms_loaders.specs.declared.replies.Answer.{Answer}
 use Rattle.ms_run.specs.Replay.{IsDetailed}
+use Rattle.ms_run.specs.Sink.{PutsAll}
+use Rattle.ms_run.proofs.AloneLemmas.{puts_more, puts_none}
 use Rattle.ms_run.proofs.replays.ReplayLemmas.{phases_start, steps_there, stops_next, phases_more, phases_next}
 use Rattle.ms_run.proofs.replays.ReplayLemmas.{phases_end}
 use Rattle.ms_run.proofs.DetailLemmas.{one_detailed}
@@ -9,12 +11,14 @@ use Rattle.ms_run.proofs.replaying.answer_phases.Goals as goal
 
 pub loop-at-init : goal.loop-at-init
 loop-at-init g c = record {
-  phases = λ first said put. (
+  phases = (
     [],
-    subst (g.S.AnswerSink.took first c.args.sink.now) (sym (append-nil said)) put,
-    phases_start c.args.settings c.args.lines.now _ c.args.turn.now c.in_ok-run.ensures.taken
-        c.requires.numbered c.requires.workers c.requires.phase c.args.settings.workers_some,
-    All-nil (IsDetailed c.args.detail),
+    puts_none g.S.AnswerSink.took c.args.sink.now,
+    (
+      phases_start c.args.settings c.args.lines.now _ c.args.turn.now c.in_ok-run.ensures.taken
+          c.requires.numbered c.requires.workers c.requires.phase c.args.settings.workers_some,
+      All-nil (IsDetailed c.args.detail),
+    ),
   );
   good = c.in_ok-run.ensures.good;
   used = c.in_ok-run.ensures.used;
@@ -35,20 +39,26 @@ end_phase-requires-clause-no_step g c =
 
 pub loop-at-preserved-then-at-lines : goal.loop-at-preserved-then-at-lines
 loop-at-preserved-then-at-lines g c = record {
-  phases = λ first said put.
-      let so_far = c.loop-at.invariant.phases first said put in
-      let worked = c.in_ok-run-2.ensures.phase first (said ++ so_far.0) so_far.1 in
-      let told = c.in_ok-end_phase.ensures.answered first ((said ++ so_far.0) ++ worked.0) worked.1 in
+  phases =
+      let so_far = c.loop-at.invariant.phases in
+      let worked = c.in_ok-run-2.ensures.phase in
+      let ended = c.in_ok-end_phase.ensures.answered in
+      let told = ended.2.0 in
       let more = phases_more _ _ _ _ c.loop-at.turn _ c.args.lines.now c.loop-at.at c.steps_first-count.result
-      so_far.0 worked.0 so_far.2 c.steps_first-count.ensures.within worked.3 c.in_ok-run-2.ensures.turn in (
-        (so_far.0 ++ worked.0) ++ told.0 ∷ [],
-        subst (g.S.AnswerSink.took first c.end_phase.new.sink)
-            (ap (λ (l : List Answer). l ++ told.0 ∷ []) (append_assoc said so_far.0 worked.0)
-            ∙ append_assoc said (so_far.0 ++ worked.0) (told.0 ∷ [])) told.1,
-        phases_next _ _ _ _ _ c.args.lines.now _ _ (so_far.0 ++ worked.0) told.0 more c.if-at-lines.true told.3
-            c.in_ok-end_phase.ensures.turn,
-        one_detailed c.args.detail (so_far.0 ++ worked.0) told.0 told.2
-            (All-append (IsDetailed c.args.detail) so_far.0 worked.0 so_far.3 worked.2),
+      so_far.0 worked.0 so_far.2.0 c.steps_first-count.ensures.within worked.2.1 c.in_ok-run-2.ensures.turn in (
+        (so_far.0 ++ worked.0) ++ told ∷ [],
+        puts_more g.S.AnswerSink.took (so_far.0 ++ worked.0) (told ∷ []) c.args.sink.now c.run_phase.new.sink
+            c.end_phase.new.sink
+            (puts_more g.S.AnswerSink.took so_far.0 worked.0 c.args.sink.now c.loop-at.sink c.run_phase.new.sink
+            so_far.1 worked.1)
+            (subst (λ (l : List Answer). PutsAll g.S.AnswerSink.took l c.run_phase.new.sink c.end_phase.new.sink)
+            ended.2.1 ended.1),
+        (
+          phases_next _ _ _ _ _ c.args.lines.now _ _ (so_far.0 ++ worked.0) told more c.if-at-lines.true ended.2.3
+              c.in_ok-end_phase.ensures.turn,
+          one_detailed c.args.detail (so_far.0 ++ worked.0) told ended.2.2
+              (All-append (IsDetailed c.args.detail) so_far.0 worked.0 so_far.2.1 worked.2.0),
+        ),
       );
   good = c.in_ok-run-2.ensures.good;
   used = c.in_ok-run-2.ensures.used;
@@ -57,14 +67,17 @@ loop-at-preserved-then-at-lines g c = record {
 
 pub loop-at-preserved : goal.loop-at-preserved
 loop-at-preserved g c = record {
-  phases = λ first said put.
-      let so_far = c.loop-at.invariant.phases first said put in
-      let worked = c.in_ok-run-2.ensures.phase first (said ++ so_far.0) so_far.1 in (
+  phases =
+      let so_far = c.loop-at.invariant.phases in
+      let worked = c.in_ok-run-2.ensures.phase in (
         so_far.0 ++ worked.0,
-        subst (g.S.AnswerSink.took first c.run_phase.new.sink) (append_assoc said so_far.0 worked.0) worked.1,
-        phases_more _ _ _ _ c.loop-at.turn _ c.args.lines.now c.loop-at.at c.steps_first-count.result
-            so_far.0 worked.0 so_far.2 c.steps_first-count.ensures.within worked.3 c.in_ok-run-2.ensures.turn,
-        All-append (IsDetailed c.args.detail) so_far.0 worked.0 so_far.3 worked.2,
+        puts_more g.S.AnswerSink.took so_far.0 worked.0 c.args.sink.now c.loop-at.sink c.run_phase.new.sink so_far.1
+            worked.1,
+        (
+          phases_more _ _ _ _ c.loop-at.turn _ c.args.lines.now c.loop-at.at c.steps_first-count.result
+              so_far.0 worked.0 so_far.2.0 c.steps_first-count.ensures.within worked.2.1 c.in_ok-run-2.ensures.turn,
+          All-append (IsDetailed c.args.detail) so_far.0 worked.0 so_far.2.1 worked.2.0,
+        ),
       );
   good = c.in_ok-run-2.ensures.good;
   used = c.in_ok-run-2.ensures.used;
@@ -72,11 +85,13 @@ loop-at-preserved g c = record {
 }
 
 pub returns-clause-answers : goal.returns-clause-answers
-returns-clause-answers g c = λ first said put.
-    let so_far = c.loop-at.invariant.phases first said put in (
+returns-clause-answers g c =
+    let so_far = c.loop-at.invariant.phases in (
       so_far.0,
       so_far.1,
-      phases_end c.args.settings c.args.lines.now c.loop-at.at so_far.0 c.loop-at.run
-          c.loop-at.turn so_far.2 (omega (arith, c.loop-at-test.false)),
-      so_far.3,
+      (
+        phases_end c.args.settings c.args.lines.now c.loop-at.at so_far.0 c.loop-at.run
+            c.loop-at.turn so_far.2.0 (omega (arith, c.loop-at-test.false)),
+        so_far.2.1,
+      ),
     )

@@ -8,32 +8,31 @@ use Rattle.ms_run.proofs.replays.ReplayLemmas.{alone_replays}
 use Rattle.ms_run.proofs.replaying.replay_into.Goals as goal
 
 pub returns-then-settings-ne1-clause-answers : goal.returns-then-settings-ne1-clause-answers
-returns-then-settings-ne1-clause-answers g c = on_ok_weaker c.take_turns.result (λ answered first said put.
-    let told = answered first said put in (
-      told.0,
-      told.1,
-      record {
-        own = subst (λ (l : List Line). IsReplay (limits_of c.args.settings) c.args.settings.workers l told.0)
-            c.as_slice-lines.ensures told.2;
-        run = λ one. absurd (c.if-settings-ne1.true one);
-        detailed = told.3;
-      },
-    ))
+returns-then-settings-ne1-clause-answers g c = on_ok_weaker c.take_turns.result (λ told. (
+  told.0,
+  told.1,
+  record {
+    own = subst (λ (l : List Line). IsReplay (limits_of c.args.settings) c.args.settings.workers l told.0)
+        c.as_slice-lines.ensures told.2.0;
+    run = λ one. absurd (c.if-settings-ne1.true one);
+    detailed = told.2.1;
+  },
+))
     c.take_turns.ensures.answers
 
 pub returns-clause-answers : goal.returns-clause-answers
-returns-clause-answers g c = λ first said put.
-    let told = c.in_ok-answer_alone.ensures first said put in (
+returns-clause-answers g c =
+    let told = c.in_ok-answer_alone.ensures in (
       told.0,
-      told.2,
+      told.1,
       record {
         own = alone_replays c.args.settings c.args.trace.now.lines _ told.0
-            (let one = c.if-settings-ne1.false in omega (arith, one)) c.as_slice-lines.ensures (told.1, told.3);
+            (let one = c.if-settings-ne1.false in omega (arith, one)) c.as_slice-lines.ensures (told.2.0, told.2.1);
         run = λ one. (
-          told.1,
-          subst (λ (l : List Line). Answers (begun (empty_machine (limits_of c.args.settings))) l told.0 told.1)
-              c.as_slice-lines.ensures told.3,
+          told.2.0,
+          subst (λ (l : List Line). Answers (begun (empty_machine (limits_of c.args.settings))) l told.0 told.2.0)
+              c.as_slice-lines.ensures told.2.1,
         );
-        detailed = told.4;
+        detailed = told.2.2;
       },
     )
