@@ -21,7 +21,8 @@ use Rattle.ms_base.proofs.entries.EntryLemmas.{Split, split_at, Gap, gap_at, sam
 use Rattle.ms_base.proofs.entries.HashedLemmas.{Sets, without_by_name}
 use Rattle.ms_base.proofs.entries.LookupLemmas.{named_changed_same, named_changed_other, named_without_other}
 use Rattle.ms_base.proofs.events.SeenEntryLemmas.{same_entries}
-use Rattle.ms_arena.specs.Arena.{IsLive, IsNotLive, WritesWord, FreesBlock, live_run}
+use Rattle.ms_base.specs.declared.refusal.Refusal.{Refusal}
+use Rattle.ms_arena.specs.Arena.{IsLive, IsNotLive, LacksWord, WordRefused, WritesWord, FreesBlock, live_run}
 use Rattle.ms_arena.specs.Raw.{RawView, Gains, FreesRun, Holds, RunIsThere, contents_at, live_in, with_live}
 use Rattle.ms_arena.specs.Words.{WordsView, StayWords, Writes, value_at}
 use Rattle.ms_arena.proofs.HoldLemmas.{contents_long, contents_stay, IsClear, clear_of_each, clear_of_new}
@@ -79,6 +80,25 @@ is_not_live raw runs block none = λ contents live.
     let e : false ≡ true = none (has_words raw.words block.start block.words (named runs block.start) contents
     (sym (named_live raw.words runs block.start) ∙ live.found) live.words) in
     absurd (cc (e))
+
+-- A run lacks a word, so its block does.
+pub lacks_word : (raw : RawView) (runs : List (ℕ × ℕ)) (block : Block) (index : ℕ) (refusal : Refusal)
+    → LacksWord runs block index refusal
+    → WordRefused (with_live raw (live_in raw.words runs)) block index refusal
+lacks_word raw runs block index refusal lacks =
+    elim lacks [
+      | inl none ↦
+          subst (WordRefused (with_live raw (live_in raw.words runs)) block index) (sym none.0)
+          (is_not_live raw runs block (λ found. absurd (none.1 found)))
+      | inr past ↦
+          let live = is_live raw runs block past.1 in
+          subst (WordRefused (with_live raw (live_in raw.words runs)) block index) (sym past.0) (record {
+            contents = contents_at raw.words (block.start, block.words);
+            live = live;
+            words_are = live.words;
+            past = past.2;
+          })
+    ]
 
 -- What holds of all holds of the one that has a name.
 all_named : (P : ℕ × ℕ → Type 0) (runs : List (ℕ × ℕ)) (name n : ℕ) → AllByRecursion P runs

@@ -7,4 +7,3 @@ mod AllocLemmas
 mod RawLemmas
 mod ArenaLemmas
 mod PagesLemmas
-mod PlacesLemmas

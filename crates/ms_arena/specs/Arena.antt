@@ -1,5 +1,5 @@
 -- An arena as its callers see it, and what calls that ask no source do to it.
-use Rattle.std.specs.Prelude.{◌≡◌, ℕ, ◌<◌, ◌≤◌, List, [], length, map, replicate, slice_get, slice_set, Option, Some}
+use Rattle.std.specs.Prelude.{◌≡◌, ℕ, ◌<◌, ◌≤◌, ◌⊎◌, List, [], length, map, replicate, slice_get, slice_set, Option, Some}
 use Rattle.std.specs.Prelude.{None}
 use Rattle.ms_base.specs.declared.kind.Kind.{Kind}
 use Rattle.ms_base.specs.declared.kind.Space.{Space}
@@ -120,6 +120,12 @@ abbrev pub WordRefused : ArenaView → Block → ℕ → Refusal → Type 0
 WordRefused arena block index NotLive = IsNotLive arena block
 WordRefused arena block index (OutOfRange words) = IsPastEnd arena block index words
 WordRefused arena block index _ = ⊥
+
+-- And where runs are named by their starts: the block's isn't there, or ends before the word.
+abbrev pub LacksWord : List (ℕ × ℕ) → Block → ℕ → Refusal → Type 0
+LacksWord runs block index refusal =
+    (refusal ≡ NotLive × (named runs block.start ≡ Some block.words → ⊥))
+    ⊎ (refusal ≡ OutOfRange block.words × named runs block.start ≡ Some block.words × block.words ≤ index)
 
 -- A live block is freed: its words become a free block.
 pub record FreesBlock (old : ArenaView) (block : Block) (new : ArenaView) : Type 0 where

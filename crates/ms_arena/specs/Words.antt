@@ -2,7 +2,7 @@
 -- block reached into has a place in a list of words of which most are 0 (our choice).
 use Rattle.std.specs.Prelude.{◌≡◌, ◌≢◌, ℕ, ◌+◌, ◌-◌, ◌*◌, ◌/◌, ◌%◌, ◌^◌, ◌<◌, ◌≤◌, cond, nat_lt}
 use Rattle.ms_arena.specs.Pages.{PagesView, word_at}
-use Rattle.ms_arena.specs.Places.{PlacesView, HasTables, place_of}
+use Rattle.ms_arena.specs.Places.{PlacesView, place_of}
 
 -- The places of stretches, the list, how many places were given, and for how many more there is room.
 pub record WordsView : Type 0 where
@@ -58,12 +58,12 @@ pub record Writes (old : WordsView) (word value : ℕ) (new : WordsView) : Type 
   pub others : (other : ℕ) → other ≢ word → value_at new other ≡ value_at old other
   pub places : (other : ℕ) → place_at new other ≡ place_at old other
 
--- What is kept true: places are those given, no two stretches have one, and the list has them all and room for
--- as many more as said.
+-- What is kept true: places are those given, no two stretches have one, and the list has them all, and both have
+-- room for as many more as said.
 pub record AreWords (places : PlacesView) (room given ready : ℕ) : Type 0 where
   pub below : (stretch : ℕ) → place_of places stretch ≤ given
   pub own : (stretch other : ℕ) → 0 < place_of places stretch → place_of places stretch ≡ place_of places other
       → stretch ≡ other
   pub list : 2048 * (given + ready) ≤ 512 * room
-  pub fits : 2048 * (given + ready) < 2 ^ 43
-  pub tables : 0 < ready → HasTables places ready
+  pub fits : 512 * room < 2 ^ 63
+  pub spare : ready ≤ places.spare

@@ -11,17 +11,16 @@
 //! room for a block is made before the arena below is asked. HotSpot's arenas know no live blocks;
 //! that this one does is this project's choice.
 ghost use Rattle.std.specs.Prelude.{◌≡◌, ◌↔◌, ◌<◌, ◌^◌, None, Some, Err, IfOk, OnOk, IfErr, OnErr, []};
-ghost use Rattle.std.specs.Prelude.{◌+◌, IsTrue};
+ghost use Rattle.std.specs.Prelude.{IsTrue};
 ghost use Rattle.std.specs.HashMap.{spare};
 ghost use Rattle.ms_base.specs.Hashed.{by_name};
 ghost use Rattle.ms_base.specs.Names.{named, with_new};
 ghost use Rattle.ms_base.specs.Totals.{used_of};
 ghost use Rattle.ms_pool.specs.Source.{LeavesRest};
 ghost use Rattle.ms_arena.specs.Arena.{IsSoundArena, IsNotLive, Places, PlaceRefused, ReadsWord, WritesWord};
-ghost use Rattle.ms_arena.specs.Arena.{WordRefused, FreesBlock, account_of, new_arena};
+ghost use Rattle.ms_arena.specs.Arena.{LacksWord, WordRefused, FreesBlock, account_of, new_arena};
 ghost use Rattle.ms_arena.specs.Alloc.{Allocates};
 ghost use Rattle.ms_arena.specs.ArenaSums.{AreSums};
-ghost use Rattle.ms_arena.specs.Raw.{Holds, live_in, with_live};
 
 use crate::raw::{RawArena, wanting_room};
 use crate::totals::ArenaTotals;
@@ -129,8 +128,8 @@ impl Arena {
         ensures value { IfOk result (λ value. ReadsWord self.now block index value) }
         ensures refused { IfErr result (λ refusal. WordRefused self.now block index refusal) }
     {
-        let word = word_of(&self.raw, &self.live, block, index)?;
-        Ok(self.raw.read(word))
+        check_word(&self.live, block, index)?;
+        Ok(self.raw.read(block.start + index))
     }
 
     /// Writes a word of a live block, by its index from 0 on; all else stays. Refused as `read` is,
@@ -140,8 +139,8 @@ impl Arena {
         ensures refused { IfErr result (λ refusal. WordRefused self.old block index refusal) }
         ensures unchanged { OnErr result (self.new ≡ self.old) }
     {
-        let word = word_of(&self.raw, &self.live, block, index)?;
-        self.raw.write(word, value);
+        check_word(&self.live, block, index)?;
+        self.raw.write(block.start + index, value);
         Ok(())
     }
 
@@ -241,20 +240,11 @@ fn is_live(live: &HashMap<u64, u64>, block: Block) -> bool
     }
 }
 
-/// Tells the number in the space of a live block's word, or why there is no such word. Only the clauses speak
-/// of the arena below.
-fn word_of(
-    raw: &RawArena,
-    live: &HashMap<u64, u64>,
-    block: Block,
-    index: u64,
-) -> Result<u64, Refusal>
-    requires { Holds raw.now (by_name live.now.entries) }
-    ensures word { IfOk result (λ word. word ≡ block.start + index) }
+/// Refuses a word that is not there: where the block is not live, or the index is past its end.
+fn check_word(live: &HashMap<u64, u64>, block: Block, index: u64) -> Result<(), Refusal>
     ensures live { OnOk result (named (by_name live.now.entries) block.start ≡ Some block.words) }
     ensures within { OnOk result (index < block.words) }
-    ensures refused { IfErr result (λ refusal.
-        WordRefused (with_live raw.now (live_in raw.now.words (by_name live.now.entries))) block index refusal) }
+    ensures refused { IfErr result (λ refusal. LacksWord (by_name live.now.entries) block index refusal) }
 {
     if !is_live(live, block) {
         return Err(Refusal::NotLive);
@@ -262,5 +252,5 @@ fn word_of(
     if index >= block.words {
         return Err(Refusal::OutOfRange { words: block.words });
     }
-    Ok(block.start + index)
+    Ok(())
 }

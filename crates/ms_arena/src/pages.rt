@@ -68,6 +68,7 @@ impl Pages {
     /// Makes room for so many words; the words stay.
     pub fn reserve(&mut self, alloc: Global, words: usize) -> Result<(), AllocError>
         ensures room { OnOk result (words ≤ 512 * self.new.room) }
+        ensures fits { OnOk result (512 * self.new.room < 2 ^ 63) }
         ensures more { self.old.room ≤ self.new.room }
         ensures words { (at : ℕ) → word_at self.new at ≡ word_at self.old at }
         ensures unchanged { OnErr result (self.new ≡ self.old) }
@@ -83,6 +84,7 @@ impl Pages {
     fn grow(&mut self, alloc: Global, room: usize) -> Result<(), AllocError>
         requires { self.old.room ≤ room }
         ensures room { OnOk result (self.new.room ≡ room) }
+        ensures fits { OnOk result (512 * self.new.room < 2 ^ 63) }
         ensures words { (at : ℕ) → word_at self.new at ≡ word_at self.old at }
         ensures unchanged { OnErr result (self.new ≡ self.old) }
     {

@@ -26,9 +26,6 @@ const STRETCH: usize = 2048;
 /// For how many places room is made at least.
 const LEAST: usize = 4;
 
-/// Below which the number of places stays: more memory than a process has.
-const MOST: usize = 1 << 32;
-
 /// The words of an arena's blocks. A word has its number in the space.
 #[derive(Drop)]
 pub struct Words {
@@ -101,13 +98,10 @@ impl Words {
         ensures room { OnOk result (more ≤ self.new.ready) }
         ensures stay { StayWords self.old self.new }
     {
-        let given = self.given + more;
-        if given >= MOST {
-            return Err(AllocError);
-        }
         self.ready = 0;
         self.places.reserve(more)?;
-        self.list.reserve(alloc, STRETCH * given)?;
+        let given = self.given + more;
+        self.list.reserve(alloc, STRETCH.saturating_mul(given))?;
         self.ready = more;
         Ok(())
     }

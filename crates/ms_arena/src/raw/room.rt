@@ -6,7 +6,7 @@
 use super::RawArena;
 
 /// For how many stretches of 2048 words a small arena has memory at most.
-const SMALL_STRETCHES: usize = 1024;
+const SMALL_STRETCHES: usize = 64;
 
 /// For how many free blocks that come.
 const SMALL_BLOCKS: usize = 256;
@@ -18,7 +18,7 @@ const SMALL_TOPS: usize = 64;
 const SMALL_PAGES: usize = 4;
 
 impl RawArena {
-    /// Tells whether the arena's memory is small: some 30 KiB, its chunks aside, and the table of pages, which
+    /// Tells whether the arena's memory is small: some 25 KiB, its chunks aside, and the table of pages, which
     /// is longer where a page far on was written. A hint to whoever keeps arenas to be renewed, of which
     /// nothing is promised. Takes no memory. This project's choice; HotSpot's arenas are memory themselves.
     pub fn is_small(&self) -> bool {
