@@ -44,6 +44,14 @@ pub(crate) enum Node<A: Allocator> {
     Split(u16, Box<Node<A>, A>, Box<Node<A>, A>),
 }
 
+/// A part that is lent, to whom, and with which front.
+#[derive(Clone, Copy)]
+pub(crate) struct Lending {
+    pub(crate) span: Span,
+    pub(crate) owner: u32,
+    pub(crate) front: u64,
+}
+
 /// Why a node does not lend a part: a step's answer of one byte, which `SplitTree` tells as a
 /// refusal.
 #[derive(Clone, Copy)]
@@ -273,37 +281,37 @@ impl<A: Allocator> Node<A> {
 }
 
 impl<A: Allocator + Clone> Node<A> {
-    /// Makes a node with one lent leaf of that span. Takes two boxes for each level below this one,
+    /// Makes a node with one lent leaf, that part. Takes two boxes for each level below this one,
     /// spare ones first.
     fn with_lent(
         spare: &mut Node<A>,
         alloc: &A,
         level: u8,
         start: u64,
-        span: Span,
-        owner: u32,
-        front: u64,
+        lending: &Lending,
     ) -> Result<Node<A>, AllocError>
-        requires { MayBeLent level start span front }
+        requires { MayBeLent level start lending.now.span lending.now.front }
         ensures tree { IfOk result (λ node. IsTree level node) }
         ensures split { IfOk result (λ node. is_free node ≡ false) }
         ensures lent { IfOk result
-            (λ node. lent_in level start node ≡ leaf_of span owner front ∷ []) }
+            (λ node. lent_in level start node
+            ≡ leaf_of lending.now.span lending.now.owner lending.now.front ∷ []) }
         ensures parted { IfOk result (λ node. IsParted (record { start = start; level = level } ∷ [])
-            level span.level (free_in level start node)) }
-        ensures succeeds { span.level ≡ level → IsOk result }
+            level lending.now.span.level (free_in level start node)) }
+        ensures succeeds { lending.now.span.level ≡ level → IsOk result }
     {
-        if span.level.number() == level {
+        if lending.span.level.number() == level {
+            let (owner, front) = (lending.owner, lending.front);
             return Ok(Node::Lent { owner, front });
         }
         let middle = start + half_of(level);
-        let is_lower = span.start < middle;
+        let is_lower = lending.span.start < middle;
         let from = half_start(start, middle, is_lower);
-        let half = Node::with_lent(spare, alloc, level + 1, from, span, owner, front)?;
+        let half = Node::with_lent(spare, alloc, level + 1, from, lending)?;
         beside_free(spare, alloc, level, half, is_lower)
     }
 
-    /// Lends the part of that span, where it lies in one free leaf, and answers that leaf's level.
+    /// Lends that part, where it lies in one free leaf, and answers that leaf's level.
     #[cycle(carving)]
     pub(crate) fn carve(
         &mut self,
@@ -311,23 +319,23 @@ impl<A: Allocator + Clone> Node<A> {
         alloc: &A,
         level: u8,
         start: u64,
-        span: Span,
-        owner: u32,
-        front: u64,
+        lending: &Lending,
     ) -> Result<u8, Lack>
         requires tree { IsTree level self.old }
-        requires part { MayBeLent level start span front }
+        requires part { MayBeLent level start lending.now.span lending.now.front }
         ensures tree { IsTree level self.new }
         ensures split { OnOk result (is_free self.new ≡ false) }
         ensures lent { OnOk result (lent_in level start self.new
-            ≡ with_leaf (leaf_of span owner front) (lent_in level start self.old)) }
-        ensures answers { CarveAnswers span (free_in level start self.old) (told span.level result) }
-        ensures parted { IfOk result (λ free. IsParted (free_in level start self.old) free span.level
-            (free_in level start self.new)) }
+            ≡ with_leaf (leaf_of lending.now.span lending.now.owner lending.now.front)
+            (lent_in level start self.old)) }
+        ensures answers { CarveAnswers lending.now.span (free_in level start self.old)
+            (told lending.now.span.level result) }
+        ensures parted { IfOk result (λ free. IsParted (free_in level start self.old) free
+            lending.now.span.level (free_in level start self.new)) }
         ensures unchanged { OnErr result (self.new ≡ self.old) }
     {
         match self {
-            Node::Free => match Node::with_lent(spare, alloc, level, start, span, owner, front) {
+            Node::Free => match Node::with_lent(spare, alloc, level, start, lending) {
                 Ok(node) => {
                     *self = node;
                     Ok(level)
@@ -336,12 +344,10 @@ impl<A: Allocator + Clone> Node<A> {
             },
             Node::Lent { .. } => Err(Lack::Room),
             Node::Split(levels, lower, upper) => {
-                if span.level.number() == level {
+                if lending.span.level.number() == level {
                     Err(Lack::Room)
                 } else {
-                    carve_in_half(
-                        levels, lower, upper, spare, alloc, level, start, span, owner, front,
-                    )
+                    carve_in_half(levels, lower, upper, spare, alloc, level, start, lending)
                 }
             }
         }
@@ -527,7 +533,7 @@ fn merged_leader<A: Allocator>(
     }
 }
 
-/// Lends the part of that span within the half where it lies, and answers the level of the free leaf
+/// Lends that part within the half where it lies, and answers the level of the free leaf
 /// that it is of.
 #[cycle(carving)]
 fn carve_in_half<A: Allocator + Clone>(
@@ -538,28 +544,27 @@ fn carve_in_half<A: Allocator + Clone>(
     alloc: &A,
     level: u8,
     start: u64,
-    span: Span,
-    owner: u32,
-    front: u64,
+    lending: &Lending,
 ) -> Result<u8, Lack>
     requires halves { AreHalves level levels.old lower.old upper.old }
-    requires part { MayBeLent level start span front }
-    requires low { level < span.level }
+    requires part { MayBeLent level start lending.now.span lending.now.front }
+    requires low { level < lending.now.span.level }
     ensures halves { AreHalves level levels.new lower.new upper.new }
     ensures split { OnOk result (IsFalse (is_free lower.new && is_free upper.new)) }
     ensures lent { OnOk result (lent_in_halves level start lower.new upper.new
-        ≡ with_leaf (leaf_of span owner front) (lent_in_halves level start lower.old upper.old)) }
-    ensures answers { CarveAnswers span (free_in_halves level start lower.old upper.old)
-        (told span.level result) }
+        ≡ with_leaf (leaf_of lending.now.span lending.now.owner lending.now.front)
+        (lent_in_halves level start lower.old upper.old)) }
+    ensures answers { CarveAnswers lending.now.span (free_in_halves level start lower.old upper.old)
+        (told lending.now.span.level result) }
     ensures parted { IfOk result
-        (λ free. IsParted (free_in_halves level start lower.old upper.old) free span.level
+        (λ free. IsParted (free_in_halves level start lower.old upper.old) free lending.now.span.level
         (free_in_halves level start lower.new upper.new)) }
     ensures unchanged { OnErr result
         ((levels.new ≡ levels.old) × (lower.new ≡ lower.old) × (upper.new ≡ upper.old)) }
 {
     let middle = start + half_of(level);
-    if span.start < middle {
-        match lower.carve(spare, alloc, level + 1, start, span, owner, front) {
+    if lending.span.start < middle {
+        match lower.carve(spare, alloc, level + 1, start, lending) {
             Ok(free) => {
                 *levels = levels_of_halves(lower, upper, level + 1);
                 Ok(free)
@@ -567,7 +572,7 @@ fn carve_in_half<A: Allocator + Clone>(
             Err(lack) => Err(lack),
         }
     } else {
-        match upper.carve(spare, alloc, level + 1, middle, span, owner, front) {
+        match upper.carve(spare, alloc, level + 1, middle, lending) {
             Ok(free) => {
                 *levels = levels_of_halves(lower, upper, level + 1);
                 Ok(free)

@@ -35,7 +35,7 @@ ghost use Rattle.ms_buddy.specs.Leaves.{with_front, with_leaf, with_parent, with
 
 use crate::leaves::FreeLeaves;
 use crate::levels::{LEVELS, has_level, join_counts, part_counts};
-use crate::node::{Lack, Leaf, Node, part};
+use crate::node::{Lack, Leaf, Lending, Node, part};
 use ms_base::{Level, Refusal, Span};
 use std::alloc::Allocator;
 use std::marker::Model;
@@ -226,11 +226,12 @@ impl<A: Allocator + Clone> SplitTree<A> {
     {
         // Learnt here: the level is at most 12, so its words are those of a part.
         let lent = level.number();
-        let part = Span { start: at, level };
-        match self
-            .node
-            .carve(&mut self.spare, &alloc, 0, 0, part, owner, front)
-        {
+        let lending = Lending {
+            span: Span { start: at, level },
+            owner,
+            front,
+        };
+        match self.node.carve(&mut self.spare, &alloc, 0, 0, &lending) {
             Ok(free) => {
                 part_counts(&mut self.counts, free, lent);
                 Ok(())

@@ -10,20 +10,20 @@ use Rattle.ms_buddy.proofs.node.+carving.Goals as goal
 pub Node::carve-returns-then-number-level-clause-answers : goal.Node::carve-returns-then-number-level-clause-answers
 Node::carve-returns-then-number-level-clause-answers g t c =
     let s = at_split _ c.args.start _ _ _ _ _ _ _ c.in-Split.is c.requires.tree refl in
-    let fits_not = whole_fits_not c.args.span _ _ _ _ _ s.halves s.low c.requires.part.inside (omega arith) in
-    record { room = search rules; refusal = (refl, ap (fits_in c.args.span) s.free ∙ fits_not) }
+    let fits_not = whole_fits_not c.args.lending.now.span _ _ _ _ _ s.halves s.low c.requires.part.inside (omega arith) in
+    record { room = search rules; refusal = (refl, ap (fits_in c.args.lending.now.span) s.free ∙ fits_not) }
 
 pub carve_in_half-carve-requires : goal.carve_in_half-carve-requires
 carve_in_half-carve-requires g t c κs within =
     let may =
-    lower_may c.args.span c.args.level c.args.start _ _ c.requires.part c.requires.low c.half_of.ensures.size
-    c.if-span-middle.true in
+    lower_may c.args.lending.now.span c.args.level c.args.start _ _ c.requires.part c.requires.low c.half_of.ensures.size
+    c.if-lending-middle.true in
     (omega arith, (search rules, (search rules, may)))
 
-pub carve_in_half-carve-requires-else-span-middle : goal.carve_in_half-carve-requires-else-span-middle
-carve_in_half-carve-requires-else-span-middle g t c κs within =
+pub carve_in_half-carve-requires-else-lending-middle : goal.carve_in_half-carve-requires-else-lending-middle
+carve_in_half-carve-requires-else-lending-middle g t c κs within =
     let may =
-    upper_may c.args.span c.args.level c.args.start _ _ c.requires.part c.requires.low c.half_of.ensures.size
+    upper_may c.args.lending.now.span c.args.level c.args.start _ _ c.requires.part c.requires.low c.half_of.ensures.size
     (omega arith) in
     (omega arith, (search rules, (search rules, may)))
 
@@ -32,7 +32,7 @@ carve_in_half-returns-in-Ok-clause-lent g t c =
     let halves =
     halves_at c.args.level c.args.start _ _ c.args.lower.now c.args.upper.now c.requires.halves
     c.half_of.ensures.size in
-    lower_added (leaf_of c.args.span c.args.owner c.args.front) _ _ _ _ _ c.carve.new.self halves c.if-span-middle.true
+    lower_added (leaf_of c.args.lending.now.span c.args.lending.now.owner c.args.lending.now.front) _ _ _ _ _ c.carve.new.self halves c.if-lending-middle.true
     c.in-Ok.ensures.lent
 
 pub carve_in_half-returns-in-Ok-carve-clause-lent : goal.carve_in_half-returns-in-Ok-carve-clause-lent
@@ -40,7 +40,7 @@ carve_in_half-returns-in-Ok-carve-clause-lent g t c =
     let halves =
     halves_at c.args.level c.args.start _ _ c.args.lower.now c.args.upper.now c.requires.halves
     c.half_of.ensures.size in
-    upper_added (leaf_of c.args.span c.args.owner c.args.front) _ _ _ _ _ c.carve-else-span-middle.new.self halves
+    upper_added (leaf_of c.args.lending.now.span c.args.lending.now.owner c.args.lending.now.front) _ _ _ _ _ c.carve-else-lending-middle.new.self halves
     (omega arith) c.in-Ok-carve.ensures.lent
 
 pub carve_in_half-returns-in-Ok-clause-answers : goal.carve_in_half-returns-in-Ok-clause-answers
@@ -48,7 +48,7 @@ carve_in_half-returns-in-Ok-clause-answers g t c =
     let halves =
     halves_at c.args.level c.args.start _ _ c.args.lower.now c.args.upper.now c.requires.halves
     c.half_of.ensures.size in
-    let fits = lower_fits c.args.span _ _ _ _ _ halves c.if-span-middle.true in
+    let fits = lower_fits c.args.lending.now.span _ _ _ _ _ halves c.if-lending-middle.true in
     record { room = fits ∙ c.in-Ok.ensures.answers.room; refusal = tt }
 
 pub carve_in_half-returns-in-Ok-carve-clause-answers : goal.carve_in_half-returns-in-Ok-carve-clause-answers
@@ -56,7 +56,7 @@ carve_in_half-returns-in-Ok-carve-clause-answers g t c =
     let halves =
     halves_at c.args.level c.args.start _ _ c.args.lower.now c.args.upper.now c.requires.halves
     c.half_of.ensures.size in
-    let fits = upper_fits c.args.span _ _ _ _ _ halves (omega arith) in
+    let fits = upper_fits c.args.lending.now.span _ _ _ _ _ halves (omega arith) in
     record { room = fits ∙ c.in-Ok-carve.ensures.answers.room; refusal = tt }
 
 pub carve_in_half-returns-in-Err-clause-answers : goal.carve_in_half-returns-in-Err-clause-answers
@@ -64,20 +64,20 @@ carve_in_half-returns-in-Err-clause-answers g t c =
     let halves =
     halves_at c.args.level c.args.start _ _ c.args.lower.now c.args.upper.now c.requires.halves
     c.half_of.ensures.size in
-    let fits = lower_fits c.args.span _ _ _ _ _ halves c.if-span-middle.true in
-    let whole = lower_is_free c.args.span _ _ _ _ _ halves c.if-span-middle.true in
-    record { room = search rules; refusal = same_refusal c.args.span _ _ fits whole _ c.in-Err.ensures.answers.refusal }
+    let fits = lower_fits c.args.lending.now.span _ _ _ _ _ halves c.if-lending-middle.true in
+    let whole = lower_is_free c.args.lending.now.span _ _ _ _ _ halves c.if-lending-middle.true in
+    record { room = search rules; refusal = same_refusal c.args.lending.now.span _ _ fits whole _ c.in-Err.ensures.answers.refusal }
 
 pub carve_in_half-returns-in-Err-carve-clause-answers : goal.carve_in_half-returns-in-Err-carve-clause-answers
 carve_in_half-returns-in-Err-carve-clause-answers g t c =
     let halves =
     halves_at c.args.level c.args.start _ _ c.args.lower.now c.args.upper.now c.requires.halves
     c.half_of.ensures.size in
-    let fits = upper_fits c.args.span _ _ _ _ _ halves (omega arith) in
-    let whole = upper_is_free c.args.span _ _ _ _ _ halves (omega arith) in
+    let fits = upper_fits c.args.lending.now.span _ _ _ _ _ halves (omega arith) in
+    let whole = upper_is_free c.args.lending.now.span _ _ _ _ _ halves (omega arith) in
     record {
       room = search rules;
-      refusal = same_refusal c.args.span _ _ fits whole _ c.in-Err-carve.ensures.answers.refusal;
+      refusal = same_refusal c.args.lending.now.span _ _ fits whole _ c.in-Err-carve.ensures.answers.refusal;
     }
 
 pub carve_in_half-returns-in-Ok-clause-parted : goal.carve_in_half-returns-in-Ok-clause-parted
@@ -88,7 +88,7 @@ carve_in_half-returns-in-Ok-clause-parted g t c =
 pub carve_in_half-returns-in-Ok-carve-clause-parted : goal.carve_in_half-returns-in-Ok-carve-clause-parted
 carve_in_half-returns-in-Ok-carve-clause-parted g t c =
     upper_parted_at c.args.level c.args.start c.half_of.result c.args.lower.now c.args.upper.now
-    c.carve-else-span-middle.new.self _ _ c.half_of.ensures.size c.in-Ok-carve.ensures.parted
+    c.carve-else-lending-middle.new.self _ _ c.half_of.ensures.size c.in-Ok-carve.ensures.parted
 
 pub Node::carve-returns-in-Err-clause-unchanged : goal.Node::carve-returns-in-Err-clause-unchanged
 Node::carve-returns-in-Err-clause-unchanged g t c = refl

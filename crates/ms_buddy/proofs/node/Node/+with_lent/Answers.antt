@@ -7,15 +7,15 @@ use Rattle.ms_buddy.proofs.node.Node.+with_lent.Goals as goal
 
 pub with_lent-requires : goal.with_lent-requires
 with_lent-requires g t c κs within =
-    let low : c.args.level < c.args.span.level = omega arith in
+    let low : c.args.level < c.args.lending.now.span.level = omega arith in
     let may =
-    half_may c.args.span c.args.level c.args.start _ _ _ c.requires low c.half_of.ensures.size
+    half_may c.args.lending.now.span c.args.level c.args.start _ _ _ c.requires low c.half_of.ensures.size
     c.half_start-from.ensures in
     (omega arith, (search rules, may))
 
 pub returns-then-number-level-clause-parted : goal.returns-then-number-level-clause-parted
 returns-then-number-level-clause-parted g t c =
-    whole_parted (record { start = c.args.start; level = c.args.level }) c.args.span.level
+    whole_parted (record { start = c.args.start; level = c.args.level }) c.args.lending.now.span.level
     c.requires.place.level_fits (sym c.number.ensures.same ∙ c.if-number-level.true)
 
 pub returns-clause-lent : goal.returns-clause-lent
