@@ -56,7 +56,7 @@ pub fn insert<A: Allocator>(tree: &mut Tree<A>, spare: Box<Fork<A>, A>) -> bool
 {
     match tree {
         Tree::Empty => {
-            *tree = alone(spare);
+            put_alone(tree, spare);
             true
         }
         Tree::Forked(fork) => {
@@ -175,36 +175,43 @@ fn take_lowest<A: Allocator>(tree: &mut Tree<A>) -> Option<Box<Fork<A>, A>>
     }
 }
 
-/// Makes a tree of a fork that was in none.
-fn alone<A: Allocator>(mut spare: Box<Fork<A>, A>) -> Tree<A>
-    ensures { blocks_of result ≡ spare.value.block ∷ [] }
+/// Puts a fork that was in no tree in the place of one. Out of line, so that what it keeps for itself isn't
+/// kept at each turn of `insert`.
+#[inline(never)]
+fn put_alone<A: Allocator>(tree: &mut Tree<A>, mut spare: Box<Fork<A>, A>)
+    ensures { blocks_of tree.new ≡ spare.value.block ∷ [] }
 {
     spare.left = Tree::Empty;
     spare.right = Tree::Empty;
     spare.height = 1;
-    Tree::Forked(spare)
+    *tree = Tree::Forked(spare);
 }
 
 /// Levels a tree on top, whose sides are level, where one of them has another height than before, and
 /// tells whether the tree has another height then. Else nothing is looked at: few changes reach far up.
+#[inline(always)]
 fn level<A: Allocator>(tree: &mut Tree<A>, moved: bool) -> bool
     ensures { blocks_of tree.new ≡ blocks_of tree.old }
 {
-    if !moved {
-        return false;
-    }
+    moved && level_anew(tree)
+}
+
+/// Levels a tree on top, whose sides are level, and tells whether it has another height then.
+#[inline(never)]
+fn level_anew<A: Allocator>(tree: &mut Tree<A>) -> bool
+    ensures { blocks_of tree.new ≡ blocks_of tree.old }
+{
     let height = height_of(tree);
-    turn(tree);
+    if !is_level(tree) {
+        turn(tree);
+    }
     height_of(tree) != height
 }
 
-/// Levels a tree on top. Nothing is moved where neither side is higher by two.
+/// Levels a tree on top, of which one side is higher by two.
 fn turn<A: Allocator>(tree: &mut Tree<A>)
     ensures { blocks_of tree.new ≡ blocks_of tree.old }
 {
-    if is_level(tree) {
-        return;
-    }
     if let Tree::Forked(fork) = mem::replace(tree, Tree::Empty) {
         *tree = leveled(fork);
     }
@@ -219,8 +226,8 @@ fn is_level<A: Allocator>(tree: &mut Tree<A>) -> bool
         Tree::Forked(fork) => {
             let left = height_of(&fork.left);
             let right = height_of(&fork.right);
-            fork.height = left.max(right).saturating_add(1);
-            left <= right.saturating_add(1) && right <= left.saturating_add(1)
+            fork.height = left.max(right).wrapping_add(1);
+            left <= right.wrapping_add(1) && right <= left.wrapping_add(1)
         }
     }
 }
@@ -299,7 +306,7 @@ fn right_up<A: Allocator>(mut fork: Box<Fork<A>, A>) -> Box<Fork<A>, A>
 
 /// Tells whether the one tree is higher by two than the other.
 fn is_higher<A: Allocator>(one: &Tree<A>, other: &Tree<A>) -> bool {
-    height_of(one) > height_of(other).saturating_add(1)
+    height_of(one) > height_of(other).wrapping_add(1)
 }
 
 /// Tells how high a tree is.
@@ -315,7 +322,7 @@ fn tell_height<A: Allocator>(fork: &mut Fork<A>)
     ensures { blocks_at fork.new ≡ blocks_at fork.old }
 {
     let sides = height_of(&fork.left).max(height_of(&fork.right));
-    fork.height = sides.saturating_add(1);
+    fork.height = sides.wrapping_add(1);
 }
 
 /// Tells whether the first block ranks before the second.
