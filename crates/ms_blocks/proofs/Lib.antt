@@ -1,4 +1,5 @@
 pub mod RankLemmas
+pub mod ClassLemmas
 pub mod KeptEntryLemmas
 pub mod StartLemmas
 pub mod LaidLemmas

@@ -16,14 +16,15 @@ ranks_on a b c h k = grind (arith, nat_tests)
 pub words_rise : (a b : Block) → ranks_before a b ≡ true → a.words ≤ b.words
 words_rise a b h = grind (arith, nat_tests)
 
+-- What holds of all holds of the first ones.
+pub all_left : (P : Block → Type 0) (left right : List Block) → AllByRecursion P (left ++ right) → AllByRecursion P left
+all_left P [] right h = tt
+all_left P (other ∷ left) right h = (h.0, all_left P left right h.1)
+
 -- The parts of a ranked list around one of its blocks are ranked.
 pub ranked_left : (left right : List Block) (middle : Block) → IsRanked (left ++ middle ∷ right) → IsRanked left
 ranked_left [] right middle h = tt
 ranked_left (other ∷ left) right middle h = (all_left _ left (middle ∷ right) h.0, ranked_left left right middle h.1)
-  where
-    all_left : (P : Block → Type 0) (left right : List Block) → AllByRecursion P (left ++ right) → AllByRecursion P left
-    all_left P [] right h = tt
-    all_left P (other ∷ left) right h = (h.0, all_left P left right h.1)
 
 pub ranked_right : (left right : List Block) (middle : Block) → IsRanked (left ++ middle ∷ right) → IsRanked right
 ranked_right [] right middle h = h.1
@@ -56,7 +57,7 @@ with_ranked-left (other ∷ left) right middle block behind =
       | false ↦ refl
     ]
 
-too_small : (few words : ℕ) → few < words → nat_le words few ≡ false
+pub too_small : (few words : ℕ) → few < words → nat_le words few ≡ false
 too_small few words h = grind (arith, nat_tests)
 
 large_enough : (words many : ℕ) → words ≤ many → nat_le words many ≡ true
@@ -202,7 +203,7 @@ find_middle left right middle words ranked enough none = first_fit-middle left r
     (none (ranked_left left right middle ranked)) enough
 
 -- An addition and a removal keep a list ranked.
-all_with : (P : Block → Type 0) (blocks : List Block) (block : Block) → AllByRecursion P blocks → P block
+pub all_with : (P : Block → Type 0) (blocks : List Block) (block : Block) → AllByRecursion P blocks → P block
     → AllByRecursion P (with_ranked blocks block)
 all_with P [] block all here = (here, tt)
 all_with P (other ∷ blocks) block all here =
@@ -212,7 +213,7 @@ all_with P (other ∷ blocks) block all here =
       | false ↦ (here, all)
     ]
 
-all_without : (P : Block → Type 0) (blocks : List Block) (words : ℕ) → AllByRecursion P blocks
+pub all_without : (P : Block → Type 0) (blocks : List Block) (words : ℕ) → AllByRecursion P blocks
     → AllByRecursion P (without_fit blocks words)
 all_without P [] words all = tt
 all_without P (other ∷ blocks) words all =

@@ -5,11 +5,10 @@ use Rattle.std.proofs.Common.{vec_len, vec_capacity}
 use Rattle.ms_base.specs.declared.span.Block.{Block}
 use Rattle.ms_base.specs.Names.{named, with_new, without}
 use Rattle.ms_blocks.specs.Rank.{IsRanked, with_ranked, first_fit, without_fit}
-use Rattle.ms_blocks.specs.Tree.{blocks_of}
 use Rattle.ms_blocks.specs.FreeBlocks.{IsBestFit, NoneFits, MayBeKept, run_of, by_start, StartsDiffer, LieFrom}
 use Rattle.ms_blocks.specs.FreeBlocks.{words_in}
-use Rattle.ms_blocks.specs.Tended.{AreTended, IsTended}
-use Rattle.ms_blocks.specs.declared.tree.Tree.{Tree}
+use Rattle.ms_blocks.specs.Classes.{blocks_in}
+use Rattle.ms_blocks.specs.Tended.{AreTended}
 use Rattle.ms_blocks.specs.declared.free_blocks.FreeBlocks.TheInside.{Inside}
 use Rattle.ms_blocks.proofs.RankLemmas.{ranked_with, ranked_without, without_fit-none}
 use Rattle.ms_blocks.proofs.KeptEntryLemmas.{length-with_new, sum-with_new}
@@ -123,21 +122,21 @@ tended_without blocks rest n found room places after count total tended e shrink
     })
 
 -- What an addition makes of the fields.
-pub record Adds {A : Type 0} (f : Inside A) (block : Block) (grown : Tree A) : Type 0 where
+pub record Adds {A : Type 0} (f : Inside A) (block : Block) (grown : List Block) : Type 0 where
   pub sum_fits : f.total + block.words < 2 ^ 64
   pub tended : (left : ℕ) → left + 1 ≡ vec_len f.spare
-      → AreTended (blocks_of grown) left (vec_capacity f.spare) (f.count + 1) (f.total + block.words)
-  pub runs : by_start (blocks_of grown) ≡ with_new (by_start (blocks_of f.tree)) block.start block.words
+      → AreTended grown left (vec_capacity f.spare) (f.count + 1) (f.total + block.words)
+  pub runs : by_start grown ≡ with_new (by_start (blocks_in f.trees)) block.start block.words
 
-pub adds : {A : Type 0} (f : Inside A) (block : Block) (grown : Tree A) → IsTended f
-    → MayBeKept (by_start (blocks_of f.tree)) (run_of block)
-    → (IsRanked (blocks_of f.tree) → blocks_of grown ≡ with_ranked (blocks_of f.tree) block)
+pub adds : {A : Type 0} (f : Inside A) (block : Block) (grown : List Block) → AreTended (blocks_in f.trees) (vec_len f.spare) (vec_capacity f.spare) f.count f.total
+    → MayBeKept (by_start (blocks_in f.trees)) (run_of block)
+    → (IsRanked (blocks_in f.trees) → grown ≡ with_ranked (blocks_in f.trees) block)
     → Adds f block grown
 adds f block grown tended may grows = record {
-  sum_fits = total_fits (blocks_of f.tree) (vec_len f.spare) (vec_capacity f.spare) f.count f.total block tended may;
-  tended = λ left less. tended_with (blocks_of f.tree) (blocks_of grown) (vec_len f.spare) left
+  sum_fits = total_fits (blocks_in f.trees) (vec_len f.spare) (vec_capacity f.spare) f.count f.total block tended may;
+  tended = λ left less. tended_with (blocks_in f.trees) grown (vec_len f.spare) left
       (vec_capacity f.spare) f.count f.total block tended may (grows tended.ranked) less;
-  runs = ap by_start (grows tended.ranked) ∙ runs_with (blocks_of f.tree) block tended.laid may;
+  runs = ap by_start (grows tended.ranked) ∙ runs_with (blocks_in f.trees) block tended.laid may;
 }
 
 -- The first fit may be kept beside those that stay.
@@ -149,25 +148,25 @@ fit_may_be_kept blocks n found differ laid e =
     (subst (LieFrom 0) split.0 laid) split.1
 
 -- What a removal makes of the fields, with a fit and without one.
-pub record Takes {A : Type 0} (f : Inside A) (words : ℕ) (found : Block) (rest : Tree A) : Type 0 where
+pub record Takes {A : Type 0} (f : Inside A) (words : ℕ) (found : Block) (rest : List Block) : Type 0 where
   pub counted : 1 ≤ f.count
   pub summed : found.words ≤ f.total
   pub tended : (places : ℕ) → vec_capacity f.spare ≤ places
-      → AreTended (blocks_of rest) (vec_len f.spare + 1) places (f.count - 1) (f.total - found.words)
-  pub best : IsBestFit (by_start (blocks_of f.tree)) words (run_of found)
-  pub runs : by_start (blocks_of rest) ≡ without (by_start (blocks_of f.tree)) found.start
-  pub back : MayBeKept (by_start (blocks_of rest)) (run_of found)
+      → AreTended rest (vec_len f.spare + 1) places (f.count - 1) (f.total - found.words)
+  pub best : IsBestFit (by_start (blocks_in f.trees)) words (run_of found)
+  pub runs : by_start rest ≡ without (by_start (blocks_in f.trees)) found.start
+  pub back : MayBeKept (by_start rest) (run_of found)
 
-pub takes : {A : Type 0} (f : Inside A) (words : ℕ) (found : Block) (rest : Tree A) → IsTended f
-    → (IsRanked (blocks_of f.tree) → first_fit (blocks_of f.tree) words ≡ Some found)
-    → (IsRanked (blocks_of f.tree) → blocks_of rest ≡ without_fit (blocks_of f.tree) words) → Takes f words found rest
+pub takes : {A : Type 0} (f : Inside A) (words : ℕ) (found : Block) (rest : List Block) → AreTended (blocks_in f.trees) (vec_len f.spare) (vec_capacity f.spare) f.count f.total
+    → (IsRanked (blocks_in f.trees) → first_fit (blocks_in f.trees) words ≡ Some found)
+    → (IsRanked (blocks_in f.trees) → rest ≡ without_fit (blocks_in f.trees) words) → Takes f words found rest
 takes f words found rest tended found_is left =
-    let blocks = blocks_of f.tree in
+    let blocks = blocks_in f.trees in
     let e = found_is tended.ranked in
     record {
       counted = some_counted blocks words found (vec_len f.spare) (vec_capacity f.spare) f.count f.total tended e;
       summed = some_summed blocks words found (vec_len f.spare) (vec_capacity f.spare) f.count f.total tended e;
-      tended = λ places more. tended_without blocks (blocks_of rest) words found (vec_len f.spare)
+      tended = λ places more. tended_without blocks rest words found (vec_len f.spare)
           (vec_capacity f.spare) places f.count f.total tended e (left tended.ranked) more;
       best = fit_is_best blocks words found tended.ranked tended.differ e;
       runs = ap by_start (left tended.ranked) ∙ by_start-without_fit blocks words found tended.differ e;
@@ -175,14 +174,14 @@ takes f words found rest tended found_is left =
           (fit_may_be_kept blocks words found tended.differ tended.laid e);
     }
 
-pub record Misses {A : Type 0} (f : Inside A) (words : ℕ) (rest : Tree A) : Type 0 where
-  pub same : blocks_of f.tree ≡ blocks_of rest
-  pub none : NoneFits (by_start (blocks_of f.tree)) words
+pub record Misses {A : Type 0} (f : Inside A) (words : ℕ) (rest : List Block) : Type 0 where
+  pub same : blocks_in f.trees ≡ rest
+  pub none : NoneFits (by_start (blocks_in f.trees)) words
 
-pub misses : {A : Type 0} (f : Inside A) (words : ℕ) (rest : Tree A) → IsTended f
-    → (IsRanked (blocks_of f.tree) → first_fit (blocks_of f.tree) words ≡ None)
-    → (IsRanked (blocks_of f.tree) → blocks_of rest ≡ without_fit (blocks_of f.tree) words) → Misses f words rest
+pub misses : {A : Type 0} (f : Inside A) (words : ℕ) (rest : List Block) → AreTended (blocks_in f.trees) (vec_len f.spare) (vec_capacity f.spare) f.count f.total
+    → (IsRanked (blocks_in f.trees) → first_fit (blocks_in f.trees) words ≡ None)
+    → (IsRanked (blocks_in f.trees) → rest ≡ without_fit (blocks_in f.trees) words) → Misses f words rest
 misses f words rest tended none left = record {
-  same = sym (left tended.ranked ∙ without_fit-none (blocks_of f.tree) words (none tended.ranked));
-  none = none_fits (blocks_of f.tree) words tended.differ (none tended.ranked);
+  same = sym (left tended.ranked ∙ without_fit-none (blocks_in f.trees) words (none tended.ranked));
+  none = none_fits (blocks_in f.trees) words tended.differ (none tended.ranked);
 }

@@ -1,20 +1,23 @@
 //! The free blocks of one arena, in room that is made ahead.
 //!
-//!     tree      a fork for each free block          count of them, total of their words
-//!     spare     | fork | fork | fork |  ..  |       room, then places for the forks in the tree
+//!     trees     a fork for each free block          count of them, total of their words
+//!     spare     | fork | fork | fork |  ..  |       room, then places for the forks in the trees
 //!
-//! Adding a block moves a spare fork into the tree, and removing one moves it back: neither takes
-//! memory. Kept true: the tree holds the blocks by rank, they lie apart, the count and the total
-//! are theirs, and the vector of spare forks has a place for each fork of the tree.
+//! Adding a block moves a spare fork into a tree, and removing one moves it back: neither takes
+//! memory. Kept true: the trees hold the blocks by rank, they lie apart, the count and the total
+//! are theirs, the vector of spare forks has a place for each fork of the trees, and the trees are
+//! there where there is room: they are made with the first.
 ghost use Rattle.std.specs.Prelude.{◌≡◌, ◌+◌, ◌^◌, ◌<◌, ◌≤◌, max, IsFalse, [], length, OnOk, OnErr, IfErr, IsOk};
-ghost use Rattle.std.specs.Prelude.{IfSome, OnSome, IfNone, vec_len, vec_capacity};
+ghost use Rattle.std.specs.Prelude.{IfOk, IfSome, OnSome, IfNone, Some, vec_len, vec_capacity};
 ghost use Rattle.std.specs.Option.{option_map};
 ghost use Rattle.ms_base.specs.Interval.{meets_any};
 ghost use Rattle.ms_base.specs.Names.{with_new, without};
 ghost use Rattle.ms_base.specs.Place.{best_fit};
+ghost use Rattle.ms_blocks.specs.Classes.{AreTrees, blocks_in};
 ghost use Rattle.ms_blocks.specs.FreeBlocks.{KeptBlocks, AreKept, MayBeKept, IsBestFit, NoneFits, run_of, words_in};
 
-use crate::tree::{Fork, Tree, insert, take_fit};
+use crate::classes::{Classes, Trees, insert_in, make_trees, take_in};
+use crate::tree::Fork;
 use ms_base::{Block, Refusal};
 use std::alloc::{AllocError, Allocator, Global};
 use std::marker::Model;
@@ -24,11 +27,11 @@ use std::marker::Model;
 /// Adding and removing take time that grows like the logarithm of the blocks kept.
 #[derive(Drop)]
 pub struct FreeBlocks<A: Allocator = Global> {
-    /// The free blocks by rank, one a fork.
-    tree: Tree<A>,
+    /// The free blocks by rank, one a fork, in trees by size; none before room is first made.
+    trees: Trees<A>,
     /// The room: a fork for each block that may be added yet.
     spare: Vec<Box<Fork<A>, A>, A>,
-    /// How many blocks the tree has.
+    /// How many blocks the trees have.
     count: usize,
     /// How many words they have together, below 2 ^ 64.
     total: u64,
@@ -53,7 +56,7 @@ impl<A: Allocator> FreeBlocks<A> {
         ensures { result ≡ record { kept = []; room = 0 } }
     {
         FreeBlocks {
-            tree: Tree::Empty,
+            trees: None,
             spare: Vec::new(alloc),
             count: 0,
             total: 0,
@@ -74,7 +77,7 @@ impl<A: Allocator> FreeBlocks<A> {
             unreachable!()
         };
         fork.block = block;
-        insert(&mut self.tree, fork);
+        insert_in(&mut self.trees, fork);
         self.count += 1;
         self.total += block.words;
     }
@@ -92,7 +95,7 @@ impl<A: Allocator> FreeBlocks<A> {
         ensures back { IfSome result (λ block. MayBeKept self.new.kept (run_of block)) }
         ensures unchanged { IfNone result (self.new ≡ self.old) }
     {
-        match take_fit(&mut self.tree, words, &mut false) {
+        match take_in(&mut self.trees, words) {
             None => None,
             Some(fork) => {
                 let block = fork.block;
@@ -144,6 +147,9 @@ impl<A: Allocator + Clone> FreeBlocks<A> {
         if n <= room {
             return Ok(());
         }
+        if self.trees.is_none() {
+            self.trees = Some(new_trees(&self.spare)?);
+        }
         match fill(&mut self.spare, n, self.count) {
             Ok(()) => Ok(()),
             Err(_) => {
@@ -151,6 +157,22 @@ impl<A: Allocator + Clone> FreeBlocks<A> {
                 Err(Refusal::OutOfMemory)
             }
         }
+    }
+}
+
+/// Makes the trees, in the allocator of the spare forks.
+fn new_trees<A: Allocator + Clone>(spare: &Vec<Box<Fork<A>, A>, A>) -> Result<Classes<A>, Refusal>
+    ensures trees { IfOk result (λ trees. AreTrees (Some trees)) }
+    ensures empty { IfOk result (λ trees. blocks_in (Some trees) ≡ []) }
+    ensures refused { IfErr result (λ refusal. refusal ≡ Refusal.OutOfMemory) }
+{
+    let made = match spare.allocator().clone() {
+        Ok(alloc) => make_trees(alloc),
+        Err(_) => return Err(Refusal::OutOfMemory),
+    };
+    match made {
+        Ok(trees) => Ok(trees),
+        Err(_) => Err(Refusal::OutOfMemory),
     }
 }
 

@@ -2,12 +2,13 @@
 //!
 //!     by start, as callers see them:    [0, 10)      [20, 24)     [40, 44)
 //!
-//!     by rank, as the tree has them:             (40, 4)               (start, words)
-//!                                               /       \
-//!                                        (20, 4)         (0, 10)
+//!     by rank, in a tree for each size:     4 words  (20, 4)            10 words  (0, 10)
+//!                                                           \                  (start, words)
+//!                                                            (40, 4)
 //!
-//! Fewer words rank first, and of as many words the lower start. So the best fit is the leftmost
-//! block that is large enough, and a path down the tree finds it.
+//! Fewer words rank first, and of as many words the lower start. So the best fit is the first block
+//! that is large enough. Blocks of fewer than 63 words are in a tree for each size and all larger
+//! ones in one, a bit tells which trees have any, and a path down one of them finds it.
 //! Kept true: no two blocks meet, each has at least two words, and none ends past 2 ^ 64 - 1.
 //! Stands on `ms_base`. Only `FreeBlocks::reserve` takes memory, and nothing waits.
 //! Apart because an arena is proved over the list of its free blocks alone, whatever form the
@@ -15,6 +16,7 @@
 //! in lists by size and large ones in a tree, and also takes the smallest that fits.
 #![tactic(auto)]
 
+mod classes;
 mod free_blocks;
 mod tree;
 

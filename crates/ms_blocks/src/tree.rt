@@ -9,7 +9,7 @@
 //! whatever blocks come and go. Nothing that is proved rests on the heights.
 //! Forks come from outside and go back whole. Each operation says which list of blocks the tree
 //! holds then, from left to right.
-ghost use Rattle.std.specs.Prelude.{◌≡◌, ◌∷◌, ◌++◌, []};
+ghost use Rattle.std.specs.Prelude.{◌≡◌, ◌≢◌, ◌∷◌, ◌++◌, [], IsTrue, IsFalse};
 ghost use Rattle.std.specs.Option.{option_map};
 ghost use Rattle.ms_blocks.specs.Rank.{IsRanked, ranks_before, with_ranked, first_fit, without_fit};
 ghost use Rattle.ms_blocks.specs.Tree.{blocks_of, blocks_at, left_of, TakesTop, TakesFirst};
@@ -35,6 +35,19 @@ pub struct Fork<A: Allocator> {
     right: Tree<A>,
     /// How many forks stand one above the other here, 1 at least in a tree.
     height: u8,
+}
+
+impl<A: Allocator> Tree<A> {
+    /// Tells whether a tree has no block.
+    pub fn is_empty(&self) -> bool
+        ensures none { IsTrue result → blocks_of self.now ≡ [] }
+        ensures some { IsFalse result → blocks_of self.now ≢ [] }
+    {
+        match self {
+            Tree::Empty => true,
+            Tree::Forked(_) => false,
+        }
+    }
 }
 
 impl<A: Allocator> Fork<A> {

@@ -1,0 +1,40 @@
+-- Blocks by rank, in a tree for each number of words below 63 and one for all larger blocks (this project's choice).
+use Rattle.std.specs.Prelude.{◌≡◌, ◌≢◌, ℕ, ◌+◌, List, [], ◌∷◌, ◌++◌, length, min, slice_get, Option, None, Some}
+use Rattle.std.specs.Int.{bit_at}
+use Rattle.std.specs.List.{AllByRecursion}
+use Rattle.ms_base.specs.declared.span.Block.{Block}
+use Rattle.ms_blocks.specs.declared.classes.Classes.{Classes}
+use Rattle.ms_blocks.specs.declared.tree.Tree.{Tree}
+use Rattle.ms_blocks.specs.Tree.{blocks_of}
+
+-- The number of the tree in which blocks of so many words are.
+abbrev pub class_of : ℕ → ℕ
+class_of words = min words 63
+
+-- The blocks of trees, one tree after the other.
+abbrev pub all_of : {A : Type 0} → List (Tree A) → List Block
+all_of [] = []
+all_of (tree ∷ trees) = blocks_of tree ++ all_of trees
+
+-- Each block of a tree is of its class, counted on from the first tree's.
+abbrev pub AreClassed : {A : Type 0} → ℕ → List (Tree A) → Type 0
+AreClassed class [] = Unit {0}
+AreClassed class (tree ∷ trees) =
+    AllByRecursion (λ (block : Block). class_of block.words ≡ class) (blocks_of tree) × AreClassed (class + 1) trees
+
+-- The bit of a class is 1 where its tree has a block, and else 0.
+abbrev pub TellsOf : {A : Type 0} → ℕ → List (Tree A) → Type 0
+TellsOf some trees =
+    (class : ℕ) (tree : _) → slice_get trees class ≡ Some tree
+    → (bit_at some class ≡ 0 → blocks_of tree ≡ []) × (bit_at some class ≡ 1 → blocks_of tree ≢ [])
+
+-- The blocks of the trees, where there are trees.
+abbrev pub blocks_in : {A : Type 0} → Option (Classes A) → List Block
+blocks_in None = []
+blocks_in (Some classes) = all_of classes.trees.items
+
+-- There is a tree for each class, with its blocks, or none.
+abbrev pub AreTrees : {A : Type 0} → Option (Classes A) → Type 0
+AreTrees None = Unit {0}
+AreTrees (Some classes) =
+    length classes.trees.items ≡ 64 × AreClassed 0 classes.trees.items × TellsOf classes.some classes.trees.items

@@ -1,0 +1,161 @@
+//! Blocks by rank, in a tree for each number of words below 63, and one for all larger blocks.
+//!
+//!     words      0     1     2      3     ..    62     63 and more
+//!     tree     | - | | - | | /\ | | /\ |  ..  | /\ |   |   /\   |
+//!
+//! The blocks of a tree rank before those of the next, so what callers see is one list, and each tree is a low one:
+//! most free blocks are small. A best fit is in the first tree that has a block and may have one so large;
+//! a bit for each tree tells whether it has one.
+//! After the lists by size of HotSpot's binList.hpp.
+ghost use Rattle.std.specs.Prelude.{◌≡◌, ◌≢◌, ◌<◌, ◌≤◌, ◌^◌, ℕ, [], length, None, Some, IfOk, IfSome, IfNone, IsSome, OnSome, IsTrue, IsFalse};
+ghost use Rattle.std.specs.Int.{bit_at};
+ghost use Rattle.std.specs.Option.{option_map};
+ghost use Rattle.ms_blocks.specs.Classes.{AreClassed, AreTrees, TellsOf, all_of, blocks_in, class_of};
+ghost use Rattle.ms_blocks.specs.Rank.{IsRanked, first_fit, with_ranked, without_fit};
+
+use crate::tree::{Fork, Tree, insert, take_fit};
+use std::alloc::{AllocError, Allocator};
+
+/// How many trees there are.
+const CLASSES: usize = 64;
+
+/// A tree for each class.
+#[derive(Drop)]
+pub struct Classes<A: Allocator> {
+    /// The trees by class.
+    trees: Vec<Tree<A>, A>,
+    /// A bit for each tree, 1 where it has a block.
+    some: u64,
+}
+
+/// The trees, or none where no room was made yet.
+pub type Trees<A> = Option<Classes<A>>;
+
+/// Makes the trees, with no block. Takes memory.
+pub fn make_trees<A: Allocator + Clone>(alloc: A) -> Result<Classes<A>, AllocError>
+    ensures trees { IfOk result (λ classes. AreTrees (Some classes)) }
+    ensures empty { IfOk result (λ classes. blocks_in (Some classes) ≡ []) }
+{
+    let mut trees = Vec::with_capacity(alloc, CLASSES)?;
+    for _ in 0..CLASSES {
+        trees.push_reserved(Tree::Empty);
+    }
+    Ok(Classes { trees, some: 0 })
+}
+
+/// Adds the spare fork's block to those of the trees, which are there.
+pub fn insert_in<A: Allocator>(trees: &mut Trees<A>, spare: Box<Fork<A>, A>)
+    requires there { IsSome trees.old }
+    requires trees { AreTrees trees.old }
+    requires ranked { IsRanked (blocks_in trees.old) }
+    ensures there { IsSome trees.new }
+    ensures trees { AreTrees trees.new }
+    ensures blocks { blocks_in trees.new ≡ with_ranked (blocks_in trees.old) spare.value.block }
+{
+    match trees {
+        Some(classes) => insert_among(classes.trees.as_mut_slice(), &mut classes.some, spare),
+        None => unreachable!(),
+    }
+}
+
+/// Takes the first block of the trees that has so many words, with its fork.
+pub fn take_in<A: Allocator>(trees: &mut Trees<A>, words: u64) -> Option<Box<Fork<A>, A>>
+    requires trees { AreTrees trees.old }
+    requires ranked { IsRanked (blocks_in trees.old) }
+    ensures there { OnSome result (IsSome trees.new) }
+    ensures stay { IsSome trees.old → IsSome trees.new }
+    ensures trees { AreTrees trees.new }
+    ensures found { first_fit (blocks_in trees.old) words ≡ option_map (λ fork. fork.value.block) result }
+    ensures left { blocks_in trees.new ≡ without_fit (blocks_in trees.old) words }
+{
+    match trees {
+        Some(classes) => take_among(classes.trees.as_mut_slice(), &mut classes.some, words),
+        None => None,
+    }
+}
+
+/// Adds the spare fork's block to those of ranked trees.
+fn insert_among<A: Allocator>(trees: &mut [Tree<A>], some: &mut u64, spare: Box<Fork<A>, A>)
+    requires there { length trees.old ≡ 64 }
+    requires classed { AreClassed 0 trees.old }
+    requires tells { TellsOf some.old trees.old }
+    requires ranked { IsRanked (all_of trees.old) }
+    ensures there { length trees.new ≡ 64 }
+    ensures classed { AreClassed 0 trees.new }
+    ensures tells { TellsOf some.new trees.new }
+    ensures blocks { all_of trees.new ≡ with_ranked (all_of trees.old) spare.value.block }
+{
+    let class = class_of(spare.block.words);
+    *some |= bit_of(class);
+    insert(&mut trees[class], spare);
+}
+
+/// Takes the first block of ranked trees that has so many words, with its fork.
+fn take_among<A: Allocator>(
+    trees: &mut [Tree<A>],
+    some: &mut u64,
+    words: u64,
+) -> Option<Box<Fork<A>, A>>
+    requires there { length trees.old ≡ 64 }
+    requires classed { AreClassed 0 trees.old }
+    requires tells { TellsOf some.old trees.old }
+    requires ranked { IsRanked (all_of trees.old) }
+    ensures there { length trees.new ≡ 64 }
+    ensures classed { AreClassed 0 trees.new }
+    ensures tells { TellsOf some.new trees.new }
+    ensures found { first_fit (all_of trees.old) words ≡ option_map (λ fork. fork.value.block) result }
+    ensures left { all_of trees.new ≡ without_fit (all_of trees.old) words }
+{
+    let class = first_class(*some, words)?;
+    let found = take_fit(&mut trees[class], words, &mut false);
+    *some = told_again(*some, class, trees[class].is_empty());
+    found
+}
+
+/// Finds the first class with a block that may have one of so many words.
+#[inline(always)]
+fn first_class(some: u64, words: u64) -> Option<usize>
+    ensures within { IfSome result (λ found. found < 64) }
+    ensures from { IfSome result (λ found. class_of words ≤ found) }
+    ensures past { IfSome result (λ found.
+        (class : ℕ) → class_of words ≤ class → class < found → bit_at some class ≡ 0) }
+    ensures one { IfSome result (λ found. bit_at some found ≡ 1) }
+    ensures none { IfNone result ((class : ℕ) → class_of words ≤ class → bit_at some class ≡ 0) }
+{
+    let first = class_of(words);
+    let later = some >> first;
+    if later == 0 {
+        return None;
+    }
+    Some(first + later.trailing_zeros() as usize)
+}
+
+/// Tells which trees have a block, once one of them has none, or has some still.
+fn told_again(some: u64, class: usize, is_empty: bool) -> u64
+    requires { class < 64 }
+    ensures here { IsTrue is_empty → bit_at result class ≡ 0 }
+    ensures still { IsFalse is_empty → result ≡ some }
+    ensures others { (other : ℕ) → other ≢ class → bit_at result other ≡ bit_at some other }
+{
+    if is_empty && some >> class & 1 == 1 {
+        some ^ bit_of(class)
+    } else {
+        some
+    }
+}
+
+/// The bit of a class.
+fn bit_of(class: usize) -> u64
+    requires { class < 64 }
+    ensures { result ≡ 2 ^ class }
+{
+    1 << class
+}
+
+/// Tells in which tree blocks of so many words are.
+fn class_of(words: u64) -> usize
+    ensures class { result ≡ class_of words }
+    ensures within { result < 64 }
+{
+    words.min(63) as usize
+}
