@@ -53,7 +53,7 @@ impl Row for Parsing {
 fn tell_trace(rt: &HostRuntime, trace: &Trace) -> Answer {
     let answer = served(rt);
     for line in trace.lines.as_slice() {
-        tell(rt, &(line.number, line.command));
+        tell(rt, &(line.number(), line.command()));
     }
     answer
 }

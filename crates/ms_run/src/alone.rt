@@ -105,14 +105,15 @@ fn answer_line<G: Gate, S: AnswerSink>(
         (Puts S.took (AreOfLines detail run.old (line.now ∷ []) run.new) sink.old sink.new) }
     ensures counted { OnOk result (IsCounted counts detail run.new) }
 {
-    let Command::Step(step) = line.command else {
+    let Command::Step(step) = line.command() else {
         return answer_between(alloc, run, None, detail, line, sink);
     };
-    gate.before(worker, line.number);
+    let number = line.number();
+    gate.before(worker, number);
     let before = used_by(counts, &run.system, &step);
     let reply = run.system.step(step);
     sink.put(Answer {
-        line: line.number,
+        line: number,
         reply,
         report: None,
     })?;
@@ -120,7 +121,7 @@ fn answer_line<G: Gate, S: AnswerSink>(
     // A difference modulo 2^64, as the meter counts.
     run.used = run.used.wrapping_add(after).wrapping_sub(before);
     raise(&mut run.peaks, &run.system, run.used);
-    gate.after(worker, line.number, run.used);
+    gate.after(worker, number, run.used);
     Ok(())
 }
 

@@ -38,9 +38,9 @@ pub fn answer_between<S: AnswerSink>(
     requires kept { AreKept detail run.now.peaks }
     ensures { OnOk result (Puts S.took (IsOfEnd detail run.now line.now) sink.old sink.new) }
 {
-    let report = report_for(alloc, run, used, detail, line.command)?;
+    let report = report_for(alloc, run, used, detail, line.command())?;
     sink.put(Answer {
-        line: line.number,
+        line: line.number(),
         reply: Reply::Ok,
         report,
     })

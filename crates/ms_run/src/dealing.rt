@@ -269,12 +269,12 @@ fn add_task(turn: &Turn, line: Line, lists: &mut Vec<Vec<Task>>) -> Result<(), A
     ensures added { OnOk result
         (AreAdded (tasks_of (line ∷ [])) (place_in turn.now) lists.old.items lists.new.items) }
 {
-    let Command::Step(step) = line.command else {
+    let Command::Step(step) = line.command() else {
         return Ok(());
     };
     let at = turn.place(loader_named(&step));
     lists[at].push(Task {
-        line: line.number,
+        line: line.number(),
         step,
     })?;
     Ok(())

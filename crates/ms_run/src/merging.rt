@@ -40,7 +40,7 @@ pub fn merge<S: AnswerSink>(
         let reply = shares[place].replies[next];
         taken[place] = next + 1;
         sink.put(Answer {
-            line: line.number,
+            line: line.number(),
             reply,
             report: None,
         })?;
@@ -54,7 +54,7 @@ fn place_of(turn: &Turn, line: &Line) -> usize
         → result ≡ place_in turn.now (loader_of step) }
     ensures within { result < shares_in turn.now }
 {
-    match line.command {
+    match line.command() {
         Command::Step(step) => turn.place(loader_named(&step)),
         Command::Sync | Command::Report => turn.place(None),
     }

@@ -166,7 +166,7 @@ fn steps_first(lines: &[Line]) -> usize
         → step_of line.command ≡ None }
 {
     for (count, line) in lines.iter().enumerate() {
-        let Command::Step(_) = line.command else {
+        let Command::Step(_) = line.command() else {
             return count;
         };
     }

@@ -212,7 +212,7 @@ fn number(first: &mut [u8], line: &Line, workers: usize, next: usize) -> usize
     ensures numbered { (lines : List LineOf) → IsNumbered lines workers first.old next
         → IsNumbered (lines ++ line.now ∷ []) workers first.new result }
 {
-    let Command::Step(step) = line.command else {
+    let Command::Step(step) = line.command() else {
         return next;
     };
     if assign(first, loader_named(&step), next as u8) {
@@ -258,7 +258,7 @@ fn find_active(
 {
     active.clear();
     for line in lines {
-        if let Command::Step(step) = line.command {
+        if let Command::Step(step) = line.command() {
             let worker = worker_at(first, phase, workers, loader_named(&step));
             add_active(active, places, worker);
         }

@@ -1,6 +1,8 @@
 pub mod Grammar
 pub mod Faults
 pub mod Spelling
+pub mod Line
+pub mod Packing
 pub mod Steps
 pub mod Laws
 pub mod Cutting

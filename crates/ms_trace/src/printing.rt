@@ -21,8 +21,9 @@ pub fn print<A: Allocator>(alloc: A, trace: &Trace) -> Result<Vec<u8, A>, AllocE
     let mut text = Vec::new(alloc);
     let mut last: u32 = 0;
     for line in trace.lines.as_slice() {
-        print_line(&mut text, line.number - last - 1, line.command)?;
-        last = line.number;
+        let number = line.number();
+        print_line(&mut text, number - last - 1, line.command())?;
+        last = number;
     }
     Ok(text)
 }

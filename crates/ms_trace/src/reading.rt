@@ -110,7 +110,7 @@ fn add<A: Allocator>(
     ensures added { OnOk result (AddsLine number command lines.old.items lines.new.items) }
     ensures fault { IfErr result (λ fault. fault ≡ ParseFault.OutOfMemory) }
 {
-    match lines.push(Line { number, command }) {
+    match lines.push(Line::new(number, command)) {
         Ok(()) => Ok(()),
         Err(_) => Err(ParseFault::OutOfMemory),
     }

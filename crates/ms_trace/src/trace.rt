@@ -17,13 +17,71 @@ pub enum Command {
     Report,
 }
 
-/// A command and the number of its line, which counts from 1, blank lines and comments included.
+/// What a line asks, apart from the step.
+#[derive(Clone, Copy, Debug, PartialEq, Eq)]
+enum Asks {
+    Step,
+    Sync,
+    Report,
+}
+
+/// A command and the number of its line, which counts from 1, blank lines and comments included: 1
+/// to 100000 where a text was read. Takes 32 bytes.
 #[derive(Clone, Copy, Debug, PartialEq, Eq)]
 pub struct Line {
-    /// The line's number, 1 to 100000 where a text was read.
-    pub number: u32,
-    /// What the line asks.
-    pub command: Command,
+    number: u32,
+    asks: Asks,
+    /// The step that is asked, and a purge where none is.
+    step: Step,
+}
+
+impl Model for Line {
+    ghost use Rattle.ms_trace.specs.Line.{Line};
+
+    ghost Value = { Line };
+
+    ghost use Rattle.ms_trace.specs.Packing.{HasStep, line_in, packed_of};
+
+    ghost view = { line_in };
+
+    ghost invariant = { λ line. HasStep line.asks line.step };
+
+    ghost inverse = { packed_of };
+}
+
+const _: () = prove!(size_of::<Line>() == 32);
+
+impl Line {
+    /// Makes the line of that number. Takes no memory.
+    pub fn new(number: u32, command: Command) -> Line
+        ensures number { result.number ≡ number }
+        ensures command { result.command ≡ command }
+    {
+        let (asks, step) = match command {
+            Command::Step(step) => (Asks::Step, step),
+            Command::Sync => (Asks::Sync, Step::Purge),
+            Command::Report => (Asks::Report, Step::Purge),
+        };
+        Line { number, asks, step }
+    }
+
+    /// Tells the line's number.
+    pub fn number(&self) -> u32
+        ensures { result ≡ self.now.number }
+    {
+        self.number
+    }
+
+    /// Tells what the line asks.
+    pub fn command(&self) -> Command
+        ensures { result ≡ self.now.command }
+    {
+        match self.asks {
+            Asks::Step => Command::Step(self.step),
+            Asks::Sync => Command::Sync,
+            Asks::Report => Command::Report,
+        }
+    }
 }
 
 /// A list of lines in memory, which contracts see as that list.
@@ -79,10 +137,11 @@ impl Trace {
     {
         let mut last: u32 = 0;
         for line in self.lines.as_slice() {
-            if line.number <= last || line.number > MOST_LINES {
+            let number = line.number();
+            if number <= last || number > MOST_LINES {
                 return false;
             }
-            last = line.number;
+            last = number;
         }
         true
     }

@@ -9,87 +9,78 @@ use std::alloc::{AllocError, Global};
 use std::test::Fail;
 
 /// The trace of these lines.
-fn trace_of(alloc: Global, lines: &[Line]) -> Result<Trace, AllocError> {
+fn trace_of(alloc: Global, lines: &[(u32, Command)]) -> Result<Trace, AllocError> {
+    let mut items = Vec::with_capacity(alloc, lines.len())?;
+    for line in lines {
+        items.push(Line::new(line.0, line.1))?;
+    }
     Ok(Trace {
-        lines: Lines::from_vec(Vec::from_slice(alloc, lines)?),
+        lines: Lines::from_vec(items),
     })
 }
 
 /// The text of these lines, none where they may not be printed.
-fn printed(alloc: Global, lines: &[Line]) -> Result<Vec<u8>, AllocError> {
-    let trace = trace_of(alloc, lines)?;
+fn printed(alloc: Global, trace: &Trace) -> Result<Vec<u8>, AllocError> {
     if trace.rises() {
-        print(alloc, &trace)
+        print(alloc, trace)
     } else {
         Ok(Vec::new(alloc))
     }
 }
 
 /// Lines with gaps between their numbers, and a command of each sort.
-const LINES: [Line; 10] = [
-    Line {
-        number: 2,
-        command: Command::Step(Step::New {
+const LINES: [(u32, Command); 10] = [
+    (
+        2,
+        Command::Step(Step::New {
             loader: 7,
             kind: Kind::Reflection,
         }),
-    },
-    Line {
-        number: 3,
-        command: Command::Step(Step::Alloc {
+    ),
+    (
+        3,
+        Command::Step(Step::Alloc {
             loader: 7,
             block: 0,
             words: u64::MAX,
         }),
-    },
-    Line {
-        number: 4,
-        command: Command::Step(Step::Calloc {
+    ),
+    (
+        4,
+        Command::Step(Step::Calloc {
             loader: 7,
             block: 4294967295,
             words: 1,
         }),
-    },
-    Line {
-        number: 6,
-        command: Command::Step(Step::Write {
+    ),
+    (
+        6,
+        Command::Step(Step::Write {
             loader: 7,
             block: 0,
             index: u64::MAX,
             value: 2,
         }),
-    },
-    Line {
-        number: 7,
-        command: Command::Step(Step::Read {
+    ),
+    (
+        7,
+        Command::Step(Step::Read {
             loader: 7,
             block: 0,
             index: 1,
         }),
-    },
-    Line {
-        number: 8,
-        command: Command::Step(Step::Free {
+    ),
+    (
+        8,
+        Command::Step(Step::Free {
             loader: 7,
             block: 0,
         }),
-    },
-    Line {
-        number: 9,
-        command: Command::Step(Step::Unload { loader: 65535 }),
-    },
-    Line {
-        number: 10,
-        command: Command::Step(Step::Purge),
-    },
-    Line {
-        number: 11,
-        command: Command::Sync,
-    },
-    Line {
-        number: 13,
-        command: Command::Report,
-    },
+    ),
+    (9, Command::Step(Step::Unload { loader: 65535 })),
+    (10, Command::Step(Step::Purge)),
+    (11, Command::Sync),
+    (13, Command::Report),
 ];
 
 /// Their text, with an empty line for each that is missing.
@@ -99,26 +90,18 @@ const TEXT: &[u8] = b"\nnew 7 reflection\nalloc 7 0 18446744073709551615\ncalloc
 
 #[test]
 fn a_trace_is_printed_with_its_gaps(rt: HostRuntime) -> Result<(), Fail> {
-    let text = printed(rt.alloc(), LINES.as_slice())?;
+    let trace = trace_of(rt.alloc(), LINES.as_slice())?;
+    let text = printed(rt.alloc(), &trace)?;
     let back = parse(rt.alloc(), text.as_slice())?;
     let is_meant = text.as_slice() == TEXT;
-    let reads_back = back.lines.as_slice() == LINES.as_slice();
+    let reads_back = back.lines.as_slice() == trace.lines.as_slice();
     assert_eq!(rt; (is_meant, reads_back), (true, true));
     Ok(())
 }
 
 /// Tells whether lines of these numbers may be printed.
 fn rises(alloc: Global, first: u32, second: u32) -> Result<bool, AllocError> {
-    let lines = [
-        Line {
-            number: first,
-            command: Command::Step(Step::Purge),
-        },
-        Line {
-            number: second,
-            command: Command::Sync,
-        },
-    ];
+    let lines = [(first, Command::Step(Step::Purge)), (second, Command::Sync)];
     Ok(trace_of(alloc, lines.as_slice())?.rises())
 }
 

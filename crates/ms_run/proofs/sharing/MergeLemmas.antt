@@ -61,18 +61,19 @@ pub record Next (place : Place) (lines : List Line) (shares : List Share) (at : 
   pub found : slice_get shares there ≡ Some share
   pub is_next : next ≡ get_or taken there next
 
-pub next_line : (place : Place) (lines : List Line) (shares : List Share) (at : ℕ) (taken : List ℕ) (past : Line)
-    (there : ℕ) (share : Share) (next : ℕ)
-    → (asked : (step : Step) × (step_of (get_or lines at past).command ≡ Some step))
-    → ((step : Step) → step_of (get_or lines at past).command ≡ Some step → there ≡ place (loader_of step))
+pub next_line : (place : Place) (lines : List Line) (shares : List Share) (at : ℕ) (taken : List ℕ) (line : Line)
+    (there : ℕ) (share : Share) (next : ℕ) → line ≡ get_or lines at line
+    → (asked : (step : Step) × (step_of (get_or lines at line).command ≡ Some step))
+    → ((step : Step) → step_of line.command ≡ Some step → there ≡ place (loader_of step))
     → at < length lines
     → slice_get shares there ≡ Some share → next ≡ get_or taken there next
-    → Next place lines shares at taken (get_or lines at past) asked.0 there share next
-next_line place lines shares at taken past there share next asked goes within found is_next =
+    → Next place lines shares at taken line asked.0 there share next
+next_line place lines shares at taken line there share next is asked goes within found is_next =
+    let asks = ap (λ (l : Line). step_of l.command) is ∙ asked.1 in
     record {
-      more = take_more lines at past within;
-      asks = asked.1;
-      goes = goes asked.0 asked.1;
+      more = take_more lines at line within ∙ ap (λ (l : Line). take at lines ++ l ∷ []) (sym is);
+      asks = asks;
+      goes = goes asked.0 asks;
       found = found;
       is_next = is_next;
     }

@@ -12,7 +12,7 @@ raise-requires g c = λ kept.
 pub returns-clause-answered : goal.returns-clause-answered
 returns-clause-answered g c =
     step_answered g.S.AnswerSink.took c.args.detail c.args.run.now _ c.args.line.now c.in-Step.step _ c.args.sink.now
-    c.put.new.self c.in-Step.is c.in_ok-put.ensures refl refl c.step-reply.ensures.step c.raise.ensures.peaks
+    c.put.new.self (sym c.command.ensures ∙ c.in-Step.is) c.in_ok-put.ensures c.number-number.ensures refl c.step-reply.ensures.step c.raise.ensures.peaks
 
 pub returns-clause-counted : goal.returns-clause-counted
 returns-clause-counted g c =

@@ -1,4 +1,4 @@
-use Rattle.std.proofs.Common.{◌≡◌, ◌∙◌, ℕ, List, ap, arith, length, subst, take}
+use Rattle.std.proofs.Common.{◌≡◌, ◌∙◌, ◌∷◌, [], ℕ, List, ap, arith, length, subst, take}
 use Rattle.std.proofs.Math.Seq.{take-length}
 use Rattle.ms_trace.specs.declared.trace.Line.{Line}
 use Rattle.ms_run.specs.Sink.{AreOfLines, Puts}
@@ -15,7 +15,9 @@ pub loop-line-preserved : goal.loop-line-preserved
 loop-line-preserved g c = record {
   answers = one_more_answered g.S.AnswerSink.took c.args.detail _ _ _ c.args.lines.now c.loop-line.line-index _
       c.args.sink.now c.loop-line.sink c.answer_line.new.sink c.loop-line.invariant.answers
-      c.loop-line-test.true c.in_ok-answer_line.ensures.answered;
+      c.loop-line-test.true
+      (subst (λ (line : Line). Puts g.S.AnswerSink.took (AreOfLines c.args.detail c.loop-line.run (line ∷ [])
+      c.answer_line.new.run) c.loop-line.sink c.answer_line.new.sink) c.line-item.is c.in_ok-answer_line.ensures.answered);
   counted = c.in_ok-answer_line.ensures.counted;
 }
 

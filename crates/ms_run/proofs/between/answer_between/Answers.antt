@@ -1,6 +1,8 @@
 -- The one answer that is put has the report.
-use Rattle.std.proofs.Common.{refl}
+use Rattle.std.proofs.Common.{refl, subst}
 use Rattle.std.proofs.lemmas.Result.{on_ok_weaker}
+use Rattle.ms_trace.specs.declared.trace.Command.{Command}
+use Rattle.ms_run.specs.Replay.{Reports}
 use Rattle.ms_run.proofs.between.answer_between.Goals as goal
 
 pub returns : goal.returns
@@ -13,9 +15,10 @@ returns g c = on_ok_weaker c.put.result (λ puts. (
     c.in_ok-report.ensures.detailed,
     λ course taken. record {
       no_step = c.requires.no_step;
-      number = refl;
+      number = c.number.ensures;
       done = refl;
-      report = c.in_ok-report.ensures.reports course taken;
+      report = subst (λ (command : Command). Reports command course c.in_ok-report.report) c.command.ensures
+          (c.in_ok-report.ensures.reports course taken);
     },
   ),
 ))

@@ -1,8 +1,9 @@
-use Rattle.std.proofs.Common.{◌≡◌, ◌∙◌, ap, subst, arith, take, length, List}
+use Rattle.std.proofs.Common.{◌≡◌, ◌∙◌, ◌∷◌, [], ap, subst, arith, take, length, List}
 use Rattle.std.proofs.Math.Seq.{take-length}
 use Rattle.ms_trace.specs.declared.trace.Line.{Line}
 use Rattle.ms_run.specs.Turn.{place_in}
-use Rattle.ms_run.specs.Dealing.{AreListed}
+use Rattle.ms_run.specs.Dealing.{AreAdded, AreListed}
+use Rattle.ms_run.specs.Shares.{tasks_of}
 use Rattle.ms_run.proofs.sharing.ListingLemmas.{listed_none, listed_more}
 use Rattle.ms_run.proofs.dealing.deal_lines.Goals as goal
 
@@ -19,7 +20,9 @@ pub loop-line-preserved : goal.loop-line-preserved
 loop-line-preserved c = (
   listed_more (place_in c.args.turn.now) c.args.lines.now c.loop-line.line-index _ c.loop-line.lists.items
       c.add_task.new.lists.items
-      c.loop-line-test.true c.loop-line.invariant.0 c.in_ok-add_task.ensures.added,
+      c.loop-line-test.true c.loop-line.invariant.0
+      (subst (λ (line : Line). AreAdded (tasks_of (line ∷ [])) (place_in c.args.turn.now) c.loop-line.lists.items
+      c.add_task.new.lists.items) c.line-item.is c.in_ok-add_task.ensures.added),
   c.add_task.ensures.count ∙ c.loop-line.invariant.1,
 )
 

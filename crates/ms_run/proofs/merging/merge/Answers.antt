@@ -1,4 +1,4 @@
-use Rattle.std.proofs.Common.{◌<◌, ◌∙◌, ◌∷◌, [], List, arith, length, subst, sym}
+use Rattle.std.proofs.Common.{◌<◌, ◌∙◌, ◌∷◌, [], List, None, arith, length, subst, sym}
 use Rattle.std.proofs.lemmas.Option.{slice_get_read}
 use Rattle.ms_loaders.specs.declared.replies.Answer.{Answer}
 use Rattle.ms_run.specs.Sink.{PutsAll}
@@ -26,6 +26,7 @@ index-reply-requires g c =
     let has = has_reply _ _ _ _ _ _ _ _ _ _ _ _ c.requires.answered c.loop-line.invariant.1
     (next_line (place_in c.args.turn.now) c.args.lines.now c.args.shares.now.items c.loop-line.line-index
     c.loop-line.taken.items _ _ _ _
+    c.line-item.is
     asked c.place_of-place.ensures.place within
     (slice_get_read c.args.shares.now.items _ _ _ c.args.shares.now.ok.0
     (omega (arith, c.place_of-place.ensures.within, c.requires.count)) c.index.ensures)
@@ -40,6 +41,7 @@ overflow_add-next g c =
     let has = has_reply _ _ _ _ _ _ _ _ _ _ _ _ c.requires.answered c.loop-line.invariant.1
     (next_line (place_in c.args.turn.now) c.args.lines.now c.args.shares.now.items c.loop-line.line-index
     c.loop-line.taken.items _ _ _ _
+    c.line-item.is
     asked c.place_of-place.ensures.place within
     (slice_get_read c.args.shares.now.items _ _ _ c.args.shares.now.ok.0
     (omega (arith, c.place_of-place.ensures.within, c.requires.count)) c.index.ensures)
@@ -56,6 +58,7 @@ loop-line-preserved g c =
     let grown = merges_next _ _ _ _ _ _ _ _ _ _ _ _ _ c.requires.answered so_far.1
     (next_line (place_in c.args.turn.now) c.args.lines.now c.args.shares.now.items c.loop-line.line-index
     c.loop-line.taken.items _ _ _ _
+    c.line-item.is
     asked c.place_of-place.ensures.place within
     (slice_get_read c.args.shares.now.items _ _ _ c.args.shares.now.ok.0
     (omega (arith, c.place_of-place.ensures.within, c.requires.count)) c.index.ensures)
@@ -64,7 +67,8 @@ loop-line-preserved g c =
       _,
       grown,
       puts_more g.S.AnswerSink.took so_far.0 (_ ∷ []) c.args.sink.now c.loop-line.sink c.put.new.self so_far.2
-          c.in_ok-put.ensures,
+          (subst (λ n. PutsAll g.S.AnswerSink.took (record { line = n; reply = c.index-reply.result.now; report = None } ∷ [])
+          c.loop-line.sink c.put.new.self) c.number.ensures c.in_ok-put.ensures),
     )
 
 pub returns : goal.returns

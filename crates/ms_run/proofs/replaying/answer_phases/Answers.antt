@@ -1,7 +1,9 @@
-use Rattle.std.proofs.Common.{◌++◌, ◌∷◌, [], List, arith, subst}
+use Rattle.std.proofs.Common.{◌≡◌, ◌++◌, ◌∷◌, [], List, None, arith, subst, sym}
 use Rattle.std.proofs.lemmas.List.Elements.{All-append, All-nil}
 use Rattle.ms_loaders.specs.declared.replies.Answer.{Answer}
-use Rattle.ms_run.specs.Replay.{IsDetailed}
+use Rattle.ms_trace.specs.declared.trace.Line.{Line}
+use Rattle.ms_trace.specs.Steps.{step_of}
+use Rattle.ms_run.specs.Replay.{IsDetailed, IsEnd}
 use Rattle.ms_run.specs.Sink.{PutsAll}
 use Rattle.ms_run.proofs.AloneLemmas.{puts_more, puts_none}
 use Rattle.ms_run.proofs.replays.ReplayLemmas.{phases_start, steps_there, stops_next, phases_more, phases_next}
@@ -34,8 +36,9 @@ run_phase-requires-clause-steps g c κs within =
 
 pub end_phase-requires-clause-no_step : goal.end_phase-requires-clause-no_step
 end_phase-requires-clause-no_step g c =
-    stops_next c.args.lines.now c.loop-at.at c.steps_first-count.result _ c.steps_first-count.ensures.stops
-    c.if-at-lines.true
+    subst (λ (line : Line). step_of line.command ≡ None) (sym c.index-lines-at.is)
+    (stops_next c.args.lines.now c.loop-at.at c.steps_first-count.result _ c.steps_first-count.ensures.stops
+    c.if-at-lines.true)
 
 pub loop-at-preserved-then-at-lines : goal.loop-at-preserved-then-at-lines
 loop-at-preserved-then-at-lines g c = record {
@@ -54,7 +57,8 @@ loop-at-preserved-then-at-lines g c = record {
             (subst (λ (l : List Answer). PutsAll g.S.AnswerSink.took l c.run_phase.new.sink c.end_phase.new.sink)
             ended.2.1 ended.1),
         (
-          phases_next _ _ _ _ _ c.args.lines.now _ _ (so_far.0 ++ worked.0) told more c.if-at-lines.true ended.2.3
+          phases_next _ _ _ _ _ c.args.lines.now _ _ (so_far.0 ++ worked.0) told more c.if-at-lines.true
+              (λ course taken. subst (λ (line : Line). IsEnd course line told) c.index-lines-at.is (ended.2.3 course taken))
               c.in_ok-end_phase.ensures.turn,
           one_detailed c.args.detail (so_far.0 ++ worked.0) told ended.2.2
               (All-append (IsDetailed c.args.detail) so_far.0 worked.0 so_far.2.1 worked.2.0),

@@ -1,4 +1,5 @@
-use Rattle.std.proofs.Common.{◌∙◌, ℕ, List, length, sym, ap, subst, take, arith}
+use Rattle.std.proofs.Common.{◌∙◌, ◌++◌, ◌∷◌, [], ℕ, List, length, sym, ap, subst, take, arith}
+use Rattle.ms_trace.specs.declared.trace.Line.{Line}
 use Rattle.ms_run.specs.Turn.{IsNumbered}
 use Rattle.ms_run.proofs.TurnLemmas.{none_numbered, numbered_more, all_numbered, written_back, all_unnamed}
 use Rattle.ms_run.proofs.turn.first_workers.Goals as goal
@@ -22,9 +23,11 @@ loop-line-preserved c =
       names = names ∙ c.loop-line.invariant.names;
       numbered = numbered_more c.args.lines.now c.loop-line.line-index _ c.args.workers c.number-next.new.first
           c.number-next.result c.loop-line-test.true
+          (subst (λ (line : Line). IsNumbered (take c.loop-line.line-index c.args.lines.now ++ line ∷ []) c.args.workers
+          c.number-next.new.first c.number-next.result) c.line-item.is
           (c.number-next.ensures.numbered (take c.loop-line.line-index c.args.lines.now)
           (subst (λ (l : List ℕ). IsNumbered (take c.loop-line.line-index c.args.lines.now) c.args.workers l
-          c.loop-line.next) (sym same) c.loop-line.invariant.numbered));
+          c.loop-line.next) (sym same) c.loop-line.invariant.numbered)));
     })
 
 pub returns : goal.returns

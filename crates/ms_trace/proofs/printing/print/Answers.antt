@@ -1,5 +1,5 @@
 -- Each line prints the next part of the text, which reads as the trace.
-use Rattle.std.proofs.Common.{◌≡◌, [], List, take, drop, append-nil, arith, sym, ◌∙◌}
+use Rattle.std.proofs.Common.{◌≡◌, [], List, take, drop, append-nil, ap, arith, subst, sym, ◌∙◌}
 use Rattle.std.proofs.lemmas.Grind.{common_steps}
 use Rattle.std.proofs.lemmas.List.Elements.{All-more, recursion_from_All}
 use Rattle.std.specs.List.{All}
@@ -12,13 +12,14 @@ pub loop-line-preserved : goal.loop-line-preserved
 loop-line-preserved g c =
     let items : List Line = c.as_slice-line-items.result.now in
     record {
-      printed = rw c.in_ok-print_line.ensures.printed
+      printed = rw (c.in_ok-print_line.ensures.printed, c.number-number.ensures, c.command.ensures, c.line-item.is)
           (line_printed items c.loop-line.line-index c.loop-line.last _ c.loop-line.text.items
           (text_from 1 items) c.loop-line-test.true c.loop-line.invariant.printed);
-      rises = rises_on items c.loop-line.line-index c.loop-line.last _ c.loop-line-test.true
-          c.loop-line.invariant.rises;
+      rises = rw (c.number-number.ensures, c.line-item.is)
+          (rises_on items c.loop-line.line-index c.loop-line.last _ c.loop-line-test.true c.loop-line.invariant.rises);
       valid = All-more (λ (line : Line). IsValid line.command) items
-          c.loop-line.line-index _ c.loop-line-test.true c.loop-line.invariant.valid c.print_line.ensures.valid;
+          c.loop-line.line-index _ c.loop-line-test.true c.loop-line.invariant.valid
+          (subst IsValid (c.command.ensures ∙ ap (λ (line : Line). line.command) c.line-item.is) c.print_line.ensures.valid);
     }
 
 pub returns-clause-reads : goal.returns-clause-reads
