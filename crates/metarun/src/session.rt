@@ -1,5 +1,5 @@
-//! A session: the whole input is read and parsed, then run, while the text of the answers grows, then
-//! that text is written.
+//! A session: the whole input is read and parsed, then run, while the text of the answers grows in the
+//! room that the input had, then that text is written.
 ghost use Rattle.std.specs.Prelude.{◌≡◌, ◌⊎◌, ℕ, List, IfOk, IfErr, IfSome, string_bytes};
 ghost use Rattle.std.specs.Io.KnownBytes.{Keeps};
 ghost use Rattle.ms_trace.specs.declared.fault.FaultKind.{FaultKind};
@@ -70,9 +70,17 @@ fn answer_to<T: Threads + Wait + Sync, R: Read>(
 {
     let text = read_text(alloc, input)?;
     let trace = parse(alloc, &text)?;
-    drop(text);
     let (settings, detail) = (options.settings, options.detail);
-    let mut answers = AnswerText::new(alloc, options.addresses, detail, settings);
+    let mut answers = AnswerText::new(emptied(text), options.addresses, detail, settings);
     replay_into(rt, alloc, &trace, settings, detail, &NoGate, &mut answers)?;
     Ok(answers.into_text())
+}
+
+/// Empties a text that was read, and keeps its room for the answers: they are seldom longer.
+fn emptied(mut text: Vec<u8>) -> String {
+    text.clear();
+    match String::from_utf8(text) {
+        Ok(room) => room,
+        Err(_) => unreachable!(),
+    }
 }

@@ -52,14 +52,15 @@ impl Model for AnswerText {
 }
 
 impl AnswerText {
-    /// Makes the text of no answer. Where a block starts, a word number, is told only if addresses are asked
-    /// for, and reports are told with as much detail as is asked for; the settings are those of the run.
-    /// Takes no memory yet.
-    pub fn new(alloc: Global, addresses: bool, detail: Detail, settings: Settings) -> AnswerText
+    /// Makes the text of no answer, in the room of a text that is done with, which is emptied. Where a block
+    /// starts, a word number, is told only if addresses are asked for, and reports are told with as much
+    /// detail as is asked for; the settings are those of the run. Takes no memory yet.
+    pub fn new(mut room: String, addresses: bool, detail: Detail, settings: Settings) -> AnswerText
         ensures { result ≡ no_answer addresses detail settings }
     {
+        room.clear();
         AnswerText {
-            text: String::new(alloc),
+            text: room,
             refusals: NONE,
             addresses,
             detail,
@@ -129,7 +130,7 @@ pub fn lines(
     ensures { IfOk result (λ text. string_bytes text
         ≡ answers_text addresses detail settings.now replies.now.answers.items) }
 {
-    let mut text = AnswerText::new(alloc, addresses, detail, *settings);
+    let mut text = AnswerText::new(String::new(alloc), addresses, detail, *settings);
     for answer in &replies.answers {
         text.push(answer)?;
     }

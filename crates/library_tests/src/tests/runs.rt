@@ -66,7 +66,7 @@ fn a_text_takes_the_answers_as_they_come(rt: HostRuntime) -> Result<(), Fail> {
         .ok_or("no trace")?;
     for workers in [1, 2] {
         let settings = settings(workers);
-        let mut answers = AnswerText::new(rt.alloc(), false, Detail::Basic, settings);
+        let mut answers = AnswerText::new(String::new(rt.alloc()), false, Detail::Basic, settings);
         let replayed = replay_into(
             &rt,
             rt.alloc(),
