@@ -1,18 +1,19 @@
 -- Blocks by rank in trees of one class each: where a block goes, and which one fits first, in the trees' blocks one
 -- after the other. Used by the functions of `classes`.
 use Rattle.std.proofs.Common.{◌≡◌, ◌≢◌, ℕ, ◌+◌, ◌<◌, ◌≤◌, true, false, List, [], ◌∷◌, ◌++◌, Option, Some, None, refl, ap}
-use Rattle.std.proofs.Common.{sym, subst, ◌∙◌, arith, zero, suc, take, length, get_or, inl, inr, bit_and, bit_or, w64}
-use Rattle.std.proofs.Common.{Bool, ◌-◌, ◌/◌, ◌%◌, ◌^◌}
-use Rattle.std.specs.Prelude.{nat_le, if◌then◌else◌, slice_get, slice_set, IsTrue, IsFalse, bit_xor}
-use Rattle.std.specs.Int.{bit_at, trailing_zeros}
+use Rattle.std.proofs.Common.{ap₂, sym, subst, subst₂, ◌∙◌, arith, zero, suc, take, drop, inl, inr, bit_and, bit_or, w64}
+use Rattle.std.proofs.Common.{Bool, cond, ◌*◌, ◌-◌, ◌/◌, ◌%◌, ◌^◌}
+use Rattle.std.specs.Prelude.{nat_le, if◌then◌else◌, slice_get, slice_set, IsTrue, IsFalse}
+use Rattle.std.specs.Int.{bit_at, bit_not, trailing_zeros}
 use Rattle.std.specs.List.{AllByRecursion}
 use Rattle.std.proofs.lemmas.Bool.{cases_eq, cases_lt}
+use Rattle.std.proofs.lemmas.List.{drop_all, length-set, take_all}
 use Rattle.std.proofs.lemmas.Nat.{shr-shr, shr_le}
-use Rattle.std.proofs.lemmas.Nat.Bits.{bit_at-zero, bit_at-trailing_zeros, bit_at-lt, bit_at_above, bit_at_or}
-use Rattle.std.proofs.lemmas.Nat.Bits.{bit_at_xor, bit_at-pow_same, bit_at-pow_other, shr_and_one}
+use Rattle.std.proofs.lemmas.Nat.Bits.{bit_at-zero, bit_at-trailing_zeros, bit_at_above, bit_at_and}
+use Rattle.std.proofs.lemmas.Nat.Bits.{bit_at_clear_other, bit_at_set_same, bit_at_set_other}
 use Rattle.std.proofs.lemmas.Bool.Decides.{nat_tests}
 use Rattle.ms_base.specs.declared.span.Block.{Block}
-use Rattle.ms_blocks.specs.Classes.{AreClassed, TellsOf, all_of, class_of}
+use Rattle.ms_blocks.specs.Classes.{AreByClass, AreClassed, IsFirstClass, TellsOf, TellsWhether, all_of, class_of}
 use Rattle.ms_blocks.specs.Rank.{ranks_before, IsRanked, with_ranked, first_fit, without_fit}
 use Rattle.ms_blocks.specs.Tree.{blocks_of}
 use Rattle.ms_blocks.specs.declared.tree.Tree.{Tree}
@@ -158,58 +159,41 @@ none_left (other ∷ left) rest words none =
       | false ↦ λ none. none_left left rest words none
     ] none
 
--- The first fit is taken from a tree where none before it fits.
-pub record TakenAt {A : Type 0} (trees : List (Tree A)) (at : ℕ) (words : ℕ) (rest : Tree A) (block : Block) : Type 0 where
-  pub found : first_fit (all_of trees) words ≡ Some block
-  pub left : all_of (slice_set trees at rest) ≡ without_fit (all_of trees) words
+-- What fits first in front of blocks fits first of all, and where nothing does, none behind may.
+fit_in_front : (left rest : List Block) (words : ℕ) (taken : Option Block) → first_fit left words ≡ taken
+    → (taken ≡ None → first_fit rest words ≡ None)
+    → (first_fit (left ++ rest) words ≡ taken) × (without_fit (left ++ rest) words ≡ without_fit left words ++ rest)
+fit_in_front left rest words (Some found) is behind =
+    (first_fit-left left rest words found is, without_fit-left left rest words found is)
+fit_in_front left rest words None is behind = (
+  first_fit-past left rest words is ∙ behind refl,
+  without_fit-past left rest words is
+      ∙ ap₂ (λ (xs ys : List Block). xs ++ ys) (sym (without_fit-none left words is)) (without_fit-none rest words (behind refl)),
+)
 
-pub taken_at : {A : Type 0} (trees : List (Tree A)) (at : ℕ) (tree rest : Tree A) (words : ℕ) (found : Block)
-    → slice_get trees at ≡ Some tree → first_fit (all_of (take at trees)) words ≡ None
-    → first_fit (blocks_of tree) words ≡ Some found → blocks_of rest ≡ without_fit (blocks_of tree) words
-    → TakenAt trees at words rest found
-taken_at [] at tree rest words found there none is left = absurd (cc)
-taken_at (first ∷ trees) zero tree rest words found there none is left =
-    let same : first ≡ tree = cc in
-    let here = ap (λ (t : Tree _). first_fit (blocks_of t) words) same ∙ is in record {
-      found = first_fit-left (blocks_of first) (all_of trees) words found here;
-      left = ap (λ (bs : List Block). bs ++ all_of trees)
-          (left ∙ ap (λ (t : Tree _). without_fit (blocks_of t) words) (sym same))
-          ∙ sym (without_fit-left (blocks_of first) (all_of trees) words found here);
-    }
-taken_at (first ∷ trees) (suc at) tree rest words found there none is left =
-    let here = none_left (blocks_of first) (all_of (take at trees)) words none in
-    let more = taken_at trees at tree rest words found there
-    (sym (first_fit-past (blocks_of first) (all_of (take at trees)) words here) ∙ none) is left in record {
-      found = first_fit-past (blocks_of first) (all_of trees) words here ∙ more.found;
-      left = ap (λ (bs : List Block). blocks_of first ++ bs) more.left
-          ∙ sym (without_fit-past (blocks_of first) (all_of trees) words here);
-    }
-
--- So is none, where none fits in the last tree either.
-pub record TakesAmong {A : Type 0} (trees : List (Tree A)) (at : ℕ) (words : ℕ) (rest : Tree A) (taken : Option Block)
-    : Type 0 where
+-- The first fit is taken from a tree where none before it fits, and where none fits in it, none behind it does.
+pub record TakesAmong {A : Type 0} (trees : List (Tree A)) (at words : ℕ) (rest : Tree A) (taken : Option Block) : Type 0 where
   pub found : first_fit (all_of trees) words ≡ taken
   pub left : all_of (slice_set trees at rest) ≡ without_fit (all_of trees) words
 
-none_at : {A : Type 0} (trees : List (Tree A)) (at : ℕ) (tree rest : Tree A) (words : ℕ)
-    → slice_get trees at ≡ Some tree → length trees ≡ at + 1 → first_fit (all_of (take at trees)) words ≡ None
-    → first_fit (blocks_of tree) words ≡ None → blocks_of rest ≡ without_fit (blocks_of tree) words
-    → TakesAmong trees at words rest None
-none_at [] at tree rest words there long none is left = absurd (cc)
-none_at (first ∷ []) zero tree rest words there long none is left =
+takes_among : {A : Type 0} (trees : List (Tree A)) (at : ℕ) (tree rest : Tree A) (words : ℕ) (taken : Option Block)
+    → slice_get trees at ≡ Some tree → first_fit (all_of (take at trees)) words ≡ None
+    → (taken ≡ None → first_fit (all_of (drop (suc at) trees)) words ≡ None)
+    → first_fit (blocks_of tree) words ≡ taken → blocks_of rest ≡ without_fit (blocks_of tree) words
+    → TakesAmong trees at words rest taken
+takes_among [] at tree rest words taken there none behind is left = absurd (cc)
+takes_among (first ∷ trees) zero tree rest words taken there none behind is left =
     let same : first ≡ tree = cc in
-    let here = ap (λ (t : Tree _). first_fit (blocks_of t) words) same ∙ is in record {
-      found = first_fit-past (blocks_of first) [] words here;
-      left = ap (λ (bs : List Block). bs ++ [])
-          (left ∙ ap (λ (t : Tree _). without_fit (blocks_of t) words) (sym same)
-          ∙ without_fit-none (blocks_of first) words here)
-          ∙ sym (without_fit-past (blocks_of first) [] words here);
+    let front = fit_in_front (blocks_of first) (all_of trees) words taken
+    (ap (λ (t : Tree _). first_fit (blocks_of t) words) same ∙ is) behind in record {
+      found = front.0;
+      left = ap (λ (bs : List Block). bs ++ all_of trees)
+          (left ∙ ap (λ (t : Tree _). without_fit (blocks_of t) words) (sym same)) ∙ sym front.1;
     }
-none_at (first ∷ second ∷ trees) zero tree rest words there long none is left = absurd (omega (arith, long))
-none_at (first ∷ trees) (suc at) tree rest words there long none is left =
+takes_among (first ∷ trees) (suc at) tree rest words taken there none behind is left =
     let here = none_left (blocks_of first) (all_of (take at trees)) words none in
-    let more = none_at trees at tree rest words there (omega (arith, long))
-    (sym (first_fit-past (blocks_of first) (all_of (take at trees)) words here) ∙ none) is left in record {
+    let more = takes_among trees at tree rest words taken there
+    (sym (first_fit-past (blocks_of first) (all_of (take at trees)) words here) ∙ none) behind is left in record {
       found = first_fit-past (blocks_of first) (all_of trees) words here ∙ more.found;
       left = ap (λ (bs : List Block). blocks_of first ++ bs) more.left
           ∙ sym (without_fit-past (blocks_of first) (all_of trees) words here);
@@ -230,57 +214,6 @@ ranked_at (first ∷ trees) zero tree ranked there =
     subst (λ (t : Tree _). IsRanked (blocks_of t)) same (ranked_parts (blocks_of first) (all_of trees) ranked).0
 ranked_at (first ∷ trees) (suc at) tree ranked there =
     ranked_at trees at tree (ranked_parts (blocks_of first) (all_of trees) ranked).1 there
-
--- What an addition makes of the trees, and a removal.
-pub record InsertsAmong {A : Type 0} (trees : List (Tree A)) (at : ℕ) (grown : Tree A) (block : Block) : Type 0 where
-  pub classed : AreClassed 0 (slice_set trees at grown)
-  pub blocks : all_of (slice_set trees at grown) ≡ with_ranked (all_of trees) block
-
-pub inserts_among : {A : Type 0} (trees : List (Tree A)) (at : ℕ) (tree grown : Tree A) (block : Block)
-    → AreClassed 0 trees → IsRanked (all_of trees) → class_of block.words ≡ at → slice_get trees at ≡ Some tree
-    → (IsRanked (blocks_of tree) → blocks_of grown ≡ with_ranked (blocks_of tree) block)
-    → InsertsAmong trees at grown block
-inserts_among trees at tree grown block classed ranked is there grows =
-    let grown_is = grows (ranked_at trees at tree ranked there) in record {
-      classed = classed_with trees 0 at grown classed
-          (subst (λ (bs : List Block). AllByRecursion (λ (b : Block). class_of b.words ≡ 0 + at) bs) (sym grown_is)
-          (all_with (λ (b : Block). class_of b.words ≡ 0 + at) (blocks_of tree) block
-          (classed_at trees 0 at tree classed there) (omega (arith, is))));
-      blocks = inserted trees 0 at tree grown block classed (omega (arith, is)) there grown_is;
-    }
-
-pub record TakesFit {A : Type 0} (trees : List (Tree A)) (at : ℕ) (words : ℕ) (rest : Tree A) (taken : Option Block)
-    : Type 0 where
-  pub classed : AreClassed 0 (slice_set trees at rest)
-  pub among : TakesAmong trees at words rest taken
-
-pub takes_fit : {A : Type 0} (trees : List (Tree A)) (at : ℕ) (tree rest : Tree A) (words : ℕ) (taken : Option Block)
-    → length trees ≡ 64 → at < 64 → AreClassed 0 trees → IsRanked (all_of trees) → slice_get trees at ≡ Some tree
-    → first_fit (all_of (take at trees)) words ≡ None
-    → (at < 63 → (tree : Tree A) → slice_get trees at ≡ Some tree → first_fit (blocks_of tree) words ≢ None)
-    → (IsRanked (blocks_of tree) → first_fit (blocks_of tree) words ≡ taken)
-    → (IsRanked (blocks_of tree) → blocks_of rest ≡ without_fit (blocks_of tree) words)
-    → TakesFit trees at words rest taken
-takes_fit trees at tree rest words taken long within classed ranked there none fits found left =
-    let in_tree = ranked_at trees at tree ranked there in record {
-      classed = classed_with trees 0 at rest classed
-          (subst (λ (bs : List Block). AllByRecursion (λ (b : Block). class_of b.words ≡ 0 + at) bs)
-          (sym (left in_tree))
-          (all_without (λ (b : Block). class_of b.words ≡ 0 + at) (blocks_of tree) words
-          (classed_at trees 0 at tree classed there)));
-      among = among taken (found in_tree);
-    }
-  where
-    among : (taken : Option Block) → first_fit (blocks_of tree) words ≡ taken → TakesAmong trees at words rest taken
-    among (Some block) is =
-        let one = taken_at trees at tree rest words block there none is (left (ranked_at trees at tree ranked there)) in
-        record { found = one.found; left = one.left }
-    among None is =
-        elim (cases_lt at 63) [
-          | inl low ↦ absurd (fits low tree there is)
-          | inr last ↦ none_at trees at tree rest words there (omega (arith, long, within, last)) none is
-              (left (ranked_at trees at tree ranked there))
-        ]
 
 -- Trees of lower classes have no fit, nor have those with no block.
 pub none_before : {A : Type 0} (trees : List (Tree A)) (class at words : ℕ) → AreClassed class trees
@@ -313,24 +246,10 @@ some_fits (block ∷ blocks) words class all low high full none =
     let fits = fits_class words block.words (omega (arith, low, all.0)) (omega (arith, high, all.0)) in
     let is : Some block ≡ None = rw fits at none in absurd (cc)
 
-pub one_fits : {A : Type 0} (trees : List (Tree A)) (at words : ℕ) (tree : Tree A) → AreClassed 0 trees
-    → class_of words ≤ at → at < 63 → slice_get trees at ≡ Some tree → blocks_of tree ≢ []
-    → first_fit (blocks_of tree) words ≢ None
-one_fits trees at words tree classed low high there full =
-    some_fits (blocks_of tree) words (0 + at) (classed_at trees 0 at tree classed there) (omega (arith, low))
-    (omega (arith, high)) full
-
 -- A fork has a block.
 pub not_none : (left right : List Block) (block : Block) → left ++ block ∷ right ≢ []
 not_none [] right block e = absurd (cc)
 not_none (other ∷ left) right block e = absurd (cc)
-
--- What is read within a list stands there.
-pub reads : {X : Type 0} (xs : List X) (at : ℕ) (other : X) → at < length xs
-    → slice_get xs at ≡ Some (get_or xs at other)
-reads [] at other within = absurd (omega (arith, within))
-reads (x ∷ xs) zero other within = refl
-reads (x ∷ xs) (suc at) other within = reads xs at other (omega (arith, within))
 
 both_none : (left right : List Block) → left ++ right ≡ [] → (left ≡ []) × (right ≡ [])
 both_none [] right e = (refl, e)
@@ -363,19 +282,16 @@ pub none_later : (some first class : ℕ) → some / 2 ^ first ≡ 0 → first �
 none_later some first class none from =
     bit_from some first class from ∙ ap (λ n. bit_at n (class - first)) none ∙ bit_at-zero (class - first)
 
-pub record IsFirst (some first place : ℕ) : Type 0 where
-  pub within : first + place < 64
-  pub past : (class : ℕ) → first ≤ class → class < first + place → bit_at some class ≡ 0
-  pub one : bit_at some (first + place) ≡ 1
-
-pub is_first : (some first : ℕ) → 0 < some / 2 ^ first → some < 2 ^ 64
-    → IsFirst some first (trailing_zeros w64 (some / 2 ^ first))
-is_first some first more fits = record {
+pub is_first : (some words first : ℕ) → first ≡ class_of words → 0 < some / 2 ^ first → some < 2 ^ 64
+    → IsFirstClass some words (first + trailing_zeros w64 (some / 2 ^ first))
+is_first some words first is more fits = record {
   within = elim (cases_lt (first + place) 64) [
     | inl low ↦ low
     | inr high ↦ absurd (omega (arith, one, bit_at_above some 64 (first + place) fits high))
   ];
-  past = λ class from under. bit_from some first class from ∙ lies.2 (class - first) (omega arith);
+  from = omega (arith, is);
+  past = λ class from under. bit_from some first class (omega (arith, is, from))
+      ∙ lies.2 (class - first) (omega (arith, is, from, under));
   one = one;
 }
   where
@@ -391,15 +307,17 @@ is_first some first more fits = record {
     one : bit_at some (first + place) ≡ 1
     one = sym (bit_moved some first place) ∙ lies.1
 
-pub bit_out : (some class : ℕ) → bit_and (some / 2 ^ class) 1 ≡ 1 → bit_at (bit_xor some (2 ^ class)) class ≡ 0
-bit_out some class is =
-    let one : bit_at some class ≡ 1 = sym (shr_and_one some class) ∙ is in
-    bit_at_xor some (2 ^ class) class ∙ rw (one, bit_at-pow_same class) refl
-
-pub bit_others : (some class other : ℕ) → other ≢ class
-    → bit_at (bit_xor some (2 ^ class)) other ≡ bit_at some other
-bit_others some class other differ =
-    bit_at_xor some (2 ^ class) other ∙ omega (arith, bit_at-pow_other class other differ, bit_at-lt some other)
+pub bit_others : (some class other : ℕ) → class < 64 → some < 2 ^ 64 → other ≢ class
+    → bit_at (bit_and some (bit_not w64 (1 * 2 ^ class % 2 ^ 64))) other ≡ bit_at some other
+bit_others some class other within fits differ =
+    elim (cases_lt other 64) [
+      | inl low ↦ bit_at_clear_other w64 some class within other low differ
+      | inr high ↦ omega (
+        arith,
+        bit_at_and some (bit_not w64 (1 * 2 ^ class % 2 ^ 64)) other,
+        bit_at_above some 64 other fits high,
+      )
+    ]
 
 -- What is set in a list stands there, and the others stay.
 set_same : {X : Type 0} (xs : List X) (at : ℕ) (x y : X) → slice_get (slice_set xs at y) at ≡ Some x → x ≡ y
@@ -424,68 +342,109 @@ full_with (other ∷ blocks) block e =
       | false ↦ λ e. absurd (cc)
     ] e
 
--- The bits tell of the trees, once a block was added, and once one was taken.
-pub tells_with : {A : Type 0} (trees : List (Tree A)) (some class : ℕ) (tree grown : Tree A) (block : Block)
-    → TellsOf some trees → IsRanked (all_of trees) → slice_get trees class ≡ Some tree
-    → (IsRanked (blocks_of tree) → blocks_of grown ≡ with_ranked (blocks_of tree) block)
-    → TellsOf (bit_or some (2 ^ class)) (slice_set trees class grown)
-tells_with trees some class tree grown block tells ranked stood grows = λ at other there.
+-- The bits tell of the trees, once one of them has changed, and its bit alone.
+tells_anew : {A : Type 0} (trees : List (Tree A)) (some told class : ℕ) (changed : Tree A) → TellsOf some trees
+    → ((other : ℕ) → other ≢ class → bit_at told other ≡ bit_at some other)
+    → TellsWhether (bit_at told class) (blocks_of changed) → TellsOf told (slice_set trees class changed)
+tells_anew trees some told class changed tells others here = λ at other there.
     elim (cases_eq at class) [
       | inl same ↦
-          let is : other ≡ grown = set_same trees at other grown
-          (subst (λ (n : ℕ). slice_get (slice_set trees n grown) at ≡ Some other) (sym same) there) in
-          let grown_is = grows (ranked_at trees class tree ranked stood) in (
-            λ none. absurd (omega (
-              arith,
-              none,
-              bit_at_or some (2 ^ class) at,
-              ap (λ (n : ℕ). bit_at (2 ^ class) n) same ∙ bit_at-pow_same class,
-            )),
-            λ one e. full_with (blocks_of tree) block (sym grown_is ∙ ap (λ (t : Tree _). blocks_of t) (sym is) ∙ e),
-          )
+          let is : other ≡ changed = set_same trees at other changed
+          (subst (λ (n : ℕ). slice_get (slice_set trees n changed) at ≡ Some other) (sym same) there) in
+          subst₂ (λ (n : ℕ) (t : Tree _). TellsWhether (bit_at told n) (blocks_of t)) (sym same) (sym is) here
       | inr differ ↦
-          let was = tells at other (sym (set_other trees class at grown differ) ∙ there) in
-          let bit : bit_at (bit_or some (2 ^ class)) at ≡ bit_at some at = omega (
-            arith,
-            bit_at_or some (2 ^ class) at,
-            bit_at-pow_other class at differ,
-          ) in (λ none. was.0 (sym bit ∙ none), λ one. was.1 (sym bit ∙ one))
+          let was = tells at other (sym (set_other trees class at changed differ) ∙ there) in
+          subst (λ (bit : ℕ). TellsWhether bit (blocks_of other)) (sym (others at differ)) was
     ]
 
-pub tells_without : {A : Type 0} (trees : List (Tree A)) (some told class words : ℕ) (tree rest : Tree A)
-    (empty : Bool) → TellsOf some trees → IsRanked (all_of trees) → slice_get trees class ≡ Some tree
-    → (IsRanked (blocks_of tree) → blocks_of rest ≡ without_fit (blocks_of tree) words)
-    → (IsTrue empty → blocks_of rest ≡ []) → (IsFalse empty → blocks_of rest ≢ [])
-    → (IsTrue empty → bit_at told class ≡ 0) → (IsFalse empty → told ≡ some)
-    → ((other : ℕ) → other ≢ class → bit_at told other ≡ bit_at some other)
-    → TellsOf told (slice_set trees class rest)
-tells_without trees some told class words tree rest empty tells ranked stood left none full out still others =
-    λ at other there. elim (cases_eq at class) [
-      | inl same ↦
-          let is : other ≡ rest = set_same trees at other rest
-          (subst (λ (n : ℕ). slice_get (slice_set trees n rest) at ≡ Some other) (sym same) there) in
-          here empty none full out still at other same is
-      | inr differ ↦
-          let was = tells at other (sym (set_other trees class at rest differ) ∙ there) in
-          let bit = others at differ in (λ zero_is. was.0 (sym bit ∙ zero_is), λ one. was.1 (sym bit ∙ one))
-    ]
+pub tells_whether : (empty : Bool) (bit : ℕ) (blocks : List Block) → bit ≡ cond empty 0 1
+    → (IsTrue empty → blocks ≡ []) → (IsFalse empty → blocks ≢ []) → TellsWhether bit blocks
+tells_whether true bit blocks is none full = (λ zero_is. none refl, λ one. absurd (omega (arith, is, one)))
+tells_whether false bit blocks is none full = (λ zero_is. absurd (omega (arith, is, zero_is)), λ one. full refl)
+
+-- What an addition makes of the trees.
+pub record InsertsAmong {A : Type 0} (trees : List (Tree A)) (told at : ℕ) (grown : Tree A) (block : Block) : Type 0 where
+  pub classes : AreByClass told (slice_set trees at grown)
+  pub blocks : all_of (slice_set trees at grown) ≡ with_ranked (all_of trees) block
+
+pub inserts_among : {A : Type 0} (trees : List (Tree A)) (some at : ℕ) (tree grown : Tree A) (block : Block)
+    → AreByClass some trees → IsRanked (all_of trees) → class_of block.words ≡ at → slice_get trees at ≡ Some tree
+    → (IsRanked (blocks_of tree) → blocks_of grown ≡ with_ranked (blocks_of tree) block)
+    → InsertsAmong trees (bit_or some (1 * 2 ^ at % 2 ^ 64)) at grown block
+inserts_among trees some at tree grown block by_class ranked is there grows = record {
+  classes = record {
+    there = length-set trees at grown ∙ by_class.there;
+    classed = classed_with trees 0 at grown by_class.classed
+        (subst (λ (bs : List Block). AllByRecursion (λ (b : Block). class_of b.words ≡ 0 + at) bs) (sym grown_is)
+        (all_with (λ (b : Block). class_of b.words ≡ 0 + at) (blocks_of tree) block
+        (classed_at trees 0 at tree by_class.classed there) (omega (arith, is))));
+    tells = tells_anew trees some _ at grown by_class.tells (bit_at_set_other w64 some at within) (
+      λ none. absurd (omega (arith, none, bit_at_set_same w64 some at within)),
+      λ one e. full_with (blocks_of tree) block (sym grown_is ∙ e),
+    );
+  };
+  blocks = inserted trees 0 at tree grown block by_class.classed (omega (arith, is)) there grown_is;
+}
   where
-    here : (empty : Bool) → (IsTrue empty → blocks_of rest ≡ []) → (IsFalse empty → blocks_of rest ≢ [])
-        → (IsTrue empty → bit_at told class ≡ 0) → (IsFalse empty → told ≡ some) → (at : ℕ) (other : Tree _)
-        → at ≡ class → other ≡ rest
-        → (bit_at told at ≡ 0 → blocks_of other ≡ []) × (bit_at told at ≡ 1 → blocks_of other ≢ [])
-    here true none full out still at other same is = (
-      λ bit. ap (λ (t : Tree _). blocks_of t) is ∙ none refl,
-      λ one. absurd (omega (arith, sym one ∙ ap (bit_at told) same ∙ out refl)),
-    )
-    here false none full out still at other same is = (
-      λ bit.
-          let was : blocks_of tree ≡ [] = (tells class tree stood).0
-          (ap (λ (n : ℕ). bit_at n class) (sym (still refl)) ∙ ap (bit_at told) (sym same) ∙ bit) in
-          ap (λ (t : Tree _). blocks_of t) is ∙ left (ranked_at trees class tree ranked stood)
-          ∙ ap (λ (bs : List Block). without_fit bs words) was,
-      λ one e. full refl (ap (λ (t : Tree _). blocks_of t) (sym is) ∙ e),
-    )
+    grown_is : blocks_of grown ≡ with_ranked (blocks_of tree) block
+    grown_is = grows (ranked_at trees at tree ranked there)
+
+    within : at < 64
+    within = omega (arith, is)
+
+-- What a removal makes of them.
+pub record TakesFit {A : Type 0} (trees : List (Tree A)) (told at words : ℕ) (rest : Tree A) (taken : Option Block)
+    : Type 0 where
+  pub classes : AreByClass told (slice_set trees at rest)
+  pub among : TakesAmong trees at words rest taken
+
+pub takes_fit : {A : Type 0} (trees : List (Tree A)) (some told at words : ℕ) (tree rest : Tree A)
+    (taken : Option Block) → AreByClass some trees → IsRanked (all_of trees) → IsFirstClass some words at
+    → slice_get trees at ≡ Some tree
+    → (IsRanked (blocks_of tree) → first_fit (blocks_of tree) words ≡ taken)
+    → (IsRanked (blocks_of tree) → blocks_of rest ≡ without_fit (blocks_of tree) words)
+    → ((other : ℕ) → other ≢ at → bit_at told other ≡ bit_at some other)
+    → TellsWhether (bit_at told at) (blocks_of rest) → TakesFit trees told at words rest taken
+takes_fit trees some told at words tree rest taken by_class ranked first there found left others here = record {
+  classes = record {
+    there = length-set trees at rest ∙ by_class.there;
+    classed = classed_with trees 0 at rest by_class.classed
+        (subst (λ (bs : List Block). AllByRecursion (λ (b : Block). class_of b.words ≡ 0 + at) bs)
+        (sym (left in_tree))
+        (all_without (λ (b : Block). class_of b.words ≡ 0 + at) (blocks_of tree) words classed));
+    tells = tells_anew trees some told at rest by_class.tells others here;
+  };
+  among = takes_among trees at tree rest words taken there before behind (found in_tree) (left in_tree);
+}
+  where
+    in_tree : IsRanked (blocks_of tree)
+    in_tree = ranked_at trees at tree ranked there
+
+    classed : AllByRecursion (λ (b : Block). class_of b.words ≡ 0 + at) (blocks_of tree)
+    classed = classed_at trees 0 at tree by_class.classed there
+
+    before : first_fit (all_of (take at trees)) words ≡ None
+    before = none_before trees 0 at words by_class.classed
+        (λ k tree under from there. (by_class.tells k tree there).0 (first.past k (omega (arith, from)) under))
+
+    behind : taken ≡ None → first_fit (all_of (drop (suc at) trees)) words ≡ None
+    behind none = elim (cases_lt at 63) [
+      | inl low ↦ absurd (some_fits (blocks_of tree) words (0 + at) classed (omega (arith, first.from))
+          (omega (arith, low)) ((by_class.tells at tree there).1 first.one) (found in_tree ∙ none))
+      | inr last ↦ ap (λ (ts : List (Tree _)). first_fit (all_of ts) words)
+          (drop_all (suc at) trees (omega (arith, by_class.there, last)))
+    ]
+
+-- No block fits where no class has one, from that of the words on.
+pub none_in : {A : Type 0} (trees : List (Tree A)) (some words : ℕ) → AreByClass some trees
+    → ((class : ℕ) → class_of words ≤ class → bit_at some class ≡ 0) → first_fit (all_of trees) words ≡ None
+none_in trees some words by_class none =
+    ap (λ (ts : List (Tree _)). first_fit (all_of ts) words) (sym whole)
+    ∙ none_before trees 0 64 words by_class.classed
+    (λ k tree under from there. (by_class.tells k tree there).0 (none k (omega (arith, from))))
+  where
+    whole : take 64 trees ≡ trees
+    whole = take_all 64 trees (omega (arith, by_class.there))
 
 pub none_each : {A : Type 0} (trees : List (Tree A)) (class : ℕ) (tree : Tree A) → all_of trees ≡ []
     → slice_get trees class ≡ Some tree → blocks_of tree ≡ []

@@ -1,5 +1,5 @@
 -- Blocks by rank, in a tree for each number of words below 63 and one for all larger blocks (this project's choice).
-use Rattle.std.specs.Prelude.{◌≡◌, ◌≢◌, ℕ, ◌+◌, List, [], ◌∷◌, ◌++◌, length, min, slice_get, Option, None, Some}
+use Rattle.std.specs.Prelude.{◌≡◌, ◌≢◌, ℕ, ◌+◌, ◌<◌, ◌≤◌, List, [], ◌∷◌, ◌++◌, length, min, slice_get, Option, None, Some}
 use Rattle.std.specs.Int.{bit_at}
 use Rattle.std.specs.List.{AllByRecursion}
 use Rattle.ms_base.specs.declared.span.Block.{Block}
@@ -22,19 +22,34 @@ AreClassed class [] = Unit {0}
 AreClassed class (tree ∷ trees) =
     AllByRecursion (λ (block : Block). class_of block.words ≡ class) (blocks_of tree) × AreClassed (class + 1) trees
 
--- The bit of a class is 1 where its tree has a block, and else 0.
+-- A bit is 1 where there are blocks, and else 0.
+abbrev pub TellsWhether : ℕ → List Block → Type 0
+TellsWhether bit blocks = (bit ≡ 0 → blocks ≡ []) × (bit ≡ 1 → blocks ≢ [])
+
+-- The bit of each class tells whether its tree has blocks.
 abbrev pub TellsOf : {A : Type 0} → ℕ → List (Tree A) → Type 0
 TellsOf some trees =
-    (class : ℕ) (tree : _) → slice_get trees class ≡ Some tree
-    → (bit_at some class ≡ 0 → blocks_of tree ≡ []) × (bit_at some class ≡ 1 → blocks_of tree ≢ [])
+    (class : ℕ) (tree : _) → slice_get trees class ≡ Some tree → TellsWhether (bit_at some class) (blocks_of tree)
+
+-- There is a tree for each class, with its blocks, and a bit.
+pub record AreByClass {A : Type 0} (some : ℕ) (trees : List (Tree A)) : Type 0 where
+  pub there : length trees ≡ 64
+  pub classed : AreClassed 0 trees
+  pub tells : TellsOf some trees
+
+-- The class is the first one, from that of so many words on, whose bit is 1.
+pub record IsFirstClass (some words found : ℕ) : Type 0 where
+  pub within : found < 64
+  pub from : class_of words ≤ found
+  pub past : (class : ℕ) → class_of words ≤ class → class < found → bit_at some class ≡ 0
+  pub one : bit_at some found ≡ 1
 
 -- The blocks of the trees, where there are trees.
 abbrev pub blocks_in : {A : Type 0} → Option (Classes A) → List Block
 blocks_in None = []
 blocks_in (Some classes) = all_of classes.trees.items
 
--- There is a tree for each class, with its blocks, or none.
+-- There are trees by class, or none.
 abbrev pub AreTrees : {A : Type 0} → Option (Classes A) → Type 0
 AreTrees None = Unit {0}
-AreTrees (Some classes) =
-    length classes.trees.items ≡ 64 × AreClassed 0 classes.trees.items × TellsOf classes.some classes.trees.items
+AreTrees (Some classes) = AreByClass classes.some classes.trees.items

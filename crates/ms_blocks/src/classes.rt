@@ -7,10 +7,10 @@
 //! most free blocks are small. A best fit is in the first tree that has a block and may have one so large;
 //! a bit for each tree tells whether it has one.
 //! After the lists by size of HotSpot's binList.hpp.
-ghost use Rattle.std.specs.Prelude.{◌≡◌, ◌≢◌, ◌<◌, ◌≤◌, ◌^◌, ℕ, [], length, None, Some, IfOk, IfSome, IfNone, IsSome, OnSome, IsTrue, IsFalse};
+ghost use Rattle.std.specs.Prelude.{◌≡◌, ◌≢◌, ◌<◌, ◌≤◌, ℕ, [], Some, IfOk, IfSome, IfNone, IsSome, OnSome, cond};
 ghost use Rattle.std.specs.Int.{bit_at};
 ghost use Rattle.std.specs.Option.{option_map};
-ghost use Rattle.ms_blocks.specs.Classes.{AreClassed, AreTrees, TellsOf, all_of, blocks_in, class_of};
+ghost use Rattle.ms_blocks.specs.Classes.{AreByClass, AreTrees, IsFirstClass, all_of, blocks_in, class_of};
 ghost use Rattle.ms_blocks.specs.Rank.{IsRanked, first_fit, with_ranked, without_fit};
 
 use crate::tree::{Fork, Tree, insert, take_fit};
@@ -32,11 +32,11 @@ pub struct Classes<A: Allocator> {
 pub type Trees<A> = Option<Classes<A>>;
 
 /// Makes the trees, with no block. Takes memory.
-pub fn make_trees<A: Allocator + Clone>(alloc: A) -> Result<Classes<A>, AllocError>
+pub fn make_trees<A: Allocator + Clone>(alloc: &A) -> Result<Classes<A>, AllocError>
     ensures trees { IfOk result (λ classes. AreTrees (Some classes)) }
     ensures empty { IfOk result (λ classes. blocks_in (Some classes) ≡ []) }
 {
-    let mut trees = Vec::with_capacity(alloc, CLASSES)?;
+    let mut trees = Vec::with_capacity(alloc.clone()?, CLASSES)?;
     for _ in 0..CLASSES {
         trees.push_reserved(Tree::Empty);
     }
@@ -58,7 +58,9 @@ pub fn insert_in<A: Allocator>(trees: &mut Trees<A>, spare: Box<Fork<A>, A>)
     }
 }
 
-/// Takes the first block of the trees that has so many words, with its fork.
+/// Takes the first block of the trees that has so many words, with its fork. Nothing is called where no tree
+/// may have one: at most allocations none has.
+#[inline(always)]
 pub fn take_in<A: Allocator>(trees: &mut Trees<A>, words: u64) -> Option<Box<Fork<A>, A>>
     requires trees { AreTrees trees.old }
     requires ranked { IsRanked (blocks_in trees.old) }
@@ -69,44 +71,47 @@ pub fn take_in<A: Allocator>(trees: &mut Trees<A>, words: u64) -> Option<Box<For
     ensures left { blocks_in trees.new ≡ without_fit (blocks_in trees.old) words }
 {
     match trees {
-        Some(classes) => take_among(classes.trees.as_mut_slice(), &mut classes.some, words),
+        Some(classes) => {
+            let class = first_class(classes.some, words)?;
+            take_among(
+                classes.trees.as_mut_slice(),
+                &mut classes.some,
+                class,
+                words,
+            )
+        }
         None => None,
     }
 }
 
 /// Adds the spare fork's block to those of ranked trees.
 fn insert_among<A: Allocator>(trees: &mut [Tree<A>], some: &mut u64, spare: Box<Fork<A>, A>)
-    requires there { length trees.old ≡ 64 }
-    requires classed { AreClassed 0 trees.old }
-    requires tells { TellsOf some.old trees.old }
+    requires trees { AreByClass some.old trees.old }
     requires ranked { IsRanked (all_of trees.old) }
-    ensures there { length trees.new ≡ 64 }
-    ensures classed { AreClassed 0 trees.new }
-    ensures tells { TellsOf some.new trees.new }
+    ensures trees { AreByClass some.new trees.new }
     ensures blocks { all_of trees.new ≡ with_ranked (all_of trees.old) spare.value.block }
 {
     let class = class_of(spare.block.words);
-    *some |= bit_of(class);
+    *some |= 1 << class;
     insert(&mut trees[class], spare);
 }
 
-/// Takes the first block of ranked trees that has so many words, with its fork.
+/// Takes the first block of ranked trees that has so many words, with its fork, where the class is the first
+/// with a block that may have so many.
+#[inline(never)]
 fn take_among<A: Allocator>(
     trees: &mut [Tree<A>],
     some: &mut u64,
+    class: usize,
     words: u64,
 ) -> Option<Box<Fork<A>, A>>
-    requires there { length trees.old ≡ 64 }
-    requires classed { AreClassed 0 trees.old }
-    requires tells { TellsOf some.old trees.old }
+    requires trees { AreByClass some.old trees.old }
     requires ranked { IsRanked (all_of trees.old) }
-    ensures there { length trees.new ≡ 64 }
-    ensures classed { AreClassed 0 trees.new }
-    ensures tells { TellsOf some.new trees.new }
+    requires first { IsFirstClass some.old words class }
+    ensures trees { AreByClass some.new trees.new }
     ensures found { first_fit (all_of trees.old) words ≡ option_map (λ fork. fork.value.block) result }
     ensures left { all_of trees.new ≡ without_fit (all_of trees.old) words }
 {
-    let class = first_class(*some, words)?;
     let found = take_fit(&mut trees[class], words, &mut false);
     *some = told_again(*some, class, trees[class].is_empty());
     found
@@ -115,11 +120,7 @@ fn take_among<A: Allocator>(
 /// Finds the first class with a block that may have one of so many words.
 #[inline(always)]
 fn first_class(some: u64, words: u64) -> Option<usize>
-    ensures within { IfSome result (λ found. found < 64) }
-    ensures from { IfSome result (λ found. class_of words ≤ found) }
-    ensures past { IfSome result (λ found.
-        (class : ℕ) → class_of words ≤ class → class < found → bit_at some class ≡ 0) }
-    ensures one { IfSome result (λ found. bit_at some found ≡ 1) }
+    ensures first { IfSome result (IsFirstClass some words) }
     ensures none { IfNone result ((class : ℕ) → class_of words ≤ class → bit_at some class ≡ 0) }
 {
     let first = class_of(words);
@@ -130,26 +131,14 @@ fn first_class(some: u64, words: u64) -> Option<usize>
     Some(first + later.trailing_zeros() as usize)
 }
 
-/// Tells which trees have a block, once one of them has none, or has some still.
+/// Tells which trees have a block, once one that had some has none, or has some still.
 fn told_again(some: u64, class: usize, is_empty: bool) -> u64
-    requires { class < 64 }
-    ensures here { IsTrue is_empty → bit_at result class ≡ 0 }
-    ensures still { IsFalse is_empty → result ≡ some }
+    requires within { class < 64 }
+    requires one { bit_at some class ≡ 1 }
+    ensures here { bit_at result class ≡ cond is_empty 0 1 }
     ensures others { (other : ℕ) → other ≢ class → bit_at result other ≡ bit_at some other }
 {
-    if is_empty && some >> class & 1 == 1 {
-        some ^ bit_of(class)
-    } else {
-        some
-    }
-}
-
-/// The bit of a class.
-fn bit_of(class: usize) -> u64
-    requires { class < 64 }
-    ensures { result ≡ 2 ^ class }
-{
-    1 << class
+    if is_empty { some & !(1 << class) } else { some }
 }
 
 /// Tells in which tree blocks of so many words are.

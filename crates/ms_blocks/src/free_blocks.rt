@@ -8,15 +8,14 @@
 //! are theirs, the vector of spare forks has a place for each fork of the trees, and the trees are
 //! there where there is room: they are made with the first.
 ghost use Rattle.std.specs.Prelude.{◌≡◌, ◌+◌, ◌^◌, ◌<◌, ◌≤◌, max, IsFalse, [], length, OnOk, OnErr, IfErr, IsOk};
-ghost use Rattle.std.specs.Prelude.{IfOk, IfSome, OnSome, IfNone, Some, vec_len, vec_capacity};
+ghost use Rattle.std.specs.Prelude.{IfSome, OnSome, IfNone, vec_len, vec_capacity};
 ghost use Rattle.std.specs.Option.{option_map};
 ghost use Rattle.ms_base.specs.Interval.{meets_any};
 ghost use Rattle.ms_base.specs.Names.{with_new, without};
 ghost use Rattle.ms_base.specs.Place.{best_fit};
-ghost use Rattle.ms_blocks.specs.Classes.{AreTrees, blocks_in};
 ghost use Rattle.ms_blocks.specs.FreeBlocks.{KeptBlocks, AreKept, MayBeKept, IsBestFit, NoneFits, run_of, words_in};
 
-use crate::classes::{Classes, Trees, insert_in, make_trees, take_in};
+use crate::classes::{Trees, insert_in, make_trees, take_in};
 use crate::tree::Fork;
 use ms_base::{Block, Refusal};
 use std::alloc::{AllocError, Allocator, Global};
@@ -86,6 +85,7 @@ impl<A: Allocator> FreeBlocks<A> {
     /// many, and of those the one with the lowest start. Answers `None`, and changes nothing,
     /// where no free block is large enough. Takes no memory: the room grows by one, so that the
     /// block, or what is left of it, can be added again. Best fit is this project's choice.
+    #[inline(always)]
     pub fn remove(&mut self, words: u64) -> Option<Block>
         ensures best { IfSome result (λ block. IsBestFit self.old.kept words (run_of block)) }
         ensures none { IfNone result (NoneFits self.old.kept words) }
@@ -148,7 +148,10 @@ impl<A: Allocator + Clone> FreeBlocks<A> {
             return Ok(());
         }
         if self.trees.is_none() {
-            self.trees = Some(new_trees(&self.spare)?);
+            let Ok(trees) = make_trees(self.spare.allocator()) else {
+                return Err(Refusal::OutOfMemory);
+            };
+            self.trees = Some(trees);
         }
         match fill(&mut self.spare, n, self.count) {
             Ok(()) => Ok(()),
@@ -160,23 +163,7 @@ impl<A: Allocator + Clone> FreeBlocks<A> {
     }
 }
 
-/// Makes the trees, in the allocator of the spare forks.
-fn new_trees<A: Allocator + Clone>(spare: &Vec<Box<Fork<A>, A>, A>) -> Result<Classes<A>, Refusal>
-    ensures trees { IfOk result (λ trees. AreTrees (Some trees)) }
-    ensures empty { IfOk result (λ trees. blocks_in (Some trees) ≡ []) }
-    ensures refused { IfErr result (λ refusal. refusal ≡ Refusal.OutOfMemory) }
-{
-    let made = match spare.allocator().clone() {
-        Ok(alloc) => make_trees(alloc),
-        Err(_) => return Err(Refusal::OutOfMemory),
-    };
-    match made {
-        Ok(trees) => Ok(trees),
-        Err(_) => Err(Refusal::OutOfMemory),
-    }
-}
-
-/// Fills up to so many spare forks, with places for those of the tree. A refusal leaves what was
+/// Fills up to so many spare forks, with places for those of the trees. A refusal leaves what was
 /// made.
 fn fill<A: Allocator + Clone>(
     spare: &mut Vec<Box<Fork<A>, A>, A>,

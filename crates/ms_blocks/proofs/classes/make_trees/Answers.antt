@@ -14,8 +14,8 @@ loop-preserved g c = record {
 }
 
 pub returns-clause-trees : goal.returns-clause-trees
-returns-clause-trees g c = (
-  omega (arith, c.loop.invariant.many, c.loop-test.false, c.loop.auto.counter-end),
-  c.loop.invariant.classed,
-  tells_none c.loop.trees.items c.loop.invariant.none,
-)
+returns-clause-trees g c = record {
+  there = omega (arith, c.loop.invariant.many, c.loop-test.false, c.loop.auto.counter-end);
+  classed = c.loop.invariant.classed;
+  tells = tells_none c.loop.trees.items c.loop.invariant.none;
+}

@@ -1,15 +1,12 @@
-use Rattle.std.proofs.Common.{◌∙◌, ap}
-use Rattle.std.specs.Int.{bit_at}
-use Rattle.std.specs.Prelude.{bit_xor}
-use Rattle.ms_blocks.proofs.ClassLemmas.{bit_others, bit_out}
+use Rattle.std.proofs.Common.{w64}
+use Rattle.std.proofs.lemmas.Nat.Bits.{bit_at_clear_same}
+use Rattle.ms_blocks.proofs.ClassLemmas.{bit_others}
 use Rattle.ms_blocks.proofs.classes.told_again.Goals as goal
 
-pub returns-then-some-class-eq1-clause-here : goal.returns-then-some-class-eq1-clause-here
-returns-then-some-class-eq1-clause-here c = λ empty.
-    ap (λ n. bit_at (bit_xor c.args.some n) c.args.class) c.bit_of.ensures
-    ∙ bit_out c.args.some c.args.class c.if-some-class-eq1.true
+pub returns-then-is_empty-clause-here : goal.returns-then-is_empty-clause-here
+returns-then-is_empty-clause-here c =
+    rw c.if-is_empty.true (bit_at_clear_same w64 c.args.some c.args.class c.requires.within)
 
-pub returns-then-some-class-eq1-clause-others : goal.returns-then-some-class-eq1-clause-others
-returns-then-some-class-eq1-clause-others c = λ other differ.
-    ap (λ n. bit_at (bit_xor c.args.some n) other) c.bit_of.ensures
-    ∙ bit_others c.args.some c.args.class other differ
+pub returns-then-is_empty-clause-others : goal.returns-then-is_empty-clause-others
+returns-then-is_empty-clause-others c = λ other differ.
+    bit_others c.args.some c.args.class other c.requires.within c.ranges.some.fits differ
