@@ -5,6 +5,7 @@ use Rattle.std.proofs.Common.{None, refl, ap₂, subst, sym, ◌∙◌, arith}
 use Rattle.std.specs.Prelude.{nat_le, nat_lt, ◌==◌, if◌then◌else◌}
 use Rattle.std.specs.List.{AllByRecursion, filter, find, list_all}
 use Rattle.std.specs.Ordering.{nat_cmp, is_eq}
+use Rattle.std.proofs.lemmas.Bool.{leb-true, leb-false, le-leb, lt-leb, ltb-true}
 use Rattle.std.proofs.lemmas.Bool.Decides.{nat_tests}
 use Rattle.ms_base.specs.declared.span.Block.{Block}
 use Rattle.ms_base.specs.Names.{named}
@@ -12,26 +13,8 @@ use Rattle.ms_base.specs.Place.{best_fit}
 use Rattle.ms_blocks.specs.Rank.{ranks_before, IsRanked, first_fit}
 use Rattle.ms_blocks.specs.FreeBlocks.{Yields, IsBestFit, NoneFits, run_of, by_start, StartsDiffer, LieFrom}
 use Rattle.ms_blocks.proofs.LaidLemmas.{named_from}
+use Rattle.ms_blocks.proofs.RankLemmas.{all_so}
 use Rattle.ms_blocks.proofs.StartLemmas.{all_by_start, fit_is_named}
-
--- What one block's fact gives, each block's gives.
-all_so : (P Q : Block → Type 0) (blocks : List Block) → AllByRecursion P blocks → ((block : Block) → P block → Q block)
-    → AllByRecursion Q blocks
-all_so P Q [] all so = tt
-all_so P Q (block ∷ blocks) all so = (so block all.0, all_so P Q blocks all.1 so)
-
--- What the tests of sizes say.
-at_most : (a b : ℕ) → nat_le a b ≡ true → a ≤ b
-at_most a b h = grind (arith, nat_tests)
-
-not_at_most : (a b : ℕ) → nat_le a b ≡ false → b < a
-not_at_most a b h = grind (arith, nat_tests)
-
-passes : (a b : ℕ) → a ≤ b → nat_le a b ≡ true
-passes a b h = grind (arith, nat_tests)
-
-fails : (a b : ℕ) → b < a → nat_le a b ≡ false
-fails a b h = grind (arith, nat_tests)
 
 -- What ranks behind a block yields to it.
 later_yields : (n : ℕ) (a b : Block) → ranks_before a b ≡ true → Yields n (a.start, a.words) (b.start, b.words)
@@ -39,13 +22,10 @@ later_yields n a b before =
     elim (nat_lt a.words b.words) as (λ fewer. nat_lt a.words b.words ≡ fewer
     → (fewer || (a.words == b.words && nat_lt a.start b.start)) ≡ true
     → Yields n (a.start, a.words) (b.start, b.words)) [
-      | true ↦ λ fewer e. inr (inl (less a.words b.words fewer))
+      | true ↦ λ fewer e. inr (inl (ltb-true a.words b.words fewer))
       | false ↦ λ fewer e. inr (inr (tied a.words b.words a.start b.start e))
     ] refl before
   where
-    less : (x y : ℕ) → nat_lt x y ≡ true → x < y
-    less x y h = grind (arith, nat_tests)
-
     tied : (x y s t : ℕ) → (x == y && nat_lt s t) ≡ true → (x ≡ y) × (s ≤ t)
     tied x y s t h = (grind (arith, nat_tests), grind (arith, nat_tests))
 
@@ -66,9 +46,9 @@ all_yield (block ∷ blocks) n found ranked e =
             other.words,
           )) (block ∷ blocks)) same (
             inr (inr (refl, omega arith)),
-            all_so _ _ blocks ranked.0 (λ other before. later_yields n block other before),
+            all_so _ _ blocks (later_yields n block) ranked.0,
           )
-      | false ↦ λ few e. (inl (not_at_most n block.words few), all_yield blocks n found ranked.1 e)
+      | false ↦ λ few e. (inl (leb-false n block.words few), all_yield blocks n found ranked.1 e)
     ] refl e
 
 -- The first fit is large enough.
@@ -78,15 +58,9 @@ fit_is_enough (block ∷ blocks) n found e =
     elim (nat_le n block.words) as (λ b. nat_le n block.words ≡ b
     → (if b then Some block else first_fit blocks n) ≡ Some found → n ≤ found.words) [
       | true ↦ λ enough e. let same : block ≡ found = cc in
-          subst (λ (first : Block). n ≤ first.words) same (at_most n block.words enough)
+          subst (λ (first : Block). n ≤ first.words) same (leb-true n block.words enough)
       | false ↦ λ few e. fit_is_enough blocks n found e
     ] refl e
-
--- The same for runs.
-all_runs_so : (P Q : ℕ × ℕ → Type 0) (runs : List (ℕ × ℕ)) → AllByRecursion P runs → ((run : ℕ × ℕ) → P run → Q run)
-    → AllByRecursion Q runs
-all_runs_so P Q [] all so = tt
-all_runs_so P Q (run ∷ runs) all so = (so run all.0, all_runs_so P Q runs all.1 so)
 
 -- The run has enough words, and no run that has is smaller.
 abbrev fits : ℕ → ℕ × ℕ → Bool
@@ -97,9 +71,9 @@ is_least n runs run = list_all (λ (other : ℕ × ℕ). nat_le run.1 other.1) (
 
 is_least_of : (n : ℕ) (found other : ℕ × ℕ) → Yields n found other → nat_le n other.1 ≡ true
     → nat_le found.1 other.1 ≡ true
-is_least_of n found other (inl few) fit = absurd (omega (arith, few, at_most n other.1 fit))
-is_least_of n found other (inr (inl more)) fit = passes found.1 other.1 (omega (arith, more))
-is_least_of n found other (inr (inr tied)) fit = passes found.1 other.1 (omega (arith, tied.0))
+is_least_of n found other (inl few) fit = absurd (omega (arith, few, leb-true n other.1 fit))
+is_least_of n found other (inr (inl more)) fit = le-leb found.1 other.1 (omega (arith, more))
+is_least_of n found other (inr (inr tied)) fit = le-leb found.1 other.1 (omega (arith, tied.0))
 
 -- Where no block fits, all are too small, and no run fits.
 all_too_small : (blocks : List Block) (n : ℕ) → first_fit blocks n ≡ None
@@ -110,12 +84,12 @@ all_too_small (block ∷ blocks) n e =
     → (if b then Some block else first_fit blocks n) ≡ None
     → AllByRecursion (λ (block : Block). block.words < n) (block ∷ blocks)) [
       | true ↦ λ enough e. absurd (cc)
-      | false ↦ λ few e. (not_at_most n block.words few, all_too_small blocks n e)
+      | false ↦ λ few e. (leb-false n block.words few, all_too_small blocks n e)
     ] refl e
 
 nothing_passes : (runs : List (ℕ × ℕ)) (n : ℕ) → NoneFits runs n → filter (fits n) runs ≡ []
 nothing_passes [] n all = refl
-nothing_passes (run ∷ runs) n all = rw (fails n run.1 all.0) (nothing_passes runs n all.1)
+nothing_passes (run ∷ runs) n all = rw (lt-leb n run.1 all.0) (nothing_passes runs n all.1)
 
 -- A test passes on all that pass a filter.
 all_filtered : (pass test : ℕ × ℕ → Bool) (runs : List (ℕ × ℕ))
@@ -171,14 +145,14 @@ picks test n low found (run ∷ runs) laid e enough all passed others =
     → find test (cond (nat_le n run.1) (run ∷ filter (fits n) runs) (filter (fits n) runs)) ≡ Some found) [
       | true ↦ λ same e. subst (λ (first : ℕ × ℕ). find test
           (cond (nat_le n first.1) (first ∷ filter (fits n) runs) (filter (fits n) runs)) ≡ Some found)
-          (sym (named_is_there found run same e)) (rw (passes n found.1 enough, passed) refl)
+          (sym (named_is_there found run same e)) (rw (le-leb n found.1 enough, passed) refl)
       | false ↦ λ other e. later (named_from (run.0 + run.1) found.0 found.1 runs laid.2 e) all.0
           (picks test n (run.0 + run.1) found runs laid.2 e enough all.1 passed others)
     ] refl e
   where
     later : run.0 + run.1 ≤ found.0 → Yields n found run → find test (filter (fits n) runs) ≡ Some found
         → find test (cond (nat_le n run.1) (run ∷ filter (fits n) runs) (filter (fits n) runs)) ≡ Some found
-    later lower (inl few) ih = rw (fails n run.1 few) ih
+    later lower (inl few) ih = rw (lt-leb n run.1 few) ih
     later lower (inr (inl more)) ih = skipped test (nat_le n run.1) run (filter (fits n) runs) (others run more) ∙ ih
     later lower (inr (inr tied)) ih = absurd (omega (arith, laid.1, tied.1, lower))
 
@@ -198,11 +172,11 @@ pub best_fit-found : (low : ℕ) (runs : List (ℕ × ℕ)) (n : ℕ) (best : �
 best_fit-found low runs n best laid is_best =
     picks (is_least n runs) n low best runs laid is_best.is_kept is_best.enough is_best.least
     (all_filtered (fits n) (λ (other : ℕ × ℕ). nat_le best.1 other.1) runs
-    (all_runs_so (Yields n best) (λ (other : ℕ × ℕ). nat_le n other.1 ≡ true
-    → nat_le best.1 other.1 ≡ true) runs is_best.least (λ other. is_least_of n best other)))
+    (all_so (Yields n best) (λ (other : ℕ × ℕ). nat_le n other.1 ≡ true
+    → nat_le best.1 other.1 ≡ true) runs (is_least_of n best) is_best.least))
     (λ other more.
     some_fails (fits n) (λ (another : ℕ × ℕ). nat_le other.1 another.1) best runs is_best.is_kept
-    (passes n best.1 is_best.enough) (fails other.1 best.1 more))
+    (le-leb n best.1 is_best.enough) (lt-leb other.1 best.1 more))
 
 pub none_fits : (blocks : List Block) (n : ℕ) → StartsDiffer blocks → first_fit blocks n ≡ None
     → NoneFits (by_start blocks) n

@@ -6,18 +6,19 @@ use Rattle.std.proofs.Common.{Bool, cond, ◌*◌, ◌-◌, ◌/◌, ◌%◌, �
 use Rattle.std.specs.Prelude.{nat_le, if◌then◌else◌, slice_get, slice_set, IsTrue, IsFalse}
 use Rattle.std.specs.Int.{bit_at, bit_not, trailing_zeros}
 use Rattle.std.specs.List.{AllByRecursion}
-use Rattle.std.proofs.lemmas.Bool.{cases_eq, cases_lt}
-use Rattle.std.proofs.lemmas.List.{drop_all, length-set, take_all}
+use Rattle.std.proofs.lemmas.Bool.{cases_eq, cases_lt, lt-leb}
+use Rattle.std.proofs.lemmas.List.{append-nil, drop_all, length-set, take_all}
 use Rattle.std.proofs.lemmas.Nat.{shr-shr, shr_le}
 use Rattle.std.proofs.lemmas.Nat.Bits.{bit_at-zero, bit_at-trailing_zeros, bit_at_above, bit_at_and}
 use Rattle.std.proofs.lemmas.Nat.Bits.{bit_at_clear_other, bit_at_set_same, bit_at_set_other}
 use Rattle.std.proofs.lemmas.Bool.Decides.{nat_tests}
 use Rattle.ms_base.specs.declared.span.Block.{Block}
-use Rattle.ms_blocks.specs.Classes.{AreByClass, AreClassed, IsFirstClass, TellsOf, TellsWhether, all_of, class_of}
+use Rattle.ms_blocks.specs.Classes.{AreByClass, AreClassed, AreOf, IsFirstClass, TellsOf, TellsWhether, all_of, class_of}
 use Rattle.ms_blocks.specs.Rank.{ranks_before, IsRanked, with_ranked, first_fit, without_fit}
 use Rattle.ms_blocks.specs.Tree.{blocks_of}
 use Rattle.ms_blocks.specs.declared.tree.Tree.{Tree}
-use Rattle.ms_blocks.proofs.RankLemmas.{all_left, all_with, all_without, too_small, first_fit-left, without_fit-left, without_fit-none}
+use Rattle.ms_blocks.proofs.RankLemmas.{all_left, all_so, all_with, all_without, first_fit-left, first_fit-past}
+use Rattle.ms_blocks.proofs.RankLemmas.{with_ranked-left, without_fit-left, without_fit-none, without_fit-past}
 
 -- A block of a lower class ranks before one of a higher class, and has fewer words.
 class_first : (a b : Block) → class_of a.words < class_of b.words → ranks_before a b ≡ true
@@ -28,11 +29,6 @@ class_behind a b h = grind (arith, nat_tests)
 
 class_few : (few words : ℕ) → class_of few < class_of words → few < words
 class_few few words h = grind (arith, nat_tests)
-
-all_weaker : (P Q : Block → Type 0) (blocks : List Block) → ((block : Block) → P block → Q block)
-    → AllByRecursion P blocks → AllByRecursion Q blocks
-all_weaker P Q [] weaker all = tt
-all_weaker P Q (block ∷ blocks) weaker all = (weaker block all.0, all_weaker P Q blocks weaker all.1)
 
 all_append : (P : Block → Type 0) (left right : List Block) → AllByRecursion P left → AllByRecursion P right
     → AllByRecursion P (left ++ right)
@@ -50,44 +46,16 @@ with_ranked-past (other ∷ left) rest block before =
 with_ranked-here : (left rest : List Block) (block : Block)
     → AllByRecursion (λ other. ranks_before other block ≡ false) rest
     → with_ranked (left ++ rest) block ≡ with_ranked left block ++ rest
-with_ranked-here [] [] block behind = refl
-with_ranked-here [] (other ∷ rest) block behind = rw behind.0 refl
-with_ranked-here (other ∷ left) rest block behind =
-    elim (ranks_before other block) as (λ b. (if b then other ∷ with_ranked
-    (left ++ rest) block else block ∷ other ∷ (left ++ rest)) ≡
-    (if b then other ∷ with_ranked left block else block ∷ other ∷ left) ++ rest) [
-      | true ↦ ap (λ blocks. other ∷ blocks) (with_ranked-here left rest block behind)
-      | false ↦ refl
-    ]
-
--- What doesn't fit is passed over.
-pub first_fit-past : (left rest : List Block) (words : ℕ) → first_fit left words ≡ None
-    → first_fit (left ++ rest) words ≡ first_fit rest words
-first_fit-past [] rest words none = refl
-first_fit-past (other ∷ left) rest words none =
-    elim (nat_le words other.words) as (λ b. (if b then Some other else first_fit left words) ≡ None
-    → (if b then Some other else first_fit (left ++ rest) words) ≡ first_fit rest words) [
-      | true ↦ λ none. absurd (cc)
-      | false ↦ λ none. first_fit-past left rest words none
-    ] none
-
-without_fit-past : (left rest : List Block) (words : ℕ) → first_fit left words ≡ None
-    → without_fit (left ++ rest) words ≡ left ++ without_fit rest words
-without_fit-past [] rest words none = refl
-without_fit-past (other ∷ left) rest words none =
-    elim (nat_le words other.words) as (λ b. (if b then Some other else first_fit left words) ≡ None
-    → (if b then left ++ rest else other ∷ without_fit (left ++ rest) words)
-    ≡ other ∷ (left ++ without_fit rest words)) [
-      | true ↦ λ none. absurd (cc)
-      | false ↦ λ none. ap (λ blocks. other ∷ blocks) (without_fit-past left rest words none)
-    ] none
+with_ranked-here left [] block behind =
+    ap (λ blocks. with_ranked blocks block) (append-nil left) ∙ sym (append-nil (with_ranked left block))
+with_ranked-here left (other ∷ rest) block behind = with_ranked-left left rest other block behind.0
 
 -- All blocks are too small where their class is lower.
 few_fit : (blocks : List Block) (words : ℕ) → AllByRecursion (λ (b : Block). class_of b.words < class_of words) blocks
     → first_fit blocks words ≡ None
 few_fit [] words few = refl
 few_fit (block ∷ blocks) words few =
-    rw (too_small block.words words (class_few block.words words few.0)) (few_fit blocks words few.1)
+    rw (lt-leb words block.words (class_few block.words words few.0)) (few_fit blocks words few.1)
 
 -- The blocks of trees from a class on are of no lower one.
 later : {A : Type 0} (trees : List (Tree A)) (class : ℕ) → AreClassed class trees
@@ -95,42 +63,33 @@ later : {A : Type 0} (trees : List (Tree A)) (class : ℕ) → AreClassed class 
 later [] class classed = tt
 later (tree ∷ trees) class classed =
     all_append (λ (b : Block). class ≤ class_of b.words) (blocks_of tree) (all_of trees)
-    (all_weaker (λ (b : Block). class_of b.words ≡ class) (λ (b : Block). class ≤ class_of b.words) (blocks_of tree)
-    (λ b is. omega (arith, is)) classed.0)
-    (all_weaker (λ (b : Block). class + 1 ≤ class_of b.words) (λ (b : Block). class ≤ class_of b.words) (all_of trees)
-    (λ b more. omega (arith, more)) (later trees (class + 1) classed.1))
+    (all_so _ _ (blocks_of tree) (λ b is. omega (arith, is)) classed.0)
+    (all_so _ _ (all_of trees) (λ b more. omega (arith, more)) (later trees (class + 1) classed.1))
 
--- A tree's blocks are of its class, and another of that class may take their place.
-pub classed_at : {A : Type 0} (trees : List (Tree A)) (class at : ℕ) (tree : Tree A) → AreClassed class trees
-    → slice_get trees at ≡ Some tree → AllByRecursion (λ (b : Block). class_of b.words ≡ class + at) (blocks_of tree)
+-- A tree's blocks are of its class, and others of that class may take their place.
+classed_at : {A : Type 0} (trees : List (Tree A)) (class at : ℕ) (tree : Tree A) → AreClassed class trees
+    → slice_get trees at ≡ Some tree → AreOf (class + at) (blocks_of tree)
 classed_at [] class at tree classed there = absurd (cc)
 classed_at (first ∷ trees) class zero tree classed there =
     let same : first ≡ tree = cc in
-    subst (λ (t : Tree _). AllByRecursion (λ (b : Block). class_of b.words ≡ class + 0) (blocks_of t)) same
-    (all_weaker (λ (b : Block). class_of b.words ≡ class) (λ (b : Block). class_of b.words ≡ class + 0)
-    (blocks_of first) (λ b is. omega (arith, is)) classed.0)
+    subst (λ (t : Tree _). AreOf (class + 0) (blocks_of t)) same
+    (all_so _ _ (blocks_of first) (λ b is. omega (arith, is)) classed.0)
 classed_at (first ∷ trees) class (suc at) tree classed there =
-    all_weaker (λ (b : Block). class_of b.words ≡ class + 1 + at) (λ (b : Block). class_of b.words ≡ class + suc at)
-    (blocks_of tree) (λ b is. omega (arith, is)) (classed_at trees (class + 1) at tree classed.1 there)
+    all_so _ _ (blocks_of tree) (λ b is. omega (arith, is)) (classed_at trees (class + 1) at tree classed.1 there)
 
-pub classed_with : {A : Type 0} (trees : List (Tree A)) (class at : ℕ) (grown : Tree A) → AreClassed class trees
-    → AllByRecursion (λ (b : Block). class_of b.words ≡ class + at) (blocks_of grown)
-    → AreClassed class (slice_set trees at grown)
-classed_with [] class at grown classed all = tt
-classed_with (first ∷ trees) class zero grown classed all = (
-  all_weaker (λ (b : Block). class_of b.words ≡ class + 0) (λ (b : Block). class_of b.words ≡ class) (blocks_of grown)
-      (λ b is. omega (arith, is)) all,
-  classed.1,
-)
-classed_with (first ∷ trees) class (suc at) grown classed all = (
+classed_with : {A : Type 0} (trees : List (Tree A)) (class at : ℕ) (changed : Tree A) → AreClassed class trees
+    → AreOf (class + at) (blocks_of changed) → AreClassed class (slice_set trees at changed)
+classed_with [] class at changed classed all = tt
+classed_with (first ∷ trees) class zero changed classed all =
+    (all_so _ _ (blocks_of changed) (λ b is. omega (arith, is)) all, classed.1)
+classed_with (first ∷ trees) class (suc at) changed classed all = (
   classed.0,
-  classed_with trees (class + 1) at grown classed.1
-      (all_weaker (λ (b : Block). class_of b.words ≡ class + suc at)
-      (λ (b : Block). class_of b.words ≡ class + 1 + at) (blocks_of grown) (λ b is. omega (arith, is)) all),
+  classed_with trees (class + 1) at changed classed.1
+      (all_so _ _ (blocks_of changed) (λ b is. omega (arith, is)) all),
 )
 
 -- A block goes into the tree of its class.
-pub inserted : {A : Type 0} (trees : List (Tree A)) (class at : ℕ) (tree grown : Tree A) (block : Block)
+inserted : {A : Type 0} (trees : List (Tree A)) (class at : ℕ) (tree grown : Tree A) (block : Block)
     → AreClassed class trees → class_of block.words ≡ class + at → slice_get trees at ≡ Some tree
     → blocks_of grown ≡ with_ranked (blocks_of tree) block
     → all_of (slice_set trees at grown) ≡ with_ranked (all_of trees) block
@@ -140,14 +99,13 @@ inserted (first ∷ trees) class zero tree grown block classed is there grows =
     ap (λ (bs : List Block). bs ++ all_of trees)
     (grows ∙ ap (λ (t : Tree _). with_ranked (blocks_of t) block) (sym same))
     ∙ sym (with_ranked-here (blocks_of first) (all_of trees) block
-    (all_weaker (λ (b : Block). class + 1 ≤ class_of b.words) (λ other. ranks_before other block ≡ false)
-    (all_of trees) (λ b more. class_behind b block (omega (arith, is, more))) (later trees (class + 1) classed.1)))
+    (all_so _ _ (all_of trees) (λ b more. class_behind b block (omega (arith, is, more)))
+    (later trees (class + 1) classed.1)))
 inserted (first ∷ trees) class (suc at) tree grown block classed is there grows =
     ap (λ (bs : List Block). blocks_of first ++ bs)
     (inserted trees (class + 1) at tree grown block classed.1 (omega (arith, is)) there grows)
     ∙ sym (with_ranked-past (blocks_of first) (all_of trees) block
-    (all_weaker (λ (b : Block). class_of b.words ≡ class) (λ other. ranks_before other block ≡ true)
-    (blocks_of first) (λ b low. class_first b block (omega (arith, is, low))) classed.0))
+    (all_so _ _ (blocks_of first) (λ b low. class_first b block (omega (arith, is, low))) classed.0))
 
 none_left : (left rest : List Block) (words : ℕ) → first_fit (left ++ rest) words ≡ None
     → first_fit left words ≡ None
@@ -216,7 +174,7 @@ ranked_at (first ∷ trees) (suc at) tree ranked there =
     ranked_at trees at tree (ranked_parts (blocks_of first) (all_of trees) ranked).1 there
 
 -- Trees of lower classes have no fit, nor have those with no block.
-pub none_before : {A : Type 0} (trees : List (Tree A)) (class at words : ℕ) → AreClassed class trees
+none_before : {A : Type 0} (trees : List (Tree A)) (class at words : ℕ) → AreClassed class trees
     → ((k : ℕ) (tree : Tree A) → k < at → class_of words ≤ class + k → slice_get trees k ≡ Some tree
     → blocks_of tree ≡ [])
     → first_fit (all_of (take at trees)) words ≡ None
@@ -230,8 +188,7 @@ none_before (tree ∷ trees) class (suc at) words classed empty =
     here : first_fit (blocks_of tree) words ≡ None
     here = elim (cases_lt class (class_of words)) [
       | inl low ↦ few_fit (blocks_of tree) words
-          (all_weaker (λ (b : Block). class_of b.words ≡ class) (λ (b : Block). class_of b.words < class_of words)
-          (blocks_of tree) (λ b is. omega (arith, is, low)) classed.0)
+          (all_so _ _ (blocks_of tree) (λ b is. omega (arith, is, low)) classed.0)
       | inr high ↦ ap (λ (bs : List Block). first_fit bs words) (empty 0 tree (omega arith) (omega (arith, high)) refl)
     ]
 
@@ -239,7 +196,7 @@ none_before (tree ∷ trees) class (suc at) words classed empty =
 fits_class : (words many : ℕ) → class_of words ≤ class_of many → class_of many < 63 → nat_le words many ≡ true
 fits_class words many low high = grind (arith, nat_tests)
 
-some_fits : (blocks : List Block) (words class : ℕ) → AllByRecursion (λ (b : Block). class_of b.words ≡ class) blocks
+some_fits : (blocks : List Block) (words class : ℕ) → AreOf class blocks
     → class_of words ≤ class → class < 63 → blocks ≢ [] → first_fit blocks words ≢ None
 some_fits [] words class all low high full none = full refl
 some_fits (block ∷ blocks) words class all low high full none =
@@ -375,9 +332,8 @@ inserts_among trees some at tree grown block by_class ranked is there grows = re
   classes = record {
     there = length-set trees at grown ∙ by_class.there;
     classed = classed_with trees 0 at grown by_class.classed
-        (subst (λ (bs : List Block). AllByRecursion (λ (b : Block). class_of b.words ≡ 0 + at) bs) (sym grown_is)
-        (all_with (λ (b : Block). class_of b.words ≡ 0 + at) (blocks_of tree) block
-        (classed_at trees 0 at tree by_class.classed there) (omega (arith, is))));
+        (subst (AreOf (0 + at)) (sym grown_is)
+        (all_with _ (blocks_of tree) block (classed_at trees 0 at tree by_class.classed there) (omega (arith, is))));
     tells = tells_anew trees some _ at grown by_class.tells (bit_at_set_other w64 some at within) (
       λ none. absurd (omega (arith, none, bit_at_set_same w64 some at within)),
       λ one e. full_with (blocks_of tree) block (sym grown_is ∙ e),
@@ -409,9 +365,7 @@ takes_fit trees some told at words tree rest taken by_class ranked first there f
   classes = record {
     there = length-set trees at rest ∙ by_class.there;
     classed = classed_with trees 0 at rest by_class.classed
-        (subst (λ (bs : List Block). AllByRecursion (λ (b : Block). class_of b.words ≡ 0 + at) bs)
-        (sym (left in_tree))
-        (all_without (λ (b : Block). class_of b.words ≡ 0 + at) (blocks_of tree) words classed));
+        (subst (AreOf (0 + at)) (sym (left in_tree)) (all_without _ (blocks_of tree) words classed));
     tells = tells_anew trees some told at rest by_class.tells others here;
   };
   among = takes_among trees at tree rest words taken there before behind (found in_tree) (left in_tree);
@@ -420,7 +374,7 @@ takes_fit trees some told at words tree rest taken by_class ranked first there f
     in_tree : IsRanked (blocks_of tree)
     in_tree = ranked_at trees at tree ranked there
 
-    classed : AllByRecursion (λ (b : Block). class_of b.words ≡ 0 + at) (blocks_of tree)
+    classed : AreOf (0 + at) (blocks_of tree)
     classed = classed_at trees 0 at tree by_class.classed there
 
     before : first_fit (all_of (take at trees)) words ≡ None

@@ -4,6 +4,8 @@ use Rattle.std.proofs.Common.{◌≡◌, ◌≢◌, ℕ, ◌<◌, ◌≤◌, tru
 use Rattle.std.proofs.Common.{sym, ◌∙◌, arith}
 use Rattle.std.specs.Prelude.{nat_le, if◌then◌else◌}
 use Rattle.std.specs.List.{AllByRecursion}
+use Rattle.std.proofs.lemmas.List.{append-nil}
+use Rattle.std.proofs.lemmas.Bool.{le-leb, lt-leb}
 use Rattle.std.proofs.lemmas.Bool.Decides.{nat_tests}
 use Rattle.ms_base.specs.declared.span.Block.{Block}
 use Rattle.ms_blocks.specs.Rank.{ranks_before, IsRanked, with_ranked, first_fit, without_fit}
@@ -16,7 +18,12 @@ ranks_on a b c h k = grind (arith, nat_tests)
 pub words_rise : (a b : Block) → ranks_before a b ≡ true → a.words ≤ b.words
 words_rise a b h = grind (arith, nat_tests)
 
--- What holds of all holds of the first ones.
+-- What holds of all holds of the first ones, and what follows of each follows of all.
+pub all_so : {X : Type 0} (P Q : X → Type 0) (xs : List X) → ((x : X) → P x → Q x) → AllByRecursion P xs
+    → AllByRecursion Q xs
+all_so P Q [] so all = tt
+all_so P Q (x ∷ xs) so all = (so x all.0, all_so P Q xs so all.1)
+
 pub all_left : (P : Block → Type 0) (left right : List Block) → AllByRecursion P (left ++ right) → AllByRecursion P left
 all_left P [] right h = tt
 all_left P (other ∷ left) right h = (h.0, all_left P left right h.1)
@@ -57,12 +64,6 @@ with_ranked-left (other ∷ left) right middle block behind =
       | false ↦ refl
     ]
 
-pub too_small : (few words : ℕ) → few < words → nat_le words few ≡ false
-too_small few words h = grind (arith, nat_tests)
-
-large_enough : (words many : ℕ) → words ≤ many → nat_le words many ≡ true
-large_enough words many h = grind (arith, nat_tests)
-
 -- Where the middle is too small, so is all to its left.
 left_too_small : (left right : List Block) (middle other : Block) (words : ℕ)
     → AllByRecursion (λ later. ranks_before other later ≡ true) (left ++ middle ∷ right) → middle.words < words
@@ -70,19 +71,19 @@ left_too_small : (left right : List Block) (middle other : Block) (words : ℕ)
 left_too_small left right middle other words h few =
     let rise : other.words ≤ middle.words = words_rise other middle
     (of_middle (λ later. ranks_before other later ≡ true) left right middle h) in
-    too_small other.words words (omega arith)
+    lt-leb words other.words (omega arith)
 
 pub first_fit-right : (left right : List Block) (middle : Block) (words : ℕ) → IsRanked (left ++ middle ∷ right)
     → middle.words < words
     → first_fit (left ++ middle ∷ right) words ≡ first_fit right words
-first_fit-right [] right middle words h few = rw (too_small middle.words words few) refl
+first_fit-right [] right middle words h few = rw (lt-leb words middle.words few) refl
 first_fit-right (other ∷ left) right middle words h few = rw (left_too_small left right middle other words h.0 few)
     (first_fit-right left right middle words h.1 few)
 
 pub without_fit-right : (left right : List Block) (middle : Block) (words : ℕ) → IsRanked (left ++ middle ∷ right)
     → middle.words < words
     → without_fit (left ++ middle ∷ right) words ≡ left ++ middle ∷ without_fit right words
-without_fit-right [] right middle words h few = rw (too_small middle.words words few) refl
+without_fit-right [] right middle words h few = rw (lt-leb words middle.words few) refl
 without_fit-right (other ∷ left) right middle words h few =
     rw (left_too_small left right middle other words h.0 few)
     (ap (λ blocks. other ∷ blocks) (without_fit-right left right middle words h.1 few))
@@ -109,38 +110,46 @@ without_fit-left (other ∷ left) rest words found e =
       | false ↦ λ e. ap (λ blocks. other ∷ blocks) (without_fit-left left rest words found e)
     ] e
 
--- Where nothing to the left fits, a middle that does is the first.
-pub first_fit-middle : (left right : List Block) (middle : Block) (words : ℕ) → first_fit left words ≡ None
-    → words ≤ middle.words → first_fit (left ++ middle ∷ right) words ≡ Some middle
-first_fit-middle [] right middle words e enough = rw (large_enough words middle.words enough) refl
-first_fit-middle (other ∷ left) right middle words e enough =
+-- What doesn't fit is passed over.
+pub first_fit-past : (left rest : List Block) (words : ℕ) → first_fit left words ≡ None
+    → first_fit (left ++ rest) words ≡ first_fit rest words
+first_fit-past [] rest words none = refl
+first_fit-past (other ∷ left) rest words none =
     elim (nat_le words other.words) as (λ b. (if b then Some other else first_fit left words) ≡ None
-    → (if b then Some other else first_fit (left ++ middle ∷ right) words) ≡ Some middle) [
-      | true ↦ λ e. absurd (cc)
-      | false ↦ λ e. first_fit-middle left right middle words e enough
-    ] e
+    → (if b then Some other else first_fit (left ++ rest) words) ≡ first_fit rest words) [
+      | true ↦ λ none. absurd (cc)
+      | false ↦ λ none. first_fit-past left rest words none
+    ] none
 
-pub without_fit-middle : (left right : List Block) (middle : Block) (words : ℕ) → first_fit left words ≡ None
-    → words ≤ middle.words → without_fit (left ++ middle ∷ right) words ≡ left ++ right
-without_fit-middle [] right middle words e enough = rw (large_enough words middle.words enough) refl
-without_fit-middle (other ∷ left) right middle words e enough =
+pub without_fit-past : (left rest : List Block) (words : ℕ) → first_fit left words ≡ None
+    → without_fit (left ++ rest) words ≡ left ++ without_fit rest words
+without_fit-past [] rest words none = refl
+without_fit-past (other ∷ left) rest words none =
     elim (nat_le words other.words) as (λ b. (if b then Some other else first_fit left words) ≡ None
-    → (if b then left ++ middle ∷ right else other ∷ without_fit (left ++ middle ∷ right) words) ≡ other ∷
-    (left ++ right)) [
-      | true ↦ λ e. absurd (cc)
-      | false ↦ λ e. ap (λ blocks. other ∷ blocks) (without_fit-middle left right middle words e enough)
-    ] e
+    → (if b then left ++ rest else other ∷ without_fit (left ++ rest) words)
+    ≡ other ∷ (left ++ without_fit rest words)) [
+      | true ↦ λ none. absurd (cc)
+      | false ↦ λ none. ap (λ blocks. other ∷ blocks) (without_fit-past left rest words none)
+    ] none
+
+-- Where nothing to the left fits, a middle that does is the first.
+first_fit-middle : (left right : List Block) (middle : Block) (words : ℕ) → first_fit left words ≡ None
+    → words ≤ middle.words → first_fit (left ++ middle ∷ right) words ≡ Some middle
+first_fit-middle left right middle words none enough =
+    first_fit-past left (middle ∷ right) words none ∙ rw (le-leb words middle.words enough) refl
+
+without_fit-middle : (left right : List Block) (middle : Block) (words : ℕ) → first_fit left words ≡ None
+    → words ≤ middle.words → without_fit (left ++ middle ∷ right) words ≡ left ++ right
+without_fit-middle left right middle words none enough =
+    let here : without_fit (middle ∷ right) words ≡ right = rw (le-leb words middle.words enough) refl in
+    without_fit-past left (middle ∷ right) words none ∙ ap (λ blocks. left ++ blocks) here
 
 -- Where nothing fits, nothing goes.
 pub without_fit-none : (blocks : List Block) (words : ℕ) → first_fit blocks words ≡ None
     → without_fit blocks words ≡ blocks
-without_fit-none [] words e = refl
-without_fit-none (other ∷ blocks) words e =
-    elim (nat_le words other.words) as (λ b. (if b then Some other else first_fit blocks words) ≡ None
-    → (if b then blocks else other ∷ without_fit blocks words) ≡ other ∷ blocks) [
-      | true ↦ λ e. absurd (cc)
-      | false ↦ λ e. ap (λ rest. other ∷ rest) (without_fit-none blocks words e)
-    ] e
+without_fit-none blocks words none =
+    ap (λ all. without_fit all words) (sym (append-nil blocks)) ∙ without_fit-past blocks [] words none
+    ∙ append-nil blocks
 
 -- A block inserted on the right or on the left side.
 pub insert_right : (left right grown : List Block) (middle block : Block) → IsRanked (left ++ middle ∷ right)
@@ -226,11 +235,7 @@ all_without P (other ∷ blocks) words all =
 all_behind : (block other : Block) (blocks : List Block) → ranks_before block other ≡ true
     → AllByRecursion (λ later. ranks_before other later ≡ true) blocks
     → AllByRecursion (λ later. ranks_before block later ≡ true) blocks
-all_behind block other [] before all = tt
-all_behind block other (later ∷ blocks) before all = (
-  ranks_on block other later before all.0,
-  all_behind block other blocks before all.1,
-)
+all_behind block other blocks before all = all_so _ _ blocks (λ later. ranks_on block other later before) all
 
 other_way : (a b : Block) → ranks_before a b ≡ false → b.start ≢ a.start → ranks_before b a ≡ true
 other_way a b behind differ = grind (arith, nat_tests)

@@ -16,11 +16,14 @@ abbrev pub all_of : {A : Type 0} → List (Tree A) → List Block
 all_of [] = []
 all_of (tree ∷ trees) = blocks_of tree ++ all_of trees
 
+-- The blocks are of one class.
+abbrev pub AreOf : ℕ → List Block → Type 0
+AreOf class blocks = AllByRecursion (λ (block : Block). class_of block.words ≡ class) blocks
+
 -- Each block of a tree is of its class, counted on from the first tree's.
 abbrev pub AreClassed : {A : Type 0} → ℕ → List (Tree A) → Type 0
 AreClassed class [] = Unit {0}
-AreClassed class (tree ∷ trees) =
-    AllByRecursion (λ (block : Block). class_of block.words ≡ class) (blocks_of tree) × AreClassed (class + 1) trees
+AreClassed class (tree ∷ trees) = AreOf class (blocks_of tree) × AreClassed (class + 1) trees
 
 -- A bit is 1 where there are blocks, and else 0.
 abbrev pub TellsWhether : ℕ → List Block → Type 0
