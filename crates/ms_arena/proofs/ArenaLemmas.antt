@@ -2,7 +2,7 @@
 -- functions of `arena` use these.
 use Rattle.std.proofs.Common.{◌≡◌, ◌≢◌, ◌≤◌, ◌<◌, ◌+◌, ℕ, Bool, true, false, cond, Option, Some, None, List, [], ◌∷◌}
 use Rattle.std.proofs.Common.{◌++◌, length, map, replicate, refl, sym, ap, ◌∙◌, subst, inl, inr, arith, option_map}
-use Rattle.std.specs.Prelude.{nat_le, slice_set}
+use Rattle.std.specs.Prelude.{◌^◌, nat_le, slice_set, IfErr, IsErrAnd, Result}
 use Rattle.std.specs.List.{AllByRecursion, list_all}
 use Rattle.std.specs.Map.{keys_of}
 use Rattle.std.specs.Ordering.{nat_cmp, is_eq, match_ordering}
@@ -13,6 +13,7 @@ use Rattle.std.proofs.lemmas.Bool.Decides.{nat_tests}
 use Rattle.std.proofs.lemmas.List.Elements.{recursion_from_All}
 use Rattle.std.proofs.lemmas.List.Folds.{list_all-append}
 use Rattle.std.proofs.lemmas.List.Sums.{AllPass-from_list_all}
+use Rattle.std.proofs.lemmas.Result.{err_from_is_err_and}
 use Rattle.ms_base.specs.declared.span.Block.{Block}
 use Rattle.ms_base.specs.Hashed.{by_name}
 use Rattle.ms_base.specs.Interval.{meet}
@@ -22,9 +23,9 @@ use Rattle.ms_base.proofs.entries.HashedLemmas.{Sets, without_by_name}
 use Rattle.ms_base.proofs.entries.LookupLemmas.{named_changed_same, named_changed_other, named_without_other}
 use Rattle.ms_base.proofs.events.SeenEntryLemmas.{same_entries}
 use Rattle.ms_base.specs.declared.refusal.Refusal.{Refusal}
-use Rattle.ms_arena.specs.Arena.{IsLive, IsNotLive, LacksWord, WordRefused, WritesWord, FreesBlock, live_run}
+use Rattle.ms_arena.specs.Arena.{ArenaView, IsLive, IsNotLive, LacksWord, WordRefused, WritesWord, FreesBlock, live_run}
 use Rattle.ms_arena.specs.Raw.{RawView, Gains, FreesRun, Holds, RunIsThere, contents_at, live_in, with_live}
-use Rattle.ms_arena.specs.Words.{WordsView, StayWords, Writes, value_at}
+use Rattle.ms_arena.specs.Words.{IsThere, WordsView, StayWords, Writes, value_at}
 use Rattle.ms_arena.proofs.HoldLemmas.{contents_long, contents_stay, IsClear, clear_of_each, clear_of_new}
 use Rattle.ms_arena.proofs.HoldLemmas.{all_then, clear_words, contents_set, contents_zero, holds_fewer, holds_more}
 
@@ -82,7 +83,7 @@ is_not_live raw runs block none = λ contents live.
     absurd (cc (e))
 
 -- A run lacks a word, so its block does.
-pub lacks_word : (raw : RawView) (runs : List (ℕ × ℕ)) (block : Block) (index : ℕ) (refusal : Refusal)
+lacks_word : (raw : RawView) (runs : List (ℕ × ℕ)) (block : Block) (index : ℕ) (refusal : Refusal)
     → LacksWord runs block index refusal
     → WordRefused (with_live raw (live_in raw.words runs)) block index refusal
 lacks_word raw runs block index refusal lacks =
@@ -257,13 +258,32 @@ goes old new block was is holds frees found sets = record {
     split : Split runs block.start block.words
     split = split_at runs block.start block.words found
 
--- A word of a live block is there, and is written.
-pub is_there : (raw : RawView) (block : Block) (runs : List (ℕ × ℕ)) → Holds raw runs
-    → named runs block.start ≡ Some block.words → RunIsThere raw.words (block.start, block.words)
-is_there raw block runs holds found =
-    all_named (RunIsThere raw.words) runs block.start block.words
-    (recursion_from_All (RunIsThere raw.words) runs holds.there) found
+-- The refusal is handed on.
+pub refused_so : {T : Type 0} (raw : RawView) (runs : List (ℕ × ℕ)) (block : Block) (index : ℕ) (now : ArenaView)
+    (refusal : Refusal) (result : Result T Refusal) → with_live raw (live_in raw.words runs) ≡ now
+    → IsErrAnd result (λ told. told ≡ refusal) → LacksWord runs block index refusal
+    → IfErr result (λ told. WordRefused now block index told)
+refused_so raw runs block index now refusal result seen told lacks =
+    let is = err_from_is_err_and result told in
+    rw (is.1, is.2, ← seen) (lacks_word raw runs block index refusal lacks)
 
+-- A word of a live block is a word number, and is there.
+pub record WordIsThere (words : WordsView) (word : ℕ) : Type 0 where
+  pub fits : word < 2 ^ 64
+  pub there : IsThere words word
+
+pub word_is_there : (raw : RawView) (block : Block) (index : ℕ) (runs : List (ℕ × ℕ)) → Holds raw runs
+    → named runs block.start ≡ Some block.words → index < block.words
+    → WordIsThere raw.words (block.start + index)
+word_is_there raw block index runs holds found within =
+    let run : RunIsThere raw.words (block.start, block.words) =
+    all_named (RunIsThere raw.words) runs block.start block.words
+    (recursion_from_All (RunIsThere raw.words) runs holds.there) found in record {
+      fits = omega (arith, run.ends, within);
+      there = run.each (block.start + index) (omega arith) (omega (arith, within));
+    }
+
+-- It is written.
 pub writes : (old new : RawView) (block : Block) (index value : ℕ) (runs : List (ℕ × ℕ)) → Holds old runs
     → AreNamed runs → named runs block.start ≡ Some block.words → index < block.words
     → Writes old.words (block.start + index) value new.words → new ≡ record old { words = new.words }
