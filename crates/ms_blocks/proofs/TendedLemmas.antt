@@ -128,7 +128,8 @@ pub record Adds {A : Type 0} (f : Inside A) (block : Block) (grown : List Block)
       → AreTended grown left (vec_capacity f.spare) (f.count + 1) (f.total + block.words)
   pub runs : by_start grown ≡ with_new (by_start (blocks_in f.trees)) block.start block.words
 
-pub adds : {A : Type 0} (f : Inside A) (block : Block) (grown : List Block) → AreTended (blocks_in f.trees) (vec_len f.spare) (vec_capacity f.spare) f.count f.total
+pub adds : {A : Type 0} (f : Inside A) (block : Block) (grown : List Block)
+    → AreTended (blocks_in f.trees) (vec_len f.spare) (vec_capacity f.spare) f.count f.total
     → MayBeKept (by_start (blocks_in f.trees)) (run_of block)
     → (IsRanked (blocks_in f.trees) → grown ≡ with_ranked (blocks_in f.trees) block)
     → Adds f block grown
@@ -157,7 +158,8 @@ pub record Takes {A : Type 0} (f : Inside A) (words : ℕ) (found : Block) (rest
   pub runs : by_start rest ≡ without (by_start (blocks_in f.trees)) found.start
   pub back : MayBeKept (by_start rest) (run_of found)
 
-pub takes : {A : Type 0} (f : Inside A) (words : ℕ) (found : Block) (rest : List Block) → AreTended (blocks_in f.trees) (vec_len f.spare) (vec_capacity f.spare) f.count f.total
+pub takes : {A : Type 0} (f : Inside A) (words : ℕ) (found : Block) (rest : List Block)
+    → AreTended (blocks_in f.trees) (vec_len f.spare) (vec_capacity f.spare) f.count f.total
     → (IsRanked (blocks_in f.trees) → first_fit (blocks_in f.trees) words ≡ Some found)
     → (IsRanked (blocks_in f.trees) → rest ≡ without_fit (blocks_in f.trees) words) → Takes f words found rest
 takes f words found rest tended found_is left =
@@ -178,7 +180,8 @@ pub record Misses {A : Type 0} (f : Inside A) (words : ℕ) (rest : List Block) 
   pub same : blocks_in f.trees ≡ rest
   pub none : NoneFits (by_start (blocks_in f.trees)) words
 
-pub misses : {A : Type 0} (f : Inside A) (words : ℕ) (rest : List Block) → AreTended (blocks_in f.trees) (vec_len f.spare) (vec_capacity f.spare) f.count f.total
+pub misses : {A : Type 0} (f : Inside A) (words : ℕ) (rest : List Block)
+    → AreTended (blocks_in f.trees) (vec_len f.spare) (vec_capacity f.spare) f.count f.total
     → (IsRanked (blocks_in f.trees) → first_fit (blocks_in f.trees) words ≡ None)
     → (IsRanked (blocks_in f.trees) → rest ≡ without_fit (blocks_in f.trees) words) → Misses f words rest
 misses f words rest tended none left = record {

@@ -21,4 +21,5 @@ returns-else-ranks_first g t c ranked =
     rw (c.in-Forked.is, c.level-else-ranks_first.ensures, c.deref_mut-else-ranks_first.ensures.value)
     (insert_left (blocks_of fork.left) (blocks_of fork.right)
     (blocks_of c.insert-higher-else-ranks_first.new.tree) fork.block c.args.spare.value.block
-    (rw c.in-Forked.is at ranked) behind (rw c.deref_mut-else-ranks_first.ensures.value at c.insert-higher-else-ranks_first.ensures))
+    (rw c.in-Forked.is at ranked) behind
+    (rw c.deref_mut-else-ranks_first.ensures.value at c.insert-higher-else-ranks_first.ensures))

@@ -10,7 +10,8 @@ use Rattle.ms_blocks.proofs.free_blocks.FreeBlocks.remove.Goals as goal
 use Rattle.ms_blocks.proofs.free_blocks.FreeBlocks.remove.Goals.{In-None, In-Some}
 
 -- What the removal makes of the fields, with a fit and without one.
-taken : (g : Over) (c : In-Some g) → Takes c.self.inside c.args.words c.in-Some.fork.value.block (blocks_in c.take_in.new.trees)
+taken : (g : Over) (c : In-Some g)
+    → Takes c.self.inside c.args.words c.in-Some.fork.value.block (blocks_in c.take_in.new.trees)
 taken g c =
     takes c.self.inside c.args.words c.in-Some.fork.value.block (blocks_in c.take_in.new.trees) c.self.invariant.blocks
     (λ ranked. c.in-Some.ensures.found) (λ ranked. c.in-Some.ensures.left)
@@ -23,7 +24,8 @@ missed g c =
 pub invariant_of-self : goal.invariant_of-self
 invariant_of-self g c =
     let f = c.self.inside in record {
-      blocks = subst (λ (blocks : List Block). AreTended blocks (vec_len f.spare) (vec_capacity f.spare) f.count f.total)
+      blocks = subst
+          (λ (blocks : List Block). AreTended blocks (vec_len f.spare) (vec_capacity f.spare) f.count f.total)
           (missed g c).same c.self.invariant.blocks;
       classed = c.take_in.ensures.trees;
       there = λ some. c.take_in.ensures.stay (c.self.invariant.there some);
@@ -47,8 +49,9 @@ unreachable-requires g c =
 pub invariant_of-self-in-Some : goal.invariant_of-self-in-Some
 invariant_of-self-in-Some g c =
     record {
-      blocks = rw (c.deref.ensures, c.in-Ok.ensures.len) ((taken g (goal.at.invariant_of-self-in-Some g c).In-Some).tended
-          (vec_capacity c.push.new.self) c.in-Ok.ensures.capacity);
+      blocks = rw (c.deref.ensures, c.in-Ok.ensures.len)
+          ((taken g (goal.at.invariant_of-self-in-Some g c).In-Some).tended (vec_capacity c.push.new.self)
+          c.in-Ok.ensures.capacity);
       classed = c.take_in.ensures.trees;
       there = λ some. c.in-Some.ensures.there;
     }
