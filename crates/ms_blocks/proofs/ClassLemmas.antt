@@ -1,19 +1,24 @@
 -- Blocks by rank in trees of one class each: where a block goes, and which one fits first, in the trees' blocks one
 -- after the other. Used by the functions of `classes`.
-use Rattle.std.proofs.Common.{◌≡◌, ◌≢◌, ℕ, ◌+◌, ◌<◌, ◌≤◌, true, false, List, [], ◌∷◌, ◌++◌, Option, Some, None, refl, ap}
-use Rattle.std.proofs.Common.{ap₂, sym, subst, subst₂, ◌∙◌, arith, zero, suc, take, drop, inl, inr, bit_and, bit_or, w64}
-use Rattle.std.proofs.Common.{Bool, cond, ◌*◌, ◌-◌, ◌/◌, ◌%◌, ◌^◌}
-use Rattle.std.specs.Prelude.{nat_le, if◌then◌else◌, slice_get, slice_set, IsTrue, IsFalse}
+use Rattle.std.proofs.Common.{◌≡◌, ◌≢◌, ℕ, ◌+◌, ◌<◌, ◌≤◌, true, false, List, [], ◌∷◌, ◌++◌, Option, Some, None, refl}
+use Rattle.std.proofs.Common.{ap, ap₂, sym, subst, subst₂, ◌∙◌, arith, zero, suc, length, take, drop, inl, inr}
+use Rattle.std.proofs.Common.{bit_and, bit_or, w64, Bool, cond, ◌*◌, ◌-◌, ◌/◌, ◌%◌, ◌^◌}
+use Rattle.std.specs.Prelude.{nat_le, if◌then◌else◌, slice_get, slice_set, Vec, IfSome, IsTrue, IsFalse}
 use Rattle.std.specs.Int.{bit_at, bit_not, trailing_zeros}
 use Rattle.std.specs.List.{AllByRecursion}
+use Rattle.std.specs.Option.{option_map_or}
 use Rattle.std.proofs.lemmas.Bool.{cases_eq, cases_lt, lt-leb}
-use Rattle.std.proofs.lemmas.List.{append-nil, drop_all, length-set, take_all}
+use Rattle.std.proofs.lemmas.Grind.{get_or-set_at}
+use Rattle.std.proofs.lemmas.List.{append-nil, drop_all, get_or-set_other, length-set, take_all}
 use Rattle.std.proofs.lemmas.Nat.{shr-shr, shr_le}
 use Rattle.std.proofs.lemmas.Nat.Bits.{bit_at-zero, bit_at-trailing_zeros, bit_at_above, bit_at_and}
 use Rattle.std.proofs.lemmas.Nat.Bits.{bit_at_clear_other, bit_at_set_same, bit_at_set_other}
+use Rattle.std.proofs.lemmas.Option.{get_or_from_slice_get, slice_get_read, slice_get_within}
 use Rattle.std.proofs.lemmas.Bool.Decides.{nat_tests}
 use Rattle.ms_base.specs.declared.span.Block.{Block}
-use Rattle.ms_blocks.specs.Classes.{AreByClass, AreClassed, AreOf, IsFirstClass, TellsOf, TellsWhether, all_of, class_of}
+use Rattle.ms_blocks.specs.Classes.{AreByClass, AreClassed, AreOf, AreTrees, IsFirstClass, TellsOf, TellsWhether}
+use Rattle.ms_blocks.specs.Classes.{all_of, blocks_in, class_of}
+use Rattle.ms_blocks.specs.declared.classes.Trees.{Trees}
 use Rattle.ms_blocks.specs.Rank.{ranks_before, IsRanked, with_ranked, first_fit, without_fit}
 use Rattle.ms_blocks.specs.Tree.{blocks_of}
 use Rattle.ms_blocks.specs.declared.tree.Tree.{Tree}
@@ -126,11 +131,13 @@ fit_in_front left rest words (Some found) is behind =
 fit_in_front left rest words None is behind = (
   first_fit-past left rest words is ∙ behind refl,
   without_fit-past left rest words is
-      ∙ ap₂ (λ (xs ys : List Block). xs ++ ys) (sym (without_fit-none left words is)) (without_fit-none rest words (behind refl)),
+      ∙ ap₂ (λ (xs ys : List Block). xs ++ ys) (sym (without_fit-none left words is))
+      (without_fit-none rest words (behind refl)),
 )
 
 -- The first fit is taken from a tree where none before it fits, and where none fits in it, none behind it does.
-pub record TakesAmong {A : Type 0} (trees : List (Tree A)) (at words : ℕ) (rest : Tree A) (taken : Option Block) : Type 0 where
+pub record TakesAmong {A : Type 0} (trees : List (Tree A)) (at words : ℕ) (rest : Tree A) (taken : Option Block)
+    : Type 0 where
   pub found : first_fit (all_of trees) words ≡ taken
   pub left : all_of (slice_set trees at rest) ≡ without_fit (all_of trees) words
 
@@ -276,20 +283,6 @@ bit_others some class other within fits differ =
       )
     ]
 
--- What is set in a list stands there, and the others stay.
-set_same : {X : Type 0} (xs : List X) (at : ℕ) (x y : X) → slice_get (slice_set xs at y) at ≡ Some x → x ≡ y
-set_same [] at x y there = absurd (cc)
-set_same (first ∷ xs) zero x y there = let same : y ≡ x = cc in sym same
-set_same (first ∷ xs) (suc at) x y there = set_same xs at x y there
-
-set_other : {X : Type 0} (xs : List X) (at other : ℕ) (y : X) → other ≢ at
-    → slice_get (slice_set xs at y) other ≡ slice_get xs other
-set_other [] at other y differ = refl
-set_other (first ∷ xs) zero zero y differ = absurd (differ refl)
-set_other (first ∷ xs) zero (suc other) y differ = refl
-set_other (first ∷ xs) (suc at) zero y differ = refl
-set_other (first ∷ xs) (suc at) (suc other) y differ = set_other xs at other y (λ same. differ (ap suc same))
-
 full_with : (blocks : List Block) (block : Block) → with_ranked blocks block ≢ []
 full_with [] block e = absurd (cc)
 full_with (other ∷ blocks) block e =
@@ -304,13 +297,15 @@ tells_anew : {A : Type 0} (trees : List (Tree A)) (some told class : ℕ) (chang
     → ((other : ℕ) → other ≢ class → bit_at told other ≡ bit_at some other)
     → TellsWhether (bit_at told class) (blocks_of changed) → TellsOf told (slice_set trees class changed)
 tells_anew trees some told class changed tells others here = λ at other there.
+    let within : at < length trees = omega (arith, slice_get_within _ at other there, length-set trees class changed) in
+    let is = get_or_from_slice_get (slice_set trees class changed) at other other there in
     elim (cases_eq at class) [
       | inl same ↦
-          let is : other ≡ changed = set_same trees at other changed
-          (subst (λ (n : ℕ). slice_get (slice_set trees n changed) at ≡ Some other) (sym same) there) in
-          subst₂ (λ (n : ℕ) (t : Tree _). TellsWhether (bit_at told n) (blocks_of t)) (sym same) (sym is) here
+          let here_is = sym (get_or-set_at trees class at changed other same (omega (arith, same, within))) ∙ is in
+          subst₂ (λ (n : ℕ) (t : Tree _). TellsWhether (bit_at told n) (blocks_of t)) (sym same) here_is here
       | inr differ ↦
-          let was = tells at other (sym (set_other trees class at changed differ) ∙ there) in
+          let was = tells at other (slice_get_read trees (length trees) at other refl within
+          (sym is ∙ get_or-set_other trees class at changed other differ)) in
           subst (λ (bit : ℕ). TellsWhether bit (blocks_of other)) (sym (others at differ)) was
     ]
 
@@ -320,7 +315,8 @@ tells_whether true bit blocks is none full = (λ zero_is. none refl, λ one. abs
 tells_whether false bit blocks is none full = (λ zero_is. absurd (omega (arith, is, zero_is)), λ one. full refl)
 
 -- What an addition makes of the trees.
-pub record InsertsAmong {A : Type 0} (trees : List (Tree A)) (told at : ℕ) (grown : Tree A) (block : Block) : Type 0 where
+pub record InsertsAmong {A : Type 0} (trees : List (Tree A)) (told at : ℕ) (grown : Tree A) (block : Block)
+    : Type 0 where
   pub classes : AreByClass told (slice_set trees at grown)
   pub blocks : all_of (slice_set trees at grown) ≡ with_ranked (all_of trees) block
 
@@ -390,15 +386,25 @@ takes_fit trees some told at words tree rest taken by_class ranked first there f
     ]
 
 -- No block fits where no class has one, from that of the words on.
-pub none_in : {A : Type 0} (trees : List (Tree A)) (some words : ℕ) → AreByClass some trees
+none_among : {A : Type 0} (trees : List (Tree A)) (some words : ℕ) → AreByClass some trees
     → ((class : ℕ) → class_of words ≤ class → bit_at some class ≡ 0) → first_fit (all_of trees) words ≡ None
-none_in trees some words by_class none =
+none_among trees some words by_class none =
     ap (λ (ts : List (Tree _)). first_fit (all_of ts) words) (sym whole)
     ∙ none_before trees 0 64 words by_class.classed
     (λ k tree under from there. (by_class.tells k tree there).0 (none k (omega (arith, from))))
   where
     whole : take 64 trees ≡ trees
     whole = take_all 64 trees (omega (arith, by_class.there))
+
+pub none_in : {A : Type 0} (trees : Trees A) (words : ℕ) → AreTrees trees
+    → ((class : ℕ) → class_of words ≤ class → bit_at trees.some class ≡ 0) → first_fit (blocks_in trees) words ≡ None
+none_in trees words are none =
+    elim trees.classes as (λ (classes : Option (Vec (Tree _) _)). IfSome classes
+    (λ classes. AreByClass trees.some classes.items)
+    → first_fit (option_map_or (λ (classes : Vec (Tree _) _). all_of classes.items) classes []) words ≡ None) [
+      | None ↦ λ are. refl
+      | Some classes ↦ λ are. none_among classes.items trees.some words are none
+    ] are
 
 pub none_each : {A : Type 0} (trees : List (Tree A)) (class : ℕ) (tree : Tree A) → all_of trees ≡ []
     → slice_get trees class ≡ Some tree → blocks_of tree ≡ []

@@ -1,9 +1,11 @@
 -- Blocks by rank, in a tree for each number of words below 63 and one for all larger blocks (this project's choice).
-use Rattle.std.specs.Prelude.{◌≡◌, ◌≢◌, ℕ, ◌+◌, ◌<◌, ◌≤◌, List, [], ◌∷◌, ◌++◌, length, min, slice_get, Option, None, Some}
+use Rattle.std.specs.Prelude.{◌≡◌, ◌≢◌, ℕ, ◌+◌, ◌<◌, ◌≤◌, List, [], ◌∷◌, ◌++◌, length, min, slice_get, Some}
+use Rattle.std.specs.Prelude.{Vec, IfSome}
+use Rattle.std.specs.Option.{option_map_or}
 use Rattle.std.specs.Int.{bit_at}
 use Rattle.std.specs.List.{AllByRecursion}
 use Rattle.ms_base.specs.declared.span.Block.{Block}
-use Rattle.ms_blocks.specs.declared.classes.Classes.{Classes}
+use Rattle.ms_blocks.specs.declared.classes.Trees.{Trees}
 use Rattle.ms_blocks.specs.declared.tree.Tree.{Tree}
 use Rattle.ms_blocks.specs.Tree.{blocks_of}
 
@@ -48,11 +50,9 @@ pub record IsFirstClass (some words found : ℕ) : Type 0 where
   pub one : bit_at some found ≡ 1
 
 -- The blocks of the trees, where there are trees.
-abbrev pub blocks_in : {A : Type 0} → Option (Classes A) → List Block
-blocks_in None = []
-blocks_in (Some classes) = all_of classes.trees.items
+abbrev pub blocks_in : {A : Type 0} → Trees A → List Block
+blocks_in trees = option_map_or (λ (classes : Vec (Tree _) _). all_of classes.items) trees.classes []
 
 -- There are trees by class, or none.
-abbrev pub AreTrees : {A : Type 0} → Option (Classes A) → Type 0
-AreTrees None = Unit {0}
-AreTrees (Some classes) = AreByClass classes.some classes.trees.items
+abbrev pub AreTrees : {A : Type 0} → Trees A → Type 0
+AreTrees trees = IfSome trees.classes (λ classes. AreByClass trees.some classes.items)

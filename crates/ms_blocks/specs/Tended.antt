@@ -24,4 +24,4 @@ pub record AreTended (blocks : List Block) (room places count total : ℕ) : Typ
 pub record IsTended {A : Type 0} (f : Inside A) : Type 0 where
   pub blocks : AreTended (blocks_in f.trees) (vec_len f.spare) (vec_capacity f.spare) f.count f.total
   pub classed : AreTrees f.trees
-  pub there : 0 < vec_len f.spare → IsSome f.trees
+  pub there : 0 < vec_len f.spare → IsSome f.trees.classes

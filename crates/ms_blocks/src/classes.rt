@@ -7,7 +7,8 @@
 //! most free blocks are small. A best fit is in the first tree that has a block and may have one so large;
 //! a bit for each tree tells whether it has one.
 //! After the lists by size of HotSpot's binList.hpp.
-ghost use Rattle.std.specs.Prelude.{◌≡◌, ◌≢◌, ◌<◌, ◌≤◌, ℕ, [], Some, IfOk, IfSome, IfNone, IsSome, OnSome, cond};
+ghost use Rattle.std.specs.Prelude.{◌≡◌, ◌≢◌, ◌<◌, ◌≤◌, ℕ, [], cond, IfOk, IfSome, IfNone, IsSome, OnSome};
+ghost use Rattle.std.specs.Prelude.{IsTrue, IsFalse};
 ghost use Rattle.std.specs.Int.{bit_at};
 ghost use Rattle.std.specs.Option.{option_map};
 ghost use Rattle.ms_blocks.specs.Classes.{AreByClass, AreTrees, IsFirstClass, all_of, blocks_in, class_of};
@@ -19,41 +20,63 @@ use std::alloc::{AllocError, Allocator};
 /// How many trees there are.
 const CLASSES: usize = 64;
 
-/// A tree for each class.
+/// The trees, which are there once room was made.
 #[derive(Drop)]
-pub struct Classes<A: Allocator> {
-    /// The trees by class.
-    trees: Vec<Tree<A>, A>,
+pub struct Trees<A: Allocator> {
+    /// The trees by class, or none.
+    classes: Option<Vec<Tree<A>, A>>,
     /// A bit for each tree, 1 where it has a block.
     some: u64,
 }
 
-/// The trees, or none where no room was made yet.
-pub type Trees<A> = Option<Classes<A>>;
+impl<A: Allocator> Trees<A> {
+    /// No trees yet.
+    pub fn none() -> Trees<A>
+        ensures trees { AreTrees result }
+        ensures empty { blocks_in result ≡ [] }
+    {
+        Trees {
+            classes: None,
+            some: 0,
+        }
+    }
+
+    /// Tells whether no trees are there yet.
+    pub fn is_none(&self) -> bool
+        ensures none { IsTrue result → blocks_in self.now ≡ [] }
+        ensures some { IsFalse result → IsSome self.now.classes }
+    {
+        self.classes.is_none()
+    }
+}
 
 /// Makes the trees, with no block. Takes memory.
-pub fn make_trees<A: Allocator + Clone>(alloc: &A) -> Result<Classes<A>, AllocError>
-    ensures trees { IfOk result (λ classes. AreTrees (Some classes)) }
-    ensures empty { IfOk result (λ classes. blocks_in (Some classes) ≡ []) }
+pub fn make_trees<A: Allocator + Clone>(alloc: &A) -> Result<Trees<A>, AllocError>
+    ensures there { IfOk result (λ trees. IsSome trees.classes) }
+    ensures trees { IfOk result AreTrees }
+    ensures empty { IfOk result (λ trees. blocks_in trees ≡ []) }
 {
     let mut trees = Vec::with_capacity(alloc.clone()?, CLASSES)?;
     for _ in 0..CLASSES {
         trees.push_reserved(Tree::Empty);
     }
-    Ok(Classes { trees, some: 0 })
+    Ok(Trees {
+        classes: Some(trees),
+        some: 0,
+    })
 }
 
 /// Adds the spare fork's block to those of the trees, which are there.
 pub fn insert_in<A: Allocator>(trees: &mut Trees<A>, spare: Box<Fork<A>, A>)
-    requires there { IsSome trees.old }
+    requires there { IsSome trees.old.classes }
     requires trees { AreTrees trees.old }
     requires ranked { IsRanked (blocks_in trees.old) }
-    ensures there { IsSome trees.new }
+    ensures there { IsSome trees.new.classes }
     ensures trees { AreTrees trees.new }
     ensures blocks { blocks_in trees.new ≡ with_ranked (blocks_in trees.old) spare.value.block }
 {
-    match trees {
-        Some(classes) => insert_among(classes.trees.as_mut_slice(), &mut classes.some, spare),
+    match &mut trees.classes {
+        Some(classes) => insert_among(classes.as_mut_slice(), &mut trees.some, spare),
         None => unreachable!(),
     }
 }
@@ -64,22 +87,15 @@ pub fn insert_in<A: Allocator>(trees: &mut Trees<A>, spare: Box<Fork<A>, A>)
 pub fn take_in<A: Allocator>(trees: &mut Trees<A>, words: u64) -> Option<Box<Fork<A>, A>>
     requires trees { AreTrees trees.old }
     requires ranked { IsRanked (blocks_in trees.old) }
-    ensures there { OnSome result (IsSome trees.new) }
-    ensures stay { IsSome trees.old → IsSome trees.new }
+    ensures there { OnSome result (IsSome trees.new.classes) }
+    ensures stay { IsSome trees.old.classes → IsSome trees.new.classes }
     ensures trees { AreTrees trees.new }
     ensures found { first_fit (blocks_in trees.old) words ≡ option_map (λ fork. fork.value.block) result }
     ensures left { blocks_in trees.new ≡ without_fit (blocks_in trees.old) words }
 {
-    match trees {
-        Some(classes) => {
-            let class = first_class(classes.some, words)?;
-            take_among(
-                classes.trees.as_mut_slice(),
-                &mut classes.some,
-                class,
-                words,
-            )
-        }
+    let class = first_class(trees.some, words)?;
+    match &mut trees.classes {
+        Some(classes) => take_among(classes.as_mut_slice(), &mut trees.some, class, words),
         None => None,
     }
 }

@@ -55,7 +55,7 @@ impl<A: Allocator> FreeBlocks<A> {
         ensures { result ≡ record { kept = []; room = 0 } }
     {
         FreeBlocks {
-            trees: None,
+            trees: Trees::none(),
             spare: Vec::new(alloc),
             count: 0,
             total: 0,
@@ -151,7 +151,7 @@ impl<A: Allocator + Clone> FreeBlocks<A> {
             let Ok(trees) = make_trees(self.spare.allocator()) else {
                 return Err(Refusal::OutOfMemory);
             };
-            self.trees = Some(trees);
+            self.trees = trees;
         }
         match fill(&mut self.spare, n, self.count) {
             Ok(()) => Ok(()),
