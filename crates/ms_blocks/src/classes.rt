@@ -82,7 +82,7 @@ pub fn insert_in<A: Allocator>(trees: &mut Trees<A>, spare: Box<Fork<A>, A>)
 }
 
 /// Takes the first block of the trees that has so many words, with its fork. Nothing is called where no tree
-/// may have one: at most allocations none has.
+/// may have one: in most allocations none has.
 #[inline(always)]
 pub fn take_in<A: Allocator>(trees: &mut Trees<A>, words: u64) -> Option<Box<Fork<A>, A>>
     requires trees { AreTrees trees.old }
@@ -113,7 +113,7 @@ fn insert_among<A: Allocator>(trees: &mut [Tree<A>], some: &mut u64, spare: Box<
 }
 
 /// Takes the first block of ranked trees that has so many words, with its fork, where the class is the first
-/// with a block that may have so many.
+/// with a block that may have so many. Out of line, since few allocations come here.
 #[inline(never)]
 fn take_among<A: Allocator>(
     trees: &mut [Tree<A>],
