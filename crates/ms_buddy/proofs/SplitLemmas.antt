@@ -2,7 +2,7 @@
 -- happens to the half happens to the node. For each walk down the tree.
 use Rattle.std.proofs.Common.{◌≡◌, ◌<◌, ◌≤◌, ℕ, ◌+◌, ◌-◌, Bool, true, false, not, cond, ◌&&◌, ◌||◌, List, [], ◌∷◌, ◌++◌}
 use Rattle.std.proofs.Common.{Option, Some, None, refl, sym, ap, subst, ◌∙◌, arith}
-use Rattle.std.specs.Prelude.{◌==◌, nat_le, nat_lt, IsTrue, IsFalse, IfSome}
+use Rattle.std.specs.Prelude.{◌==◌, nat_le, nat_lt, IsTrue, IsFalse, IfSome, OnSome}
 use Rattle.std.specs.List.{AllByRecursion, find}
 use Rattle.std.proofs.lemmas.List.{map-append}
 use Rattle.std.proofs.lemmas.List.Folds.{list_any-append, find-append}
@@ -267,3 +267,8 @@ pub passed_on : (result : Option Span) (span : Span) (P : Span → Type 0) → I
     → P span → IfSome result P
 passed_on (Some other) span P e h = subst P (sym e) h
 passed_on None span P e h = tt
+
+-- What follows from what holds where there is a value holds there.
+pub on_some_weaker : {T P Q : Type 0} (o : Option T) → (P → Q) → OnSome o P → OnSome o Q
+on_some_weaker (Some value) f p = f p
+on_some_weaker None f p = tt

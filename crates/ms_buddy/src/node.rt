@@ -422,7 +422,8 @@ fn boxed_anew<A: Allocator + Clone>(
 }
 
 /// Keeps the boxes of a split as spares, where there are fewer than one carve may take.
-fn keep<A: Allocator>(spare: &mut Node<A>, merged: Node<A>) {
+#[inline(always)]
+fn keep<A: Allocator>(spare: &mut Node<A>, mut merged: Node<A>) {
     let count = match spare {
         Node::Split(count, ..) => *count,
         _ => 0,
@@ -430,9 +431,10 @@ fn keep<A: Allocator>(spare: &mut Node<A>, merged: Node<A>) {
     if count >= 12 {
         return;
     }
-    if let Node::Split(_, first, mut second) = merged {
-        *second = mem::replace(spare, Node::Free);
-        *spare = Node::Split(count + 1, first, second);
+    if let Node::Split(levels, _, second) = &mut merged {
+        *levels = count + 1;
+        mem::swap(&mut **second, spare);
+        mem::swap(&mut merged, spare);
     }
 }
 
@@ -594,17 +596,27 @@ pub(crate) fn part(start: u64, level: u8) -> Span
     }
 }
 
-/// Passes a span on, unless both halves are one free leaf each.
-fn unless_free<A: Allocator>(lower: &Node<A>, upper: &Node<A>, span: Span) -> Option<Span>
+/// Passes a span on and tells the levels of two halves, unless both are one free leaf each.
+#[inline(always)]
+fn unless_free<A: Allocator>(
+    levels: &mut u16,
+    lower: &Node<A>,
+    upper: &Node<A>,
+    level: u8,
+    span: Span,
+) -> Option<Span>
+    requires { level ≤ 12 }
     ensures same { IfSome result (λ other. other ≡ span) }
     ensures split { OnSome result (IsFalse (is_free lower.now && is_free upper.now)) }
     ensures free { IfNone result (IsTrue (is_free lower.now && is_free upper.now)) }
+    ensures levels { OnSome result
+        (levels.new ≡ bit_or (levels_of level lower.now) (levels_of level upper.now)) }
 {
     if lower.is_free() && upper.is_free() {
-        None
-    } else {
-        Some(span)
+        return None;
     }
+    *levels = levels_of_halves(lower, upper, level);
+    Some(span)
 }
 
 /// Takes the leaf of that span out of the half where it is, and answers the free part that results
@@ -622,7 +634,7 @@ fn release_in_half<A: Allocator>(
     requires halves { AreHalves level levels.old lower.old upper.old }
     requires place { IsPlace level start }
     requires lent { IsTrue (is_lent (lent_in_halves level start lower.old upper.old) span) }
-    ensures halves { AreHalves level levels.new lower.new upper.new }
+    ensures halves { OnSome result (AreHalves level levels.new lower.new upper.new) }
     ensures lent { lent_in_halves level start lower.new upper.new
         ≡ without_leaf span (lent_in_halves level start lower.old upper.old) }
     ensures free { IfSome result
@@ -636,11 +648,9 @@ fn release_in_half<A: Allocator>(
     let middle = start + half_of(level);
     if span.start < middle {
         let freed = lower.release(spare, level + 1, start, span);
-        *levels = levels_of_halves(lower, upper, level + 1);
-        unless_free(lower, upper, freed)
+        unless_free(levels, lower, upper, level + 1, freed)
     } else {
         let freed = upper.release(spare, level + 1, middle, span);
-        *levels = levels_of_halves(lower, upper, level + 1);
-        unless_free(lower, upper, freed)
+        unless_free(levels, lower, upper, level + 1, freed)
     }
 }

@@ -5,7 +5,7 @@ use Rattle.ms_buddy.specs.Leaves.{covers}
 use Rattle.ms_buddy.specs.Tree.{free_in_halves}
 use Rattle.ms_buddy.proofs.TreeHalvesLemmas.{lower_place, upper_place}
 use Rattle.ms_buddy.proofs.SplitLemmas.{halves_at, lower_lent, upper_lent, without_acts, lower_changed, upper_changed}
-use Rattle.ms_buddy.proofs.SplitLemmas.{lower_found, upper_found, whole_found, passed_on}
+use Rattle.ms_buddy.proofs.SplitLemmas.{lower_found, upper_found, whole_found, passed_on, on_some_weaker}
 use Rattle.ms_buddy.specs.Counts.{IsParted}
 use Rattle.ms_buddy.proofs.CountLemmas.{both_free, leaf_parted, level_of_free, level_told, lower_parted_at}
 use Rattle.ms_buddy.proofs.CountLemmas.{merged_parted, nothing_lent, upper_parted_at}
@@ -145,9 +145,19 @@ Node::release-returns-in-Some-clause-merged g t c =
     (rw (c.deref_mut.ensures.value, c.deref_mut-in-Split.ensures.value) at c.in-Some.ensures.merged)
 
 pub release_in_half-returns-then-span-middle-clause-halves : goal.release_in_half-returns-then-span-middle-clause-halves
-release_in_half-returns-then-span-middle-clause-halves g t c = record {
-  low = c.requires.halves.low;
-  lower_tree = c.release-freed.ensures.tree;
-  upper_tree = c.requires.halves.upper_tree;
-  levels_are = c.levels_of_halves.ensures;
-}
+release_in_half-returns-then-span-middle-clause-halves g t c =
+    on_some_weaker c.unless_free.result (λ levels. record {
+      low = c.requires.halves.low;
+      lower_tree = c.release-freed.ensures.tree;
+      upper_tree = c.requires.halves.upper_tree;
+      levels_are = levels;
+    }) c.unless_free.ensures.levels
+
+pub release_in_half-returns-else-span-middle-clause-halves : goal.release_in_half-returns-else-span-middle-clause-halves
+release_in_half-returns-else-span-middle-clause-halves g t c =
+    on_some_weaker c.unless_free-else-span-middle.result (λ levels. record {
+      low = c.requires.halves.low;
+      lower_tree = c.requires.halves.lower_tree;
+      upper_tree = c.release-freed-else-span-middle.ensures.tree;
+      levels_are = levels;
+    }) c.unless_free-else-span-middle.ensures.levels
