@@ -2,11 +2,9 @@
 -- its leaf takes its place there. For carving.
 use Rattle.std.proofs.Common.{◌≡◌, ◌<◌, ◌≤◌, ℕ, ◌+◌, Bool, true, false, cond, ◌&&◌, ◌||◌, List, [], ◌∷◌, ◌++◌, refl}
 use Rattle.std.proofs.Common.{sym, ap, subst, ◌∙◌, inl, inr, arith}
-use Rattle.std.specs.Prelude.{nat_le, nat_lt, bit_or, ◌^◌, IsTrue, IsFalse}
+use Rattle.std.specs.Prelude.{nat_le, nat_lt, IsTrue, IsFalse}
 use Rattle.std.specs.List.{AllByRecursion, list_any}
-use Rattle.std.proofs.lemmas.List.{append-nil}
 use Rattle.std.proofs.lemmas.List.Folds.{list_any-append}
-use Rattle.std.proofs.lemmas.Bool.{cases_lt, cond_above, cond_below}
 use Rattle.std.proofs.lemmas.Bool.Decides.{nat_tests}
 use Rattle.ms_base.specs.declared.span.Span.{Span}
 use Rattle.ms_base.specs.declared.refusal.Refusal.{Refusal}
@@ -16,10 +14,8 @@ use Rattle.ms_base.specs.Level.{size_of, highest_level}
 use Rattle.ms_base.specs.Part.{IsPart}
 use Rattle.ms_base.proofs.free.PartLemmas.{parts_are_nested_or_apart}
 use Rattle.ms_buddy.specs.declared.node.Node.{Node}
-use Rattle.ms_buddy.specs.declared.node.Node.TheVariants.{Free, Lent, Split'}
 use Rattle.ms_buddy.specs.Leaves.{LentLeaf, IsCarveRefusal, is_same, fits_in, words_of, with_leaf}
-use Rattle.ms_buddy.specs.Tree.{IsInside, IsPlace, MayBeLent, IsTree, is_free, lent_in, free_in, lent_in_halves, free_in_halves}
-use Rattle.ms_buddy.specs.Tree.{levels_of, with_free}
+use Rattle.ms_buddy.specs.Tree.{IsInside, IsPlace, MayBeLent, IsTree, lent_in, free_in, lent_in_halves, free_in_halves}
 use Rattle.ms_buddy.proofs.TreeHalvesLemmas.{size_of-some, size_of-halves, lower_place, upper_place}
 use Rattle.ms_buddy.proofs.WalkLemmas.{LiesIn, LeafIn, lent_lies_in, free_lies_in, all_weaker, any-none}
 use Rattle.ms_buddy.proofs.WalkLemmas.{none_free_above, none_free_below}
@@ -245,45 +241,3 @@ upper_added added level start half lower upper now s h e =
     ∙ sym (leaf_in_upper added start (start + size_of (level + 1)) (lent_in (level + 1) start lower)
     (lent_in (level + 1) (start + size_of (level + 1)) upper) (omega (arith, s.size))
     (lent_lies_in (level + 1) start lower s.low_tree))
-
--- What may be lent in a part may be lent in the half where it starts.
-pub half_may : (part : Span) (level start half front from : ℕ) → MayBeLent level start part front → level < part.level
-    → half ≡ size_of (level + 1) → from ≡ cond (nat_lt part.start (start + half)) start (start + half)
-    → MayBeLent (level + 1) from part front
-half_may part level start half front from may h size e =
-    elim (cases_lt part.start (start + half)) [
-      | inl below ↦ subst (λ (n : ℕ). MayBeLent (level + 1) n part front)
-          (cond_below part.start (start + half) start (start + half) below ∙ sym e)
-          (lower_may part level start half front may h size below)
-      | inr above ↦ subst (λ (n : ℕ). MayBeLent (level + 1) n part front)
-          (cond_above part.start (start + half) start (start + half) (start + half) above refl ∙ sym e)
-          (upper_may part level start half front may h size above)
-    ]
-
--- A node beside a free half has all that is lent in both.
-pub beside_free_lent : {A : Type 0} (level start half from : ℕ) (is_lower : Bool) (node : Node A)
-    → half ≡ size_of (level + 1) → from ≡ cond is_lower start (start + half)
-    → lent_in_halves level start (with_free is_lower node).0 (with_free is_lower node).1 ≡ lent_in (level + 1) from node
-beside_free_lent level start half from true node size e =
-    append-nil (lent_in (level + 1) start node) ∙ ap (λ (n : ℕ). lent_in (level + 1) n node) (sym e)
-beside_free_lent level start half from false node size e =
-    ap (λ (n : ℕ). lent_in (level + 1) n node) (sym (e ∙ ap (λ (n : ℕ). start + n) size))
-
--- What is made of a lower half and a free upper one is what is made of both in their order.
-pub lower_beside : {A B : Type 0} (made : Node A → Node A → B) (is_lower : Bool) (half near far : Node A)
-    → near ≡ half → is_free far ≡ true → is_lower ≡ true
-    → made near far ≡ made (with_free is_lower half).0 (with_free is_lower half).1
-lower_beside made is_lower half near Free e f g = rw g (ap (λ (node : Node _). made node Free) e)
-lower_beside made is_lower half near (Lent owner front) e f g = absurd (cc)
-lower_beside made is_lower half near (Split' levels p lower q upper) e f g = absurd (cc)
-
--- A lower half that is not free and a free upper one make a tree.
-pub lower_beside_tree : {A : Type 0} (level levels free_level : ℕ) (half near far : Node A) → level < highest_level
-    → IsTree (level + 1) half → is_free half ≡ false → near ≡ half → is_free far ≡ true
-    → levels ≡ levels_of (level + 1) half → free_level ≡ 2 ^ (level + 1)
-    → (level < highest_level) × IsFalse (is_free near && is_free far) × IsTree (level + 1) near × IsTree (level + 1) far
-    × (bit_or levels free_level ≡ bit_or (levels_of (level + 1) near) (levels_of (level + 1) far))
-lower_beside_tree level levels free_level half near Free low tree split e f l b =
-    rw e (low, rw split refl, tree, tt, rw (l, b) refl)
-lower_beside_tree level levels free_level half near (Lent owner front) low tree split e f l b = absurd (cc)
-lower_beside_tree level levels free_level half near (Split' bits p lower q upper) low tree split e f l b = absurd (cc)

@@ -12,7 +12,7 @@ use Rattle.ms_buddy.specs.declared.node.Node.{Node}
 use Rattle.ms_buddy.specs.declared.node.Node.TheVariants.{Free, Lent, Split'}
 use Rattle.ms_buddy.specs.Counts.{IsParted, count_at_level, freed_level, one_at, one_between}
 use Rattle.ms_buddy.specs.Leaves.{covers, is_lent}
-use Rattle.ms_buddy.specs.Tree.{free_in, free_in_halves, is_free, lent_in, with_free}
+use Rattle.ms_buddy.specs.Tree.{free_in, free_in_halves, is_free, lent_in}
 
 -- Counts of no part, of one, and of some after others.
 pub count-none : (level : ℕ) → count_at_level level [] ≡ 0
@@ -180,21 +180,6 @@ upper_half_parted_at level start half lent node size parted =
     (free_in (level + 1) (start + size_of (level + 1)) node)
     (subst (λ (n : ℕ). IsParted (record { start = start + n; level = level + 1 } ∷ []) (level + 1) lent
     (free_in (level + 1) (start + n) node)) size parted)
-
--- A part beside a free half is parted as the half was.
-pub beside_free_parted : {A : Type 0} (level start half from lent : ℕ) (is_lower : Bool) (node : Node A)
-    → half ≡ size_of (level + 1) → from ≡ cond is_lower start (start + half)
-    → IsParted (record { start = from; level = level + 1 } ∷ []) (level + 1) lent (free_in (level + 1) from node)
-    → IsParted (record { start = start; level = level } ∷ []) level lent
-    (free_in_halves level start (with_free is_lower node).0 (with_free is_lower node).1)
-beside_free_parted level start half from lent true node size e parted =
-    lower_half_parted level start _ lent _
-    (subst (λ (n : ℕ). IsParted (record { start = n; level = level + 1 } ∷ []) (level + 1) lent
-    (free_in (level + 1) n node)) e parted)
-beside_free_parted level start half from lent false node size e parted =
-    upper_half_parted_at level start half lent node size
-    (subst (λ (n : ℕ). IsParted (record { start = n; level = level + 1 } ∷ []) (level + 1) lent
-    (free_in (level + 1) n node)) e parted)
 
 -- Two free halves merge.
 pub merged_parted : {A : Type 0} (level start lent : ℕ) (lower upper : Node A) (was : List Span)

@@ -8,5 +8,6 @@ pub mod StackLemmas
 pub mod KeptTreeLemmas
 pub mod LeafLevelLemmas
 pub mod CountLemmas
+pub mod PartFreeLemmas
 pub mod TreeCountLemmas
 pub mod StepLemmas

@@ -1,5 +1,5 @@
 -- What a node of the split tree stands for, given its level and where it starts.
-use Rattle.std.specs.Prelude.{◌≡◌, ℕ, ◌+◌, ◌^◌, ◌<◌, ◌≤◌, ◌%◌, bit_or, Bool, true, false, ◌&&◌, List, [], ◌∷◌, ◌++◌}
+use Rattle.std.specs.Prelude.{◌≡◌, ℕ, ◌+◌, ◌-◌, ◌^◌, ◌<◌, ◌≤◌, ◌%◌, bit_or, Bool, true, false, ◌&&◌, List, [], ◌∷◌, ◌++◌}
 use Rattle.std.specs.Prelude.{Option, Some, None, IsTrue, IsFalse}
 use Rattle.ms_base.specs.declared.span.Span.{Span}
 use Rattle.ms_base.specs.Level.{root_words, size_of, highest_level}
@@ -59,10 +59,16 @@ abbrev pub free_in_halves : {A : Type 0} → ℕ → ℕ → Node A → Node A �
 free_in_halves level start lower upper =
     free_in (level + 1) start lower ++ free_in (level + 1) (start + size_of (level + 1)) upper
 
--- The halves of which one is that node, the lower one or the upper one, and the other is free.
-abbrev pub with_free : {A : Type 0} → Bool → Node A → Node A × Node A
-with_free true half = (half, Free)
-with_free false half = (Free, half)
+-- All levels below one, down to another, as bits.
+abbrev pub levels_between : ℕ → ℕ → ℕ
+levels_between level lent = 2 ^ (lent + 1) - 2 ^ (level + 1)
+
+-- The node is a split with two free halves, which keeps these bits.
+abbrev pub IsSplitInTwo : {A : Type 0} → ℕ → Node A → Type 0
+IsSplitInTwo bits Free = ⊥
+IsSplitInTwo bits (Lent owner front) = ⊥
+IsSplitInTwo bits (Split' levels p lower q upper) =
+    (levels ≡ bits) × (is_free lower ≡ true) × (is_free upper ≡ true)
 
 -- Two trees are the halves of a part of that level, and these bits the levels of both.
 pub record AreHalves {A : Type 0} (level levels : ℕ) (lower upper : Node A) : Type 0 where

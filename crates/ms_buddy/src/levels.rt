@@ -2,16 +2,26 @@
 ghost use Rattle.std.specs.Prelude.{◌≡◌, ℕ, ◌+◌, ◌^◌, ◌<◌, ◌≤◌, get_or};
 ghost use Rattle.ms_buddy.specs.Counts.{AreRaised, AreShifted, one_at};
 ghost use Rattle.ms_buddy.specs.Leaves.{has_level};
+ghost use Rattle.ms_buddy.specs.Tree.{levels_between};
 
 /// How many levels there are: 0 to 12.
 pub(crate) const LEVELS: usize = 13;
 
 /// The bit of a level.
 pub(crate) fn bit_of(level: u8) -> u16
-    requires { level ≤ 12 }
+    requires { level ≤ 13 }
     ensures { result ≡ 2 ^ level }
 {
     1 << level
+}
+
+/// The bits of all levels below one, down to another.
+pub(crate) fn bits_between(level: u8, lent: u8) -> u16
+    requires order { level ≤ lent }
+    requires low { lent ≤ 12 }
+    ensures { result ≡ levels_between level lent }
+{
+    bit_of(lent + 1) - bit_of(level + 1)
 }
 
 /// Tells whether the bit of a level is set.

@@ -5,24 +5,23 @@
 //! lies. What is kept true of a node is `IsTree` in `specs/Tree.antt`: `levels_of_halves` tells the
 //! bits that a split keeps, and each change of a half asks it on the way up.
 //!
-//! Boxes are made for `boxed` alone. Halves that merge leave theirs as spares for the next split: a
+//! Boxes are made for `split` alone. Halves that merge leave theirs as spares for the next split: a
 //! chain of nodes, in which each is a split with a pair of boxes, and the second holds the rest.
 //! The number beside a pair tells how many pairs there are from it on, 12 at most, as many as one
 //! carve takes. No clause says what a spare node holds, and nothing rests on it.
-ghost use Rattle.std.specs.Prelude.{◌≡◌, ℕ, ◌+◌, ◌*◌, ◌<◌, ◌≤◌, ◌&&◌, ◌↔◌, bit_or, true, false, [], ◌∷◌, Some, IsTrue};
-ghost use Rattle.std.specs.Prelude.{IsFalse, IfSome, OnSome, IfNone, IsOk, IfOk, OnOk, IfErr, OnErr};
-ghost use Rattle.std.specs.Prelude.{cond};
+ghost use Rattle.std.specs.Prelude.{◌≡◌, ℕ, ◌+◌, ◌*◌, ◌<◌, ◌≤◌, ◌&&◌, bit_or, true, false, Some, IsTrue};
+ghost use Rattle.std.specs.Prelude.{IsFalse, IfSome, OnSome, IfNone, IsOk, IfOk, OnOk, OnErr};
 ghost use Rattle.std.specs.List.{find};
 ghost use Rattle.ms_base.specs.declared.sizes.TheConstants.{ROOT_WORDS};
 ghost use Rattle.ms_base.specs.Level.{size_of};
 ghost use Rattle.ms_buddy.specs.Leaves.{CarveAnswers, EnlargeAnswers, IsLeafAt, covers, has_level, is_lent, is_of_from};
 ghost use Rattle.ms_buddy.specs.Leaves.{leaf_of, with_front, with_leaf, with_parent, without_leaf};
-ghost use Rattle.ms_buddy.specs.Carving.{told};
+ghost use Rattle.ms_buddy.specs.Carving.{IsPartedFor, told};
 ghost use Rattle.ms_buddy.specs.Counts.{IsParted, free_beside, freed_level};
 ghost use Rattle.ms_buddy.specs.Tree.{AreHalves, IsEnlarged, IsPlace, MayBeLent, MayHaveFront, is_free, IsTree};
-ghost use Rattle.ms_buddy.specs.Tree.{lent_in, free_in, levels_of, lent_in_halves, free_in_halves, with_free};
+ghost use Rattle.ms_buddy.specs.Tree.{lent_in, free_in, levels_of, lent_in_halves, free_in_halves, IsSplitInTwo};
 
-use crate::levels::{bit_of, has_level};
+use crate::levels::{bit_of, bits_between, has_level};
 use ms_base::{Level, ROOT_WORDS, Refusal, Span};
 use std::alloc::{AllocError, Allocator};
 use std::mem;
@@ -281,34 +280,40 @@ impl<A: Allocator> Node<A> {
 }
 
 impl<A: Allocator + Clone> Node<A> {
-    /// Makes a node with one lent leaf, that part. Takes two boxes for each level below this one,
-    /// spare ones first.
-    fn with_lent(
+    /// Lends that part of a free leaf, which becomes a split on each level above the part's. Takes two
+    /// boxes for each, spare ones first. Where the allocator refuses one, nothing is told of the node.
+    #[inline(never)]
+    fn part_free(
+        &mut self,
         spare: &mut Node<A>,
         alloc: &A,
         level: u8,
         start: u64,
         lending: &Lending,
-    ) -> Result<Node<A>, AllocError>
+    ) -> Result<(), AllocError>
         requires { MayBeLent level start lending.now.span lending.now.front }
-        ensures tree { IfOk result (λ node. IsTree level node) }
-        ensures split { IfOk result (λ node. is_free node ≡ false) }
-        ensures lent { IfOk result
-            (λ node. lent_in level start node
-            ≡ leaf_of lending.now.span lending.now.owner lending.now.front ∷ []) }
-        ensures parted { IfOk result (λ node. IsParted (record { start = start; level = level } ∷ [])
-            level lending.now.span.level (free_in level start node)) }
+        ensures parted { OnOk result (IsPartedFor level start lending.now.span lending.now.owner
+            lending.now.front self.new) }
         ensures succeeds { lending.now.span.level ≡ level → IsOk result }
     {
-        if lending.span.level.number() == level {
+        let lent = lending.span.level.number();
+        if lent == level {
             let (owner, front) = (lending.owner, lending.front);
-            return Ok(Node::Lent { owner, front });
+            *self = Node::Lent { owner, front };
+            return Ok(());
         }
-        let middle = start + half_of(level);
-        let is_lower = lending.span.start < middle;
-        let from = half_start(start, middle, is_lower);
-        let half = Node::with_lent(spare, alloc, level + 1, from, lending)?;
-        beside_free(spare, alloc, level, half, is_lower)
+        split(self, spare, alloc, bits_between(level, lent))?;
+        match self {
+            Node::Split(_, lower, upper) => {
+                let middle = start + half_of(level);
+                if lending.span.start < middle {
+                    lower.part_free(spare, alloc, level + 1, start, lending)
+                } else {
+                    upper.part_free(spare, alloc, level + 1, middle, lending)
+                }
+            }
+            _ => Err(AllocError),
+        }
     }
 
     /// Lends that part, where it lies in one free leaf, and answers that leaf's level.
@@ -335,12 +340,12 @@ impl<A: Allocator + Clone> Node<A> {
         ensures unchanged { OnErr result (self.new ≡ self.old) }
     {
         match self {
-            Node::Free => match Node::with_lent(spare, alloc, level, start, lending) {
-                Ok(node) => {
-                    *self = node;
-                    Ok(level)
+            Node::Free => match self.part_free(spare, alloc, level, start, lending) {
+                Ok(()) => Ok(level),
+                Err(_) => {
+                    *self = Node::Free;
+                    Err(Lack::Memory)
                 }
-                Err(_) => Err(Lack::Memory),
             },
             Node::Lent { .. } => Err(Lack::Room),
             Node::Split(levels, lower, upper) => {
@@ -354,71 +359,36 @@ impl<A: Allocator + Clone> Node<A> {
     }
 }
 
-/// Tells where the lower half starts, or the upper one.
-fn half_start(start: u64, middle: u64, is_lower: bool) -> u64
-    ensures { result ≡ cond is_lower start middle }
-{
-    if is_lower { start } else { middle }
-}
-
-/// Makes a split of that level, in which one half is that node, and the other one is free.
-fn beside_free<A: Allocator + Clone>(
+/// Makes a node a split with two free halves and those bits: from spare boxes where there are any.
+#[inline(always)]
+fn split<A: Allocator + Clone>(
+    node: &mut Node<A>,
     spare: &mut Node<A>,
     alloc: &A,
-    level: u8,
-    half: Node<A>,
-    is_lower: bool,
-) -> Result<Node<A>, AllocError>
-    requires low { level < 12 }
-    requires tree { IsTree (level + 1) half }
-    requires split { is_free half ≡ false }
-    ensures tree { IfOk result (λ node. IsTree level node) }
-    ensures split { IfOk result (λ node. is_free node ≡ false) }
-    ensures lent { IfOk result (λ node. (start : ℕ) → lent_in level start node
-        ≡ lent_in_halves level start (with_free is_lower half).0 (with_free is_lower half).1) }
-    ensures free { IfOk result (λ node. (start : ℕ) → free_in level start node
-        ≡ free_in_halves level start (with_free is_lower half).0 (with_free is_lower half).1) }
+    bits: u16,
+) -> Result<(), AllocError>
+    ensures { OnOk result (IsSplitInTwo bits node.new) }
 {
-    let levels = half.levels(level + 1);
-    let free_level = bit_of(level + 1);
-    let (half, free) = boxed(spare, alloc, half)?;
-    if is_lower {
-        Ok(Node::Split(levels | free_level, half, free))
-    } else {
-        Ok(Node::Split(free_level | levels, free, half))
+    let mut taken = mem::replace(spare, Node::Free);
+    if let Node::Split(levels, first, second) = &mut taken {
+        *levels = bits;
+        **first = Node::Free;
+        mem::swap(&mut **second, spare);
+        *node = taken;
+        return Ok(());
     }
+    *node = split_anew(alloc, bits)?;
+    Ok(())
 }
 
-/// Puts a node into a box, and a free one into a second: spare boxes where there are any.
-fn boxed<A: Allocator + Clone>(
-    spare: &mut Node<A>,
-    alloc: &A,
-    node: Node<A>,
-) -> Result<(Box<Node<A>, A>, Box<Node<A>, A>), AllocError>
-    ensures node { IfOk result (λ boxes. boxes.0.value ≡ node) }
-    ensures free { IfOk result (λ boxes. is_free boxes.1.value ≡ true) }
+/// Makes a split with two free halves and those bits, in new boxes.
+#[inline(never)]
+fn split_anew<A: Allocator + Clone>(alloc: &A, bits: u16) -> Result<Node<A>, AllocError>
+    ensures { IfOk result (λ node. IsSplitInTwo bits node) }
 {
-    match mem::replace(spare, Node::Free) {
-        Node::Split(_, mut first, mut second) => {
-            *first = node;
-            *spare = mem::replace(&mut *second, Node::Free);
-            Ok((first, second))
-        }
-        _ => boxed_anew(alloc, node),
-    }
-}
-
-/// Puts a node into a new box, and a free one into a second.
-fn boxed_anew<A: Allocator + Clone>(
-    alloc: &A,
-    node: Node<A>,
-) -> Result<(Box<Node<A>, A>, Box<Node<A>, A>), AllocError>
-    ensures node { IfOk result (λ boxes. boxes.0.value ≡ node) }
-    ensures free { IfOk result (λ boxes. is_free boxes.1.value ≡ true) }
-{
-    let first = Box::new(alloc.clone()?, node)?;
-    let second = Box::new(alloc.clone()?, Node::Free)?;
-    Ok((first, second))
+    let lower = Box::new(alloc.clone()?, Node::Free)?;
+    let upper = Box::new(alloc.clone()?, Node::Free)?;
+    Ok(Node::Split(bits, lower, upper))
 }
 
 /// Keeps the boxes of a split as spares, where there are fewer than one carve may take.

@@ -201,9 +201,8 @@ impl<A: Allocator + Clone> SplitTree<A> {
     /// Lends the part of that level at an offset in words, 0 to 524287, to an owner, with a front
     /// in words from 1 to the part's size. The other lent leaves stay. Refuses with `NoRoom` and
     /// the level where the part does not lie in one free leaf, and with `OutOfMemory` where the
-    /// allocator refuses a box, which a part that is a free leaf itself does not need. All boxes
-    /// are made before the tree is changed, so a refusal changes nothing. After HotSpot,
-    /// rootChunkArea.cpp.
+    /// allocator refuses a box, which a part that is a free leaf itself does not need. A refusal
+    /// changes nothing: boxes that were made before it go back. After HotSpot, rootChunkArea.cpp.
     pub fn carve(
         &mut self,
         alloc: A,

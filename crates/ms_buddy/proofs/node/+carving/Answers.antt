@@ -1,5 +1,5 @@
 -- The part is carved in the half where it lies, and the other half stays.
-use Rattle.std.proofs.Common.{rules, arith, refl, ap, ◌∙◌}
+use Rattle.std.proofs.Common.{rules, arith, refl, sym, ap, ◌∙◌}
 use Rattle.ms_buddy.specs.Leaves.{fits_in, leaf_of}
 use Rattle.ms_buddy.proofs.SplitLemmas.{halves_at, at_split}
 use Rattle.ms_buddy.proofs.CarveLemmas.{lower_may, upper_may, whole_fits_not, lower_fits, upper_fits, lower_is_free}
@@ -91,7 +91,7 @@ carve_in_half-returns-in-Ok-carve-clause-parted g t c =
     c.carve-else-lending-middle.new.self _ _ c.half_of.ensures.size c.in-Ok-carve.ensures.parted
 
 pub Node::carve-returns-in-Err-clause-unchanged : goal.Node::carve-returns-in-Err-clause-unchanged
-Node::carve-returns-in-Err-clause-unchanged g t c = refl
+Node::carve-returns-in-Err-clause-unchanged g t c = sym c.in-Free.is
 
 pub carve_in_half-returns-in-Ok-clause-halves : goal.carve_in_half-returns-in-Ok-clause-halves
 carve_in_half-returns-in-Ok-clause-halves g t c = record {

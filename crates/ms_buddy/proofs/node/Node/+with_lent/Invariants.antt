@@ -1,7 +1,0 @@
--- Each step goes down a level.
-use Rattle.ms_base.specs.Level.{level_count}
-use Rattle.std.proofs.Common.{◌-◌}
-use Rattle.ms_buddy.proofs.node.Node.+with_lent.Given as goal
-
-abbrev pub decreases-with_lent : goal.decreases-with_lent
-decreases-with_lent g l = level_count - l.level
