@@ -369,12 +369,13 @@ fn split<A: Allocator + Clone>(
 ) -> Result<(), AllocError>
     ensures { OnOk result (IsSplitInTwo bits node.new) }
 {
-    let mut taken = mem::replace(spare, Node::Free);
-    if let Node::Split(levels, first, second) = &mut taken {
+    if let Node::Split(levels, first, second) = spare {
         *levels = bits;
-        **first = Node::Free;
-        mem::swap(&mut **second, spare);
-        *node = taken;
+        if !first.is_free() {
+            **first = Node::Free;
+        }
+        let rest = mem::replace(&mut **second, Node::Free);
+        *node = mem::replace(spare, rest);
         return Ok(());
     }
     *node = split_anew(alloc, bits)?;
