@@ -47,8 +47,8 @@ bits_beside level lent h =
 -- The part is the leaf itself.
 pub whole_for : {A : Type 0} (part : Span) (level start owner front : ℕ) (node : Node A) → node ≡ Lent owner front
     → MayBeLent level start part front → level ≡ part.level → IsPartedFor level start part owner front node
-whole_for part level start owner front node e may same = subst (λ (x : Node _). IsPartedFor level start part owner front x)
-    (sym e) (record {
+whole_for part level start owner front node e may same =
+    subst (λ (x : Node _). IsPartedFor level start part owner front x) (sym e) (record {
       tree = (may.some, subst (λ (n : ℕ). front ≤ size_of n) (sym same) may.within);
       split = refl;
       levels = omega (arith, ap (λ (n : ℕ). 2 ^ (n + 1)) same);
@@ -104,5 +104,5 @@ upper_for part level start size owner front levels bits p Free q upper low below
 }
 upper_for part level start size owner front levels bits p (Lent other most) q upper low below e f free is half =
     absurd (cc)
-upper_for part level start size owner front levels bits p (Split' more r left s right) q upper low below e f free is half =
-    absurd (cc)
+upper_for part level start size owner front levels bits p (Split' more r left s right) q upper low below e f free is
+    half = absurd (cc)
