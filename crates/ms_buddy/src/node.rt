@@ -312,7 +312,7 @@ impl<A: Allocator + Clone> Node<A> {
                     upper.part_free(spare, alloc, level + 1, middle, lending)
                 }
             }
-            _ => Err(AllocError),
+            _ => unreachable!(),
         }
     }
 
