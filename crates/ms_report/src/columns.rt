@@ -7,7 +7,6 @@
 ghost use Rattle.std.specs.Prelude.{◌≡◌, ◌≤◌, ◌+◌, ◌++◌, OnOk, IsAscii, string_bytes, codes};
 ghost use Rattle.std.specs.Prelude.{decimal, length, drop};
 ghost use Rattle.ms_report.specs.Cells.{four_line};
-ghost use Rattle.ms_report.specs.Layout.{right_in};
 
 use crate::line::{Line, push_ascii};
 use itoa::write_digits;

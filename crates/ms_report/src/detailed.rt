@@ -21,7 +21,6 @@ ghost use Rattle.ms_report.specs.Detailed.{details_part, maps_part};
 ghost use Rattle.ms_report.specs.Kinds.{kinds_part};
 ghost use Rattle.ms_report.specs.Holdings.{holdings_part};
 ghost use Rattle.ms_report.specs.Detailed.{titled_usage, usage_part, usage_rows};
-ghost use Rattle.ms_report.specs.Peaks.{peaks_part};
 
 use crate::holdings::push_holdings;
 use crate::kinds::push_kinds;

@@ -4,7 +4,7 @@
 //!
 //! Kept true: each number is exactly that of the replies which are refused by the name. Only the
 //! text takes memory.
-ghost use Rattle.std.specs.Prelude.{◌≡◌, ◌<◌, ◌^◌, ◌++◌, OnOk, length, string_bytes};
+ghost use Rattle.std.specs.Prelude.{◌≡◌, ◌<◌, ◌^◌, ◌++◌, OnOk, string_bytes};
 ghost use Rattle.ms_base.specs.declared.step.Reply.TheVariants.{Refused as IsRefused};
 ghost use Rattle.ms_report.specs.Layout.{number_lines};
 ghost use Rattle.ms_report.specs.Refused.{AreFew, refusals_of, refused_part, refused_rows};

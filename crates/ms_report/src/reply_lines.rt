@@ -7,7 +7,7 @@
 //! Kept true: a line is the bytes that `ms_base/specs/ReplyText.antt` gives. Takes memory for the text
 //! alone.
 ghost use Rattle.std.specs.Prelude.{◌≡◌, ◌++◌, OnOk, string_bytes, codes, decimal};
-ghost use Rattle.ms_base.specs.ReplyText.{name_of, reply_text, reply_line};
+ghost use Rattle.ms_base.specs.ReplyText.{name_of, reply_line};
 ghost use Rattle.ms_report.specs.ReplyLines.{answer_text};
 
 use crate::columns::{push_before, push_both};

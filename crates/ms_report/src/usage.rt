@@ -9,7 +9,7 @@
 //! Takes no memory.
 ghost use Rattle.std.specs.Prelude.{◌≡◌, ◌<◌, ◌^◌};
 ghost use Rattle.ms_loaders.specs.Sums.{space_in, sums_in};
-ghost use Rattle.ms_report.specs.Usage.{AreSmall, amount_of, both_words, limit_of, usage_of};
+ghost use Rattle.ms_report.specs.Usage.{AreSmall, amount_of, both_words, usage_of};
 ghost use Rattle.ms_report.specs.Usage.{usages_of, words_of};
 
 use ms_base::{Settings, granule};

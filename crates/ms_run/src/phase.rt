@@ -8,7 +8,7 @@
 //! meter moved as its words in use did. Peaks are raised at the end, or line by line by one worker.
 //! Takes memory; waits for the lock and for threads where two
 //! workers have lines.
-ghost use Rattle.std.specs.Prelude.{◌≡◌, ℕ, IsOk, IfOk, IfErr, OnOk, map, vec_len};
+ghost use Rattle.std.specs.Prelude.{◌≡◌, IsOk, IfOk, IfErr, OnOk, map, vec_len};
 ghost use Rattle.std.specs.List.{All};
 ghost use Rattle.ms_base.specs.Good.{IsGood};
 ghost use Rattle.ms_run.specs.Replay.{AreKept, IsWanting};

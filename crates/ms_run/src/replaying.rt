@@ -5,7 +5,7 @@
 //!
 //! Kept true: between two phases all is one good system, and each line so far has its answer. Takes
 //! memory; waits as its phases do.
-ghost use Rattle.std.specs.Prelude.{◌≡◌, ◌≤◌, ℕ, IfOk, IfErr, OnOk, Some, None, length, take};
+ghost use Rattle.std.specs.Prelude.{◌≡◌, ◌≤◌, IfOk, IfErr, OnOk, Some, None, length, take};
 ghost use Rattle.std.specs.Prelude.{slice_get};
 ghost use Rattle.ms_base.specs.State.{empty_machine, limits_of};
 ghost use Rattle.ms_trace.specs.declared.trace.Line.{Line as LineOf};
