@@ -1,6 +1,5 @@
 //! The rows of an arena over a pool: it places a block, or allocates one; its words are written and read,
 //! a block is freed, and the arena starts anew over another account.
-ghost use Rattle.std.specs.Prelude.{◌≡◌, [], IfOk};
 
 use crate::pools::{account_lines, opened, tell_account, tell_pool};
 use crate::probing::{Places, tell_places};

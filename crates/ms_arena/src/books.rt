@@ -7,7 +7,7 @@
 //! top lies past its front, and the words in use are the sum of the tops.
 //! Only `make_room` takes memory, for free blocks and for the next chunk's top; `grow` and `take`
 //! wait as their source does. In HotSpot's metaspaceArena.cpp a chunk has its top itself.
-ghost use Rattle.std.specs.Prelude.{◌≡◌, ◌≢◌, ℕ, ◌+◌, ◌*◌, ◌^◌, ◌<◌, ◌≤◌, Some, None, Ok, Err, IfOk, OnOk, OnErr};
+ghost use Rattle.std.specs.Prelude.{◌≡◌, ℕ, ◌+◌, ◌*◌, ◌^◌, ◌<◌, ◌≤◌, Some, None, Ok, Err, IfOk, OnOk, OnErr};
 ghost use Rattle.std.specs.Prelude.{IfErr, IfSome, IfNone, [], length, sum, slice_index};
 ghost use Rattle.std.specs.Option.{option_map};
 ghost use Rattle.ms_base.specs.Level.{size_of};

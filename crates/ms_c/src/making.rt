@@ -1,5 +1,5 @@
 //! Systems come and go: the exports that make one and end it, and the library's version.
-ghost use Rattle.std.specs.Prelude.{◌≡◌, ◌≢◌, ◌↔◌, ◌*◌, ◌⊎◌, None, IsSome};
+ghost use Rattle.std.specs.Prelude.{◌≡◌, ◌≢◌, ◌↔◌, ◌⊎◌, None, IsSome};
 ghost use Rattle.ms_c.specs.Answers.{IsMade};
 ghost use Rattle.ms_c.specs.Settings.{AreUnfit};
 

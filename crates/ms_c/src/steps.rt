@@ -1,5 +1,4 @@
 //! The exports that change a system: each is one step of the machine.
-ghost use Rattle.std.specs.Prelude.{◌≡◌};
 ghost use Rattle.ms_c.specs.Answers.{Steps, MakesLoader, Purges};
 ghost use Rattle.ms_c.specs.Freeing.{FreesBlock};
 

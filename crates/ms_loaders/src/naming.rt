@@ -10,7 +10,7 @@
 //! Making room for a name takes memory, so it is done before the arena is asked; the room is then held
 //! until the block is known, and the name enters it with no second search. Where the arena refuses, no
 //! name was ever entered, and the room stays for a later one.
-ghost use Rattle.std.specs.Prelude.{◌≡◌, ◌<◌, IfOk, IfNone, OnErr, OnOk, [], nat_eq};
+ghost use Rattle.std.specs.Prelude.{◌≡◌, ◌<◌, IfNone, OnErr, OnOk, [], nat_eq};
 ghost use Rattle.std.specs.Map.{lookup};
 ghost use Rattle.ms_base.specs.Names.{AreNamed, named, without};
 ghost use Rattle.ms_arena.specs.Raw.{raw_account};
@@ -31,7 +31,10 @@ use std::collections::hash_map::Entry;
 use std::marker::Model;
 
 /// For how many names room is made at once for a loader that mostly has many.
-const FIRST_NAMES: usize = 28;
+const FIRST_NAMES: usize = 64;
+
+/// From how many names on room is made for three times as many more: all names move where room is used up.
+const MANY_NAMES: usize = 128;
 
 /// A name that was found, and its block.
 #[derive(Clone, Copy, Drop)]
@@ -86,17 +89,41 @@ impl Names {
         self.blocks.capacity()
     }
 
-    /// Makes room for the first names at once, where a loader of that kind mostly has many; the names stay.
-    /// Refused only where there is no name. Takes memory.
+    /// Makes room ahead where all is used up; the names stay. Refused only where there is no name. Takes
+    /// memory.
     #[inline(always)]
-    fn make_first(&mut self, kind: Kind) -> Result<(), AllocError>
+    fn make_room(&mut self, kind: Kind) -> Result<(), AllocError>
         ensures unchanged { self.new ≡ self.old }
         ensures none { OnErr result (self.old.entries ≡ []) }
     {
-        if !self.blocks.is_empty() || kind == Kind::Hidden || kind == Kind::Reflection {
+        if self.blocks.len() < self.blocks.capacity() {
             return Ok(());
         }
-        self.blocks.reserve(FIRST_NAMES)
+        self.grow(kind)
+    }
+
+    /// Makes room for the first names at once, where a loader of that kind mostly has many, and for more
+    /// than one where there are many: where that is refused, a name that enters asks for less.
+    #[inline(never)]
+    fn grow(&mut self, kind: Kind) -> Result<(), AllocError>
+        ensures unchanged { self.new ≡ self.old }
+        ensures none { OnErr result (self.old.entries ≡ []) }
+    {
+        let names = self.blocks.len();
+        if names == 0 && kind != Kind::Hidden && kind != Kind::Reflection {
+            return self.reserve(FIRST_NAMES);
+        }
+        if names >= MANY_NAMES {
+            let _ = self.reserve(names.saturating_mul(3));
+        }
+        Ok(())
+    }
+
+    /// Makes room for so many names more; the names stay.
+    fn reserve(&mut self, names: usize) -> Result<(), AllocError>
+        ensures { self.new ≡ self.old }
+    {
+        self.blocks.reserve(names)
     }
 
     /// Tells which block has a name, if one has. Takes no memory.
@@ -175,7 +202,7 @@ pub fn allocate_in<S: ChunkSource>(
         arena.old name words source.old result names.new.entries arena.new source.new }
     ensures chunks { OnOk result (AreChunks arena.new.space arena.new.books.chunks) }
 {
-    if names.make_first(arena.kind()).is_err() {
+    if names.make_room(arena.kind()).is_err() {
         return Err(wanting_room(words));
     }
     match names.blocks.entry(name) {

@@ -11,11 +11,11 @@
 //! lent chunks of each space are counted (`lent`). What callers see is a `Ledger`,
 //! `specs/Keeping.antt`. The trees' places are made once, so a node that is reserved takes no
 //! memory.
-ghost use Rattle.std.specs.Prelude.{◌≡◌, ◌+◌, ◌*◌, ◌<◌, ◌≤◌, ◌^◌, IfOk, [], length, not, replicate};
+ghost use Rattle.std.specs.Prelude.{◌≡◌, ◌+◌, ◌*◌, ◌<◌, ◌≤◌, ◌^◌, IfOk, length, not};
 ghost use Rattle.std.specs.List.{All};
 ghost use Rattle.ms_base.specs.declared.kind.Space.TheVariants.{NonClass};
 ghost use Rattle.ms_base.specs.Held.{has_chunk_in};
-ghost use Rattle.ms_base.specs.Spaces.{by_space, first_class_slot};
+ghost use Rattle.ms_base.specs.Spaces.{first_class_slot};
 ghost use Rattle.ms_base.specs.State.{limits_of};
 ghost use Rattle.ms_buddy.specs.Leaves.{AreLeaves};
 ghost use Rattle.ms_pool.specs.Ledger.{empty_ledger, held_in, with_opened};

@@ -3,7 +3,6 @@
 ghost use Rattle.std.specs.Prelude.{◌≡◌, ◌+◌, ◌<◌, ◌≤◌, ◌^◌, true, false, length, IsSome, IfSome, OnSome, IfNone, IfOk};
 ghost use Rattle.std.specs.Prelude.{OnErr, Some, ◌-◌, ◌*◌, ◌/◌, ◌%◌, IsTrue, IsFalse, slice_get, ◌↔◌};
 ghost use Rattle.ms_base.specs.declared.kind.Space.TheVariants.{NonClass, Class};
-ghost use Rattle.std.specs.List.{All};
 ghost use Rattle.ms_base.specs.Part.{is_reserved, slot_of};
 ghost use Rattle.ms_base.specs.Level.{root_words, size_of};
 ghost use Rattle.ms_buddy.specs.Leaves.{free_of, can_enlarge, is_lent, span_at};

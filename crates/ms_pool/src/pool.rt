@@ -1,7 +1,5 @@
 //! The pool and its calls.
-ghost use Rattle.std.specs.Prelude.{◌≡◌, ◌+◌, ◌<◌, ◌≤◌, ◌^◌, IfOk, OnErr, IsTrue, length};
-ghost use Rattle.ms_base.specs.declared.kind.Space.TheVariants.{NonClass, Class};
-ghost use Rattle.ms_base.specs.Level.{size_of};
+ghost use Rattle.std.specs.Prelude.{◌≡◌, ◌+◌, ◌<◌, ◌^◌, IfOk, OnErr, IsTrue, length};
 ghost use Rattle.ms_base.specs.State.{limits_of};
 ghost use Rattle.ms_base.specs.Totals.{pool_sums};
 ghost use Rattle.ms_pool.specs.Account.{has_chunk_at};

@@ -5,13 +5,11 @@
 //! account's chunks. Each call keeps all of them served, changes the chunks of its own accounts alone
 //! and stands in a relation that the source states itself. `take` takes memory; a source behind a
 //! lock waits in each call.
-ghost use Rattle.std.specs.Prelude.{◌≡◌, ◌≢◌, ℕ, ◌+◌, ◌<◌, ◌≤◌, Bool, [], Result, IfOk, OnErr, MatchResult};
+ghost use Rattle.std.specs.Prelude.{◌≡◌, ◌≢◌, ℕ, ◌+◌, ◌<◌, Bool, [], Result, IfOk, OnErr, MatchResult};
 ghost use Rattle.std.specs.Prelude.{IsTrue};
 ghost use Rattle.ms_base.specs.declared.kind.Space.{Space};
-ghost use Rattle.ms_base.specs.declared.kind.Space.TheVariants.{NonClass, Class};
 ghost use Rattle.ms_base.specs.declared.span.Span.{Span};
 ghost use Rattle.ms_base.specs.declared.refusal.Refusal.{Refusal};
-ghost use Rattle.ms_base.specs.Level.{size_of};
 ghost use Rattle.ms_base.specs.State.{Limits};
 ghost use Rattle.ms_pool.specs.Account.{AccountState, has_chunk_at};
 ghost use Rattle.ms_pool.specs.Lending.{Adds, Grows, MayTake};

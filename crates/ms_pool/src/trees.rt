@@ -4,7 +4,7 @@
 //! A root that isn't reserved is whole, so it is told to have level 0, and whoever asks looks whether
 //! its slot is reserved. A change of a tree tells the levels of its root anew, where they are others.
 //! The places of trees and index are made once.
-ghost use Rattle.std.specs.Prelude.{◌≡◌, ℕ, ◌+◌, ◌-◌, ◌*◌, ◌/◌, ◌%◌, ◌<◌, ◌≤◌, true, false, [], get_or, length, replicate};
+ghost use Rattle.std.specs.Prelude.{◌≡◌, ℕ, ◌-◌, ◌/◌, ◌%◌, ◌<◌, ◌≤◌, false, [], get_or, length, replicate};
 ghost use Rattle.std.specs.Prelude.{IfOk, IfSome, IfNone, IsTrue, IsFalse, Some};
 ghost use Rattle.std.specs.List.{All, find};
 ghost use Rattle.ms_base.specs.Level.{root_words};

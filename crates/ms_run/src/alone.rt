@@ -8,7 +8,7 @@ ghost use Rattle.std.specs.Prelude.{◌≡◌, IfOk, OnOk, [], ◌∷◌, IsTrue
 ghost use Rattle.ms_base.specs.Good.{IsGood};
 ghost use Rattle.ms_base.specs.State.{empty_machine, limits_of};
 ghost use Rattle.ms_run.specs.Course.{begun};
-ghost use Rattle.ms_run.specs.Replay.{Answers, AreKept};
+ghost use Rattle.ms_run.specs.Replay.{AreKept};
 ghost use Rattle.ms_run.specs.Metering.{used_words_of};
 ghost use Rattle.ms_run.specs.Counting.{HasTaken, IsCounted, used_around};
 ghost use Rattle.ms_run.specs.Sink.{AreOfLines, AreOfRun, Puts};

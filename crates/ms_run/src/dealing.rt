@@ -29,7 +29,7 @@ ghost use Rattle.ms_run.specs.Dealing.{AreDealtTo, HaveMeters, MayBeDealt, IsSam
 use crate::fault::RunFault;
 use crate::gathering::put_loader;
 use crate::share::{Share, Task};
-use crate::turn::{Turn, loader_named};
+use crate::turn::{MOST_WORKERS, Turn, loader_named};
 use ms_base::Step;
 use ms_loaders::{Loader, Loaders};
 use ms_pool::Pool;
@@ -243,23 +243,43 @@ fn deal_lines(
     ensures listed { IfOk result (λ lists. AreListed (place_in turn.now) lines.now lists.items) }
     ensures count { IfOk result (λ lists. vec_len lists ≡ count) }
 {
-    let mut lists = empty_lists(alloc, count)?;
+    let mut lists = empty_lists(alloc, turn, lines, count)?;
     for line in lines {
         add_task(turn, *line, &mut lists)?;
     }
     Ok(lists)
 }
 
-/// Makes so many lists of no task.
-fn empty_lists(alloc: Global, count: usize) -> Result<Vec<Vec<Task>>, AllocError>
+/// Makes so many lists of no task, each with room for what its share will have.
+fn empty_lists(
+    alloc: Global,
+    turn: &Turn,
+    lines: &[Line],
+    count: usize,
+) -> Result<Vec<Vec<Task>>, AllocError>
     ensures listed { IfOk result (λ lists. AreEmpty lists.items) }
     ensures count { IfOk result (λ lists. vec_len lists ≡ count) }
 {
+    let rooms = rooms_for(turn, lines);
     let mut lists = Vec::with_capacity(alloc, count)?;
-    for _ in 0..count {
-        lists.push_reserved(Vec::new(alloc));
+    for at in 0..count {
+        let room = rooms.get(at).copied().unwrap_or(0);
+        lists.push_reserved(Vec::with_capacity(alloc, room)?);
     }
     Ok(lists)
+}
+
+/// Counts the lines that ask a step, by the share that they go to. A guess, of which nothing is promised.
+fn rooms_for(turn: &Turn, lines: &[Line]) -> [usize; MOST_WORKERS] {
+    let mut rooms = [0_usize; MOST_WORKERS];
+    for line in lines {
+        if let Command::Step(step) = line.command()
+            && let Some(room) = rooms.get_mut(turn.place(loader_named(&step)))
+        {
+            *room = room.wrapping_add(1);
+        }
+    }
+    rooms
 }
 
 /// Adds the task of a line to the list of the share that it goes to.

@@ -78,7 +78,9 @@ fn answer_rise<R: Wait>(
     let reply = answer(alloc, pool, loaders, step);
     // A difference modulo 2^64, as the meter counts.
     let rise = used_by(loaders, name).wrapping_sub(before);
-    meter.add(seat, rise);
+    if rise != 0 {
+        meter.add(seat, rise);
+    }
     reply
 }
 

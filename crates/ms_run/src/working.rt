@@ -4,7 +4,7 @@
 //! each reply before its thread starts; the share's seat of the meter counts what its loaders get
 //! and give back. Takes memory for the threads and their results; waits for the lock, and for the
 //! threads to end.
-ghost use Rattle.std.specs.Prelude.{IfOk, IfErr};
+ghost use Rattle.std.specs.Prelude.{◌≡◌, IfOk, IfErr};
 ghost use Rattle.std.specs.List.{All};
 ghost use Rattle.ms_run.specs.Replay.{IsWanting};
 ghost use Rattle.ms_run.specs.Shares.{IsReadyFor, IsWorked, AllWorked};
@@ -13,7 +13,7 @@ use crate::fault::RunFault;
 use crate::gate::Gate;
 use crate::metering::answer_metered;
 use crate::share::Share;
-use ms_shared::{SharedPool, UsedMeter};
+use ms_shared::{MeterSeat, SharedPool, UsedMeter};
 use std::alloc::Global;
 use std::snapshot::Snapshot;
 use std::sync::Wait;
@@ -110,7 +110,7 @@ fn work<R: Wait, G: Gate>(
         let step = task.step;
         let reply = answer_metered(alloc, &mut pool, &mut loaders, meter, &mut counted, step);
         replies.push_reserved(reply);
-        let used = meter.now(&mut counted).wrapping_add(before);
+        let used = used_now(gate.looks(), meter, &mut counted, before);
         gate.after(worker, task.line, used);
     }
     Share {
@@ -121,4 +121,15 @@ fn work<R: Wait, G: Gate>(
         tasks,
         replies,
     }
+}
+
+/// Reads the words in use where they are looked at: those before, and what the meter says.
+fn used_now(looks: bool, meter: &UsedMeter, seat: &mut MeterSeat, before: u64) -> u64
+    requires { seat.old.id ≡ meter.now.id }
+    ensures { seat.new ≡ seat.old }
+{
+    if !looks {
+        return 0;
+    }
+    meter.now(seat).wrapping_add(before)
 }

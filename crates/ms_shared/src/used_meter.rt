@@ -5,7 +5,7 @@
 //! between any two steps. So no add is lost, whoever else adds. Each call is one atomic step; only
 //! `new` takes memory, and nothing takes a lock or waits.
 //! This project's choice; HotSpot's runningCounters.cpp has such a word.
-ghost use Rattle.std.specs.Prelude.{◌≡◌, ◌≢◌, ◌%◌, ◌^◌, ◌<◌, ◌≤◌, ◌↔◌, IsOk, IfOk, IfErr, OnErr};
+ghost use Rattle.std.specs.Prelude.{◌≡◌, ◌%◌, ◌^◌, ◌<◌, ◌≤◌, ◌↔◌, IsOk, IfOk, IfErr};
 ghost use Rattle.std.specs.Prelude.{vec_len, replicate, []};
 ghost use Rattle.std.specs.List.{All, sum_by};
 ghost use Rattle.ms_shared.specs.MeterRule.{added, taken_off, meter_view};

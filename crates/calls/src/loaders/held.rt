@@ -23,7 +23,6 @@ struct NoChunks {
 }
 
 impl ChunkSource for NoChunks {
-    ghost use Rattle.ms_base.specs.State.{Limits};
     ghost use Rattle.ms_base.specs.Spaces.{by_space};
     ghost use Rattle.ms_base.specs.declared.policy.Policy.TheVariants.{Balanced};
 

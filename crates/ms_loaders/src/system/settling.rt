@@ -7,7 +7,7 @@
 //! Workers have loaders of their own over a pool that they share. When they have come together, and
 //! no account is left that isn't a given loader's, the parts are a good machine. Nothing here takes
 //! memory or waits. This project's choice.
-ghost use Rattle.std.specs.Prelude.{◌≡◌, ◌+◌, ◌*◌, ◌≤◌, ◌↔◌, IfOk, IfErr, IsOk, length};
+ghost use Rattle.std.specs.Prelude.{◌≡◌, ◌*◌, ◌≤◌, ◌↔◌, IfOk, IfErr, IsOk};
 ghost use Rattle.ms_base.specs.declared.refusal.Refusal.TheVariants.{Unsettled};
 ghost use Rattle.ms_base.specs.Good.{IsGood};
 ghost use Rattle.ms_base.specs.Names.{AreNamed};
