@@ -1,11 +1,12 @@
 -- Books stay books at each step, and what a step places awaits its block. The functions of `books`
 -- use these.
 use Rattle.std.proofs.Common.{◌≡◌, ◌≤◌, ◌<◌, ◌+◌, ◌-◌, ◌^◌, ℕ, zero, suc, Bool, Option, Some, None, List, [], ◌∷◌, ◌++◌}
-use Rattle.std.proofs.Common.{length, refl, sym, ap, ◌∙◌, subst, arith, length-append, length-set, sum}
+use Rattle.std.proofs.Common.{length, refl, sym, ap, ◌∙◌, subst, arith, length-append, length-set, sum, true}
 use Rattle.std.specs.Prelude.{if◌then◌else◌, slice_get, slice_index, slice_index_or, slice_set}
 use Rattle.std.specs.Option.{option_map, IfSome}
 use Rattle.std.proofs.Math.Nat.{pow-le-pow_right}
-use Rattle.std.proofs.lemmas.Bool.{le-leb}
+use Rattle.std.specs.List.{list_all, list_any, zip}
+use Rattle.std.proofs.lemmas.Bool.{and_parts, false≢true, le-leb}
 use Rattle.std.proofs.lemmas.Grind.{get_or_default_zero}
 use Rattle.std.proofs.lemmas.List.Sums.{sum_by_push}
 use Rattle.ms_base.specs.declared.kind.Space.{Space}
@@ -15,7 +16,8 @@ use Rattle.ms_base.specs.declared.span.Span.{Span}
 use Rattle.ms_base.specs.Level.{size_of}
 use Rattle.ms_base.specs.Names.{with_new}
 use Rattle.ms_base.specs.State.{ArenaState}
-use Rattle.ms_base.specs.Good.{IsSound}
+use Rattle.ms_base.specs.Good.{IsSound, is_in_use}
+use Rattle.ms_base.specs.Interval.{lies_in}
 use Rattle.ms_base.specs.Place.{current, current_top, last_place, tops_with, with_rest, with_top, with_chunk}
 use Rattle.ms_base.specs.Place.{with_taken, retired, retired_chunk, best_fit, placed, placed_in, place_at_top}
 use Rattle.ms_base.proofs.arena.KeptLemmas.{sound_with_kept}
@@ -484,3 +486,22 @@ books_taken policy space state new counted before now n span tops books other ar
   used = omega (arith, ap sum pushed, sum_by_push (λ (t : ℕ). t) tops n, summed, more);
   sound = (taken.awaits [] books.sound).sound;
 }
+
+-- Where no chunk is held, no word is in use, and no block is free.
+pub nothing_held : (space : Space) (state : ArenaState) (counted : ℕ) → AreBooks space state counted → state.chunks ≡ []
+    → (state.tops ≡ []) × (counted ≡ 0) × (state.kept ≡ [])
+nothing_held space state counted are none =
+    (no_tops, omega (arith, are.used, ap sum no_tops), none_free state.kept are.sound.inside)
+  where
+    of_none : (xs : List ℕ) → length xs ≡ 0 → xs ≡ []
+    of_none [] e = refl
+    of_none (x ∷ xs) e = absurd (omega (arith, e))
+
+    no_tops : state.tops ≡ []
+    no_tops = of_none state.tops (are.each ∙ ap length none)
+
+    none_free : (kept : List (ℕ × ℕ)) → list_all (is_in_use state) kept ≡ true → kept ≡ []
+    none_free [] all = refl
+    none_free (run ∷ more) all = absurd
+        (false≢true (sym (ap (λ chunks. list_any (λ (used : Chunk × ℕ). lies_in run (used.0.start, used.1)) (zip chunks state.tops)) none)
+        ∙ (and_parts (is_in_use state run) (list_all (is_in_use state) more) all).0))

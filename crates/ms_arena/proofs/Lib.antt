@@ -7,3 +7,4 @@ mod AllocLemmas
 mod RawLemmas
 mod ArenaLemmas
 mod PagesLemmas
+mod PlacesLemmas

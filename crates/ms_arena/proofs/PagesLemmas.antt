@@ -231,3 +231,14 @@ renewed words was pages_capacity store_capacity number base page store are same 
     as_it_was : (at / 512 ≡ number → ⊥)
         → page_at (slice_set words.pages number fresh) (at / 512) ≡ page_at words.pages (at / 512)
     as_it_was differ = get_or-set_other words.pages number (at / 512) fresh no_page differ
+
+-- Where nothing is stored all words are 0.
+pub blank : (words : PagesView) (pages_capacity store_capacity : ℕ) → ArePages words pages_capacity store_capacity
+    → length words.store ≡ 0 → (at : ℕ) → word_at words at ≡ 0
+blank words pages_capacity store_capacity are empty at =
+    elim (page_at words.pages (at / 512)).written as (λ b. (page_at words.pages (at / 512)).written ≡ b
+    → cond b (get_or words.store (base_of (page_at words.pages (at / 512)) + at % 512) 0) 0 ≡ 0) [
+      | true ↦ λ written. absurd
+          (omega (arith, are.placed (at / 512) written, are.below (at / 512), are.stored, empty))
+      | false ↦ λ written. refl
+    ] refl

@@ -1,5 +1,5 @@
 -- What a raw arena gains by a block that was placed. The functions of `raw` use these.
-use Rattle.std.proofs.Common.{◌≡◌, ◌<◌, ◌+◌, ◌%◌, ◌^◌, ℕ, [], refl, sym, ap, ◌∙◌, subst}
+use Rattle.std.proofs.Common.{◌≡◌, ◌<◌, ◌≤◌, ◌+◌, ◌%◌, ◌^◌, ℕ, [], refl, sym, ap, ◌∙◌, subst}
 use Rattle.ms_base.specs.declared.kind.Kind.{Kind}
 use Rattle.ms_base.specs.declared.kind.Space.{Space}
 use Rattle.ms_base.specs.declared.span.Block.{Block}
@@ -32,14 +32,15 @@ opened old made new start end stay opens = record {
 -- The whole of it.
 pub gained : (old made new : BooksView) (kind : Kind) (count total more sum : ℕ) (words room opened_words : WordsView)
     (block : Block) (start n : ℕ)
-    → IsSameBooks old made → StayWords words room → AwaitsBlock made.state new.state start n
+    → 2 ≤ n → IsSameBooks old made → StayWords words room → AwaitsBlock made.state new.state start n
     → Opens room start (start + n) opened_words → start + n < 2 ^ 27 → more ≡ count + 1
     → sum ≡ (total + n) % 2 ^ 64 → block ≡ block_at start n → new.owner ≡ made.owner → new.space ≡ made.space
     → Gains (raw_over old kind count total words) block (raw_over new kind more sum opened_words)
-gained old made new kind count total more sum words room opened_words block start n same stay awaits opens ends
+gained old made new kind count total more sum words room opened_words block start n long same stay awaits opens ends
     counted summed is owner space =
     subst (λ (b : Block). Gains (raw_over old kind count total words) b (raw_over new kind more sum opened_words)) (sym is)
     (record {
+      long = long;
       awaits = subst (λ (state : ArenaState). AwaitsBlock state new.state start n)
           (ap (λ (books : BooksView). books.state) same.rest) awaits;
       opens = opened words room opened_words start (start + n) stay opens;

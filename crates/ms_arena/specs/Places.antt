@@ -1,8 +1,9 @@
 -- The places of stretches in a list (our choice).
-use Rattle.std.specs.Prelude.{◌≡◌, ℕ, cond, nat_eq, List, Option, None, Some}
+use Rattle.std.specs.Prelude.{◌≡◌, ℕ, ◌<◌, ◌≤◌, cond, nat_eq, List, Option, None, Some, slice_index_or}
 use Rattle.std.specs.Map.{lookup}
 use Rattle.std.specs.Option.{unwrap_or}
 use Rattle.ms_arena.specs.declared.places.Placed.{Placed}
+use Rattle.ms_arena.specs.declared.places.Run.{Run}
 
 -- The stretch that got its place last, the places of the others, in any order, and for how many more there is room.
 pub record PlacesView : Type 0 where
@@ -18,6 +19,15 @@ place_in (Some newest) others stretch =
 
 abbrev pub place_of : PlacesView → ℕ → ℕ
 place_of places stretch = place_in places.newest places.others stretch
+
+-- A run by its number; further on there is none.
+abbrev pub run_at : List Run → ℕ → Run
+run_at runs at = slice_index_or runs at (record { first = 0; past = 0 })
+
+-- All stretches of each run have places.
+abbrev pub HavePlaces : Option Placed → List (ℕ × ℕ) → List Run → Type 0
+HavePlaces newest others runs = (at stretch : ℕ) → (run_at runs at).first ≤ stretch → stretch < (run_at runs at).past
+    → 0 < place_in newest others stretch
 
 -- All places stay.
 abbrev pub StayPlaces : PlacesView → PlacesView → Type 0

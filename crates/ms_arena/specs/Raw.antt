@@ -77,8 +77,9 @@ pub record IsSameRaw (old new : RawView) : Type 0 where
   pub rest : new ≡ record old { words = new.words }
   pub words : StayWords old.words new.words
 
--- A block more is live: its words awaited it, and are there and 0.
+-- A block more is live: it has at least two words, which awaited it, and are there and 0.
 pub record Gains (old : RawView) (block : Block) (new : RawView) : Type 0 where
+  pub long : 2 ≤ block.words
   pub awaits : AwaitsBlock old.books new.books block.start block.words
   pub opens : Opens old.words block.start (block.start + block.words) new.words
   pub ends : block.start + block.words < 2 ^ 27

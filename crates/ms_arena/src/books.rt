@@ -95,9 +95,13 @@ impl Books {
     {
         // What holds of the chunks of every account is learnt here.
         let _ = account.held();
-        self.tops.clear();
-        self.used = 0;
-        self.kept.clear(alloc);
+        empty_out(
+            &self.account,
+            &mut self.tops,
+            &mut self.used,
+            &mut self.kept,
+            alloc,
+        );
         mem::replace(&mut self.account, account)
     }
 
@@ -285,6 +289,21 @@ impl Books {
         self.tops.push_reserved(n);
         Ok(span.start)
     }
+}
+
+/// Takes all tops and free blocks out; where the account holds no chunk there are none.
+fn empty_out(account: &Account, tops: &mut Vec<u64>, used: &mut u64, kept: &mut Kept, alloc: Global)
+    requires none { account.now.chunks ≡ [] → (tops.old.items ≡ []) × (used.old ≡ 0) × (kept.old.kept ≡ []) }
+    ensures tops { tops.new.items ≡ [] }
+    ensures used { used.new ≡ 0 }
+    ensures kept { kept.new.kept ≡ [] }
+{
+    if account.held() == 0 {
+        return;
+    }
+    tops.clear();
+    *used = 0;
+    kept.clear(alloc);
 }
 
 /// Places a block of n words at the start of the free block that fits best, and keeps its rest.

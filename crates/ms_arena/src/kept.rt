@@ -20,8 +20,8 @@ use ms_blocks::FreeBlocks;
 use std::alloc::Global;
 use std::marker::Model;
 
-/// For how many blocks room is made at least.
-const LEAST_ROOM: usize = 16;
+/// For how many blocks room is made at least: nothing touches it until blocks come.
+const LEAST_ROOM: usize = 64;
 
 /// The free blocks of one arena, and room for more of them. A start is a word number.
 #[derive(Drop)]

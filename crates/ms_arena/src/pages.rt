@@ -106,6 +106,13 @@ impl Pages {
         self.store.len() / PAGE
     }
 
+    /// Tells whether no word was ever written.
+    pub fn is_blank(&self) -> bool
+        ensures { IsTrue result → (at : ℕ) → word_at self.now at ≡ 0 }
+    {
+        self.store.is_empty()
+    }
+
     /// Reads a word.
     pub fn read(&self, at: usize) -> u64
         ensures { result ≡ word_at self.now at }
@@ -136,6 +143,9 @@ impl Pages {
         requires { from ≤ end }
         ensures { Clears self.old from end self.new }
     {
+        if self.is_blank() {
+            return;
+        }
         for number in from / PAGE..self.pages.len().min(end.div_ceil(PAGE)) {
             self.clear_in(number, from, end);
         }

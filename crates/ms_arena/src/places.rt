@@ -5,13 +5,19 @@
 //!                 newest            others
 //!
 //! A hash map from each stretch that has a place but the one that got the last: that is looked at before the
-//! map, since an arena mostly allocates there, and small arenas have no other. Only `reserve` takes memory.
-ghost use Rattle.std.specs.Prelude.{◌≡◌, ℕ, ◌+◌, ◌<◌, ◌≤◌, OnOk, cond, nat_eq};
-ghost use Rattle.ms_arena.specs.Places.{StayPlaces, place_of};
+//! map, since an arena mostly allocates there, and small arenas have no other. Beside them are noted some runs of
+//! stretches that all have places, so that a large block needs no look at each of its own. Only `reserve`
+//! takes memory.
+ghost use Rattle.std.specs.Prelude.{◌≡◌, ℕ, ◌+◌, ◌<◌, ◌≤◌, IsTrue, OnOk, cond, nat_eq};
+ghost use Rattle.std.specs.HashMap.{spare};
+ghost use Rattle.ms_arena.specs.Places.{HavePlaces, StayPlaces, place_in, place_of};
 
 use std::alloc::{AllocError, Global};
 use std::collections::HashMap;
 use std::marker::Model;
+
+/// How many stretches a run has at least that is noted by itself.
+const LARGE: usize = 32;
 
 /// A stretch with its place.
 #[derive(Clone, Copy, Drop)]
@@ -22,6 +28,15 @@ pub struct Placed {
     place: usize,
 }
 
+/// A run of stretches: the first, and the one past the last.
+#[derive(Clone, Copy, Drop)]
+pub struct Run {
+    /// The first.
+    first: usize,
+    /// The one past the last.
+    past: usize,
+}
+
 /// The places of stretches, counted from 1. A stretch has its number in the space.
 #[derive(Drop)]
 pub struct Places {
@@ -29,11 +44,13 @@ pub struct Places {
     newest: Option<Placed>,
     /// The place of each other stretch that has one.
     others: HashMap<usize, usize>,
+    /// Runs of which each stretch has a place.
+    runs: Vec<Run>,
 }
 
 impl Model for Places {
     ghost use Rattle.std.specs.HashMap.{spare};
-    ghost use Rattle.ms_arena.specs.Places.{PlacesView};
+    ghost use Rattle.ms_arena.specs.Places.{PlacesView, HavePlaces};
 
     ghost Value = { PlacesView };
 
@@ -42,6 +59,8 @@ impl Model for Places {
       others = p.others.entries;
       spare = spare p.others;
     } };
+
+    ghost invariant = { λ p. HavePlaces p.newest p.others.entries p.runs.items };
 }
 
 impl Places {
@@ -52,6 +71,7 @@ impl Places {
         Places {
             newest: None,
             others: HashMap::new(alloc),
+            runs: Vec::new(alloc),
         }
     }
 
@@ -60,7 +80,10 @@ impl Places {
         ensures { (stretch : ℕ) → place_of self.new stretch ≡ 0 }
     {
         self.newest = None;
-        self.others.clear();
+        if !self.others.is_empty() {
+            self.others.clear();
+        }
+        self.runs.clear();
     }
 
     /// Tells for how many stretches there is memory.
@@ -73,6 +96,7 @@ impl Places {
         ensures room { OnOk result (stretches ≤ self.new.spare) }
         ensures stay { StayPlaces self.old self.new }
     {
+        make_run_room(&mut self.runs, stretches);
         self.others.reserve(stretches)
     }
 
@@ -94,16 +118,95 @@ impl Places {
     /// Gives a stretch a place, in room that there is.
     pub fn put(&mut self, stretch: usize, place: usize)
         requires room { 0 < self.old.spare }
+        requires some { 0 < place }
         ensures put { (other : ℕ) → place_of self.new other
             ≡ cond (nat_eq stretch other) place (place_of self.old other) }
         ensures room { self.old.spare ≤ self.new.spare + 1 }
     {
-        if let Some(former) = self.newest {
-            match self.others.insert(former.stretch, former.place) {
-                Ok(_) => {}
-                Err(_) => unreachable!(),
+        enter(&mut self.newest, &mut self.others, stretch, place);
+    }
+
+    /// Tells whether all stretches from one up to another are known to have places.
+    pub fn has_all(&self, first: usize, past: usize) -> bool
+        ensures { IsTrue result
+            → (stretch : ℕ) → first ≤ stretch → stretch < past → 0 < place_of self.now stretch }
+    {
+        for at in 0..self.runs.len() {
+            let run = self.runs[at];
+            if run.first <= first && past <= run.past {
+                return true;
             }
         }
-        self.newest = Some(Placed { stretch, place });
+        false
     }
+
+    /// Notes that all stretches from one up to another have places.
+    pub fn note(&mut self, first: usize, past: usize)
+        requires order { first ≤ past }
+        requires places { (stretch : ℕ) → first ≤ stretch → stretch < past → 0 < place_of self.old stretch }
+        ensures { self.new ≡ self.old }
+    {
+        note_in(&self.newest, &self.others, &mut self.runs, first, past);
+    }
+}
+
+/// Makes room for a run more where so many stretches may become one; where that is refused none is noted.
+#[inline(always)]
+fn make_run_room(runs: &mut Vec<Run>, stretches: usize)
+    ensures { runs.new.items ≡ runs.old.items }
+{
+    if stretches >= LARGE {
+        let _ = runs.reserve(1);
+    }
+}
+
+/// Notes a run beside others: as a part of the first that it meets or touches, else by itself where it is large.
+fn note_in(
+    newest: &Option<Placed>,
+    others: &HashMap<usize, usize>,
+    runs: &mut Vec<Run>,
+    first: usize,
+    past: usize,
+)
+    requires order { first ≤ past }
+    requires places { (stretch : ℕ) → first ≤ stretch → stretch < past
+        → 0 < place_in newest.now others.now.entries stretch }
+    requires runs { HavePlaces newest.now others.now.entries runs.old.items }
+    ensures { HavePlaces newest.now others.now.entries runs.new.items }
+{
+    for at in 0..runs.len() {
+        let run = runs[at];
+        if first <= run.past && run.first <= past {
+            runs[at] = Run {
+                first: run.first.min(first),
+                past: run.past.max(past),
+            };
+            return;
+        }
+    }
+    if past - first >= LARGE && runs.len() < runs.capacity() {
+        runs.push_reserved(Run { first, past });
+    }
+}
+
+/// Gives a stretch a place: it is the newest then, and the former one goes into the map.
+#[inline(always)]
+fn enter(
+    newest: &mut Option<Placed>,
+    others: &mut HashMap<usize, usize>,
+    stretch: usize,
+    place: usize,
+)
+    requires room { 0 < spare others.old }
+    ensures put { (other : ℕ) → place_in newest.new others.new.entries other
+        ≡ cond (nat_eq stretch other) place (place_in newest.old others.old.entries other) }
+    ensures room { spare others.old ≤ spare others.new + 1 }
+{
+    if let Some(former) = *newest {
+        match others.insert(former.stretch, former.place) {
+            Ok(_) => {}
+            Err(_) => unreachable!(),
+        }
+    }
+    *newest = Some(Placed { stretch, place });
 }

@@ -94,7 +94,10 @@ impl RawArena {
         ensures former { result ≡ raw_account self.old }
         ensures anew { IsNewRaw account kind self.new }
     {
-        self.words.clear();
+        // Where it holds no chunk no word was ever opened.
+        if self.books.account().held() != 0 {
+            self.words.clear();
+        }
         self.count = 0;
         self.total = 0;
         self.kind = kind;
@@ -132,6 +135,7 @@ impl RawArena {
     /// at the start of a new chunk, and the former current chunk retires. Refused with `ZeroWords`,
     /// with `TooLarge`, with `OutOfMemory`, and as the source's `take` refuses; a refusal leaves the
     /// arena as it was. Takes memory, all of its own before the source is asked.
+    #[inline(always)]
     pub fn alloc<S: ChunkSource>(&mut self, source: &mut S, words: u64) -> Result<Block, Refusal>
         requires { S.serves source.old (raw_account self.old) }
         ensures served { S.serves source.new (raw_account self.new) }

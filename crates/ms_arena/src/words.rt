@@ -147,7 +147,8 @@ impl Words {
         }
     }
 
-    /// Opens a run of n words stretch by stretch.
+    /// Opens a run of n words stretch by stretch, where they aren't there and 0 anyway: a large block costs
+    /// nothing until a word is written.
     #[inline(never)]
     fn open_across(&mut self, start: u64, n: u64)
         requires some { 0 < n }
@@ -157,9 +158,15 @@ impl Words {
     {
         let from = start as usize;
         let end = from + n as usize;
-        for stretch in from / STRETCH..end.div_ceil(STRETCH) {
+        let first = from / STRETCH;
+        let past = end.div_ceil(STRETCH);
+        if self.list.is_blank() && self.places.has_all(first, past) {
+            return;
+        }
+        for stretch in first..past {
             self.open_in(stretch, from, end);
         }
+        self.places.note(first, past);
     }
 
     /// Opens the words from a start up to an end that lie in a stretch.

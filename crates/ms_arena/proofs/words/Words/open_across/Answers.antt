@@ -1,5 +1,8 @@
-use Rattle.std.proofs.Common.{◌/◌, ◌∙◌, arith, inl, inr}
+use Rattle.std.proofs.Common.{◌/◌, ◌∙◌, ◌<◌, ◌+◌, ℕ, arith, inl, inr, subst, sym}
 use Rattle.std.proofs.lemmas.Bool.{cases_eq}
+use Rattle.ms_arena.specs.Places.{place_of}
+use Rattle.ms_arena.specs.Words.{WordsView}
+use Rattle.ms_arena.proofs.PlacesLemmas.{word_in_stretch}
 use Rattle.ms_arena.proofs.words.Words.open_across.Goals as goal
 
 pub loop-stretch-preserved : goal.loop-stretch-preserved
@@ -21,3 +24,12 @@ loop-stretch-preserved c =
       after = λ word high. opens.after word high ∙ so_far.after word high;
       room = omega (arith, so_far.room, c.open_in.ensures.room, c.loop-stretch.auto.stretch);
     }
+
+pub note-requires-clause-places : goal.note-requires-clause-places
+note-requires-clause-places c = λ stretch low high.
+    let has = word_in_stretch c.args.start (c.args.start + c.args.n) stretch (omega (arith, c.requires.some)) low
+    (omega (arith, high, c.div_ceil-past.ensures)) in
+    subst (λ (words : WordsView). 0 < place_of words.places stretch) (sym c.self-2.view_is)
+    (subst (λ (n : ℕ). 0 < place_of c.loop-stretch.self.places n) has.lies
+    (c.loop-stretch.invariant.here has.word has.low has.high
+    (omega (arith, has.lies, high, c.loop-stretch-test.false))))
