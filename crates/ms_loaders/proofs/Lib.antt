@@ -1,4 +1,7 @@
 mod TimesLemmas
+pub mod TableLemmas
+mod SlideLemmas
+mod BesideLemmas
 pub mod MappedLemmas
 mod HolderLemmas
 mod OneHolderLemmas

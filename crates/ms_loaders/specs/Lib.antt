@@ -1,5 +1,6 @@
 pub mod Loader
 pub mod LoaderInside
+pub mod Table
 pub mod Naming
 pub mod Boxed
 pub mod Places

@@ -1,13 +1,12 @@
 -- The names of a loader's blocks; how an allocation enters one, and what it does to names, arena and source.
-use Rattle.std.specs.Prelude.{◌≡◌, ℕ, ◌⊎◌, List, Option, Some, None, Result, Ok, Err, IfSome, IfOk, OnErr, nat_eq}
-use Rattle.std.specs.List.{IsDistinct}
-use Rattle.std.specs.Map.{keys_of, lookup}
+use Rattle.std.specs.Prelude.{◌≡◌, ℕ, ◌⊎◌, List, Some, None, Result, Ok, Err, IfOk, OnErr}
 use Rattle.ms_base.specs.declared.policy.Policy.{Policy}
 use Rattle.ms_base.specs.declared.span.Block.{Block}
 use Rattle.ms_base.specs.declared.refusal.Refusal.{Refusal}
 use Rattle.ms_base.specs.declared.refusal.Refusal.TheVariants.{BlockExists}
 use Rattle.ms_base.specs.Names.{named, with_new}
-use Rattle.ms_loaders.specs.declared.naming.FoundName.{FoundName}
+use Rattle.ms_base.specs.Hashed.{by_name}
+use Rattle.ms_loaders.specs.Table.{TableView, entries_of}
 use Rattle.ms_arena.specs.Arena.{PlaceRefused}
 use Rattle.ms_arena.specs.Alloc.{TakeRelation, GrowRelation, Allocates}
 use Rattle.ms_arena.specs.Raw.{RawView, Gains, IsSameRaw, live_then, with_live}
@@ -16,15 +15,9 @@ use Rattle.ms_arena.specs.Raw.{RawView, Gains, IsSameRaw, live_then, with_live}
 pub record BlockNames : Type 0 where
   pub entries : List (ℕ × Block)
 
--- A name that was found has its block still.
-abbrev pub IsStillNamed : List (ℕ × Block) → Option FoundName → Type 0
-IsStillNamed entries last = IfSome last (λ found. lookup (nat_eq found.name) entries ≡ Some found.block)
-
--- What is kept true of entries in no order: no two have one name, and the name that was found last has its
--- block still.
-pub record AreNames (entries : List (ℕ × Block)) (last : Option FoundName) : Type 0 where
-  pub unique : IsDistinct nat_eq (keys_of entries)
-  pub found : IsStillNamed entries last
+-- The names of a table.
+abbrev pub names_of : TableView → BlockNames
+names_of table = record { entries = by_name (entries_of table) }
 
 -- Why a name is not entered, in the order of the checks.
 abbrev pub EnterRefused : List (ℕ × Block) → ℕ → ℕ → Refusal → Type 0

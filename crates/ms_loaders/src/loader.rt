@@ -190,7 +190,7 @@ impl Loader {
         ensures owners { self.new ≡ with_state self.old self.new.state }
         ensures sound { IsSoundView self.new }
     {
-        let Some(block) = self.names.find(name) else {
+        let Some(block) = self.names.get(name) else {
             return Err(Refusal::NoBlock);
         };
         if index >= block.words {

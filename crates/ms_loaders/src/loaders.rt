@@ -4,7 +4,7 @@
 //!     7 ──── box of 7 and its loader        from `insert` until it is taken out
 //!
 //! So names need no search, and a walk over the places gives them in order. Kept true: each loader
-//! stands at its name, none below `first`, and there are `count`. Beside them a map guesses a loader's
+//! stands at its name, none below `first`, and there are `count`. Beside them are notes that guess a loader's
 //! name from an owner number (`owners`), of which nothing is kept true, and loaders that were unloaded
 //! wait to start anew (`spares`). Apart from the system so that loaders can be handed to workers
 //! and gathered again. Only `insert` and `open` take memory. A loader is large, so it is made into its box and
@@ -109,7 +109,7 @@ impl Loaders {
             Ok(boxed) => boxed,
             Err(accounts) => return Err(accounts),
         };
-        if self.make_room().is_err() {
+        if self.make_room(owner).is_err() {
             return Err(boxed.into_accounts());
         }
         match self.stand(owner, name, boxed) {
@@ -118,12 +118,12 @@ impl Loaders {
         }
     }
 
-    /// Makes room for what is noted of one more loader, and for its room once it goes; the loaders stay.
-    /// Takes memory.
-    fn make_room(&mut self) -> Result<(), AllocError>
+    /// Makes room for what is noted of one more loader, by its first owner number, and for its room once it
+    /// goes; the loaders stay. Takes memory.
+    fn make_room(&mut self, owner: u32) -> Result<(), AllocError>
         ensures { self.new ≡ self.old }
     {
-        self.owners.reserve()?;
+        self.owners.reserve(owner, &self.places)?;
         self.spares.reserve(self.count + 1)
     }
 
@@ -138,8 +138,7 @@ impl Loaders {
     {
         match self.places.put(self.alloc, name, boxed) {
             Ok(()) => {
-                // In the room that was made.
-                let _ = self.owners.note(owner, name);
+                self.owners.note(owner, name);
                 self.first = self.first.min(usize::from(name));
                 self.count += 1;
                 Ok(())
@@ -208,10 +207,10 @@ impl Loaders {
         ensures back { IfErr result (λ back. back ≡ loader) }
         ensures unchanged { OnErr result (self.new ≡ self.old) }
     {
-        if self.make_room().is_err() {
+        let owner = first_owner(&loader);
+        if self.make_room(owner).is_err() {
             return Err(loader);
         }
-        let owner = first_owner(&loader);
         let boxed = match Boxed::new(self.alloc, name, loader) {
             Ok(boxed) => boxed,
             Err(loader) => return Err(loader),

@@ -1,24 +1,24 @@
 -- A block by where it lies: an entry of a hash map that has it gives its name, and the name that stands
--- for it is a live block's there. `Names::name_of`, `Loader::name_of` and `System::free_block` use these.
+-- for it is a live block's there. `Table::name_of`, `Loader::name_of` and `System::free_block` use these.
 use Rattle.std.proofs.Common.{◌≡◌, ◌||◌, ◌&&◌, ℕ, ◌==◌, true, false, Some, None, Option, List, [], ◌∷◌, refl, sym, ap}
-use Rattle.std.proofs.Common.{◌∙◌, subst, inl, inr, option_map}
+use Rattle.std.proofs.Common.{◌∙◌, subst, inl, inr, option_map, cond}
+use Rattle.std.proofs.lemmas.Option.{same_Some}
 use Rattle.std.specs.Prelude.{nat_eq, IfSome, IfNone}
 use Rattle.std.specs.List.{AllByRecursion, IsDistinct, list_any}
 use Rattle.std.specs.Map.{keys_of, lookup}
-use Rattle.std.proofs.lemmas.Bool.{and_parts, and_from, or_cases, eqb-true, eq-eqb, ne_eqb, both_ways, cases_eq}
+use Rattle.std.proofs.lemmas.Bool.{and_parts, and_from, or_cases, eqb-true, eq-eqb, ne_eqb, both_ways, cases_eq, false≢true}
 use Rattle.std.proofs.lemmas.Map.Entries.{lookup_head, lookup_tail}
 use Rattle.std.proofs.lemmas.Map.Keys.{IsDistinct-head, IsDistinct-tail}
 use Rattle.ms_base.specs.declared.span.Block.{Block}
 use Rattle.ms_base.specs.declared.words.LiveBlock.{LiveBlock}
 use Rattle.ms_base.specs.declared.refusal.Refusal.{Refusal}
 use Rattle.ms_base.specs.declared.refusal.Refusal.TheVariants.{NoLoader, NoBlock}
-use Rattle.ms_base.specs.Hashed.{by_name}
 use Rattle.ms_base.specs.Live.{run_of}
 use Rattle.ms_base.specs.Names.{named}
 use Rattle.ms_base.specs.State.{LoaderState, Machine}
 use Rattle.ms_base.specs.Transition.{HasLoader, BlockCause}
-use Rattle.ms_base.proofs.entries.HashedLemmas.{named_by_name}
 use Rattle.ms_loaders.specs.Finding.{names_block, HasRun}
+use Rattle.ms_loaders.specs.Table.{TableView, block_of, in_row}
 use Rattle.ms_loaders.specs.LoaderInside.{live_at, IsLoader, view_of}
 use Rattle.ms_loaders.specs.declared.loader.Loader.TheInside.{Inside}
 use Rattle.ms_loaders.proofs.MappedLemmas.{found-mapped, named-mapped}
@@ -60,7 +60,7 @@ none_has name block (e ∷ es) others =
       | false ↦ λ h. none_has name block es others.1
     ] refl
 
-entry_is : (name : ℕ) (block : Block) (es : List (ℕ × Block)) → IsDistinct nat_eq (keys_of es)
+pub entry_is : (name : ℕ) (block : Block) (es : List (ℕ × Block)) → IsDistinct nat_eq (keys_of es)
     → list_any (names_block name block) es ≡ true → lookup (nat_eq name) es ≡ Some block
 entry_is name block [] distinct h = absurd (cc)
 entry_is name block (e ∷ es) distinct h =
@@ -75,10 +75,6 @@ entry_is name block (e ∷ es) distinct h =
             ∙ entry_is name block es (IsDistinct-tail nat_eq e.0 (keys_of es) distinct) later
       ]
     ]
-
-pub entry_named : (name : ℕ) (block : Block) (es : List (ℕ × Block)) → IsDistinct nat_eq (keys_of es)
-    → list_any (names_block name block) es ≡ true → named (by_name es) name ≡ Some block
-entry_named name block es distinct h = named_by_name es name ∙ entry_is name block es distinct h
 
 has_entry : (name : ℕ) (block : Block) (es : List (ℕ × Block)) → lookup (nat_eq name) es ≡ Some block
     → list_any (names_block name block) es ≡ true
@@ -96,9 +92,30 @@ has_entry name block (e ∷ es) found = elim (cases_eq name e.0) [
       ]
 ]
 
-pub named_entry : (name : ℕ) (block : Block) (es : List (ℕ × Block)) → named (by_name es) name ≡ Some block
-    → list_any (names_block name block) es ≡ true
-named_entry name block es found = has_entry name block es (sym (named_by_name es name) ∙ found)
+-- A name that has no block in the row, and has it among the others.
+pub found_among : (table : TableView) (block : Block) (result : Option ℕ)
+    → IfSome result (λ name. nat_eq (in_row table.first table.row name).words 0 ≡ true)
+    → IfSome result (λ name. lookup (nat_eq name) table.others ≡ Some block)
+    → IfSome result (λ name. block_of table name ≡ Some block)
+found_among table block None lacks has = tt
+found_among table block (Some name) lacks has =
+    ap (λ t. cond t (lookup (nat_eq name) table.others) (Some (in_row table.first table.row name))) lacks ∙ has
+
+-- No name has the block, where none of the list has it, and no entry whose name has none there.
+pub none_has_it : (table : TableView) (block : Block)
+    → ((name : ℕ) → in_row table.first table.row name ≡ block → nat_eq block.words 0 ≡ true)
+    → ((name : ℕ) → nat_eq (in_row table.first table.row name).words 0 ≡ true
+    → list_any (names_block name block) table.others ≡ false)
+    → (name : ℕ) → block_of table name ≡ Some block → ⊥
+none_has_it table block row others name found =
+    elim (nat_eq (in_row table.first table.row name).words 0) as (λ t. nat_eq (in_row table.first table.row name).words 0 ≡ t
+    → cond t (lookup (nat_eq name) table.others) (Some (in_row table.first table.row name)) ≡ Some block → ⊥) [
+      | true ↦ λ is e. both_ways (list_any (names_block name block) table.others) (others name is)
+          (has_entry name block table.others e)
+      | false ↦ λ is e.
+          let same : in_row table.first table.row name ≡ block = same_Some (in_row table.first table.row name) block e in
+          false≢true (sym is ∙ ap (λ (b : Block). nat_eq b.words 0) same ∙ row name same)
+    ] refl found
 
 -- A named block lies where its name says.
 pub run_named : (a : Inside) (name : ℕ) (block : Block) → IsLoader a → named a.names.entries name ≡ Some block

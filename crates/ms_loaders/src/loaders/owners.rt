@@ -1,72 +1,106 @@
 //! Which name was noted of an owner number: a guess that spares a walk.
 //!
-//!     owner      7 │ 12 │ 3        in no order; each loader is noted once, at the first of its
-//!     name       5 │  2 │ 7        two owner numbers
+//!     owner      3 │  7 │ 12 │ 15 │       rising, since numbers are given out so; each loader is noted
+//!     name       7 │  5 │  2 │  9 │       once, at the first of its two owner numbers
 //!
-//! Nothing outside rests on it: whoever asks looks at the loader of that name before believing it. So
-//! it may tell a name that is used no more, or none where a loader was changed in its place. Only
-//! `reserve` takes memory; `note` takes none in the room that was made.
-ghost use Rattle.std.specs.Prelude.{◌≡◌, OnOk, OnErr, []};
-ghost use Rattle.ms_base.specs.Names.{named, with_new, without};
+//! Nothing outside rests on it: whoever asks looks at the loader of that name before believing it. So it may
+//! tell a name that is used no more, or none where a loader was changed in its place. Where a loader goes
+//! its note stays until the list is full, and is swept out then. A number that doesn't rise, as where
+//! loaders come back from workers, is noted in a hash map beside the list. Only `reserve` takes memory;
+//! `note` takes none in the room that was made.
 
+use super::first_owner;
+use super::places::Places;
 use std::alloc::{AllocError, Global};
 use std::collections::HashMap;
 use std::marker::Model;
 
+/// The name that was noted of an owner number.
+#[derive(Clone, Copy, Drop)]
+struct Note {
+    owner: u32,
+    name: u16,
+}
+
 /// Names of loaders by owner number.
 #[derive(Drop)]
 pub(super) struct Owners {
-    names: HashMap<u32, u16>,
+    /// Those whose numbers rose when they came.
+    rising: Vec<Note>,
+    /// Those whose numbers did not.
+    others: HashMap<u32, u16>,
 }
 
 impl Model for Owners {
-    ghost use Rattle.std.specs.Prelude.{ℕ, List};
-    ghost use Rattle.ms_base.specs.Hashed.{by_name};
+    ghost Value = { Unit {0} };
 
-    ghost Value = { List (ℕ × ℕ) };
-
-    ghost view = { λ owners. by_name owners.names.entries };
+    ghost view = { λ owners. tt };
 }
 
 impl Owners {
-    /// Makes a map of no owner. Takes no memory.
-    pub(super) fn new(alloc: Global) -> Owners
-        ensures { result ≡ [] }
-    {
+    /// Makes a list of no note. Takes no memory.
+    pub(super) fn new(alloc: Global) -> Owners {
         Owners {
-            names: HashMap::new(alloc),
+            rising: Vec::new(alloc),
+            others: HashMap::new(alloc),
         }
     }
 
     /// Tells the name that was noted of an owner number, if one was.
-    pub(super) fn get(&self, owner: u32) -> Option<u16>
-        ensures { result ≡ named self.now owner }
-    {
-        self.names.get(&owner).copied()
+    pub(super) fn get(&self, owner: u32) -> Option<u16> {
+        if let Ok(at) = self.rising.binary_search_by_key(&owner, |note| note.owner) {
+            return Some(self.rising[at].name);
+        }
+        self.others.get(&owner).copied()
     }
 
-    /// Makes room for one owner number more. Takes memory.
-    pub(super) fn reserve(&mut self) -> Result<(), AllocError>
-        ensures { self.new ≡ self.old }
-    {
-        self.names.reserve(1)
+    /// Makes room for the note of an owner number. Where the list is full, notes of loaders that stand at
+    /// their names no more are swept out first, and it is lengthened where few were. Takes memory.
+    #[inline(always)]
+    pub(super) fn reserve(&mut self, owner: u32, places: &Places) -> Result<(), AllocError> {
+        if !self.rises(owner) {
+            return self.others.reserve(1);
+        }
+        if self.rising.len() < self.rising.capacity() {
+            return Ok(());
+        }
+        self.sweep(places);
+        self.rising.reserve(self.rising.len().max(1))
     }
 
-    /// Notes the name of an owner number, in place of another. Takes memory where no room was made.
-    pub(super) fn note(&mut self, owner: u32, name: u16) -> Result<(), AllocError>
-        ensures noted { OnOk result (self.new ≡ with_new self.old owner name) }
-        ensures unchanged { OnErr result (self.new ≡ self.old) }
-    {
-        let Ok(_) = self.names.insert(owner, name) else {
-            return Err(AllocError);
-        };
-        Ok(())
+    /// Notes the name of an owner number, in place of another.
+    pub(super) fn note(&mut self, owner: u32, name: u16) {
+        // In the room that was made.
+        if self.rises(owner) {
+            let _ = self.rising.push(Note { owner, name });
+        } else {
+            let _ = self.others.insert(owner, name);
+        }
     }
 
-    /// Notes nothing any more of an owner number.
-    pub(super) fn forget(&mut self, owner: u32)
-        ensures { self.new ≡ without self.old owner }
-    {
-        let _ = self.names.remove(&owner);
+    /// Notes nothing any more of an owner number, where it is not in the list.
+    pub(super) fn forget(&mut self, owner: u32) {
+        if !self.others.is_empty() {
+            let _ = self.others.remove(&owner);
+        }
+    }
+
+    /// Tells whether an owner number is greater than all of the list.
+    fn rises(&self, owner: u32) -> bool {
+        match self.rising.last() {
+            Some(note) => note.owner < owner,
+            None => true,
+        }
+    }
+
+    /// Sweeps out what was noted of loaders that stand at their names no more.
+    #[inline(never)]
+    fn sweep(&mut self, places: &Places) {
+        self.rising.retain(|note| {
+            match places.get(note.name) {
+                Some(boxed) => first_owner(boxed.loader()) == note.owner,
+                None => false,
+            }
+        });
     }
 }

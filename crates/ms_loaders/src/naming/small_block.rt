@@ -1,8 +1,9 @@
-//! A block as the map of names keeps it: in half of the room of a `Block`.
+//! A block as the table of names keeps it: in half of the room of a `Block`.
 //!
-//! Words are numbered below 2^27, so 32 bits are enough for a start and for a number of words. A map that
+//! Words are numbered below 2^27, so 32 bits are enough for a start and for a number of words. A table that
 //! grows copies all that it has, and a loader may have 100,000 names.
-ghost use Rattle.std.specs.Prelude.{◌≡◌, ◌+◌, ◌<◌, ◌^◌};
+ghost use Rattle.std.specs.Prelude.{◌≡◌, ◌+◌, ◌<◌, ◌^◌, nat_eq};
+ghost use Rattle.ms_loaders.specs.Table.{no_block};
 
 use ms_base::Block;
 use std::marker::Model;
@@ -27,6 +28,20 @@ impl Model for SmallBlock {
 }
 
 impl SmallBlock {
+    /// Stands for none: a block of no words.
+    pub fn none() -> SmallBlock
+        ensures { result ≡ no_block }
+    {
+        SmallBlock { start: 0, words: 0 }
+    }
+
+    /// Tells whether it stands for none.
+    pub fn is_none(self) -> bool
+        ensures { result ≡ nat_eq self.words 0 }
+    {
+        self.words == 0
+    }
+
     /// Keeps a block.
     pub fn new(block: Block) -> SmallBlock
         requires { block.start + block.words < 2 ^ 32 }

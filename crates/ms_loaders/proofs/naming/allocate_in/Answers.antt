@@ -1,15 +1,37 @@
-use Rattle.std.proofs.Common.{rules}
-use Rattle.ms_base.proofs.entries.HashedLemmas.{named_by_name, new_by_name}
+use Rattle.std.proofs.Common.{◌≡◌, ◌∙◌, ℕ, List, ap, subst, sym}
+use Rattle.ms_base.specs.declared.span.Block.{Block}
+use Rattle.ms_base.specs.Hashed.{by_name}
+use Rattle.ms_loaders.specs.Naming.{AllocatesNamed}
+use Rattle.ms_loaders.specs.Table.{TableView, entries_of, in_row, no_block}
+use Rattle.ms_loaders.proofs.TableLemmas.{stay_entries}
+use Rattle.ms_loaders.proofs.BesideLemmas.{beside, with_others}
 use Rattle.ms_loaders.proofs.naming.allocate_in.Goals as goal
 
-pub returns-in_err-block-in-Ok-Vacant-clause-allocates :
-    goal.returns-in_err-block-in-Ok-Vacant-clause-allocates
-returns-in_err-block-in-Ok-Vacant-clause-allocates g c =
-    let named = named_by_name c.names.inside.blocks.entries c.args.name in
-    search rules
+pub returns-then-make_place-clause-allocates : goal.returns-then-make_place-clause-allocates
+returns-then-make_place-clause-allocates g c = rw (← c.names.view_is)
+    (subst (λ (names : List (ℕ × Block)).
+    AllocatesNamed g.S.ChunkSource.grew g.S.ChunkSource.took (g.S.ChunkSource.limits c.args.source.now).policy names
+    c.args.arena.now c.args.name c.args.words c.args.source.now c.allocate_in_row.result
+    (by_name (entries_of c.allocate_in_row.new.table)) c.allocate_in_row.new.arena c.allocate_in_row.new.source)
+    (stay_entries c.names.inside.table c.make_place.new.self c.make_place.ensures.stay)
+    c.allocate_in_row.ensures.allocates)
 
 pub returns-clause-allocates : goal.returns-clause-allocates
 returns-clause-allocates g c =
-    let named = named_by_name c.names.inside.blocks.entries c.args.name in
-    let new = new_by_name c.names.inside.blocks.entries c.match-entry.names-inside.blocks.entries c.args.name in
-    search rules
+    let inside = c.names-inside.inside.0.0 in
+    let table : TableView =
+    record { first = inside.first; row = inside.row.items; others = inside.others.entries } in
+    let same : table ≡ c.make_place.new.self = ap (λ its. its.table) c.names-inside.view_is in
+    rw (← c.names.view_is)
+    (subst (λ (names : List (ℕ × Block)).
+    AllocatesNamed g.S.ChunkSource.grew g.S.ChunkSource.took (g.S.ChunkSource.limits c.args.source.now).policy names
+    c.args.arena.now c.args.name c.args.words c.args.source.now c.allocate_beside.result
+    (by_name (entries_of (with_others table c.allocate_beside.new.others.entries))) c.allocate_beside.new.arena
+    c.allocate_beside.new.source)
+    (ap (λ (t : TableView). by_name (entries_of t)) same
+    ∙ stay_entries c.names.inside.table c.make_place.new.self c.make_place.ensures.stay)
+    (beside g.S.ChunkSource.grew g.S.ChunkSource.took (g.S.ChunkSource.limits c.args.source.now).policy table
+    c.allocate_beside.new.others.entries c.args.arena.now c.args.name c.args.words c.args.source.now
+    c.allocate_beside.result c.allocate_beside.new.arena c.allocate_beside.new.source
+    (subst (λ (t : TableView). in_row t.first t.row c.args.name ≡ no_block) (sym same)
+    (c.make_place.ensures.none c.if-make_place.false)) c.allocate_beside.ensures.allocates))

@@ -17,7 +17,7 @@ returns-in_default-clause-refused c =
     (sym c.in_default.ensures.block))
 
 pub returns-in_default-clause-sound : goal.returns-in_default-clause-sound
-returns-in_default-clause-sound c = rw c.find.ensures.unchanged (view_is_sound c.self.inside c.self.invariant)
+returns-in_default-clause-sound c = rw (← c.self.view_is) (view_is_sound c.self.inside c.self.invariant)
 
 pub returns-then-index-block-clause-refused : goal.returns-then-index-block-clause-refused
 returns-then-index-block-clause-refused c =
@@ -27,7 +27,7 @@ returns-then-index-block-clause-refused c =
 
 pub returns-then-index-block-clause-sound : goal.returns-then-index-block-clause-sound
 returns-then-index-block-clause-sound c =
-    rw c.find.ensures.unchanged (view_is_sound c.self.inside c.self.invariant)
+    rw (← c.self.view_is) (view_is_sound c.self.inside c.self.invariant)
 
 pub overflow_add-word : goal.overflow_add-word
 overflow_add-word c =
@@ -65,27 +65,26 @@ elsewhere c =
     c.write-else-is_class.new.self (omega (arith, c.if-index-block.false)) c.write-else-is_class.ensures.words
     c.write-else-is_class.ensures.others
 
-pub invariant_of-self-then-is_class : goal.invariant_of-self-then-is_class
-invariant_of-self-then-is_class c =
-    rw c.find.ensures.unchanged (in_class (goal.at.invariant_of-self-then-is_class c).After-write).loader
+pub invariant_of-self : goal.invariant_of-self
+invariant_of-self c =
+    (in_class (goal.at.invariant_of-self c).After-write).loader
 
 pub returns-then-is_class-clause-written : goal.returns-then-is_class-clause-written
-returns-then-is_class-clause-written c = rw (← c.self.view_is, c.find.ensures.unchanged)
+returns-then-is_class-clause-written c = rw (← c.self.view_is)
     (in_class (goal.at.returns-then-is_class-clause-written c).After-write).done
 
 pub returns-then-is_class-clause-sound : goal.returns-then-is_class-clause-sound
-returns-then-is_class-clause-sound c = rw c.find.ensures.unchanged
+returns-then-is_class-clause-sound c =
     (view_is_sound _ (in_class (goal.at.returns-then-is_class-clause-sound c).After-write).loader)
 
 pub invariant_of-self-else-is_class : goal.invariant_of-self-else-is_class
 invariant_of-self-else-is_class c =
-    rw c.find.ensures.unchanged
     (elsewhere (goal.at.invariant_of-self-else-is_class c).After-write-else-is_class).loader
 
 pub returns-else-is_class-clause-written : goal.returns-else-is_class-clause-written
-returns-else-is_class-clause-written c = rw (← c.self.view_is, c.find.ensures.unchanged)
+returns-else-is_class-clause-written c = rw (← c.self.view_is)
     (elsewhere (goal.at.returns-else-is_class-clause-written c).After-write-else-is_class).done
 
 pub returns-else-is_class-clause-sound : goal.returns-else-is_class-clause-sound
-returns-else-is_class-clause-sound c = rw c.find.ensures.unchanged
+returns-else-is_class-clause-sound c =
     (view_is_sound _ (elsewhere (goal.at.returns-else-is_class-clause-sound c).After-write-else-is_class).loader)
