@@ -13,6 +13,7 @@ Without a name it writes all of them. Each has at most 100,000 lines, and depend
   free_blocks    8 standard loaders of 150 blocks each; then up to 8 are freed and as many allocated
   hidden         24,000 hidden loaders of two blocks each, 1,000 of them loaded at a time
   boot           one boot loader, blocks of up to 16,384 words, a third of them freed
+  large_blocks   one standard loader, up to 20 blocks of at most a root chunk, which come and go at random
   reports        1,000 standard loaders, 40,000 blocks among them, 500 unloaded, and 200 reports
   purges         100,000 purges of nothing
 """
@@ -173,6 +174,18 @@ def boot(chance):
     yield 'purge'
 
 
+def large_blocks(chance):
+    yield 'new 1 standard'
+    live, block = [], 0
+    for _ in range(99999):
+        if live and (len(live) == 20 or chance.random() < 0.5):
+            yield f'free 1 {taken(chance, live)}'
+        else:
+            block += 1
+            live.append(block)
+            yield f'alloc 1 {block} {chance.randint(1, 524288)}'
+
+
 def reports(chance):
     loaders = list(range(1000))
     for loader in loaders:
@@ -191,7 +204,7 @@ def purges(chance):
 
 
 TRACES = [mixed, words, one_size, short_lived, exchange, one_loader, many_loaders, churn, free_blocks, hidden, boot,
-          reports, purges]
+          reports, purges, large_blocks]
 
 
 def main():
