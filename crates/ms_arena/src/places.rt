@@ -101,6 +101,7 @@ impl Places {
     }
 
     /// Tells the place of a stretch, counted from 1, or 0 where it has none.
+    #[inline(always)]
     pub fn get(&self, stretch: usize) -> usize
         ensures { result ≡ place_of self.now stretch }
     {

@@ -311,6 +311,7 @@ fn entered(words: &mut Words, count: &mut usize, total: &mut u64, start: u64, n:
 }
 
 /// Finds where a block of n words starts: where it needs no chunk, else where the source has one.
+#[inline(always)]
 fn start_of<S: ChunkSource>(
     books: &mut Books,
     source: &mut S,
