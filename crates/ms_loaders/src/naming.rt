@@ -102,10 +102,11 @@ pub fn allocate_in<S: ChunkSource>(
     ensures chunks { OnOk result (AreChunks arena.new.space arena.new.books.chunks) }
 {
     let many = arena.kind() != Kind::Hidden && arena.kind() != Kind::Reflection;
-    if names.table.make_place(name, many) {
+    let mut refused = false;
+    if names.table.make_place(name, many, &mut refused) {
         return allocate_in_row(&mut names.table, arena, source, name, words);
     }
-    allocate_beside(&mut names.table.others, arena, source, name, words)
+    allocate_beside(&mut names.table.others, arena, source, name, words, refused)
 }
 
 /// Allocates a block whose name has a place in the row.
@@ -136,7 +137,7 @@ fn allocate_in_row<S: ChunkSource>(
 }
 
 /// Allocates a block whose name is beside the row. The room for it is held until the block is known, and the
-/// name enters it with no second look.
+/// name enters it with no second look. Where memory was refused already a new name is refused.
 #[inline(never)]
 fn allocate_beside<S: ChunkSource>(
     others: &mut HashMap<u32, SmallBlock>,
@@ -144,6 +145,7 @@ fn allocate_beside<S: ChunkSource>(
     source: &mut S,
     name: u32,
     words: u64,
+    refused: bool,
 ) -> Result<Block, Refusal>
     requires { S.serves source.old (raw_account arena.old) }
     ensures served { S.serves source.new (raw_account arena.new) }
@@ -154,6 +156,9 @@ fn allocate_beside<S: ChunkSource>(
 {
     match others.entry(name) {
         Ok(Entry::Vacant(slot)) => {
+            if refused {
+                return Err(wanting_room(words));
+            }
             let block = arena.alloc(source, words)?;
             // That the account's chunks are chunks of its space is learnt here.
             let _ = arena.account();

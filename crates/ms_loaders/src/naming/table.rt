@@ -102,9 +102,9 @@ impl Table {
     }
 
     /// Makes a place in the row for a name, where it may have one, and tells whether it has; all names stay.
-    /// Where it hasn't, there may be room ahead beside the row.
+    /// Where it hasn't, there may be room ahead beside the row. Tells too whether memory was refused.
     #[inline(always)]
-    pub fn make_place(&mut self, name: u32, many: bool) -> bool
+    pub fn make_place(&mut self, name: u32, many: bool, refused: &mut bool) -> bool
         ensures place { IsTrue result → HasPlace self.new.first self.new.row name }
         ensures none { IsFalse result → in_row self.new.first self.new.row name ≡ no_block }
         ensures stay { StayNamed self.old self.new }
@@ -112,41 +112,43 @@ impl Table {
         if has_place(self.first, &self.row, name) {
             return true;
         }
-        self.grow(name as usize, many);
+        *refused = self.grow(name as usize, many).is_err();
         if has_place(self.first, &self.row, name) {
             return true;
         }
-        make_more_room(&mut self.others, many);
+        if make_more_room(&mut self.others, many).is_err() {
+            *refused = true;
+        }
         false
     }
 
     /// Makes the row longer, or has it slide on, for a name that has no place in it, where the name is near. It
     /// slides only once so many names came as a quarter of its places, so that it costs no more than they
-    /// did. Where memory is refused the row may be as it was.
+    /// did. All names stay.
     #[inline(never)]
-    fn grow(&mut self, name: usize, many: bool)
+    fn grow(&mut self, name: usize, many: bool) -> Result<(), AllocError>
         requires { name < 2 ^ 32 }
         ensures { StayNamed self.old self.new }
     {
         let places = self.row.len();
         if name < self.first || name - self.first < places {
-            return;
+            return Ok(());
         }
         let wanted = name - self.first + 1;
         let most = self.count.saturating_mul(4).max(MANY);
         if wanted <= most {
             let least = if many { MANY } else { FEW };
             let longer = places.saturating_mul(2).max(least).min(most);
-            let _ = self.lengthen(longer.max(wanted).min(NAMES - self.first));
-            return;
+            return self.lengthen(longer.max(wanted).min(NAMES - self.first));
         }
         let half = places / 2;
         if wanted <= places + half
             && half <= self.came.saturating_mul(2)
             && self.first + half + places <= NAMES
         {
-            let _ = self.slide(half);
+            return self.slide(half);
         }
+        Ok(())
     }
 
     /// Makes the row so long.
@@ -226,20 +228,22 @@ impl Table {
 }
 
 /// Makes room ahead for names beside the row, where all is used up: for the first ones at once where many are to
-/// come, and for more than one where there are many. Where that is refused a name that enters asks for less.
+/// come, and for more than one where there are many.
 #[inline(always)]
-fn make_more_room(others: &mut HashMap<u32, SmallBlock>, many: bool)
+fn make_more_room(others: &mut HashMap<u32, SmallBlock>, many: bool) -> Result<(), AllocError>
     ensures { (name : ℕ) → lookup (nat_eq name) others.new.entries ≡ lookup (nat_eq name) others.old.entries }
 {
     let names = others.len();
     if names < others.capacity() {
-        return;
+        return Ok(());
     }
     if names == 0 && many {
-        let _ = others.reserve(MANY);
-    } else if names >= MANY {
-        let _ = others.reserve(names.saturating_mul(3));
+        return others.reserve(MANY);
     }
+    if names >= MANY {
+        return others.reserve(names.saturating_mul(3));
+    }
+    Ok(())
 }
 
 /// Tells whether a name has a place in a row from a first name on.

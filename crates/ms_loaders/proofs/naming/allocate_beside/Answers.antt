@@ -23,3 +23,8 @@ returns-in_ok-block-in-Ok-Vacant-clause-allocates g c =
     let named = named_by_name c.args.others.now.entries c.args.name in
     let new = new_by_name c.args.others.now.entries in
     search rules
+
+pub returns-then-refused-clause-allocates : goal.returns-then-refused-clause-allocates
+returns-then-refused-clause-allocates g c =
+    let named = named_by_name c.args.others.now.entries c.args.name in
+    search rules
