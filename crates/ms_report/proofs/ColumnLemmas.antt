@@ -53,7 +53,7 @@ digits_right new rest digits places from start low count blank written =
     ∙ sym (append_assoc spaces digits rest)
 
 -- They are ASCII.
-spaces_are_ascii : (n : ℕ) → IsAscii (replicate n 32)
+pub spaces_are_ascii : (n : ℕ) → IsAscii (replicate n 32)
 spaces_are_ascii zero = IsAscii-nil
 spaces_are_ascii (suc n) = IsAscii-cons 32 (replicate n 32) (omega arith) (spaces_are_ascii n)
 

@@ -3,3 +3,4 @@ pub mod PaddingLemmas
 pub mod ColumnLemmas
 pub mod KindLemmas
 pub mod ReplyLemmas
+pub mod DoneLemmas

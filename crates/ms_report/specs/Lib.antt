@@ -13,3 +13,4 @@ pub mod ReplyLines
 pub mod AnswerText
 pub mod LayoutLaws
 pub mod Map
+pub mod DoneLine

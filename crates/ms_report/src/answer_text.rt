@@ -10,6 +10,7 @@ ghost use Rattle.ms_loaders.specs.declared.replies.Answer.{Answer as AnswerOf};
 ghost use Rattle.ms_report.specs.AnswerText.{AnswerTextView, Tells, no_answer};
 ghost use Rattle.ms_report.specs.ReplyLines.{answers_text};
 
+use crate::done_line::DoneLine;
 use crate::refused::{NONE, Refusals, count};
 use crate::reply_lines::push_answer;
 use ms_base::Settings;
@@ -23,6 +24,8 @@ use std::marker::Model;
 pub struct AnswerText {
     // The lines and reports so far.
     text: String,
+    // The line of the last command that was done, for the next one.
+    done: DoneLine,
     // The refusals so far, which full reports tell.
     refusals: Refusals,
     // Whether a line tells where a block starts.
@@ -61,6 +64,7 @@ impl AnswerText {
         room.clear();
         AnswerText {
             text: room,
+            done: DoneLine::first(),
             refusals: NONE,
             addresses,
             detail,
@@ -79,6 +83,7 @@ impl AnswerText {
     {
         let pushed = push_answer(
             &mut self.text,
+            &mut self.done,
             self.addresses,
             self.detail,
             &self.settings,

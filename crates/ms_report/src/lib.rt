@@ -16,6 +16,7 @@ mod answer_text;
 mod collecting;
 mod columns;
 mod detailed;
+mod done_line;
 mod holdings;
 mod kinds;
 pub mod laws;

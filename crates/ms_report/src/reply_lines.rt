@@ -12,6 +12,7 @@ ghost use Rattle.ms_report.specs.ReplyLines.{answer_text};
 
 use crate::columns::{push_before, push_both};
 use crate::detailed::push_detailed;
+use crate::done_line::DoneLine;
 use crate::refused::Refusals;
 use ms_base::{Refusal, Reply, Settings};
 use ms_loaders::{Answer, Detail};
@@ -21,6 +22,7 @@ use std::alloc::AllocError;
 #[inline(always)]
 pub fn push_answer(
     text: &mut String,
+    done: &mut DoneLine,
     addresses: bool,
     detail: Detail,
     settings: &Settings,
@@ -31,7 +33,7 @@ pub fn push_answer(
         ≡ string_bytes text.old
         ++ answer_text addresses detail settings.now refusals.now answer.now) }
 {
-    push_reply_line(text, addresses, u64::from(answer.line), answer.reply)?;
+    push_reply_line(text, done, addresses, answer.line, answer.reply)?;
     if let Some(totals) = &answer.report {
         push_detailed(text, detail, settings, refusals, totals)?;
     }
@@ -42,28 +44,21 @@ pub fn push_answer(
 #[inline(always)]
 fn push_reply_line(
     text: &mut String,
+    done: &mut DoneLine,
     addresses: bool,
-    number: u64,
+    line: u32,
     reply: Reply,
 ) -> Result<(), AllocError>
     ensures { OnOk result (string_bytes text.new
-        ≡ string_bytes text.old ++ reply_line addresses number reply) }
+        ≡ string_bytes text.old ++ reply_line addresses line reply) }
 {
+    let number = u64::from(line);
     match reply {
         Reply::At(start) if addresses => push_at(text, number, start),
-        Reply::Ok | Reply::At(_) => push_ok(text, number),
+        Reply::Ok | Reply::At(_) => done.push_to(text, line),
         Reply::Value(value) => push_value(text, number, value),
         Reply::Refused(refusal) => push_refusal(text, number, refusal),
     }
-}
-
-/// Appends the line that says that a command is done.
-#[inline(always)]
-fn push_ok(text: &mut String, number: u64) -> Result<(), AllocError>
-    ensures { OnOk result (string_bytes text.new
-        ≡ string_bytes text.old ++ (decimal number ++ codes " ok\n")) }
-{
-    push_before(text, number, " ok\n")
 }
 
 /// Appends the line that tells where a block starts.

@@ -10,8 +10,8 @@ returns-in_ok-push_detailed c =
     let report : List ℕ =
     detailed_text c.args.detail c.args.settings.now c.args.refusals.now (sums_in c.deref.result.now)
     (told_in c.deref.result.now) c.deref.result.now.peaks in
-    rw (c.in-Some.is, ← c.deref.ensures, ← c.from.ensures)
+    rw (c.in-Some.is, ← c.deref.ensures)
     (c.in_ok-push_detailed.ensures
     ∙ ap (λ (t : List ℕ). t ++ report) c.in_ok-push_reply_line.ensures
     ∙ append_assoc (string_bytes c.args.text.now)
-    (reply_line c.args.addresses c.from.result c.args.answer.now.reply) report)
+    (reply_line c.args.addresses c.args.answer.now.line c.args.answer.now.reply) report)
