@@ -8,7 +8,7 @@
 //! Only `make_room` takes memory, for free blocks and for the next chunk's top; `grow` and `take`
 //! wait as their source does. In HotSpot's metaspaceArena.cpp a chunk has its top itself.
 ghost use Rattle.std.specs.Prelude.{◌≡◌, ℕ, ◌+◌, ◌*◌, ◌^◌, ◌<◌, ◌≤◌, Some, None, Ok, Err, IfOk, OnOk, OnErr};
-ghost use Rattle.std.specs.Prelude.{IfErr, IfSome, IfNone, [], length, sum, slice_index};
+ghost use Rattle.std.specs.Prelude.{IfErr, IfSome, IfNone, [], length, sum, slice_index, ◌-◌, vec_capacity, vec_len};
 ghost use Rattle.std.specs.Option.{option_map};
 ghost use Rattle.ms_base.specs.Level.{size_of};
 ghost use Rattle.ms_base.specs.Asks.{next_level};
@@ -30,6 +30,9 @@ use ms_pool::{Account, ChunkSource};
 use std::alloc::Global;
 use std::marker::Model;
 use std::mem;
+
+/// For how many tops room is made at once: few arenas hold more chunks.
+const MORE_TOPS: usize = 8;
 
 /// The account, tops and free blocks of one arena. Starts are word numbers.
 #[derive(Drop)]
@@ -159,10 +162,10 @@ impl Books {
         ensures refused { IfErr result (λ refusal. refusal ≡ Refusal.OutOfMemory) }
     {
         self.kept.make_room(blocks)?;
-        match self.tops.reserve(1) {
-            Ok(()) => Ok(()),
-            Err(_) => Err(Refusal::OutOfMemory),
+        if self.tops.len() == self.tops.capacity() {
+            return make_top_room(&mut self.tops);
         }
+        Ok(())
     }
 
     /// Tells the level by which the arena of a loader of that kind grows now.
@@ -288,6 +291,19 @@ impl Books {
         self.used += n;
         self.tops.push_reserved(n);
         Ok(span.start)
+    }
+}
+
+/// Makes room for more tops, where there is none left.
+#[inline(never)]
+fn make_top_room(tops: &mut Vec<u64>) -> Result<(), Refusal>
+    ensures places { OnOk result (1 ≤ vec_capacity tops.new - vec_len tops.new) }
+    ensures tops { tops.new.items ≡ tops.old.items }
+    ensures refused { IfErr result (λ refusal. refusal ≡ Refusal.OutOfMemory) }
+{
+    match tops.reserve(MORE_TOPS) {
+        Ok(()) => Ok(()),
+        Err(_) => Err(Refusal::OutOfMemory),
     }
 }
 
