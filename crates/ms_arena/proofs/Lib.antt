@@ -8,3 +8,4 @@ mod RawLemmas
 mod ArenaLemmas
 mod PagesLemmas
 mod PlacesLemmas
+pub mod OthersLemmas

@@ -7,3 +7,4 @@ pub mod Pages
 pub mod Places
 pub mod Words
 pub mod Raw
+pub mod Others

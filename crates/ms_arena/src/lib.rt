@@ -10,6 +10,7 @@
 mod arena;
 mod books;
 mod kept;
+mod others;
 mod pages;
 mod places;
 mod raw;

@@ -4,16 +4,14 @@
 //!     place      |  3  |       |  1  |  |  2  |     0 where there is none
 //!                 newest            others
 //!
-//! A hash map from each stretch that has a place but the one that got the last: that is looked at before the
-//! map, since an arena mostly allocates there, and small arenas have no other. Beside them are noted some runs of
-//! stretches that all have places, so that a large block needs no look at each of its own. Only `reserve`
-//! takes memory.
+//! The stretch that got its place last is looked at before the others (`others`), since an arena mostly
+//! allocates there, and small arenas have no other. Beside them are noted some runs of stretches that all
+//! have places, so that a large block needs no look at each of its own. Only `reserve` takes memory.
 ghost use Rattle.std.specs.Prelude.{◌≡◌, ℕ, ◌+◌, ◌<◌, ◌≤◌, IsTrue, OnOk, cond, nat_eq};
-ghost use Rattle.std.specs.HashMap.{spare};
 ghost use Rattle.ms_arena.specs.Places.{HavePlaces, StayPlaces, place_in, place_of};
 
+use crate::others::Others;
 use std::alloc::{AllocError, Global};
-use std::collections::HashMap;
 use std::marker::Model;
 
 /// How many stretches a run has at least that is noted by itself.
@@ -23,9 +21,9 @@ const LARGE: usize = 32;
 #[derive(Clone, Copy, Drop)]
 pub struct Placed {
     /// The stretch.
-    stretch: usize,
+    pub(crate) stretch: usize,
     /// Its place.
-    place: usize,
+    pub(crate) place: usize,
 }
 
 /// A run of stretches: the first, and the one past the last.
@@ -43,13 +41,12 @@ pub struct Places {
     /// The one that got its place last.
     newest: Option<Placed>,
     /// The place of each other stretch that has one.
-    others: HashMap<usize, usize>,
+    others: Others,
     /// Runs of which each stretch has a place.
     runs: Vec<Run>,
 }
 
 impl Model for Places {
-    ghost use Rattle.std.specs.HashMap.{spare};
     ghost use Rattle.ms_arena.specs.Places.{PlacesView, HavePlaces};
 
     ghost Value = { PlacesView };
@@ -57,7 +54,7 @@ impl Model for Places {
     ghost view = { λ p. record {
       newest = p.newest;
       others = p.others.entries;
-      spare = spare p.others;
+      spare = p.others.spare;
     } };
 
     ghost invariant = { λ p. HavePlaces p.newest p.others.entries p.runs.items };
@@ -70,7 +67,7 @@ impl Places {
     {
         Places {
             newest: None,
-            others: HashMap::new(alloc),
+            others: Others::new(alloc),
             runs: Vec::new(alloc),
         }
     }
@@ -80,9 +77,7 @@ impl Places {
         ensures { (stretch : ℕ) → place_of self.new stretch ≡ 0 }
     {
         self.newest = None;
-        if !self.others.is_empty() {
-            self.others.clear();
-        }
+        self.others.clear();
         self.runs.clear();
     }
 
@@ -92,12 +87,12 @@ impl Places {
     }
 
     /// Makes room for so many stretches more; the places stay.
-    pub fn reserve(&mut self, stretches: usize) -> Result<(), AllocError>
+    pub fn reserve(&mut self, alloc: Global, stretches: usize) -> Result<(), AllocError>
         ensures room { OnOk result (stretches ≤ self.new.spare) }
         ensures stay { StayPlaces self.old self.new }
     {
         make_run_room(&mut self.runs, stretches);
-        self.others.reserve(stretches)
+        self.others.reserve(alloc, stretches)
     }
 
     /// Tells the place of a stretch, counted from 1, or 0 where it has none.
@@ -110,10 +105,7 @@ impl Places {
                 return newest.place;
             }
         }
-        match self.others.get(&stretch) {
-            Some(place) => *place,
-            None => 0,
-        }
+        self.others.get(stretch)
     }
 
     /// Gives a stretch a place, in room that there is.
@@ -162,13 +154,7 @@ fn make_run_room(runs: &mut Vec<Run>, stretches: usize)
 }
 
 /// Notes a run beside others: as a part of the first that it meets or touches, else by itself where it is large.
-fn note_in(
-    newest: &Option<Placed>,
-    others: &HashMap<usize, usize>,
-    runs: &mut Vec<Run>,
-    first: usize,
-    past: usize,
-)
+fn note_in(newest: &Option<Placed>, others: &Others, runs: &mut Vec<Run>, first: usize, past: usize)
     requires order { first ≤ past }
     requires places { (stretch : ℕ) → first ≤ stretch → stretch < past
         → 0 < place_in newest.now others.now.entries stretch }
@@ -192,22 +178,14 @@ fn note_in(
 
 /// Gives a stretch a place: it is the newest then, and the former one goes into the map.
 #[inline(always)]
-fn enter(
-    newest: &mut Option<Placed>,
-    others: &mut HashMap<usize, usize>,
-    stretch: usize,
-    place: usize,
-)
-    requires room { 0 < spare others.old }
+fn enter(newest: &mut Option<Placed>, others: &mut Others, stretch: usize, place: usize)
+    requires room { 0 < others.old.spare }
     ensures put { (other : ℕ) → place_in newest.new others.new.entries other
         ≡ cond (nat_eq stretch other) place (place_in newest.old others.old.entries other) }
-    ensures room { spare others.old ≤ spare others.new + 1 }
+    ensures room { others.old.spare ≤ others.new.spare + 1 }
 {
     if let Some(former) = *newest {
-        match others.insert(former.stretch, former.place) {
-            Ok(_) => {}
-            Err(_) => unreachable!(),
-        }
+        others.insert(former.stretch, former.place);
     }
     *newest = Some(Placed { stretch, place });
 }

@@ -99,7 +99,7 @@ impl Words {
         ensures stay { StayWords self.old self.new }
     {
         self.ready = 0;
-        self.places.reserve(more)?;
+        self.places.reserve(alloc, more)?;
         let given = self.given + more;
         self.list.reserve(alloc, STRETCH.saturating_mul(given))?;
         self.ready = more;

@@ -1,7 +1,4 @@
 use Rattle.std.proofs.Common.{◌<◌, ℕ, subst, sym}
-use Rattle.ms_arena.specs.Places.{HavePlaces, place_in}
-use Rattle.ms_arena.specs.declared.places.Run.{Run}
-use Rattle.std.proofs.Common.{List}
 use Rattle.ms_arena.proofs.PlacesLemmas.{places_stay}
 use Rattle.ms_arena.proofs.places.Places.reserve.Goals as goal
 
@@ -9,5 +6,5 @@ pub invariant_of-self : goal.invariant_of-self
 invariant_of-self c = rw c.make_run_room.ensures
     (λ at stretch low high. subst (λ (n : ℕ). 0 < n)
     (sym (places_stay c.self.inside.newest c.self.inside.others.entries c.reserve.new.self.entries
-    c.reserve.ensures.entries.2 stretch))
+    c.reserve.ensures.stay stretch))
     (c.self.invariant at stretch low high))
