@@ -1,15 +1,21 @@
 -- The first that a list of free parts has, in parts: over levels, over slots, and over the two roots
 -- of a slot. The searches' loops use these.
-use Rattle.std.proofs.Common.{◌≡◌, ◌<◌, ◌≤◌, ℕ, suc, ◌+◌, ◌-◌, min, Bool, true, false, cond, not, ◌&&◌, List, [], ◌∷◌}
-use Rattle.std.proofs.Common.{◌++◌, length, refl, sym, ap, ne_eqb, ◌∙◌, arith, Option, Some, None}
+use Rattle.std.proofs.Common.{◌≡◌, ◌<◌, ◌≤◌, ℕ, zero, suc, ◌+◌, ◌-◌, min, Bool, true, false, cond, not, ◌&&◌, List, [], ◌∷◌}
+use Rattle.std.proofs.Common.{◌++◌, length, refl, sym, ap, ne_eqb, ◌∙◌, arith, Option, Some, None, inl}
+use Rattle.std.proofs.Common.{inr}
 use Rattle.std.specs.Prelude.{nat_eq, slice_get}
 use Rattle.std.specs.Option.{option_or}
 use Rattle.std.specs.List.{filter, find, flat_map, list_all, range_with_len}
+use Rattle.std.proofs.lemmas.Bool.{cases_lt}
 use Rattle.std.proofs.lemmas.List.Folds.{find-append}
+use Rattle.ms_base.specs.declared.span.Span.{Span}
+use Rattle.ms_base.specs.Level.{size_of}
 use Rattle.ms_base.specs.FreeParts.{free_parts}
 use Rattle.ms_base.specs.State.{PoolState}
 use Rattle.ms_base.specs.PoolSteps.Pick.{found_at, levels_down, levels_up}
-use Rattle.ms_pool.specs.Searching.{first_at, first_down, first_found, first_up, grants}
+use Rattle.ms_base.proofs.free.HalvesLemmas.{size_falls}
+use Rattle.ms_buddy.specs.Leaves.{has_level}
+use Rattle.ms_pool.specs.Searching.{GrantNone, first_at, first_down, first_found, first_up, grants}
 
 -- The first of a list, and the first that passes a test.
 pub head-append : {X : Type 0} (xs ys : List X) → slice_get (xs ++ ys) 0 ≡ option_or (slice_get xs 0) (slice_get ys 0)
@@ -118,6 +124,79 @@ first_found-is pool p m words =
     (flat_map (found_at pool words true) (levels_down p))
     (flat_map (found_at pool words true) (levels_up p m)) (flat_map (found_at pool words false) (levels_up p m))
     (flat_map (found_at pool words false) (levels_down p))
+
+-- Levels that give nothing are passed over: those that are left decide.
+skip_levels : {X : Type 0} (f : ℕ → List X) (n a end : ℕ) → a + n ≤ end
+    → ((k : ℕ) → a ≤ k → k < a + n → slice_get (f k) 0 ≡ None)
+    → slice_get (flat_map f (range_with_len a (end - a))) 0
+    ≡ slice_get (flat_map f (range_with_len (a + n) (end - (a + n)))) 0
+skip_levels f zero a end h none = ap (λ (m : ℕ). slice_get (flat_map f (range_with_len m (end - m))) 0) same
+  where
+    same : a ≡ a + 0
+    same = omega arith
+skip_levels f (suc n) a end h none =
+    head_step f a end (omega arith)
+    ∙ found_later (slice_get (f a) 0) (slice_get (flat_map f (range_with_len (a + 1) (end - (a + 1)))) 0)
+    (none a (omega arith) (omega arith))
+    ∙ skip_levels f n (a + 1) end (omega arith) (λ k low high. none k (omega arith) (omega arith))
+    ∙ ap (λ (m : ℕ). slice_get (flat_map f (range_with_len m (end - m))) 0) same
+  where
+    same : a + 1 + n ≡ a + suc n
+    same = omega arith
+
+pub past_levels : {X : Type 0} (f : ℕ → List X) (a b end : ℕ) → a ≤ b → b ≤ end
+    → ((k : ℕ) → a ≤ k → k < b → slice_get (f k) 0 ≡ None)
+    → slice_get (flat_map f (range_with_len a (end - a))) 0 ≡ slice_get (flat_map f (range_with_len b (end - b))) 0
+past_levels f a b end h k none =
+    skip_levels f (b - a) a end (omega arith) (λ i low high. none i low (omega arith))
+    ∙ ap (λ (m : ℕ). slice_get (flat_map f (range_with_len m (end - m))) 0) same
+  where
+    same : a + (b - a) ≡ b
+    same = omega arith
+
+-- Where no level is left that gives anything, nothing is found.
+pub no_level_left : {X : Type 0} (f : ℕ → List X) (a end : ℕ)
+    → ((k : ℕ) → a ≤ k → k < end → slice_get (f k) 0 ≡ None)
+    → slice_get (flat_map f (range_with_len a (end - a))) 0 ≡ None
+no_level_left f a end none = elim (cases_lt a end) [
+  | inl before ↦ past_levels f a end end (omega arith) (omega arith) none ∙ head_end f end end (omega arith)
+  | inr past ↦ head_end f a end past
+]
+
+-- Up to the next level whose bit is set, and down to it, there is nothing to find.
+pub none_clear : (pool : PoolState) (words : ℕ) (committed : Bool) (levels level : ℕ)
+    → GrantNone levels pool words committed → words ≤ size_of level → has_level levels level ≡ false
+    → slice_get (found_at pool words committed level) 0 ≡ None
+none_clear pool words committed levels level told fits clear =
+    sym (first_at-is pool words committed level) ∙ told level fits clear
+
+pub up_to_level : (pool : PoolState) (words : ℕ) (committed : Bool) (levels most from level : ℕ) (whole : Option Span)
+    → GrantNone levels pool words committed → words ≤ size_of most → most ≤ 12 → from ≤ level → level ≤ most + 1
+    → ((k : ℕ) → from ≤ k → k < level → has_level levels k ≡ false)
+    → whole ≡ slice_get (flat_map (found_at pool words committed) (range_with_len from (most + 1 - from))) 0
+    → whole ≡ slice_get (flat_map (found_at pool words committed) (range_with_len level (most + 1 - level))) 0
+up_to_level pool words committed levels most from level whole told fits real low high clear is =
+    is ∙ past_levels (found_at pool words committed) from level (most + 1) low high
+    (λ k past under. none_clear pool words committed levels k told
+    (omega (arith, fits, size_falls k most (omega (arith, under, high)) real)) (clear k past under))
+
+-- The levels from one down to 0, by how far below it they are.
+abbrev pub found_below : PoolState → ℕ → Bool → ℕ → ℕ → List Span
+found_below pool words committed top below = found_at pool words committed (top - below)
+
+pub down_to_level : (pool : PoolState) (words : ℕ) (committed : Bool) (levels top end level : ℕ) (whole : Option Span)
+    → GrantNone levels pool words committed → words ≤ size_of top → top ≤ 12 → end ≤ top + 1 → level < end
+    → ((k : ℕ) → level < k → k < end → has_level levels k ≡ false)
+    → whole ≡ slice_get (flat_map (found_below pool words committed top)
+    (range_with_len (top + 1 - end) (top + 1 - (top + 1 - end)))) 0
+    → whole ≡ slice_get (flat_map (found_below pool words committed top)
+    (range_with_len (top - level) (top + 1 - (top - level)))) 0
+down_to_level pool words committed levels top end level whole told fits real within below clear is =
+    is ∙ past_levels (found_below pool words committed top) (top + 1 - end) (top - level) (top + 1)
+    (omega (arith, within, below)) (omega arith)
+    (λ k past under. none_clear pool words committed levels (top - k) told
+    (omega (arith, fits, size_falls (top - k) top (omega arith) real))
+    (clear (top - k) (omega (arith, under)) (omega (arith, past, within, under))))
 
 -- A loop over levels: a turn that finds none, one that finds a part, and its end.
 pub none_here : {X : Type 0} (f : ℕ → List X) (n end : ℕ) (whole one : Option X) → n < end
