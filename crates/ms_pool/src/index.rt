@@ -9,8 +9,9 @@
 //!          |<----------------- space ------------------------>|<--- class_space --- ..
 //!
 //! Kept true: what a root has, its group has too, and its space. So a search asks one number which
-//! level is the next to look at, if any, and looks for the root then. With each change the levels of
-//! the root's group are put together anew, and from the groups those of the space. Takes no memory.
+//! level is the next to look at, if any, and looks for the root then. With each change the levels
+//! of the root's group are put together anew, and from the groups those of the space. Takes no
+//! memory.
 ghost use Rattle.std.specs.Prelude.{◌≡◌, ℕ, ◌<◌, ◌≤◌, false, get_or, length, replicate, IfSome, IfNone};
 ghost use Rattle.ms_buddy.specs.Leaves.{has_level};
 ghost use Rattle.ms_pool.specs.Trees.{HaveLevels, IsRootOf, all_roots};

@@ -161,7 +161,8 @@ impl Lender {
     fn commit_limit(&self, need: u64) -> Option<Refusal>
         requires kept { IsKept self.now }
         ensures refusal { IfSome result (λ refusal.
-            refusal ≡ Refusal.CommitLimit (length self.now.nodes.granules) self.now.nodes.limits.granules need) }
+            refusal
+            ≡ Refusal.CommitLimit (length self.now.nodes.granules) self.now.nodes.limits.granules need) }
         ensures met { OnSome result
             (self.now.nodes.limits.granules < length self.now.nodes.granules + need) }
         ensures within { IfNone result
@@ -179,8 +180,8 @@ impl Lender {
         None
     }
 
-    /// Lends a part that is free, or that is of a node which isn't reserved yet, and commits what its
-    /// front needs; `false` where memory is wanting.
+    /// Lends a part that is free, or that is of a node which isn't reserved yet, and commits what
+    /// its front needs; `false` where memory is wanting.
     fn lend(&mut self, space: Space, owner: u32, chunk: &Chunk, need: u64) -> bool
         requires kept { IsKept self.old }
         requires counted { IsCounted self.old }
@@ -447,8 +448,8 @@ fn reserve(nodes: &mut Nodes, slot: u32)
     let _ = nodes.reserved();
 }
 
-/// Commits the granules of a front, of which so many are missing; they lie in reserved slots and are
-/// within the limit. Most fronts miss none, and then the mask isn't looked at again.
+/// Commits the granules of a front, of which so many are missing; they lie in reserved slots and
+/// are within the limit. Most fronts miss none, and then the mask isn't looked at again.
 fn commit(nodes: &mut Nodes, granule: u64, chunk: &Chunk, need: u64)
     requires sound { AreSound nodes.old }
     requires granule { least_granule ≤ granule }

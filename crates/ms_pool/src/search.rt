@@ -9,8 +9,8 @@
 //! The first that finds a part decides; within a level the lowest address comes first. Where none
 //! does, the lower root of a new node is taken. Only levels are asked of which the index of `trees`
 //! tells a free part, and for committed words only those whose parts may have them (`levels_for`).
-//! The index tells the roots too, `lowest_free` alone decides whether the mask of granules has to be
-//! asked, and `lowest_in_root` alone looks for leaves, down one path of a tree. So what a search
+//! The index tells the roots too, `lowest_free` alone decides whether the mask of granules has to
+//! be asked, and `lowest_in_root` alone looks for leaves, down one path of a tree. So what a search
 //! costs doesn't grow with the chunks that are lent or free, but under policy none with the larger
 //! free parts of a level. Nothing here takes memory. After HotSpot's chunkManager.cpp; the order is
 //! this project's choice.
@@ -44,8 +44,8 @@ pub(crate) struct Wish {
 }
 
 impl Lender {
-    /// Finds the part that the searches find first. A wish is put together once and lent to them all: its
-    /// copies would cost more than a search that finds no level.
+    /// Finds the part that the searches find first. A wish is put together once and lent to them
+    /// all: its copies would cost more than a search that finds no level.
     pub(crate) fn found(&self, space: Space, wanted: Level, most: Level, words: u64) -> Option<Span>
         requires kept { IsKept self.now }
         requires asks { MayTake wanted most words }
@@ -80,8 +80,8 @@ impl Lender {
         self.larger(all, &any, wanted)
     }
 
-    /// The levels of the free parts that may grant the wish, as bits. A free part of a granule or more
-    /// is committed under policy none alone.
+    /// The levels of the free parts that may grant the wish, as bits. A free part of a granule or
+    /// more is committed under policy none alone.
     fn levels_for(&self, wish: &Wish) -> u16
         requires kept { IsKept self.now }
         ensures { GrantNone result (state_in wish.now.space (ledger_of self.now))

@@ -1,7 +1,7 @@
 -- The bits of levels: which are clear beside the one that is found, and at which levels a free part
 -- may grant a wish. `lowest_level`, `highest_level`, `small_levels` and `levels_for` use these.
-use Rattle.std.proofs.Common.{◌≡◌, ◌<◌, ◌≤◌, ℕ, suc, ◌+◌, ◌-◌, ◌*◌, ◌/◌, ◌%◌, ◌^◌, ◌==◌, Bool, true, false, min, bit_and}
-use Rattle.std.proofs.Common.{refl, sym, ap, ap₂, subst, ◌∙◌, inl, inr, arith, w16, eqb-true, None}
+use Rattle.std.proofs.Common.{◌≡◌, ◌<◌, ◌≤◌, ℕ, suc, ◌+◌, ◌-◌, ◌*◌, ◌/◌, ◌%◌, ◌^◌, ◌==◌, Bool, true, false, bit_and}
+use Rattle.std.proofs.Common.{min, refl, sym, ap, ap₂, subst, ◌∙◌, inl, inr, arith, w16, eqb-true, None}
 use Rattle.std.specs.Int.{bit_at, trailing_zeros}
 use Rattle.std.specs.Int.Count.{count_leading_zeros}
 use Rattle.std.proofs.lemmas.Bool.{cases_lt, false≢true}
