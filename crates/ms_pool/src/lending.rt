@@ -24,7 +24,7 @@ ghost use Rattle.ms_pool.specs.Searching.{least_granule, is_full, lacking, part_
 
 use crate::account::Account;
 use crate::lender::Lender;
-use crate::search::granules_meeting;
+use crate::search::{granules_meeting, missing_among};
 use crate::trees::{carve, put_back, raise};
 use ms_base::{Chunk, Level, NODE_WORDS, Policy, ROOT_WORDS, Refusal, SLOTS, Space, Span, granule};
 use ms_buddy::{Leaf, SplitTree};
@@ -154,7 +154,7 @@ impl Lender {
         ensures { result ≡ lacking (state_in space (ledger_of self.now)) chunk.now }
     {
         let (first, count) = granules_meeting(granule(self.policy), chunk.start, chunk.front);
-        self.nodes.missing(first, count)
+        missing_among(&self.nodes, first, count)
     }
 
     /// The refusal where so many granules more would pass the limit.

@@ -21,6 +21,7 @@ ghost use Rattle.ms_base.specs.Policy.{granule_of};
 ghost use Rattle.ms_base.specs.Part.{is_reserved};
 ghost use Rattle.ms_base.specs.Spaces.{by_space, first_class_slot};
 ghost use Rattle.ms_commit.specs.Nodes.{all_slots};
+ghost use Rattle.ms_commit.specs.NumberSet.{count_missing};
 ghost use Rattle.ms_pool.specs.Ledger.{state_in};
 ghost use Rattle.ms_pool.specs.Lending.{MayTake};
 ghost use Rattle.ms_pool.specs.Keeping.{IsKept, ledger_of};
@@ -30,6 +31,7 @@ ghost use Rattle.ms_pool.specs.Searching.{first_in, first_in_slot, first_up};
 use crate::index::{highest_level, lowest_level};
 use crate::lender::Lender;
 use ms_base::{Level, Policy, ROOT_WORDS, SLOTS, Space, Span, granule};
+use ms_commit::Nodes;
 
 /// What is looked for: where, how many words, and whether they have to be committed.
 #[derive(Clone, Copy)]
@@ -271,7 +273,7 @@ impl Lender {
         ensures { result ≡ are_among self.now.nodes.granules (granule_of self.now.policy) start words }
     {
         let (first, count) = granules_meeting(granule(self.policy), start, words);
-        self.nodes.missing(first, count) == 0
+        missing_among(&self.nodes, first, count) == 0
     }
 }
 
@@ -296,4 +298,16 @@ pub(crate) fn granules_meeting(granule: u64, start: u64, words: u64) -> (u64, u6
 {
     let first = start / granule;
     (first, (start + words - 1) / granule + 1 - first)
+}
+
+/// How many granules of a range aren't committed. Most fronts meet one alone, and its bit is looked
+/// at by itself.
+pub(crate) fn missing_among(nodes: &Nodes, first: u64, count: u64) -> u64
+    requires { first + count < 2 ^ 64 }
+    ensures { result ≡ count_missing nodes.now.granules first count }
+{
+    if count == 1 {
+        return u64::from(!nodes.is_committed(first));
+    }
+    nodes.missing(first, count)
 }
