@@ -2,6 +2,7 @@
 -- proof looks into them where it has to.
 use Rattle.std.specs.Prelude.{◌≡◌, ℕ, ◌+◌, ◌*◌, ◌≤◌, not, ◌&&◌, ◌||◌, ◌==◌, Bool, false, cond, List, [], Option, None}
 use Rattle.std.specs.Prelude.{map, slice_get}
+use Rattle.std.specs.Option.{option_map}
 use Rattle.std.specs.List.{find, flat_map, list_all}
 use Rattle.ms_base.specs.declared.span.Chunk.{Chunk}
 use Rattle.ms_base.specs.declared.span.Span.{Span}
@@ -20,6 +21,10 @@ least_granule = 2048
 -- The part has the level and, if it has to be, is committed enough.
 abbrev pub grants : PoolState → ℕ → Bool → ℕ → Span → Bool
 grants pool words committed level part = (part.level == level) && (not committed || is_committed_enough pool words part)
+
+-- The part of a level that starts there, where one does.
+abbrev pub part_at : ℕ → Option ℕ → Option Span
+part_at level start = option_map (λ at_. record { start = at_; level = level }) start
 
 -- The first free part of a level.
 unfoldable pub first_at : PoolState → ℕ → Bool → ℕ → Option Span

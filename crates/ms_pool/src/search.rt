@@ -26,7 +26,7 @@ ghost use Rattle.ms_pool.specs.Ledger.{state_in};
 ghost use Rattle.ms_pool.specs.Lending.{MayTake};
 ghost use Rattle.ms_pool.specs.Keeping.{IsKept, ledger_of};
 ghost use Rattle.ms_pool.specs.Searching.{least_granule, GrantNone, are_among, first_at, first_down, first_found};
-ghost use Rattle.ms_pool.specs.Searching.{first_in, first_in_slot, first_up};
+ghost use Rattle.ms_pool.specs.Searching.{first_in, first_in_slot, first_up, part_at};
 
 use crate::index::{highest_level, lowest_level};
 use crate::lender::Lender;
@@ -104,8 +104,8 @@ impl Lender {
         requires levels { wanted ≤ most }
         requires fits { wish.now.words ≤ size_of most }
         ensures { result
-            ≡ first_up (state_in wish.now.space (ledger_of self.now)) wish.now.words wish.now.committed wanted
-            (min (wanted + 2) most) }
+            ≡ first_up (state_in wish.now.space (ledger_of self.now)) wish.now.words
+            wish.now.committed wanted (min (wanted + 2) most) }
     {
         let two_more = wanted.number() + 2;
         if two_more < most.number() {
@@ -123,14 +123,14 @@ impl Lender {
             wish.now.words wish.now.committed }
         requires fits { wish.now.words ≤ size_of most }
         ensures { result
-            ≡ first_up (state_in wish.now.space (ledger_of self.now)) wish.now.words wish.now.committed wanted
-            most }
+            ≡ first_up (state_in wish.now.space (ledger_of self.now)) wish.now.words
+            wish.now.committed wanted most }
     {
         let end = most.number() + 1;
         let mut from = wanted.number();
         while let Some(level) = lowest_level(levels, from, end) {
-            if let Some(part) = self.lowest_free(wish, level) {
-                return Some(part);
+            if let Some(start) = self.lowest_free(wish, level) {
+                return Some(Span { start, level });
             }
             from = level.number() + 1;
         }
@@ -144,44 +144,47 @@ impl Lender {
             wish.now.words wish.now.committed }
         requires fits { wish.now.words ≤ size_of wanted }
         ensures { result
-            ≡ first_down (state_in wish.now.space (ledger_of self.now)) wish.now.words wish.now.committed
-            wanted }
+            ≡ first_down (state_in wish.now.space (ledger_of self.now)) wish.now.words
+            wish.now.committed wanted }
     {
         let mut end = wanted.number() + 1;
         while let Some(level) = highest_level(levels, end) {
-            if let Some(part) = self.lowest_free(wish, level) {
-                return Some(part);
+            if let Some(start) = self.lowest_free(wish, level) {
+                return Some(Span { start, level });
             }
             end = level.number();
         }
         None
     }
 
-    /// Finds the lowest free part of a level that grants the wish. A free part smaller than a
-    /// granule is committed: its buddy is not free, and a front there meets the granule of both. Of
-    /// any other the mask has to be asked.
+    /// Finds where the lowest free part of a level that grants the wish starts. A free part smaller
+    /// than a granule is committed: its buddy is not free, and a front there meets the granule of
+    /// both. Of any other the mask has to be asked. A start is answered in registers, a part isn't.
     #[inline(never)]
-    fn lowest_free(&self, wish: &Wish, level: Level) -> Option<Span>
+    fn lowest_free(&self, wish: &Wish, level: Level) -> Option<u64>
         requires kept { IsKept self.now }
         requires fits { wish.now.words ≤ size_of level }
-        ensures { result
-            ≡ first_at (state_in wish.now.space (ledger_of self.now)) wish.now.words wish.now.committed level }
+        ensures { part_at level result
+            ≡ first_at (state_in wish.now.space (ledger_of self.now)) wish.now.words
+            wish.now.committed level }
     {
         let asked = Wish {
             space: wish.space,
             words: wish.words,
             committed: wish.committed && level.words() >= granule(self.policy),
         };
-        self.lowest_among(asked, level)
+        self.lowest_among(&asked, level)
     }
 
-    /// Finds the lowest free part of a level that grants the wish, in the roots that have one of the
-    /// level. A root that isn't reserved is whole, so at level 0 a slot may be passed over.
-    fn lowest_among(&self, wish: Wish, level: Level) -> Option<Span>
+    /// Finds where the lowest free part of a level that grants the wish starts, in the roots that
+    /// have one of the level. A root that isn't reserved is whole, so at level 0 a slot may be
+    /// passed over.
+    fn lowest_among(&self, wish: &Wish, level: Level) -> Option<u64>
         requires kept { IsKept self.now }
-        requires fits { wish.words ≤ size_of level }
-        ensures { result
-            ≡ first_at (state_in wish.space (ledger_of self.now)) wish.words wish.committed level }
+        requires fits { wish.now.words ≤ size_of level }
+        ensures { part_at level result
+            ≡ first_at (state_in wish.now.space (ledger_of self.now)) wish.now.words
+            wish.now.committed level }
     {
         let (first, end) = self.slots_of(wish.space);
         let mut slot = first;
@@ -190,31 +193,33 @@ impl Lender {
             .next_root(level, 2 * slot as usize, 2 * end as usize)
         {
             let here = (root / 2) as u32;
-            if let Some(part) = self.lowest_in_slot(here, wish, level) {
-                return Some(part);
+            if let Some(start) = self.lowest_in_slot(here, wish, level) {
+                return Some(start);
             }
             slot = here + 1;
         }
         None
     }
 
-    /// Finds the lowest free part of a slot of the space, where it is reserved.
-    fn lowest_in_slot(&self, slot: u32, wish: Wish, level: Level) -> Option<Span>
+    /// Finds where the lowest free part of a slot of the space starts, where it is reserved.
+    fn lowest_in_slot(&self, slot: u32, wish: &Wish, level: Level) -> Option<u64>
         requires kept { IsKept self.now }
-        requires low { by_space wish.space 0 first_class_slot ≤ slot }
+        requires low { by_space wish.now.space 0 first_class_slot ≤ slot }
         requires high { slot
-            < by_space wish.space first_class_slot (first_class_slot + self.now.nodes.class_slots) }
-        requires fits { wish.words ≤ size_of level }
-        ensures { result
-            ≡ first_in_slot (state_in wish.space (ledger_of self.now))
-            (is_reserved (all_slots self.now.nodes) slot) wish.words wish.committed level slot }
+            < by_space wish.now.space first_class_slot
+            (first_class_slot + self.now.nodes.class_slots) }
+        requires fits { wish.now.words ≤ size_of level }
+        ensures { part_at level result
+            ≡ first_in_slot (state_in wish.now.space (ledger_of self.now))
+            (is_reserved (all_slots self.now.nodes) slot) wish.now.words wish.now.committed level
+            slot }
     {
         // That a level has at most the words of a root is learnt here.
         let _ = level.words();
         if self.nodes.is_reserved(slot) {
             let root = 2 * slot as usize;
-            if let Some(part) = self.lowest_in_root(root, wish, level) {
-                return Some(part);
+            if let Some(start) = self.lowest_in_root(root, wish, level) {
+                return Some(start);
             }
             return self.lowest_in_root(root + 1, wish, level);
         }
@@ -235,21 +240,21 @@ impl Lender {
         }
     }
 
-    /// Finds the lowest free part of a root.
-    fn lowest_in_root(&self, root: usize, wish: Wish, level: Level) -> Option<Span>
+    /// Finds where the lowest free part of a root starts.
+    fn lowest_in_root(&self, root: usize, wish: &Wish, level: Level) -> Option<u64>
         requires kept { IsKept self.now }
         requires there { root < length self.now.trees.items }
-        requires fits { wish.words ≤ root_words }
-        ensures { result
-            ≡ first_in self.now.nodes.granules (granule_of self.now.policy) wish.words wish.committed
-            level root (get_or self.now.trees.items root []) }
+        requires fits { wish.now.words ≤ root_words }
+        ensures { part_at level result
+            ≡ first_in self.now.nodes.granules (granule_of self.now.policy) wish.now.words
+            wish.now.committed level root (get_or self.now.trees.items root []) }
     {
         let base = root as u64 * ROOT_WORDS;
         let mut from = 0;
         while let Some(leaf) = self.trees.tree(root).next_free(level, from) {
             let start = leaf.start + base;
             if self.is_enough(start, wish) {
-                return Some(Span { start, level });
+                return Some(start);
             }
             from = leaf.start + 1;
         }
@@ -257,11 +262,12 @@ impl Lender {
     }
 
     /// Tells whether the words from the start on are committed, where they have to be.
-    fn is_enough(&self, start: u64, wish: Wish) -> bool
-        requires { start + wish.words < 2 ^ 63 }
+    fn is_enough(&self, start: u64, wish: &Wish) -> bool
+        requires { start + wish.now.words < 2 ^ 63 }
         ensures { result
-            ≡ (not wish.committed
-            || are_among self.now.nodes.granules (granule_of self.now.policy) start wish.words) }
+            ≡ (not wish.now.committed
+            || are_among self.now.nodes.granules (granule_of self.now.policy) start
+            wish.now.words) }
     {
         !wish.committed || self.is_committed_enough(start, wish.words)
     }
@@ -279,7 +285,8 @@ impl Lender {
 
 /// The levels of the parts smaller than a granule, as bits.
 fn small_levels(policy: Policy) -> u16
-    ensures { (level : ℕ) → level < 16 → has_level result level ≡ false → granule_of policy ≤ size_of level }
+    ensures { (level : ℕ) → level < 16 → has_level result level ≡ false
+        → granule_of policy ≤ size_of level }
 {
     match policy {
         Policy::Balanced | Policy::None => 0b1111_1111_1000_0000,

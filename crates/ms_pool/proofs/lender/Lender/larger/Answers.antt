@@ -1,6 +1,7 @@
-use Rattle.std.proofs.Common.{sym, ◌∙◌, arith}
+use Rattle.std.proofs.Common.{ap, sym, ◌∙◌, arith}
 use Rattle.ms_base.proofs.free.HalvesLemmas.{size_falls}
 use Rattle.ms_pool.proofs.searches.SearchLemmas.{decided_down, down_first, found_here, found_later, none_down}
+use Rattle.ms_pool.specs.Searching.{part_at}
 use Rattle.ms_pool.proofs.lender.Lender.larger.Goals as goal
 
 pub loop-level-init : goal.loop-level-init
@@ -23,7 +24,7 @@ loop-level-preserved c =
           c.requires.fits (omega (arith, c.number-end.ensures.same, c.number-end.ensures.below))
           c.loop-level.invariant.0 c.in-Some.ensures.below c.in-Some.ensures.highest c.loop-level.invariant.1
           c.lowest_free.ensures
-          ∙ found_later c.lowest_free.result _ c.in_default-lowest_free.is,
+          ∙ found_later _ _ (ap (part_at c.in-Some.level) c.in_default-lowest_free.is),
     )
 
 pub returns-in-Some-lowest_free : goal.returns-in-Some-lowest_free
@@ -31,7 +32,7 @@ returns-in-Some-lowest_free c =
     sym (decided_down _ _ _ c.args.levels c.args.wanted c.loop-level.end c.in-Some.level _ _ c.requires.told
     c.requires.fits (omega (arith, c.number-end.ensures.same, c.number-end.ensures.below)) c.loop-level.invariant.0
     c.in-Some.ensures.below c.in-Some.ensures.highest c.loop-level.invariant.1 c.lowest_free.ensures
-    ∙ found_here c.lowest_free.result _ c.in-Some-lowest_free.part c.in-Some-lowest_free.is)
+    ∙ found_here _ _ _ (ap (part_at c.in-Some.level) c.in-Some-lowest_free.is))
 
 pub returns : goal.returns
 returns c =

@@ -1,7 +1,7 @@
-use Rattle.std.proofs.Common.{sym, ◌∙◌, arith, refl}
+use Rattle.std.proofs.Common.{ap, sym, ◌∙◌, arith, refl}
 use Rattle.ms_base.proofs.free.HalvesLemmas.{size_falls}
-use Rattle.ms_pool.specs.Searching.{first_up}
 use Rattle.ms_pool.proofs.searches.SearchLemmas.{decided_up, found_here, found_later, none_up}
+use Rattle.ms_pool.specs.Searching.{first_up, part_at}
 use Rattle.ms_pool.proofs.lender.Lender.smaller.Goals as goal
 
 pub loop-level-init : goal.loop-level-init
@@ -25,7 +25,7 @@ loop-level-preserved c =
       decided_up _ _ _ c.args.levels _ c.number-end.result c.loop-level.from c.in-Some.level _ _ c.requires.told
           c.requires.fits c.number-end.ensures.same c.number-end.ensures.below c.in-Some.ensures.from
           c.in-Some.ensures.below c.in-Some.ensures.lowest c.loop-level.invariant.1 c.lowest_free.ensures
-          ∙ found_later c.lowest_free.result _ c.in_default-lowest_free.is,
+          ∙ found_later _ _ (ap (part_at c.in-Some.level) c.in_default-lowest_free.is),
     )
 
 pub returns-in-Some-lowest_free : goal.returns-in-Some-lowest_free
@@ -33,7 +33,7 @@ returns-in-Some-lowest_free c =
     sym (decided_up _ _ _ c.args.levels _ c.number-end.result c.loop-level.from c.in-Some.level _ _ c.requires.told
     c.requires.fits c.number-end.ensures.same c.number-end.ensures.below c.in-Some.ensures.from
     c.in-Some.ensures.below c.in-Some.ensures.lowest c.loop-level.invariant.1 c.lowest_free.ensures
-    ∙ found_here c.lowest_free.result _ c.in-Some-lowest_free.part c.in-Some-lowest_free.is)
+    ∙ found_here _ _ _ (ap (part_at c.in-Some.level) c.in-Some-lowest_free.is))
 
 pub returns : goal.returns
 returns c =
