@@ -4,3 +4,4 @@ pub mod LendLemmas
 pub mod OpenLemmas
 pub mod LentPartLemmas
 pub mod TakingLemmas
+pub mod NoneMissingLemmas

@@ -11,3 +11,4 @@ pub mod SkipLemmas
 pub mod CoveringLemmas
 pub mod LackLemmas
 pub mod PickedLemmas
+pub mod LevelBitLemmas

@@ -1,16 +1,18 @@
 -- What the searches find first, each step of them by itself. These words stand for long ones: a
 -- proof looks into them where it has to.
-use Rattle.std.specs.Prelude.{ℕ, ◌+◌, ◌*◌, not, ◌&&◌, ◌||◌, ◌==◌, Bool, cond, List, [], Option, map, slice_get}
+use Rattle.std.specs.Prelude.{◌≡◌, ℕ, ◌+◌, ◌*◌, ◌≤◌, not, ◌&&◌, ◌||◌, ◌==◌, Bool, false, cond, List, [], Option, None}
+use Rattle.std.specs.Prelude.{map, slice_get}
+use Rattle.std.specs.Option.{option_map}
 use Rattle.std.specs.List.{find, flat_map, list_all}
 use Rattle.ms_base.specs.declared.span.Chunk.{Chunk}
 use Rattle.ms_base.specs.declared.span.Span.{Span}
-use Rattle.ms_base.specs.Level.{root_words}
+use Rattle.ms_base.specs.Level.{root_words, size_of}
 use Rattle.ms_base.specs.Committed.{is_among, granules_meeting}
 use Rattle.ms_base.specs.FreeParts.{free_in_slot, free_parts}
 use Rattle.ms_base.specs.State.{PoolState}
 use Rattle.ms_base.specs.PoolSteps.Pick.{candidates, found_at, is_committed_enough, levels_down, levels_up, picked}
 use Rattle.ms_base.specs.PoolSteps.Causes.{granules_missing, meets_reserve_limit}
-use Rattle.ms_buddy.specs.Leaves.{LentLeaf, free_of}
+use Rattle.ms_buddy.specs.Leaves.{LentLeaf, free_of, has_level}
 
 -- The words of the smallest granule of all policies.
 abbrev pub least_granule : ℕ
@@ -19,6 +21,10 @@ least_granule = 2048
 -- The part has the level and, if it has to be, is committed enough.
 abbrev pub grants : PoolState → ℕ → Bool → ℕ → Span → Bool
 grants pool words committed level part = (part.level == level) && (not committed || is_committed_enough pool words part)
+
+-- The part of a level that starts there, where one does.
+abbrev pub part_at : ℕ → Option ℕ → Option Span
+part_at level start = option_map (λ at_. record { start = at_; level = level }) start
 
 -- The first free part of a level.
 unfoldable pub first_at : PoolState → ℕ → Bool → ℕ → Option Span
@@ -65,3 +71,8 @@ part_picked pool p m words = picked pool p m words
 
 unfoldable pub lacking : PoolState → Chunk → ℕ
 lacking pool chunk = granules_missing pool chunk
+
+-- At a level whose bit is clear no free part grants so many words.
+abbrev pub GrantNone : ℕ → PoolState → ℕ → Bool → Type 0
+GrantNone levels pool words committed = (level : ℕ) → words ≤ size_of level → has_level levels level ≡ false
+    → first_at pool words committed level ≡ None

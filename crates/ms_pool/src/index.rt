@@ -8,9 +8,10 @@
 //!          |<----- group 0 ------>|    |<----- group 7 ------>|<----- group 8 ------>|
 //!          |<----------------- space ------------------------>|<--- class_space --- ..
 //!
-//! Kept true: what a root has, its group has too, and its space. So a search asks one number whether
-//! to look for a level at all, and looks for the root then. With each change the levels of the
-//! root's group are put together anew, and from the groups those of the space. Takes no memory.
+//! Kept true: what a root has, its group has too, and its space. So a search asks one number which
+//! level is the next to look at, if any, and looks for the root then. With each change the levels
+//! of the root's group are put together anew, and from the groups those of the space. Takes no
+//! memory.
 ghost use Rattle.std.specs.Prelude.{◌≡◌, ℕ, ◌<◌, ◌≤◌, false, get_or, length, replicate, IfSome, IfNone};
 ghost use Rattle.ms_buddy.specs.Leaves.{has_level};
 ghost use Rattle.ms_pool.specs.Trees.{HaveLevels, IsRootOf, all_roots};
@@ -115,10 +116,46 @@ impl Index {
 }
 
 /// Tells whether the bit of a level is set.
-pub(crate) fn has_level(levels: u16, level: Level) -> bool
+fn has_level(levels: u16, level: Level) -> bool
     ensures { result ≡ has_level levels level }
 {
     levels >> level.number() & 1 == 1
+}
+
+/// Finds the lowest level of a range whose bit is set.
+pub(crate) fn lowest_level(levels: u16, from: u8, end: u8) -> Option<Level>
+    requires near { from ≤ 13 }
+    requires few { end ≤ 13 }
+    ensures from { IfSome result (λ level. from ≤ level) }
+    ensures below { IfSome result (λ level. level < end) }
+    ensures lowest { IfSome result
+        (λ level. (k : ℕ) → from ≤ k → k < level → has_level levels k ≡ false) }
+    ensures none { IfNone result ((k : ℕ) → from ≤ k → k < end → has_level levels k ≡ false) }
+{
+    let later = levels >> from;
+    if later == 0 {
+        return None;
+    }
+    let number = from + later.trailing_zeros() as u8;
+    if number >= end {
+        return None;
+    }
+    Some(Level::new(number))
+}
+
+/// Finds the highest level below one whose bit is set.
+pub(crate) fn highest_level(levels: u16, end: u8) -> Option<Level>
+    requires few { end ≤ 13 }
+    ensures below { IfSome result (λ level. level < end) }
+    ensures highest { IfSome result
+        (λ level. (k : ℕ) → level < k → k < end → has_level levels k ≡ false) }
+    ensures none { IfNone result ((k : ℕ) → k < end → has_level levels k ≡ false) }
+{
+    let lower = levels % (1 << end);
+    if lower == 0 {
+        return None;
+    }
+    Some(Level::new(15 - lower.leading_zeros() as u8))
 }
 
 /// The levels of all entries from one up to another.

@@ -12,6 +12,7 @@ ghost use Rattle.ms_base.specs.Spaces.{by_space, first_class_slot};
 ghost use Rattle.ms_base.specs.Front.{front_for};
 ghost use Rattle.ms_base.specs.PoolSteps.Pick.{lowest_unreserved};
 ghost use Rattle.ms_commit.specs.Nodes.{AreInReserved, AreSound, all_slots, granules_with, slots_of, with_granules};
+ghost use Rattle.ms_commit.specs.NumberSet.{count_missing};
 ghost use Rattle.ms_pool.specs.Account.{has_chunk_at};
 ghost use Rattle.ms_pool.specs.Lending.{Adds, Grows, MayTake, span_of};
 ghost use Rattle.ms_pool.specs.Source.{ServesBoth};
@@ -23,7 +24,7 @@ ghost use Rattle.ms_pool.specs.Searching.{least_granule, is_full, lacking, part_
 
 use crate::account::Account;
 use crate::lender::Lender;
-use crate::search::granules_meeting;
+use crate::search::{granules_meeting, missing_among};
 use crate::trees::{carve, put_back, raise};
 use ms_base::{Chunk, Level, NODE_WORDS, Policy, ROOT_WORDS, Refusal, SLOTS, Space, Span, granule};
 use ms_buddy::{Leaf, SplitTree};
@@ -59,7 +60,8 @@ impl Lender {
             return Err(self.reserve_limit(space));
         };
         let chunk = chunk_at(self.policy, span.start, span.level, words);
-        if let Some(refusal) = self.commit_limit(space, &chunk) {
+        let need = self.missing(space, &chunk);
+        if let Some(refusal) = self.commit_limit(need) {
             self.counts.take_commit = self.counts.take_commit.wrapping_add(1);
             return Err(refusal);
         }
@@ -67,7 +69,7 @@ impl Lender {
         if account.chunks.reserve(1).is_err() {
             return Err(Refusal::OutOfMemory);
         }
-        if !self.lend(space, owner, &chunk) {
+        if !self.lend(space, owner, &chunk, need) {
             return Err(Refusal::OutOfMemory);
         }
         account.chunks.push_reserved(chunk);
@@ -152,27 +154,20 @@ impl Lender {
         ensures { result ≡ lacking (state_in space (ledger_of self.now)) chunk.now }
     {
         let (first, count) = granules_meeting(granule(self.policy), chunk.start, chunk.front);
-        self.nodes.missing(first, count)
+        missing_among(&self.nodes, first, count)
     }
 
-    /// The refusal where the granules of a front that are missing would pass the limit.
-    fn commit_limit(&self, space: Space, chunk: &Chunk) -> Option<Refusal>
+    /// The refusal where so many granules more would pass the limit.
+    fn commit_limit(&self, need: u64) -> Option<Refusal>
         requires kept { IsKept self.now }
-        requires some { 1 ≤ chunk.now.front }
-        requires inside { IsRunOf space chunk.now.start chunk.now.front }
-        requires fits { chunk.now.start + chunk.now.front < 2 ^ 63 }
         ensures refusal { IfSome result (λ refusal.
             refusal
-            ≡ Refusal.CommitLimit (length self.now.nodes.granules) self.now.nodes.limits.granules
-            (lacking (state_in space (ledger_of self.now)) chunk.now)) }
+            ≡ Refusal.CommitLimit (length self.now.nodes.granules) self.now.nodes.limits.granules need) }
         ensures met { OnSome result
-            (self.now.nodes.limits.granules
-            < length self.now.nodes.granules + lacking (state_in space (ledger_of self.now)) chunk.now) }
+            (self.now.nodes.limits.granules < length self.now.nodes.granules + need) }
         ensures within { IfNone result
-            (length self.now.nodes.granules + lacking (state_in space (ledger_of self.now)) chunk.now
-            ≤ self.now.nodes.limits.granules) }
+            (length self.now.nodes.granules + need ≤ self.now.nodes.limits.granules) }
     {
-        let need = self.missing(space, chunk);
         let committed = self.nodes.committed();
         let limit = self.nodes.granule_limit();
         if need > limit - committed {
@@ -185,12 +180,13 @@ impl Lender {
         None
     }
 
-    /// Lends a part that is free, or that is of a node which isn't reserved yet, and commits its
-    /// front; `false` where memory is wanting.
-    fn lend(&mut self, space: Space, owner: u32, chunk: &Chunk) -> bool
+    /// Lends a part that is free, or that is of a node which isn't reserved yet, and commits what
+    /// its front needs; `false` where memory is wanting.
+    fn lend(&mut self, space: Space, owner: u32, chunk: &Chunk, need: u64) -> bool
         requires kept { IsKept self.old }
         requires counted { IsCounted self.old }
         requires may { MayBeLent self.old space owner chunk.now }
+        requires need { need ≡ lacking (state_in space (ledger_of self.old)) chunk.now }
         ensures lent { IsTrue result
             → ledger_of self.new ≡ with_lent (ledger_of self.old) space owner chunk.now }
         ensures unchanged { IsFalse result → ledger_of self.new ≡ ledger_of self.old }
@@ -201,7 +197,7 @@ impl Lender {
             return false;
         }
         reserve(&mut self.nodes, (chunk.start / NODE_WORDS) as u32);
-        commit(&mut self.nodes, granule(self.policy), chunk);
+        commit(&mut self.nodes, granule(self.policy), chunk, need);
         self.lent.add(space, chunk);
         true
     }
@@ -235,11 +231,12 @@ impl Lender {
             self.counts.grow_room = self.counts.grow_room.wrapping_add(1);
             return Err(Refusal::NoRoom { level: chunk.level });
         };
-        if let Some(refusal) = self.commit_limit(space, &greater) {
+        let need = self.missing(space, &greater);
+        if let Some(refusal) = self.commit_limit(need) {
             self.counts.grow_commit = self.counts.grow_commit.wrapping_add(1);
             return Err(refusal);
         }
-        self.replace(space, &chunk, &greater);
+        self.replace(space, &chunk, &greater, need);
         self.lent.replace(space, &chunk, &greater);
         let span = span_of(&greater);
         account.chunks[place] = greater;
@@ -276,17 +273,18 @@ impl Lender {
         can_become_parent(self.trees.tree(root), start, chunk.level)
     }
 
-    /// Puts the grown chunk in the place of the chunk, and commits its front.
-    fn replace(&mut self, space: Space, chunk: &Chunk, greater: &Chunk)
+    /// Puts the grown chunk in the place of the chunk, and commits what its front needs.
+    fn replace(&mut self, space: Space, chunk: &Chunk, greater: &Chunk, need: u64)
         requires kept { IsKept self.old }
         requires own { IsLentThere self.old space chunk.now }
         requires may { MayBeReplaced self.old space chunk.now greater.now }
+        requires need { need ≡ lacking (state_in space (ledger_of self.old)) greater.now }
         ensures grown { ledger_of self.new ≡ with_grown (ledger_of self.old) greater.now }
         ensures kept { IsKept self.new }
         ensures lent { self.new.lent ≡ self.old.lent }
     {
         raise(&mut self.trees, chunk, greater);
-        commit(&mut self.nodes, granule(self.policy), greater);
+        commit(&mut self.nodes, granule(self.policy), greater, need);
     }
 
     /// Takes all chunks of the account back.
@@ -450,8 +448,10 @@ fn reserve(nodes: &mut Nodes, slot: u32)
     let _ = nodes.reserved();
 }
 
-/// Commits the granules of a front, which lie in reserved slots and are within the limit.
-fn commit(nodes: &mut Nodes, granule: u64, chunk: &Chunk)
+/// Commits the granules of a front, of which so many are missing; they lie in reserved slots and
+/// are within the limit. Most fronts miss none, and then the mask isn't looked at again.
+fn commit(nodes: &mut Nodes, granule: u64, chunk: &Chunk, need: u64)
+    requires sound { AreSound nodes.old }
     requires granule { least_granule ≤ granule }
     requires some { 1 ≤ chunk.now.front }
     requires fits { chunk.now.start + chunk.now.front < 2 ^ 63 }
@@ -460,11 +460,17 @@ fn commit(nodes: &mut Nodes, granule: u64, chunk: &Chunk)
     requires limit { granules_with nodes.old (chunk.now.start / granule)
         ((chunk.now.start + chunk.now.front - 1) / granule + 1 - chunk.now.start / granule)
         ≤ nodes.old.limits.granules }
+    requires need { need
+        ≡ count_missing nodes.old.granules (chunk.now.start / granule)
+        ((chunk.now.start + chunk.now.front - 1) / granule + 1 - chunk.now.start / granule) }
     ensures committed { nodes.new
         ≡ with_granules nodes.old (chunk.now.start / granule)
         ((chunk.now.start + chunk.now.front - 1) / granule + 1 - chunk.now.start / granule) }
     ensures sound { AreSound nodes.new }
 {
+    if need == 0 {
+        return;
+    }
     let (first, count) = granules_meeting(granule, chunk.start, chunk.front);
     match nodes.commit(first, count) {
         Ok(_) => {}

@@ -1,6 +1,6 @@
 -- What a pool keeps once a chunk is lent: what its callers see is the ledger with the chunk lent.
-use Rattle.std.proofs.Common.{◌≡◌, ◌<◌, ◌≤◌, ℕ, ◌+◌, ◌*◌, ◌-◌, ◌/◌, List, length, sym, ap, subst, ◌∙◌, arith, true}
-use Rattle.std.proofs.Common.{le-leb, lt-ltb}
+use Rattle.std.proofs.Common.{◌≡◌, ◌<◌, ◌≤◌, ℕ, ◌+◌, ◌*◌, ◌-◌, ◌/◌, List, length, refl, sym, ap, subst, ◌∙◌, true}
+use Rattle.std.proofs.Common.{arith, le-leb, lt-ltb}
 use Rattle.std.specs.Prelude.{nat_le, nat_lt, ◌^◌}
 use Rattle.std.proofs.lemmas.Bool.{and_from}
 use Rattle.std.specs.List.{All}
@@ -196,6 +196,21 @@ front_is_reserved lender chunk mid g same size kept placed some within =
             ∙ is_among-range first count k
             ∙ and_from (nat_le first k) (nat_lt k (first + count)) (le-leb first k low) (lt-ltb k (first + count) high)
 
+-- The granules that the front lacks are those missing once its slot is reserved.
+pub front_lacks : (space : Space) (lender : Lender) (chunk : Chunk) (mid : NodesState) (g need : ℕ)
+    → mid ≡ with_reserved lender.nodes (slot_of chunk.start) → g ≡ granule_of lender.policy
+    → IsKept lender → 1 ≤ chunk.front → IsRunOf space chunk.start chunk.front
+    → need ≡ lacking (state_in space (ledger_of lender)) chunk
+    → need ≡ count_missing mid.granules (chunk.start / g)
+    ((chunk.start + chunk.front - 1) / g + 1 - chunk.start / g)
+front_lacks space lender chunk mid g need same size kept some inside told =
+    told ∙ sym (lacks space lender chunk kept some inside)
+    ∙ ap (λ (w : ℕ). count_missing lender.nodes.granules (chunk.start / w)
+    ((chunk.start + chunk.front - 1) / w + 1 - chunk.start / w)) (sym size)
+    ∙ ap (λ (l : List ℕ). count_missing l (chunk.start / g)
+    ((chunk.start + chunk.front - 1) / g + 1 - chunk.start / g))
+    (sym (ap (λ (n : NodesState). n.granules) same ∙ (reserves_one lender.nodes (slot_of chunk.start)).granules))
+
 -- The granules that the front lacks are within the limit.
 pub front_within : (space : Space) (lender : Lender) (chunk : Chunk) (mid : NodesState) (g : ℕ)
     → mid ≡ with_reserved lender.nodes (slot_of chunk.start) → g ≡ granule_of lender.policy
@@ -204,30 +219,19 @@ pub front_within : (space : Space) (lender : Lender) (chunk : Chunk) (mid : Node
     → granules_with mid (chunk.start / g) ((chunk.start + chunk.front - 1) / g + 1 - chunk.start / g)
     ≤ mid.limits.granules
 front_within space lender chunk mid g same size kept some inside within =
-    subst (λ (n : NodesState). granules_with n (chunk.start / g)
-    ((chunk.start + chunk.front - 1) / g + 1 - chunk.start / g) ≤ n.limits.granules) (sym same)
-    (subst (λ (w : ℕ). granules_with made (chunk.start / w) ((chunk.start + chunk.front - 1) / w + 1 - chunk.start / w)
-    ≤ made.limits.granules) (sym size)
-    (omega (
+    omega (
       arith,
       within,
-      lacks space lender chunk kept some inside,
+      front_lacks space lender chunk mid g (lacking (state_in space (ledger_of lender)) chunk) same size kept some
+          inside refl,
+      ap (λ (n : NodesState). length n.granules) same,
       ap (λ (l : List ℕ). length l) one.granules,
-      ap (λ (l : List ℕ). count_missing l first count) one.granules,
+      ap (λ (n : NodesState). n.limits.granules) same,
       ap (λ (limits : NodeLimits). limits.granules) one.limits,
-    )))
+    )
   where
-    made : NodesState
-    made = with_reserved lender.nodes (slot_of chunk.start)
-
-    one : ReservesOne lender.nodes made (slot_of chunk.start)
+    one : ReservesOne lender.nodes (with_reserved lender.nodes (slot_of chunk.start)) (slot_of chunk.start)
     one = reserves_one lender.nodes (slot_of chunk.start)
-
-    first : ℕ
-    first = chunk.start / granule_of lender.policy
-
-    count : ℕ
-    count = (chunk.start + chunk.front - 1) / granule_of lender.policy + 1 - first
 
 -- A front in an open slot ends low.
 pub front_is_low : (space : Space) (lender : Lender) (chunk : Chunk) → IsKept lender → IsPart chunk.start chunk.level

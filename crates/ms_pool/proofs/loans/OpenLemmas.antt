@@ -32,7 +32,7 @@ reserved_of_space Class nodes slot there =
     list_any-append (λ other. other == slot) nodes.slots (class_slots nodes.class_slots)
     ∙ or_right (is_reserved nodes.slots slot) (is_reserved (class_slots nodes.class_slots) slot) there
 
-within_range : (first count k : ℕ) → is_in_range first count k ≡ true → k < first + count
+pub within_range : (first count k : ℕ) → is_in_range first count k ≡ true → k < first + count
 within_range first count k e = grind (arith, nat_tests, e)
 
 -- An open slot is below the last of the class space's.
@@ -143,7 +143,7 @@ abbrev pub IsSlotThere : Space → ℕ → Type 0
 IsSlotThere NonClass slot = slot < 64
 IsSlotThere Class slot = 64 ≤ slot
 
-from_range : (first count k : ℕ) → is_in_range first count k ≡ true → first ≤ k
+pub from_range : (first count k : ℕ) → is_in_range first count k ≡ true → first ≤ k
 from_range first count k e = grind (arith, nat_tests, e)
 
 pub open_is_of_space : (space : Space) (nodes : NodesState) (slot : ℕ) → AreSound nodes → nodes.limits.nodes ≤ 64

@@ -1,8 +1,10 @@
 -- Where free parts of a level are committed enough: each that is smaller than a granule, and of the
 -- others none unless the policy keeps what was committed.
 use Rattle.std.proofs.Common.{◌≡◌, ◌<◌, ◌≤◌, ℕ, Bool, true, false, cond, not, ◌&&◌, ◌||◌, ◌==◌, List, [], ◌∷◌, refl}
-use Rattle.std.proofs.Common.{sym, ap, subst, ◌∙◌, Some, None, eqb-true}
+use Rattle.std.proofs.Common.{sym, ap, subst, ◌∙◌, Some, None, arith, eqb-true}
+use Rattle.std.specs.Prelude.{nat_le}
 use Rattle.std.specs.List.{AllByRecursion, find}
+use Rattle.std.proofs.lemmas.Bool.Decides.{nat_tests}
 use Rattle.std.proofs.lemmas.List.Elements.{recursion_from_All}
 use Rattle.ms_base.specs.declared.span.Span.{Span}
 use Rattle.ms_base.specs.Level.{size_of}
@@ -51,6 +53,18 @@ pub small_are_enough : (pool : PoolState) (words level : ℕ) → IsSoundPool po
 unfolding first_at
 small_are_enough pool words level sound some fits small =
     small_find pool words level (free_parts pool.held pool.slots) sound some fits small (free_ones pool)
+
+-- So the mask decides nothing where the size is below a granule's, and need not be asked.
+pub asked_by_size : (pool : PoolState) (words level size granule : ℕ) (asked : Bool) → IsSoundPool pool → 1 ≤ words
+    → words ≤ size_of level → size ≡ size_of level → granule ≡ granule_in pool → asked ≡ nat_le granule size
+    → first_at pool words asked level ≡ first_at pool words true level
+asked_by_size pool words level size granule true sound some fits size_is granule_is is = refl
+asked_by_size pool words level size granule false sound some fits size_is granule_is is =
+    sym (small_are_enough pool words level sound some fits
+    (omega (arith, size_is, granule_is, smaller granule size (sym is))))
+  where
+    smaller : (a b : ℕ) → nat_le a b ≡ false → b < a
+    smaller a b e = grind (arith, nat_tests, e)
 
 -- Of the others none is.
 large_find : (pool : PoolState) (words level : ℕ) (parts : List Span) → IsSoundPool pool → 1 ≤ words

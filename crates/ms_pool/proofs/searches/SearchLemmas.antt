@@ -1,15 +1,21 @@
 -- The first that a list of free parts has, in parts: over levels, over slots, and over the two roots
 -- of a slot. The searches' loops use these.
-use Rattle.std.proofs.Common.{◌≡◌, ◌<◌, ◌≤◌, ℕ, suc, ◌+◌, ◌-◌, min, Bool, true, false, cond, not, ◌&&◌, List, [], ◌∷◌}
-use Rattle.std.proofs.Common.{◌++◌, length, refl, sym, ap, ne_eqb, ◌∙◌, arith, Option, Some, None}
+use Rattle.std.proofs.Common.{◌≡◌, ◌<◌, ◌≤◌, ℕ, zero, suc, ◌+◌, ◌-◌, min, Bool, true, false, cond, not, ◌&&◌, List}
+use Rattle.std.proofs.Common.{[], ◌∷◌, ◌++◌, length, refl, sym, ap, ap₂, ne_eqb, ◌∙◌, arith, Option, Some, None, inl}
+use Rattle.std.proofs.Common.{inr}
 use Rattle.std.specs.Prelude.{nat_eq, slice_get}
 use Rattle.std.specs.Option.{option_or}
 use Rattle.std.specs.List.{filter, find, flat_map, list_all, range_with_len}
-use Rattle.std.proofs.lemmas.List.Folds.{find-append}
+use Rattle.std.proofs.lemmas.Bool.{cases_lt}
+use Rattle.std.proofs.lemmas.List.Folds.{find-append, flat_map-map}
+use Rattle.ms_base.specs.declared.span.Span.{Span}
+use Rattle.ms_base.specs.Level.{size_of}
 use Rattle.ms_base.specs.FreeParts.{free_parts}
 use Rattle.ms_base.specs.State.{PoolState}
 use Rattle.ms_base.specs.PoolSteps.Pick.{found_at, levels_down, levels_up}
-use Rattle.ms_pool.specs.Searching.{first_at, first_down, first_found, first_up, grants}
+use Rattle.ms_base.proofs.free.HalvesLemmas.{size_falls}
+use Rattle.ms_buddy.specs.Leaves.{has_level}
+use Rattle.ms_pool.specs.Searching.{GrantNone, first_at, first_down, first_found, first_up, grants}
 
 -- The first of a list, and the first that passes a test.
 pub head-append : {X : Type 0} (xs ys : List X) → slice_get (xs ++ ys) 0 ≡ option_or (slice_get xs 0) (slice_get ys 0)
@@ -119,19 +125,137 @@ first_found-is pool p m words =
     (flat_map (found_at pool words true) (levels_up p m)) (flat_map (found_at pool words false) (levels_up p m))
     (flat_map (found_at pool words false) (levels_down p))
 
--- A loop over levels: a turn that finds none, one that finds a part, and its end.
-pub none_here : {X : Type 0} (f : ℕ → List X) (n end : ℕ) (whole one : Option X) → n < end
-    → whole ≡ slice_get (flat_map f (range_with_len n (end - n))) 0 → one ≡ slice_get (f n) 0 → one ≡ None
-    → whole ≡ slice_get (flat_map f (range_with_len (n + 1) (end - (n + 1)))) 0
-none_here f n end whole one h is found none =
-    is ∙ head_step f n end h
-    ∙ found_later (slice_get (f n) 0) (slice_get (flat_map f (range_with_len (n + 1) (end - (n + 1)))) 0)
-    (sym found ∙ none)
+-- Levels that give nothing are passed over: those that are left decide.
+skip_levels : {X : Type 0} (f : ℕ → List X) (n a end : ℕ) → a + n ≤ end
+    → ((k : ℕ) → a ≤ k → k < a + n → slice_get (f k) 0 ≡ None)
+    → slice_get (flat_map f (range_with_len a (end - a))) 0
+    ≡ slice_get (flat_map f (range_with_len (a + n) (end - (a + n)))) 0
+skip_levels f zero a end h none = ap (λ (m : ℕ). slice_get (flat_map f (range_with_len m (end - m))) 0) same
+  where
+    same : a ≡ a + 0
+    same = omega arith
+skip_levels f (suc n) a end h none =
+    head_step f a end (omega arith)
+    ∙ found_later (slice_get (f a) 0) (slice_get (flat_map f (range_with_len (a + 1) (end - (a + 1)))) 0)
+    (none a (omega arith) (omega arith))
+    ∙ skip_levels f n (a + 1) end (omega arith) (λ k low high. none k (omega arith) (omega arith))
+    ∙ ap (λ (m : ℕ). slice_get (flat_map f (range_with_len m (end - m))) 0) same
+  where
+    same : a + 1 + n ≡ a + suc n
+    same = omega arith
 
-pub some_here : {X : Type 0} (f : ℕ → List X) (n end : ℕ) (whole one : Option X) (x : X) → n < end
-    → whole ≡ slice_get (flat_map f (range_with_len n (end - n))) 0 → one ≡ slice_get (f n) 0 → one ≡ Some x
-    → whole ≡ Some x
-some_here f n end whole one x h is found some =
-    is ∙ head_step f n end h
-    ∙ found_here (slice_get (f n) 0) (slice_get (flat_map f (range_with_len (n + 1) (end - (n + 1)))) 0) x
-    (sym found ∙ some)
+past_levels : {X : Type 0} (f : ℕ → List X) (a b end : ℕ) → a ≤ b → b ≤ end
+    → ((k : ℕ) → a ≤ k → k < b → slice_get (f k) 0 ≡ None)
+    → slice_get (flat_map f (range_with_len a (end - a))) 0 ≡ slice_get (flat_map f (range_with_len b (end - b))) 0
+past_levels f a b end h k none =
+    skip_levels f (b - a) a end (omega arith) (λ i low high. none i low (omega arith))
+    ∙ ap (λ (m : ℕ). slice_get (flat_map f (range_with_len m (end - m))) 0) same
+  where
+    same : a + (b - a) ≡ b
+    same = omega arith
+
+-- Where no level is left that gives anything, nothing is found.
+no_level_left : {X : Type 0} (f : ℕ → List X) (a end : ℕ)
+    → ((k : ℕ) → a ≤ k → k < end → slice_get (f k) 0 ≡ None)
+    → slice_get (flat_map f (range_with_len a (end - a))) 0 ≡ None
+no_level_left f a end none = elim (cases_lt a end) [
+  | inl before ↦ past_levels f a end end (omega arith) (omega arith) none ∙ head_end f end end (omega arith)
+  | inr past ↦ head_end f a end past
+]
+
+-- Where a level's bit is clear, it gives nothing.
+none_clear : (pool : PoolState) (words : ℕ) (committed : Bool) (levels level : ℕ)
+    → GrantNone levels pool words committed → words ≤ size_of level → has_level levels level ≡ false
+    → slice_get (found_at pool words committed level) 0 ≡ None
+none_clear pool words committed levels level told fits clear =
+    sym (first_at-is pool words committed level) ∙ told level fits clear
+
+-- What is found from a level up to the most: the next level whose bit is set decides, or those after it;
+-- where there is none, nothing is found.
+abbrev pub found_from : PoolState → ℕ → Bool → ℕ → ℕ → Option Span
+found_from pool words committed most from =
+    slice_get (flat_map (found_at pool words committed) (range_with_len from (most + 1 - from))) 0
+
+pub decided_up : (pool : PoolState) (words : ℕ) (committed : Bool) (levels most number from level : ℕ)
+    (whole found : Option Span) → GrantNone levels pool words committed → words ≤ size_of most
+    → number ≡ most → number ≤ 12 → from ≤ level → level < number + 1
+    → ((k : ℕ) → from ≤ k → k < level → has_level levels k ≡ false)
+    → whole ≡ found_from pool words committed most from → found ≡ first_at pool words committed level
+    → whole ≡ option_or found (found_from pool words committed most (level + 1))
+decided_up pool words committed levels most number from level whole found told fits same real low high clear is one =
+    is ∙ past_levels (found_at pool words committed) from level (most + 1) low (omega (arith, same, high))
+    (λ k past under. none_clear pool words committed levels k told
+    (omega (arith, fits, size_falls k most (omega (arith, under, same, high)) (omega (arith, same, real))))
+    (clear k past under))
+    ∙ head_step (found_at pool words committed) level (most + 1) (omega (arith, same, high))
+    ∙ ap (λ o. option_or o (found_from pool words committed most (level + 1)))
+    (sym (one ∙ first_at-is pool words committed level))
+
+pub none_up : (pool : PoolState) (words : ℕ) (committed : Bool) (levels most number from : ℕ) (whole : Option Span)
+    → GrantNone levels pool words committed → words ≤ size_of most → number ≡ most → number ≤ 12
+    → ((k : ℕ) → from ≤ k → k < number + 1 → has_level levels k ≡ false)
+    → whole ≡ found_from pool words committed most from → whole ≡ None
+none_up pool words committed levels most number from whole told fits same real clear is =
+    is ∙ no_level_left (found_at pool words committed) from (most + 1)
+    (λ k low high. none_clear pool words committed levels k told
+    (omega (arith, fits, size_falls k most (omega (arith, high)) (omega (arith, same, real))))
+    (clear k low (omega (arith, same, high))))
+
+-- The same from below a level down to 0, where levels are told by how far below the top they are.
+abbrev pub found_below : PoolState → ℕ → Bool → ℕ → ℕ → Option Span
+found_below pool words committed top end =
+    slice_get (flat_map (λ below. found_at pool words committed (top - below))
+    (range_with_len (top + 1 - end) (top + 1 - (top + 1 - end)))) 0
+
+pub decided_down : (pool : PoolState) (words : ℕ) (committed : Bool) (levels top end level : ℕ)
+    (whole found : Option Span) → GrantNone levels pool words committed → words ≤ size_of top → top ≤ 12
+    → end ≤ top + 1 → level < end → ((k : ℕ) → level < k → k < end → has_level levels k ≡ false)
+    → whole ≡ found_below pool words committed top end → found ≡ first_at pool words committed level
+    → whole ≡ option_or found (found_below pool words committed top level)
+decided_down pool words committed levels top end level whole found told fits real within below clear is one =
+    is ∙ past_levels from_top (top + 1 - end) (top - level) (top + 1) (omega (arith, within, below)) (omega arith)
+    (λ k past under. none_clear pool words committed levels (top - k) told
+    (omega (arith, fits, size_falls (top - k) top (omega arith) real))
+    (clear (top - k) (omega (arith, under)) (omega (arith, past, within, under))))
+    ∙ head_step from_top (top - level) (top + 1) (omega arith)
+    ∙ ap₂ option_or
+    (ap (λ (l : ℕ). slice_get (found_at pool words committed l) 0) here
+    ∙ sym (one ∙ first_at-is pool words committed level))
+    (ap (λ (n : ℕ). slice_get (flat_map from_top (range_with_len n (top + 1 - n))) 0) next)
+  where
+    from_top : ℕ → List Span
+    from_top below = found_at pool words committed (top - below)
+
+    here : top - (top - level) ≡ level
+    here = omega (arith, within, below)
+
+    next : top - level + 1 ≡ top + 1 - level
+    next = omega (arith, within, below)
+
+pub none_down : (pool : PoolState) (words : ℕ) (committed : Bool) (levels top end : ℕ) (whole : Option Span)
+    → GrantNone levels pool words committed → words ≤ size_of top → top ≤ 12 → end ≤ top + 1
+    → ((k : ℕ) → k < end → has_level levels k ≡ false) → whole ≡ found_below pool words committed top end
+    → whole ≡ None
+none_down pool words committed levels top end whole told fits real within clear is =
+    is ∙ no_level_left (λ below. found_at pool words committed (top - below)) (top + 1 - end) (top + 1)
+    (λ k low high. none_clear pool words committed levels (top - k) told
+    (omega (arith, fits, size_falls (top - k) top (omega arith) real))
+    (clear (top - k) (omega (arith, low, high, within))))
+
+pub down_first : (pool : PoolState) (words : ℕ) (committed : Bool) (top : ℕ)
+    → first_down pool words committed top ≡ found_below pool words committed top (top + 1)
+unfolding first_down
+down_first pool words committed top =
+    ap (λ l. slice_get l 0)
+    (flat_map-map (found_at pool words committed) (λ below. top - below) (range_with_len 0 (top + 1)))
+    ∙ ap (λ (n : ℕ). slice_get (flat_map from_top (range_with_len 0 n)) 0) all
+    ∙ ap (λ (n : ℕ). slice_get (flat_map from_top (range_with_len n (top + 1 - n))) 0) none
+  where
+    from_top : ℕ → List Span
+    from_top below = found_at pool words committed (top - below)
+
+    all : top + 1 ≡ top + 1 - 0
+    all = omega arith
+
+    none : 0 ≡ top + 1 - (top + 1)
+    none = omega arith

@@ -68,8 +68,8 @@ returns-in_default-clause-grew c =
       refl,
     ))
 
-pub commit_limit-requires : goal.commit_limit-requires
-commit_limit-requires c =
+pub missing-need-requires : goal.missing-need-requires
+missing-need-requires c =
     let at_ =
     found_there c.args.self.now _ _ c.args.start _ c.index.result.now _ c.requires.kept c.account.view_is
     c.requires.served c.account.invariant c.deref.ensures.value c.place_of-place.ensures.there
@@ -85,11 +85,11 @@ returns-in-Some-commit_limit-clause-grew c =
     found_there c.args.self.now _ _ c.args.start _ c.index.result.now _ c.requires.kept c.account.view_is
     c.requires.served c.account.invariant c.deref.ensures.value c.place_of-place.ensures.there
     c.place_of-place.ensures.starts c.index.ensures in
-    rw (← c.account.view_is, c.in-Some-commit_limit.ensures.refusal)
+    rw (← c.account.view_is, c.in-Some-commit_limit.ensures.refusal, c.missing-need.ensures)
     (grew_there c.args.self.now _ _ _ _ c.args.total c.args.may_enlarge _ _ at_ (
       past_space c.account.inside.space c.args.self.now c.index.result.now c.in-Some.greater c.args.total
           c.args.may_enlarge c.requires.kept c.if-total-chunk.false (sym c.reaching.ensures ∙ c.in-Some.is)
-          c.in-Some-commit_limit.ensures.met,
+          (rw c.missing-need.ensures at c.in-Some-commit_limit.ensures.met),
       refl,
     ))
 
@@ -101,8 +101,9 @@ replace-requires c =
     c.place_of-place.ensures.starts c.index.ensures in
     let grows =
     grows_there c.args.self.now _ _ _ _ c.in-Some.greater c.args.total c.args.may_enlarge c.requires.kept at_
-    c.if-total-chunk.false (sym c.reaching.ensures ∙ c.in-Some.is) c.in_default-commit_limit.ensures.within in
-    record { kept = c.requires.kept; own = at_.own.there; may = grows.may }
+    c.if-total-chunk.false (sym c.reaching.ensures ∙ c.in-Some.is)
+    (rw c.missing-need.ensures at c.in_default-commit_limit.ensures.within) in
+    record { kept = c.requires.kept; own = at_.own.there; may = grows.may; need = c.missing-need.ensures }
 
 pub invariant_of-account : goal.invariant_of-account
 invariant_of-account c =
@@ -112,7 +113,8 @@ invariant_of-account c =
     c.place_of-place.ensures.starts c.index.ensures in
     let grows =
     grows_there c.args.self.now _ _ _ _ c.in-Some.greater c.args.total c.args.may_enlarge c.requires.kept at_
-    c.if-total-chunk.false (sym c.reaching.ensures ∙ c.in-Some.is) c.in_default-commit_limit.ensures.within in
+    c.if-total-chunk.false (sym c.reaching.ensures ∙ c.in-Some.is)
+    (rw c.missing-need.ensures at c.in_default-commit_limit.ensures.within) in
     grows.good.chunks
 
 pub returns-clause-grown : goal.returns-clause-grown
@@ -123,7 +125,8 @@ returns-clause-grown c =
     c.place_of-place.ensures.starts c.index.ensures in
     let grows =
     grows_there c.args.self.now _ _ _ _ c.in-Some.greater c.args.total c.args.may_enlarge c.requires.kept at_
-    c.if-total-chunk.false (sym c.reaching.ensures ∙ c.in-Some.is) c.in_default-commit_limit.ensures.within in
+    c.if-total-chunk.false (sym c.reaching.ensures ∙ c.in-Some.is)
+    (rw c.missing-need.ensures at c.in_default-commit_limit.ensures.within) in
     rw (← c.account.view_is, c.span_of-span.ensures)
     (rises_there c.args.self.now _ _ _ _ _ c.args.total c.args.may_enlarge at_ grows)
 
@@ -135,7 +138,8 @@ returns-clause-grew c =
     c.place_of-place.ensures.starts c.index.ensures in
     let grows =
     grows_there c.args.self.now _ _ _ _ c.in-Some.greater c.args.total c.args.may_enlarge c.requires.kept at_
-    c.if-total-chunk.false (sym c.reaching.ensures ∙ c.in-Some.is) c.in_default-commit_limit.ensures.within in
+    c.if-total-chunk.false (sym c.reaching.ensures ∙ c.in-Some.is)
+    (rw c.missing-need.ensures at c.in_default-commit_limit.ensures.within) in
     rw (← c.account.view_is) (grew_there c.args.self.now _ _ _ _ c.args.total c.args.may_enlarge _ _ at_
     (c.in-Some.greater, grows.answered, c.span_of-span.ensures, c.replace.ensures.grown))
 
@@ -147,7 +151,8 @@ replace-requires-2 c =
     c.place_of-place.ensures.starts c.index.ensures in
     let grows =
     grows_there c.args.self.now _ _ _ _ c.in-Some.greater c.args.total c.args.may_enlarge c.requires.kept at_
-    c.if-total-chunk.false (sym c.reaching.ensures ∙ c.in-Some.is) c.in_default-commit_limit.ensures.within in
+    c.if-total-chunk.false (sym c.reaching.ensures ∙ c.in-Some.is)
+    (rw c.missing-need.ensures at c.in_default-commit_limit.ensures.within) in
     let space = c.account.inside.space in
     record {
       least = subst (λ (lent : Lent). HasLeast (counted_in space lent) c.index.result.now) (sym c.replace.ensures.lent)
@@ -170,7 +175,8 @@ returns-clause-counted c =
     c.place_of-place.ensures.starts c.index.ensures in
     let grows =
     grows_there c.args.self.now _ _ _ _ c.in-Some.greater c.args.total c.args.may_enlarge c.requires.kept at_
-    c.if-total-chunk.false (sym c.reaching.ensures ∙ c.in-Some.is) c.in_default-commit_limit.ensures.within in
+    c.if-total-chunk.false (sym c.reaching.ensures ∙ c.in-Some.is)
+    (rw c.missing-need.ensures at c.in_default-commit_limit.ensures.within) in
     grown_is_counted _ c.index.result.now c.in-Some.greater c.args.self.now.lent c.replace-2.new.self
     (ledger_of c.args.self.now) _ c.requires.counted
     (subst (λ (lent : Lent). MovesIn c.account.inside.space lent (c.index.result.now ∷ []) (c.in-Some.greater ∷ [])

@@ -6,7 +6,7 @@ use Rattle.ms_pool.proofs.lender.Lender.is_committed_enough.Goals as goal
 pub returns : goal.returns
 returns c =
     rw (
-      c.missing.ensures,
+      c.missing_among.ensures,
       c.granules_meeting-first.ensures.first,
       c.granules_meeting-first.ensures.count,
       c.granule.ensures,

@@ -4,8 +4,8 @@ use Rattle.ms_buddy.specs.Leaves.{LentLeaf}
 use Rattle.ms_pool.specs.Keeping.{IsKept, ledger_of}
 use Rattle.ms_pool.proofs.counts.CountedLemmas.{counted_on, lent_is_counted, room_there, run_starts_in}
 use Rattle.ms_pool.proofs.loans.OpenLemmas.{open_is_low, open_where_fresh}
-use Rattle.ms_pool.proofs.loans.LentPartLemmas.{front_is_low, front_is_reserved, front_within, kept_however_counted, kept_where_shown}
-use Rattle.ms_pool.proofs.loans.LentPartLemmas.{lent_shows}
+use Rattle.ms_pool.proofs.loans.LentPartLemmas.{front_is_low, front_is_reserved, front_lacks, front_within}
+use Rattle.ms_pool.proofs.loans.LentPartLemmas.{kept_however_counted, kept_where_shown, lent_shows}
 use Rattle.ms_pool.proofs.lender.Lender.lend.Goals as goal
 
 pub carve-requires-clause-may : goal.carve-requires-clause-may
@@ -55,6 +55,12 @@ commit-requires-clause-limit c =
     front_within c.args.space c.args.self.now c.args.chunk.now c.reserve.new.nodes c.granule.result
     c.reserve.ensures.reserved c.granule.ensures c.requires.kept c.requires.may.some c.requires.may.inside
     c.requires.may.limit
+
+pub commit-requires-clause-need : goal.commit-requires-clause-need
+commit-requires-clause-need c =
+    front_lacks c.args.space c.args.self.now c.args.chunk.now c.reserve.new.nodes c.granule.result c.args.need
+    c.reserve.ensures.reserved c.granule.ensures c.requires.kept c.requires.may.some c.requires.may.inside
+    c.requires.need
 
 pub returns-clause-lent : goal.returns-clause-lent
 returns-clause-lent c = λ _.

@@ -58,8 +58,8 @@ returns-then-is_enough c =
     ∙ ap (raised c.args.root)
     (c.loop-leaf.invariant.first
     ∙ turn_passes
-    (is_enough_in c.args.self.now.nodes.granules (granule_of c.args.self.now.policy) c.args.wish.words
-    c.args.wish.committed c.args.root) c.args.level c.loop-leaf.from _ _ turn.found
+    (is_enough_in c.args.self.now.nodes.granules (granule_of c.args.self.now.policy) c.args.wish.now.words
+    c.args.wish.now.committed c.args.root) c.args.level c.loop-leaf.from _ _ turn.found
     (sym c.is_enough.ensures ∙ c.if-is_enough.true))
     ∙ ap (λ level. let part : Span = record { start = c.in-Some.leaf.start + c.args.root * root_words; level = level }
     in Some part) turn.next.same)
@@ -73,5 +73,5 @@ returns c =
     ∙ ap (raised c.args.root)
     (c.loop-leaf.invariant.first
     ∙ turn_ends
-    (is_enough_in c.args.self.now.nodes.granules (granule_of c.args.self.now.policy) c.args.wish.words
-    c.args.wish.committed c.args.root) c.args.level c.loop-leaf.from _ none))
+    (is_enough_in c.args.self.now.nodes.granules (granule_of c.args.self.now.policy) c.args.wish.now.words
+    c.args.wish.now.committed c.args.root) c.args.level c.loop-leaf.from _ none))

@@ -3,7 +3,8 @@ use Rattle.std.proofs.lemmas.List.Elements.{recursion_from_All}
 use Rattle.ms_base.specs.Part.{slot_of}
 use Rattle.ms_buddy.specs.Leaves.{AreLeaves}
 use Rattle.ms_pool.specs.Growing.{has_room}
-use Rattle.ms_pool.proofs.loans.LentPartLemmas.{front_is_low, front_is_reserved, front_within, kept_where_shown}
+use Rattle.ms_pool.proofs.loans.LentPartLemmas.{front_is_low, front_is_reserved, front_lacks, front_within}
+use Rattle.ms_pool.proofs.loans.LentPartLemmas.{kept_where_shown}
 use Rattle.ms_pool.proofs.growths.ParentLemmas.{parents_alike}
 use Rattle.ms_pool.proofs.growths.RaisedPartLemmas.{grown_shows, reserved_too, stays_reserved}
 use Rattle.ms_pool.proofs.returns.ReleasedTreeLemmas.{leaf_there}
@@ -55,6 +56,14 @@ commit-requires-clause-limit c =
     (reserved_too c.args.space c.args.self.now c.args.chunk.now c.args.greater.now c.requires.own c.requires.may) in
     front_within c.args.space c.args.self.now c.args.greater.now c.args.self.now.nodes c.granule.result there
     c.granule.ensures c.requires.kept c.requires.may.some c.requires.may.inside c.requires.may.limit
+
+pub commit-requires-clause-need : goal.commit-requires-clause-need
+commit-requires-clause-need c =
+    let there =
+    stays_reserved c.args.space c.args.self.now.nodes (slot_of c.args.greater.now.start)
+    (reserved_too c.args.space c.args.self.now c.args.chunk.now c.args.greater.now c.requires.own c.requires.may) in
+    front_lacks c.args.space c.args.self.now c.args.greater.now c.args.self.now.nodes c.granule.result c.args.need there
+    c.granule.ensures c.requires.kept c.requires.may.some c.requires.may.inside c.requires.need
 
 pub returns-clause-grown : goal.returns-clause-grown
 returns-clause-grown c =

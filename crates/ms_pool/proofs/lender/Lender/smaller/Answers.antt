@@ -1,52 +1,41 @@
-use Rattle.std.proofs.Common.{ℕ, ◌+◌, sym, ap, ◌∙◌, arith}
-use Rattle.std.specs.Prelude.{slice_get}
-use Rattle.std.specs.List.{flat_map}
-use Rattle.ms_base.specs.PoolSteps.Pick.{found_at, levels_up}
+use Rattle.std.proofs.Common.{ap, sym, ◌∙◌, arith, refl}
 use Rattle.ms_base.proofs.free.HalvesLemmas.{size_falls}
-use Rattle.ms_pool.specs.Ledger.{state_in}
-use Rattle.ms_pool.specs.Keeping.{ledger_of}
-use Rattle.ms_pool.specs.Searching.{first_up}
-use Rattle.ms_pool.proofs.searches.SearchLemmas.{first_at-is, head_end, none_here, some_here}
+use Rattle.ms_pool.proofs.searches.SearchLemmas.{decided_up, found_here, found_later, none_up}
+use Rattle.ms_pool.specs.Searching.{first_up, part_at}
 use Rattle.ms_pool.proofs.lender.Lender.smaller.Goals as goal
 
-pub lowest_at-requires-clause-fits : goal.lowest_at-requires-clause-fits
-lowest_at-requires-clause-fits c =
+pub loop-level-init : goal.loop-level-init
+unfolding first_up
+loop-level-init c =
+    rw c.number-from.ensures.same (omega (arith, c.number-from.ensures.same, c.number-from.ensures.below), refl)
+
+pub lowest_free-requires-clause-fits : goal.lowest_free-requires-clause-fits
+lowest_free-requires-clause-fits c =
     omega (
       arith,
       c.requires.fits,
-      size_falls c.new-level.result c.args.most
-          (omega (arith, c.new-level.ensures, c.number-number-end.ensures.same, c.loop-number-test.true))
-          (omega (arith, c.number-number-end.ensures.same, c.number-number-end.ensures.below)),
+      size_falls c.in-Some.level c.args.most (omega (arith, c.in-Some.ensures.below, c.number-end.ensures.same))
+          (omega (arith, c.number-end.ensures.same, c.number-end.ensures.below)),
     )
 
-pub loop-number-preserved : goal.loop-number-preserved
-loop-number-preserved c =
-    let pool = state_in c.args.wish.space (ledger_of c.args.self.now) in
-    let levels = found_at pool c.args.wish.words c.args.wish.committed in
-    none_here levels c.loop-number.number (c.args.most + 1)
-    (slice_get (flat_map levels (levels_up c.args.wanted c.args.most)) 0) c.lowest_at.result
-    (omega (arith, c.loop-number-test.true, c.number-number-end.ensures.same)) c.loop-number.invariant
-    (c.lowest_at.ensures ∙ first_at-is pool c.args.wish.words c.args.wish.committed c.new-level.result
-    ∙ ap (λ (level : ℕ). slice_get (levels level) 0) c.new-level.ensures)
-    c.in_default.is
+pub loop-level-preserved : goal.loop-level-preserved
+loop-level-preserved c =
+    rw c.number-from-in-Some.ensures.same (
+      omega (arith, c.in-Some.ensures.below, c.number-end.ensures.below),
+      decided_up _ _ _ c.args.levels _ c.number-end.result c.loop-level.from c.in-Some.level _ _ c.requires.told
+          c.requires.fits c.number-end.ensures.same c.number-end.ensures.below c.in-Some.ensures.from
+          c.in-Some.ensures.below c.in-Some.ensures.lowest c.loop-level.invariant.1 c.lowest_free.ensures
+          ∙ found_later _ _ (ap (part_at c.in-Some.level) c.in_default-lowest_free.is),
+    )
 
-pub returns-in-Some : goal.returns-in-Some
-unfolding first_up
-returns-in-Some c =
-    let pool = state_in c.args.wish.space (ledger_of c.args.self.now) in
-    let levels = found_at pool c.args.wish.words c.args.wish.committed in
-    sym (some_here levels c.loop-number.number (c.args.most + 1)
-    (slice_get (flat_map levels (levels_up c.args.wanted c.args.most)) 0) c.lowest_at.result c.in-Some.part
-    (omega (arith, c.loop-number-test.true, c.number-number-end.ensures.same)) c.loop-number.invariant
-    (c.lowest_at.ensures ∙ first_at-is pool c.args.wish.words c.args.wish.committed c.new-level.result
-    ∙ ap (λ (level : ℕ). slice_get (levels level) 0) c.new-level.ensures)
-    c.in-Some.is)
+pub returns-in-Some-lowest_free : goal.returns-in-Some-lowest_free
+returns-in-Some-lowest_free c =
+    sym (decided_up _ _ _ c.args.levels _ c.number-end.result c.loop-level.from c.in-Some.level _ _ c.requires.told
+    c.requires.fits c.number-end.ensures.same c.number-end.ensures.below c.in-Some.ensures.from
+    c.in-Some.ensures.below c.in-Some.ensures.lowest c.loop-level.invariant.1 c.lowest_free.ensures
+    ∙ found_here _ _ _ (ap (part_at c.in-Some.level) c.in-Some-lowest_free.is))
 
 pub returns : goal.returns
-unfolding first_up
 returns c =
-    let levels =
-    found_at (state_in c.args.wish.space (ledger_of c.args.self.now)) c.args.wish.words c.args.wish.committed in
-    sym (c.loop-number.invariant
-    ∙ head_end levels c.loop-number.number (c.args.most + 1)
-    (omega (arith, c.loop-number-test.false, c.number-number-end.ensures.same)))
+    sym (none_up _ _ _ c.args.levels _ c.number-end.result c.loop-level.from _ c.requires.told c.requires.fits
+    c.number-end.ensures.same c.number-end.ensures.below c.in_default.ensures.none c.loop-level.invariant.1)

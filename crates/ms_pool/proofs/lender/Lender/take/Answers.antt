@@ -29,7 +29,7 @@ takes : (c : In_default-commit_limit)
 takes c at_ =
     takes_there c.args.self.now _ _ c.args.wanted c.args.most c.args.words c.chunk_at-chunk.result c.requires.kept at_
     c.account.view_is c.requires.served c.account.invariant c.in-Some.ensures.room
-    c.in_default-commit_limit.ensures.within
+    (rw c.missing-need.ensures at c.in_default-commit_limit.ensures.within)
 
 -- A refusal and its tally change nothing that is kept.
 pub reserve_limit-requires : goal.reserve_limit-requires
@@ -63,18 +63,18 @@ chunk_at-chunk-requires c =
       size_falls 0 c.args.most (omega arith) (omega (arith, c.number.ensures.same, c.number.ensures.below)),
     )
 
-pub commit_limit-requires : goal.commit_limit-requires
-commit_limit-requires c =
-    let at_ = picked (goal.at.commit_limit-requires c).After-chunk_at-chunk in
+pub missing-need-requires : goal.missing-need-requires
+missing-need-requires c =
+    let at_ = picked (goal.at.missing-need-requires c).After-chunk_at-chunk in
     record { kept = c.requires.kept; some = at_.well.some; inside = at_.well.inside; fits = at_.well.fits }
 
 pub returns-in-Some-commit_limit-clause-took : goal.returns-in-Some-commit_limit-clause-took
 returns-in-Some-commit_limit-clause-took c =
     let at_ = picked (goal.at.returns-in-Some-commit_limit-clause-took c).After-chunk_at-chunk in
-    rw (← c.account.view_is, c.in-Some-commit_limit.ensures.refusal) (
+    rw (← c.account.view_is, c.in-Some-commit_limit.ensures.refusal, c.missing-need.ensures) (
       taken_commit c.account.inside.space c.args.self.now c.args.wanted c.args.most c.args.words c.chunk_at-chunk.result
           c.requires.kept at_.asks.may.levels at_.asks.real at_.asks.may.some at_.asks.may.fits at_.is
-          c.in-Some.ensures.room c.in-Some-commit_limit.ensures.met,
+          c.in-Some.ensures.room (rw c.missing-need.ensures at c.in-Some-commit_limit.ensures.met),
       refl,
     )
 
@@ -88,7 +88,12 @@ pub lend-requires : goal.lend-requires
 lend-requires c =
     let at_ = goal.at.lend-requires c in let well =
     takes at_.In_default-commit_limit (picked at_.After-chunk_at-chunk) in
-    record { kept = c.requires.kept; counted = c.requires.counted; may = well.may }
+    record {
+      kept = c.requires.kept;
+      counted = c.requires.counted;
+      may = well.may;
+      need = c.missing-need.ensures;
+    }
 
 pub returns-then-not-lend-clause-took : goal.returns-then-not-lend-clause-took
 returns-then-not-lend-clause-took c =
