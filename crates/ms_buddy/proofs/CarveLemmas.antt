@@ -2,7 +2,7 @@
 -- its leaf takes its place there. For carving.
 use Rattle.std.proofs.Common.{◌≡◌, ◌<◌, ◌≤◌, ℕ, ◌+◌, Bool, true, false, cond, ◌&&◌, ◌||◌, List, [], ◌∷◌, ◌++◌, refl}
 use Rattle.std.proofs.Common.{sym, ap, subst, ◌∙◌, inl, inr, arith}
-use Rattle.std.specs.Prelude.{nat_le, nat_lt, IsTrue, IsFalse}
+use Rattle.std.specs.Prelude.{nat_le, nat_lt, IsTrue, IsFalse, Result, Ok, Err}
 use Rattle.std.specs.List.{AllByRecursion, list_any}
 use Rattle.std.proofs.lemmas.List.Folds.{list_any-append}
 use Rattle.std.proofs.lemmas.Bool.Decides.{nat_tests}
@@ -14,9 +14,12 @@ use Rattle.ms_base.specs.Level.{size_of, highest_level}
 use Rattle.ms_base.specs.Part.{IsPart}
 use Rattle.ms_base.proofs.free.PartLemmas.{parts_are_nested_or_apart}
 use Rattle.ms_buddy.specs.declared.node.Node.{Node}
-use Rattle.ms_buddy.specs.Leaves.{LentLeaf, IsCarveRefusal, is_same, fits_in, words_of, with_leaf}
+use Rattle.ms_buddy.specs.declared.node.Lack.{Lack}
+use Rattle.ms_buddy.specs.Carving.{refusal_of, told}
+use Rattle.ms_buddy.specs.Counts.{holder_of}
+use Rattle.ms_buddy.specs.Leaves.{CarveAnswers, LentLeaf, IsCarveRefusal, is_same, fits_in, span_at, words_of, with_leaf}
 use Rattle.ms_buddy.specs.Tree.{IsInside, IsPlace, MayBeLent, IsTree, lent_in, free_in, lent_in_halves, free_in_halves}
-use Rattle.ms_buddy.proofs.TreeHalvesLemmas.{size_of-some, size_of-halves, lower_place, upper_place}
+use Rattle.ms_buddy.proofs.TreeHalvesLemmas.{holder_is, size_of-some, size_of-halves, lower_place, upper_place}
 use Rattle.ms_buddy.proofs.WalkLemmas.{LiesIn, LeafIn, lent_lies_in, free_lies_in, all_weaker, any-none}
 use Rattle.ms_buddy.proofs.WalkLemmas.{none_free_above, none_free_below}
 use Rattle.ms_buddy.proofs.SplitLemmas.{AtHalves}
@@ -186,6 +189,20 @@ pub same_refusal : (part : Span) (free other : List Span) → fits_in part other
 same_refusal part free other e f (NoRoom level) h = (h.0, e ∙ h.1)
 same_refusal part free other e f OutOfMemory h = (e ∙ h.0, f ∙ h.1)
 same_refusal part free other e f _ h = absurd h
+
+-- So they answer alike what lending the part does.
+pub answers_alike : (part : Span) (free other : List Span) (result : Result ℕ Lack)
+    → fits_in part other ≡ fits_in part free → list_any (is_same part) other ≡ list_any (is_same part) free
+    → CarveAnswers part free (told part.level result) → CarveAnswers part other (told part.level result)
+answers_alike part free other (Ok level) e f answers = record { room = e ∙ answers.room; refusal = tt }
+answers_alike part free other (Err lack) e f answers =
+    record { room = tt; refusal = same_refusal part free other e f (refusal_of part.level lack) answers.refusal }
+
+-- A part that may be lent in a node starts in it.
+pub held_by_node : (part : Span) (level start front : ℕ) → MayBeLent level start part front
+    → holder_of level part ≡ span_at start level
+held_by_node part level start front may =
+    holder_is level start part may.place may.inside.from (omega (arith, may.inside.to, size_of-some part.level))
 
 -- A leaf takes its place before all that start past it, and after all that start before it.
 leaf_before : (added : LentLeaf) (middle high : ℕ) (ys : List LentLeaf) → added.start < middle

@@ -1,18 +1,19 @@
--- How many free leaves of each level there are as one is parted, and as halves merge. The walks that
--- change a tree use these.
-use Rattle.std.proofs.Common.{◌≡◌, ◌<◌, ◌≤◌, ℕ, ◌+◌, Bool, true, false, cond, ◌&&◌, ◌||◌, List, [], ◌∷◌, ◌++◌}
-use Rattle.std.proofs.Common.{Option, Some, None, refl, sym, ap, subst, ◌∙◌, arith}
-use Rattle.std.specs.Prelude.{◌==◌, IsTrue, IfSome, IfNone}
-use Rattle.std.specs.List.{find}
+-- How many free leaves of each level there are, and of each number, as one is parted, and as halves merge. The
+-- walks that change a tree use these.
+use Rattle.std.proofs.Common.{◌≡◌, ◌<◌, ◌≤◌, ℕ, suc, ◌+◌, ◌-◌, true, false, cond, ◌&&◌, ◌||◌, List, [], ◌∷◌, ◌++◌}
+use Rattle.std.proofs.Common.{refl, sym, ap, subst, ◌∙◌, arith}
+use Rattle.std.specs.Prelude.{◌==◌, nat_lt, IsTrue}
 use Rattle.std.proofs.lemmas.List.Sums.{sum_by-append}
 use Rattle.std.proofs.lemmas.Bool.Decides.{nat_tests}
 use Rattle.ms_base.specs.declared.span.Span.{Span}
 use Rattle.ms_base.specs.Level.{size_of, highest_level}
 use Rattle.ms_buddy.specs.declared.node.Node.{Node}
-use Rattle.ms_buddy.specs.declared.node.Node.TheVariants.{Free, Lent, Split'}
-use Rattle.ms_buddy.specs.Counts.{IsParted, count_at_level, freed_level, one_at, one_between}
-use Rattle.ms_buddy.specs.Leaves.{covers, is_lent}
-use Rattle.ms_buddy.specs.Tree.{free_in, free_in_halves, is_free, lent_in}
+use Rattle.ms_buddy.specs.declared.node.Node.TheVariants.{Free, Lent}
+use Rattle.ms_buddy.specs.Counts.{IsParted, beside, count_at_level, count_of_number, follower_of, halves_beside}
+use Rattle.ms_buddy.specs.Counts.{holder_of, number_of, one_at, one_between}
+use Rattle.ms_buddy.specs.Leaves.{is_lent, span_at}
+use Rattle.ms_buddy.specs.Tree.{IsPlace, free_in, free_in_halves, lent_in}
+use Rattle.ms_buddy.proofs.TreeHalvesLemmas.{holder_is, size_of-some}
 
 -- Counts of no part, of one, and of some after others.
 pub count-none : (level : ℕ) → count_at_level level [] ≡ 0
@@ -28,10 +29,55 @@ pub count-append : (level : ℕ) (xs ys : List Span)
 unfolding count_at_level
 count-append level xs ys = sum_by-append (λ (part : Span). cond (part.level == level) 1 0) xs ys
 
+pub number-none : (number : ℕ) → count_of_number number [] ≡ 0
+unfolding count_of_number
+number-none number = refl
+
+pub number-one : (number : ℕ) (part : Span) → count_of_number number (part ∷ []) ≡ one_at (number_of part) number
+unfolding count_of_number
+number-one number part = omega arith
+
+pub number-append : (number : ℕ) (xs ys : List Span)
+    → count_of_number number (xs ++ ys) ≡ count_of_number number xs + count_of_number number ys
+unfolding count_of_number
+number-append number xs ys = sum_by-append (λ (part : Span). cond (number_of part == number) 1 0) xs ys
+
+pub number-cons : (number : ℕ) (part : Span) (parts : List Span)
+    → count_of_number number (part ∷ parts) ≡ one_at (number_of part) number + count_of_number number parts
+number-cons number part parts =
+    omega (arith, number-append number (part ∷ []) parts, number-one number part)
+
+-- The halves beside the way to a part: none to the part itself, and one more for each split.
+below_test : (a b : ℕ) → a < b → nat_lt a b ≡ true
+below_test a b h = grind (arith, nat_tests)
+
+past_test : (a b : ℕ) → b ≤ a → nat_lt a b ≡ false
+past_test a b h = grind (arith, nat_tests)
+
+pub none_beside : (times level start at : ℕ) → times ≡ 0 → halves_beside times level start at ≡ []
+unfolding halves_beside
+none_beside times level start at e = ap (λ (n : ℕ). halves_beside n level start at) e
+
+pub upper_beside : (times rest level start at : ℕ) → times ≡ suc rest → at < start + size_of (level + 1)
+    → halves_beside times level start at
+    ≡ span_at (start + size_of (level + 1)) (level + 1) ∷ halves_beside rest (level + 1) start at
+unfolding halves_beside
+upper_beside times rest level start at e h =
+    ap (λ (n : ℕ). halves_beside n level start at) e
+    ∙ rw (below_test at (start + size_of (level + 1)) h) refl
+
+pub lower_beside : (times rest level start at : ℕ) → times ≡ suc rest → start + size_of (level + 1) ≤ at
+    → halves_beside times level start at
+    ≡ span_at start (level + 1) ∷ halves_beside rest (level + 1) (start + size_of (level + 1)) at
+unfolding halves_beside
+lower_beside times rest level start at e h =
+    ap (λ (n : ℕ). halves_beside n level start at) e
+    ∙ rw (past_test at (start + size_of (level + 1)) h) refl
+
 -- A leaf of the lower half is parted, or one of the upper half.
-pub lower_parted : (before after rest : List Span) (free lent : ℕ) → IsParted before free lent after
-    → IsParted (before ++ rest) free lent (after ++ rest)
-lower_parted before after rest free lent parted = record {
+pub lower_parted : (before after rest : List Span) (leaf part : Span) → IsParted before leaf part after
+    → IsParted (before ++ rest) leaf part (after ++ rest)
+lower_parted before after rest leaf part parted = record {
   low = parted.low;
   order = parted.order;
   counts = λ other. omega (
@@ -40,11 +86,17 @@ lower_parted before after rest free lent parted = record {
     count-append other before rest,
     count-append other after rest,
   );
+  places = λ number. omega (
+    arith,
+    parted.places number,
+    number-append number before rest,
+    number-append number after rest,
+  );
 }
 
-pub upper_parted : (before after rest : List Span) (free lent : ℕ) → IsParted before free lent after
-    → IsParted (rest ++ before) free lent (rest ++ after)
-upper_parted before after rest free lent parted = record {
+pub upper_parted : (before after rest : List Span) (leaf part : Span) → IsParted before leaf part after
+    → IsParted (rest ++ before) leaf part (rest ++ after)
+upper_parted before after rest leaf part parted = record {
   low = parted.low;
   order = parted.order;
   counts = λ other. omega (
@@ -53,57 +105,74 @@ upper_parted before after rest free lent parted = record {
     count-append other rest before,
     count-append other rest after,
   );
+  places = λ number. omega (
+    arith,
+    parted.places number,
+    number-append number rest before,
+    number-append number rest after,
+  );
 }
 
 -- The same of the halves of a part.
-pub lower_parted_at : {A : Type 0} (level start : ℕ) (was is upper : Node A) (free lent : ℕ)
-    → IsParted (free_in (level + 1) start was) free lent (free_in (level + 1) start is)
-    → IsParted (free_in_halves level start was upper) free lent (free_in_halves level start is upper)
-lower_parted_at level start was is upper free lent parted =
+pub lower_parted_at : {A : Type 0} (level start : ℕ) (was is upper : Node A) (leaf part : Span)
+    → IsParted (free_in (level + 1) start was) leaf part (free_in (level + 1) start is)
+    → IsParted (free_in_halves level start was upper) leaf part (free_in_halves level start is upper)
+lower_parted_at level start was is upper leaf part parted =
     lower_parted (free_in (level + 1) start was) (free_in (level + 1) start is)
-    (free_in (level + 1) (start + size_of (level + 1)) upper) free lent parted
+    (free_in (level + 1) (start + size_of (level + 1)) upper) leaf part parted
 
-pub upper_parted_at : {A : Type 0} (level start half : ℕ) (lower was is : Node A) (free lent : ℕ)
+pub upper_parted_at : {A : Type 0} (level start half : ℕ) (lower was is : Node A) (leaf part : Span)
     → half ≡ size_of (level + 1)
-    → IsParted (free_in (level + 1) (start + half) was) free lent (free_in (level + 1) (start + half) is)
-    → IsParted (free_in_halves level start lower was) free lent (free_in_halves level start lower is)
-upper_parted_at level start half lower was is free lent size parted =
+    → IsParted (free_in (level + 1) (start + half) was) leaf part (free_in (level + 1) (start + half) is)
+    → IsParted (free_in_halves level start lower was) leaf part (free_in_halves level start lower is)
+upper_parted_at level start half lower was is leaf part size parted =
     upper_parted (free_in (level + 1) (start + size_of (level + 1)) was)
-    (free_in (level + 1) (start + size_of (level + 1)) is) (free_in (level + 1) start lower) free lent
-    (subst (λ (n : ℕ). IsParted (free_in (level + 1) (start + n) was) free lent (free_in (level + 1) (start + n) is))
+    (free_in (level + 1) (start + size_of (level + 1)) is) (free_in (level + 1) start lower) leaf part
+    (subst (λ (n : ℕ). IsParted (free_in (level + 1) (start + n) was) leaf part (free_in (level + 1) (start + n) is))
     size parted)
 
 -- A free leaf is lent whole.
 none_between : (level other : ℕ) → one_between level (level + 1) other ≡ 0
 none_between level other = grind (arith, nat_tests)
 
-pub whole_parted : (part : Span) (lent : ℕ) → part.level ≤ highest_level → lent ≡ part.level
-    → IsParted (part ∷ []) part.level lent []
-whole_parted part lent low e = record {
-  low = omega (arith, low);
-  order = omega (arith);
+pub whole_parted : (leaf part : Span) → leaf.level ≤ highest_level → part.level ≡ leaf.level
+    → IsParted (leaf ∷ []) leaf part []
+whole_parted leaf part low e = record {
+  low = omega (arith, low, e);
+  order = omega (arith, e);
   counts = λ other. omega (
     arith,
     count-none other,
-    count-one other part,
-    ap (λ (n : ℕ). one_between part.level (n + 1) other) e,
-    none_between part.level other,
+    count-one other leaf,
+    ap (λ (n : ℕ). one_between leaf.level (n + 1) other) e,
+    none_between leaf.level other,
+  );
+  places = λ number. omega (
+    arith,
+    number-none number,
+    ap (count_of_number number)
+        (none_beside (part.level - leaf.level) leaf.level leaf.start part.start (omega (arith, e))),
   );
 }
 
 -- A lent leaf becomes free.
 pub leaf_parted : {A : Type 0} (part : Span) (level start owner front : ℕ) (node : Node A) → node ≡ Lent owner front
-    → level ≤ highest_level → IsTrue (is_lent (lent_in level start node) part)
-    → IsParted (record { start = start; level = level } ∷ []) level part.level (free_in level start node)
-leaf_parted part level start owner front node e low lent =
-    subst (λ (x : Node _). IsParted (record { start = start; level = level } ∷ []) level part.level (free_in level start x))
-    (sym e)
-    (whole_parted (record { start = start; level = level }) part.level low
-    (sym (same start part.start level part.level
-    (subst (λ (x : Node _). IsTrue (is_lent (lent_in level start x) part)) e lent))))
+    → IsPlace level start → IsTrue (is_lent (lent_in level start node) part)
+    → IsParted (span_at start level ∷ []) (holder_of level part) part (free_in level start node)
+leaf_parted part level start owner front node e place lent =
+    subst (λ (x : Node _). IsParted (span_at start level ∷ []) (holder_of level part) part (free_in level start x)) (sym e)
+    (subst (λ (leaf : Span). IsParted (span_at start level ∷ []) leaf part []) (sym (held both.0))
+    (whole_parted (span_at start level) part place.level_fits (sym both.1)))
   where
-    same : (a b c d : ℕ) → (((a == b) && (c == d)) || false) ≡ true → c ≡ d
-    same a b c d e = grind (arith, nat_tests)
+    same : (a b c d : ℕ) → (((a == b) && (c == d)) || false) ≡ true → (a ≡ b) × (c ≡ d)
+    same a b c d e = (grind (arith, nat_tests), grind (arith, nat_tests))
+
+    both : (start ≡ part.start) × (level ≡ part.level)
+    both = same start part.start level part.level
+        (subst (λ (x : Node _). IsTrue (is_lent (lent_in level start x) part)) e lent)
+
+    held : start ≡ part.start → holder_of level part ≡ span_at start level
+    held e = holder_is level start part place (omega (arith, e)) (omega (arith, e, size_of-some level))
 
 pub nothing_lent : {A : Type 0} (part : Span) (level start : ℕ) (node : Node A) → node ≡ Free
     → IsTrue (is_lent (lent_in level start node) part) → ⊥
@@ -111,15 +180,19 @@ nothing_lent part level start node e lent =
     absurd (cc (subst (λ (x : Node _). is_lent (lent_in level start x) part ≡ true) e lent))
 
 -- A leader becomes its parent, and the free upper half is gone.
-pub leader_parted : {A : Type 0} (level start lent owner front : ℕ) (lower upper : Node A) → level < highest_level
-    → lower ≡ Lent owner front → upper ≡ Free → lent ≡ level + 1
-    → IsParted (free_in_halves level start lower upper) lent lent []
-leader_parted level start lent owner front lower upper low e f child =
-    subst (λ (x : Node _). IsParted (free_in_halves level start x upper) lent lent []) (sym e)
-    (subst (λ (y : Node _). IsParted (free_in_halves level start (Lent owner front) y) lent lent []) (sym f)
-    (subst (λ (n : ℕ). IsParted (record { start = start + size_of (level + 1); level = level + 1 } ∷ []) n n []) (sym child)
-    (whole_parted (record { start = start + size_of (level + 1); level = level + 1 }) (level + 1)
-    (omega (arith, low)) refl)))
+pub leader_parted : {A : Type 0} (part : Span) (level start owner front : ℕ) (lower upper : Node A)
+    → level < highest_level → lower ≡ Lent owner front → upper ≡ Free → part.level ≡ level + 1 → part.start ≡ start
+    → IsParted (free_in_halves level start lower upper) (follower_of part) (follower_of part) []
+leader_parted part level start owner front lower upper low e f child here =
+    subst (λ (x : Node _). IsParted (free_in_halves level start x upper) (follower_of part) (follower_of part) [])
+    (sym e)
+    (subst (λ (y : Node _). IsParted (free_in_halves level start (Lent owner front) y) (follower_of part)
+    (follower_of part) []) (sym f)
+    (subst (λ (free : Span). IsParted (free ∷ []) (follower_of part) (follower_of part) []) follower
+    (whole_parted (follower_of part) (follower_of part) (omega (arith, low, child)) refl)))
+  where
+    follower : follower_of part ≡ span_at (start + size_of (level + 1)) (level + 1)
+    follower = rw (here, child) refl
 
 -- One more of the level below it, and those between there and the lent one.
 first_between : (level lent other : ℕ) → level < lent
@@ -127,104 +200,58 @@ first_between : (level lent other : ℕ) → level < lent
 first_between level lent other h = grind (arith, nat_tests)
 
 -- A half of a free leaf is parted, and the other half stays free.
-pub half_parted : (part half beside : Span) (lent : ℕ) (xs ys : List Span) → half.level ≡ part.level + 1
-    → ((other : ℕ) → count_at_level other ys ≡ count_at_level other xs + one_at (part.level + 1) other)
-    → IsParted (half ∷ []) half.level lent xs → IsParted (part ∷ []) part.level lent ys
-half_parted part half beside lent xs ys e same parted = record {
+half_parted : (part leaf half other : Span) (xs ys : List Span) → half.level ≡ leaf.level + 1
+    → other.level ≡ leaf.level + 1
+    → ((level : ℕ) → count_at_level level ys ≡ count_at_level level xs + count_at_level level (other ∷ []))
+    → ((number : ℕ) → count_of_number number ys ≡ count_of_number number xs + count_of_number number (other ∷ []))
+    → beside leaf part ≡ other ∷ beside half part
+    → IsParted (half ∷ []) half part xs → IsParted (leaf ∷ []) leaf part ys
+half_parted part leaf half other xs ys e f levels numbers way parted = record {
   low = parted.low;
-  order = omega (arith, parted.order);
-  counts = λ other. omega (
+  order = omega (arith, parted.order, e);
+  counts = λ level. omega (
     arith,
-    same other,
-    parted.counts other,
-    count-one other half,
-    count-one other part,
-    ap (λ (n : ℕ). one_at n other) e,
-    ap (λ (n : ℕ). one_between n (lent + 1) other) e,
-    first_between part.level lent other (omega (arith, parted.order)),
+    levels level,
+    parted.counts level,
+    count-one level half,
+    count-one level other,
+    count-one level leaf,
+    ap (λ (n : ℕ). one_at n level) e,
+    ap (λ (n : ℕ). one_at n level) f,
+    ap (λ (n : ℕ). one_between n (part.level + 1) level) e,
+    first_between leaf.level part.level level (omega (arith, parted.order, e)),
+  );
+  places = λ number. omega (
+    arith,
+    numbers number,
+    parted.places number,
+    ap (count_of_number number) way,
+    number-append number (other ∷ []) (beside half part),
   );
 }
 
-pub lower_half_parted : (level start middle lent : ℕ) (xs : List Span)
-    → IsParted (record { start = start; level = level + 1 } ∷ []) (level + 1) lent xs
-    → IsParted (record { start = start; level = level } ∷ []) level lent
-    (xs ++ record { start = middle; level = level + 1 } ∷ [])
-lower_half_parted level start middle lent xs parted =
-    half_parted (record { start = start; level = level }) (record { start = start; level = level + 1 })
-    (record { start = middle; level = level + 1 }) lent xs _ refl
-    (λ other. count-append other xs (record { start = middle; level = level + 1 } ∷ [])
-    ∙ ap (λ (n : ℕ). count_at_level other xs + n) (count-one other (record { start = middle; level = level + 1 })))
+pub lower_half_parted : (part : Span) (level start : ℕ) (xs : List Span) → level < part.level
+    → part.start < start + size_of (level + 1)
+    → IsParted (span_at start (level + 1) ∷ []) (span_at start (level + 1)) part xs
+    → IsParted (span_at start level ∷ []) (span_at start level) part
+    (xs ++ span_at (start + size_of (level + 1)) (level + 1) ∷ [])
+lower_half_parted part level start xs low below parted =
+    half_parted part (span_at start level) (span_at start (level + 1))
+    (span_at (start + size_of (level + 1)) (level + 1)) xs _ refl refl
+    (λ other. count-append other xs (span_at (start + size_of (level + 1)) (level + 1) ∷ []))
+    (λ number. number-append number xs (span_at (start + size_of (level + 1)) (level + 1) ∷ []))
+    (upper_beside (part.level - level) (part.level - (level + 1)) level start part.start (omega arith) below)
     parted
 
-pub upper_half_parted : (level start middle lent : ℕ) (xs : List Span)
-    → IsParted (record { start = middle; level = level + 1 } ∷ []) (level + 1) lent xs
-    → IsParted (record { start = start; level = level } ∷ []) level lent
-    (record { start = start; level = level + 1 } ∷ xs)
-upper_half_parted level start middle lent xs parted =
-    half_parted (record { start = start; level = level }) (record { start = middle; level = level + 1 })
-    (record { start = start; level = level + 1 }) lent xs _ refl
-    (λ other. omega (
-      arith,
-      count-append other (record { start = start; level = level + 1 } ∷ []) xs,
-      count-one other (record { start = start; level = level + 1 }),
-    ))
+pub upper_half_parted : (part : Span) (level start : ℕ) (xs : List Span) → level < part.level
+    → start + size_of (level + 1) ≤ part.start
+    → IsParted (span_at (start + size_of (level + 1)) (level + 1) ∷ [])
+    (span_at (start + size_of (level + 1)) (level + 1)) part xs
+    → IsParted (span_at start level ∷ []) (span_at start level) part (span_at start (level + 1) ∷ xs)
+upper_half_parted part level start xs low above parted =
+    half_parted part (span_at start level) (span_at (start + size_of (level + 1)) (level + 1))
+    (span_at start (level + 1)) xs _ refl refl
+    (λ other. omega (arith, count-append other (span_at start (level + 1) ∷ []) xs))
+    (λ number. omega (arith, number-append number (span_at start (level + 1) ∷ []) xs))
+    (lower_beside (part.level - level) (part.level - (level + 1)) level start part.start (omega arith) above)
     parted
-
-pub upper_half_parted_at : {A : Type 0} (level start half lent : ℕ) (node : Node A) → half ≡ size_of (level + 1)
-    → IsParted (record { start = start + half; level = level + 1 } ∷ []) (level + 1) lent
-    (free_in (level + 1) (start + half) node)
-    → IsParted (record { start = start; level = level } ∷ []) level lent
-    (record { start = start; level = level + 1 } ∷ free_in (level + 1) (start + size_of (level + 1)) node)
-upper_half_parted_at level start half lent node size parted =
-    upper_half_parted level start (start + size_of (level + 1)) lent
-    (free_in (level + 1) (start + size_of (level + 1)) node)
-    (subst (λ (n : ℕ). IsParted (record { start = start + n; level = level + 1 } ∷ []) (level + 1) lent
-    (free_in (level + 1) (start + n) node)) size parted)
-
--- Two free halves merge.
-pub merged_parted : {A : Type 0} (level start lent : ℕ) (lower upper : Node A) (was : List Span)
-    → IsTrue (is_free lower && is_free upper)
-    → IsParted (free_in_halves level start lower upper) (level + 1) lent was
-    → IsParted (record { start = start; level = level } ∷ []) level lent was
-merged_parted level start lent Free Free was e parted = record {
-  low = parted.low;
-  order = omega (arith, parted.order);
-  counts = λ other. omega (
-    arith,
-    parted.counts other,
-    count-append other (record { start = start; level = level + 1 } ∷ [])
-        (record { start = start + size_of (level + 1); level = level + 1 } ∷ []),
-    count-one other (record { start = start; level = level + 1 }),
-    count-one other (record { start = start + size_of (level + 1); level = level + 1 }),
-    count-one other (record { start = start; level = level }),
-    first_between level lent other (omega (arith, parted.order)),
-  );
-}
-merged_parted level start lent Free (Lent owner front) was e parted = absurd (cc)
-merged_parted level start lent Free (Split' levels p lower q upper) was e parted = absurd (cc)
-merged_parted level start lent (Lent owner front) upper was e parted = absurd (cc)
-merged_parted level start lent (Split' levels p lower q upper) other was e parted = absurd (cc)
-
--- The level of the free leaf that results, where both halves are free, and where not.
-pub level_of_free : {A : Type 0} (level start offset : ℕ) (node : Node A) (freed : Span) → is_free node ≡ true
-    → find (covers offset) (free_in level start node) ≡ Some freed → freed.level ≡ level
-level_of_free level start offset Free freed e found =
-    go (covers offset (record { start = start; level = level })) found
-  where
-    given : (part other : Span) → Some part ≡ Some other → other.level ≡ part.level
-    given part other e = cc
-
-    go : (b : Bool) → cond b (Some (record { start = start; level = level })) None ≡ Some freed → freed.level ≡ level
-    go true e = given (record { start = start; level = level }) freed e
-    go false e = absurd (cc)
-level_of_free level start offset (Lent owner front) freed e found = absurd (cc)
-level_of_free level start offset (Split' levels p lower q upper) freed e found = absurd (cc)
-
-pub level_told : (level : ℕ) (result : Option Span) (freed : Span) (free : Bool) → IfSome result (λ other. other ≡ freed)
-    → IfNone result (IsTrue free) → (free ≡ true → freed.level ≡ level + 1) → freed.level ≡ freed_level level result
-level_told level (Some other) freed free same whole half = ap (λ (part : Span). part.level) (sym same)
-level_told level None freed free same whole half = half whole
-
-pub both_free : (a b : Bool) → (a && b) ≡ true → (a ≡ true) × (b ≡ true)
-both_free true b e = (refl, e)
-both_free false b e = absurd (cc)

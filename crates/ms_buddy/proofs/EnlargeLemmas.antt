@@ -1,10 +1,9 @@
 -- A part of two halves can become its parent exactly where it can in the half where it is, or where
 -- it is the lower half and the upper half is free. For enlarging.
-use Rattle.std.proofs.Common.{◌≡◌, ◌<◌, ◌≤◌, ℕ, ◌+◌, ◌-◌, ◌*◌, ◌/◌, ◌%◌, Bool, true, false, ◌&&◌, ◌||◌, List, [], ◌∷◌}
+use Rattle.std.proofs.Common.{◌≡◌, ◌<◌, ◌≤◌, ℕ, ◌+◌, ◌-◌, ◌*◌, ◌%◌, Bool, true, false, ◌&&◌, ◌||◌, List, [], ◌∷◌}
 use Rattle.std.proofs.Common.{refl, sym, ap, subst, ◌∙◌, inl, inr, arith}
-use Rattle.std.proofs.lemmas.Nat.{div-add-mod', mod-mul-add}
 use Rattle.std.proofs.lemmas.Bool.{cases_lt}
-use Rattle.std.specs.Prelude.{◌==◌, nat_lt, IsTrue, IsFalse, Option, Some, None, Result, Ok, Err, IfOk, OnSome}
+use Rattle.std.specs.Prelude.{◌==◌, nat_lt, IsTrue, IsFalse}
 use Rattle.std.specs.List.{AllByRecursion, list_any}
 use Rattle.std.proofs.lemmas.Bool.Decides.{nat_tests}
 use Rattle.ms_base.specs.declared.span.Span.{Span}
@@ -14,7 +13,7 @@ use Rattle.ms_buddy.specs.declared.node.Node.{Node}
 use Rattle.ms_buddy.specs.declared.node.Node.TheVariants.{Free, Lent, Split'}
 use Rattle.ms_buddy.specs.Leaves.{LentLeaf, span_of, is_same, is_lent, can_enlarge}
 use Rattle.ms_buddy.specs.Tree.{IsPlace, is_free, lent_in, free_in, lent_in_halves, free_in_halves}
-use Rattle.ms_buddy.proofs.TreeHalvesLemmas.{size_of-some, size_of-halves, lower_place}
+use Rattle.ms_buddy.proofs.TreeHalvesLemmas.{size_of-some, size_of-halves, lower_place, mod-past}
 use Rattle.ms_buddy.proofs.WalkLemmas.{LiesIn, all_joined, all_weaker, lent_levels, free_levels}
 use Rattle.ms_buddy.proofs.SplitLemmas.{AtHalves, lent_part_lies_in, lower_lent, upper_lent}
 use Rattle.ms_buddy.proofs.CarveLemmas.{ends_in, lower_is_free, upper_is_free}
@@ -127,11 +126,6 @@ upper_can part level start half lower upper s above =
     lower upper s
     (subst (λ (n : ℕ). start + half ≤ n) (sym (buddy_of_leader part e)) (omega arith)))
 
-pub ok_some : {E : Type 0} (P : Type 0) (result : Result (Option ℕ) E) → P → IfOk result (λ owner. OnSome owner P)
-ok_some P (Ok (Some owner)) h = h
-ok_some P (Ok None) h = tt
-ok_some P (Err e) h = tt
-
 -- Parts of greater levels are not the part.
 differ : (c : Bool) (a b : ℕ) → b < a → (c && (a == b)) ≡ false
 differ c a b h = grind (arith, nat_tests)
@@ -147,8 +141,8 @@ not_free_whole : {A : Type 0} (level middle : ℕ) (node : Node A) → is_free n
     → list_any (is_same (record { start = middle; level = level })) (free_in level middle node) ≡ false
 not_free_whole level middle Free e = absurd (cc)
 not_free_whole level middle (Lent owner front) e = refl
-not_free_whole level middle (Split' levels p lower q upper) e =
-    deeper_differ (record { start = middle; level = level }) (free_in level middle (Split' levels p lower q upper))
+not_free_whole level middle (Split' p lower q upper) e =
+    deeper_differ (record { start = middle; level = level }) (free_in level middle (Split' p lower q upper))
     (all_joined (λ other. level < other.level) (free_in (level + 1) middle lower)
     (free_in (level + 1) (middle + size_of (level + 1)) upper)
     (all_weaker (λ other. level + 1 ≤ other.level) (λ other. level < other.level)
@@ -158,12 +152,12 @@ not_free_whole level middle (Split' levels p lower q upper) e =
     (free_levels (level + 1) (middle + size_of (level + 1)) upper)))
 
 -- A leaf of a split's own level is none of its lent leaves.
-pub split_not_lent : {A : Type 0} (part : Span) (level start : ℕ) (node : Node A) (levels : ℕ)
-    (p : _) (lower : Node A) (q : _) (upper : Node A) → node ≡ Split' levels p lower q upper → part.level ≡ level
+pub split_not_lent : {A : Type 0} (part : Span) (level start : ℕ) (node : Node A)
+    (p : _) (lower : Node A) (q : _) (upper : Node A) → node ≡ Split' p lower q upper → part.level ≡ level
     → IsFalse (is_lent (lent_in level start node) part)
-split_not_lent part level start node levels p lower q upper e f =
+split_not_lent part level start node p lower q upper e f =
     subst (λ (other : Node _). is_lent (lent_in level start other) part ≡ false) (sym e)
-    (deeper (lent_in level start (Split' levels p lower q upper))
+    (deeper (lent_in level start (Split' p lower q upper))
     (all_joined (λ leaf. part.level < leaf.level) (lent_in (level + 1) start lower)
     (lent_in (level + 1) (start + size_of (level + 1)) upper)
     (all_weaker (λ leaf. level + 1 ≤ leaf.level) (λ leaf. part.level < leaf.level)
@@ -212,17 +206,11 @@ follower_cannot part level start half lower upper free s place low lent child ab
     remainder : 0 < part.start % size_of (part.level - 1)
     remainder = subst (λ (n : ℕ). 0 < n % size_of (part.level - 1)) (sym middle)
         (subst (λ (l : ℕ). 0 < (start + half) % size_of l) (back part.level child)
-        (subst (λ (n : ℕ). 0 < n) (sym (half_over start half (size_of level) place.aligned below_whole))
+        (subst (λ (n : ℕ). 0 < n) (sym (mod-past start half (size_of level) place.aligned below_whole))
         (omega (arith, s.size, size_of-some (level + 1)))))
       where
         back : (l : ℕ) → l ≡ level + 1 → level ≡ l - 1
         back l h = omega arith
-
-        half_over : (a h w : ℕ) → a % w ≡ 0 → h < w → (a + h) % w ≡ h
-        half_over a h w e k = subst (λ (x : ℕ). (x + h) % w ≡ h) (sym (by_number a w e)) (mod-mul-add (a / w) w h k)
-          where
-            by_number : (a w : ℕ) → a % w ≡ 0 → a ≡ a / w * w
-            by_number a w e = omega (arith, div-add-mod' a w)
 
     not_leader : (x : Bool) (r : ℕ) (y : Bool) → 0 < r → (x && (r == 0) && y) ≡ false
     not_leader x r y h = grind (arith, nat_tests)
@@ -251,13 +239,9 @@ leader_cannot part level start half lower upper s child e f =
     none true false = refl
     none false y = refl
 
--- A refusal stands where a part can't become its parent, also where that is asked of other free leaves.
+-- A refusal stands where a part can't become its parent.
 pub refused : (can : Bool) → can ≡ false → (false ≡ true → can ≡ true) × (can ≡ true → false ≡ true)
 refused can e = (λ h. absurd (cc), λ h. sym e ∙ h)
-
-pub refused_too : (can other : Bool) → can ≡ other → (false ≡ true → other ≡ true) × (other ≡ true → false ≡ true)
-    → (false ≡ true → can ≡ true) × (can ≡ true → false ≡ true)
-refused_too can other e h = (λ f. absurd (cc), λ f. h.1 (sym e ∙ f))
 
 -- A lent part of two halves that starts no later than they do starts where they do.
 pub starts_here : {A : Type 0} (part : Span) (level start half : ℕ) (lower upper : Node A)
@@ -272,13 +256,13 @@ starts_here part level start half lower upper s lent h =
 
 -- A lent part of two halves with that start and a half's level is not in a split.
 pub split_not_leader : {A : Type 0} (part : Span) (level start half : ℕ) (lower upper : Node A)
-    (levels : ℕ) (p : _) (low : Node A) (q : _) (high : Node A) → AtHalves level start half lower upper
+    (p : _) (low : Node A) (q : _) (high : Node A) → AtHalves level start half lower upper
     → IsTrue (is_lent (lent_in_halves level start lower upper) part) → part.start ≤ start → part.level ≡ level + 1
-    → lower ≡ Split' levels p low q high → ⊥
-split_not_leader part level start half lower upper levels p low q high s lent h child e =
+    → lower ≡ Split' p low q high → ⊥
+split_not_leader part level start half lower upper p low q high s lent h child e =
     differ (is_lent (lent_in (level + 1) start lower) part)
     (lower_lent part level start half lower upper s (omega (arith, s.size, size_of-some (level + 1))) lent)
-    (split_not_lent part (level + 1) start lower levels p low q high e child)
+    (split_not_lent part (level + 1) start lower p low q high e child)
   where
     differ : (b : Bool) → b ≡ true → b ≡ false → ⊥
     differ b e f = absurd (cc)

@@ -6,8 +6,13 @@ pub mod CarveLemmas
 pub mod EnlargeLemmas
 pub mod StackLemmas
 pub mod KeptTreeLemmas
-pub mod LeafLevelLemmas
+pub mod BitLemmas
+pub mod NumberLemmas
+pub mod BesideLemmas
+pub mod FreeNumberLemmas
+pub mod FoundLemmas
 pub mod CountLemmas
 pub mod PartFreeLemmas
 pub mod TreeCountLemmas
 pub mod StepLemmas
+pub mod MergeLemmas

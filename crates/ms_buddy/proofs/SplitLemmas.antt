@@ -1,8 +1,8 @@
 -- A split and its halves: what is asked of a node is asked of the half where the part is, and what
 -- happens to the half happens to the node. For each walk down the tree.
 use Rattle.std.proofs.Common.{◌≡◌, ◌<◌, ◌≤◌, ℕ, ◌+◌, ◌-◌, Bool, true, false, not, cond, ◌&&◌, ◌||◌, List, [], ◌∷◌, ◌++◌}
-use Rattle.std.proofs.Common.{Option, Some, None, refl, sym, ap, subst, ◌∙◌, arith}
-use Rattle.std.specs.Prelude.{◌==◌, nat_le, nat_lt, IsTrue, IsFalse, IfSome, OnSome}
+use Rattle.std.proofs.Common.{Some, refl, sym, ap, subst, ◌∙◌, arith}
+use Rattle.std.specs.Prelude.{◌==◌, IsTrue, IsFalse}
 use Rattle.std.specs.List.{AllByRecursion, find}
 use Rattle.std.proofs.lemmas.List.{map-append}
 use Rattle.std.proofs.lemmas.List.Folds.{list_any-append, find-append}
@@ -16,9 +16,9 @@ use Rattle.ms_buddy.specs.declared.node.Leaf.{Leaf}
 use Rattle.ms_buddy.specs.declared.node.Leaf.TheVariants.{Free as FreeLeaf, Lent as LentTo}
 use Rattle.ms_buddy.specs.Leaves.{LentLeaf, IsLeafAt, leaf_of, span_of, is_same, is_lent, covers, with_front}
 use Rattle.ms_buddy.specs.Leaves.{with_parent, without_leaf}
-use Rattle.ms_buddy.specs.Tree.{AreHalves, MayHaveFront, is_free, IsTree, lent_in, free_in, lent_in_halves}
+use Rattle.ms_buddy.specs.Tree.{MayHaveFront, is_free, IsTree, lent_in, free_in, lent_in_halves}
 use Rattle.ms_buddy.specs.Tree.{free_in_halves}
-use Rattle.ms_buddy.proofs.TreeHalvesLemmas.{size_of-some, lower_place, upper_place}
+use Rattle.ms_buddy.proofs.TreeHalvesLemmas.{lower_place, upper_place}
 use Rattle.ms_buddy.proofs.WalkLemmas.{NonePass, any-none, filter-none, map-none, find-none, none_above, none_below}
 use Rattle.ms_buddy.proofs.WalkLemmas.{none_covers_below, none_lent_covers_below, LiesIn, LeafIn, lent_lies_in}
 
@@ -37,25 +37,19 @@ pub record AtSplit {A : Type 0} (level start half : ℕ) (node lower upper : Nod
   pub free : free_in level start node ≡ free_in_halves level start lower upper
 
 -- The halves that a function over both is told.
-pub halves_at : {A : Type 0} (level start half levels : ℕ) (lower upper : Node A) → AreHalves level levels lower upper
-    → half ≡ size_of (level + 1) → AtHalves level start half lower upper
-halves_at level start half levels lower upper halves size =
-    record { low_tree = halves.lower_tree; high_tree = halves.upper_tree; size = size }
-
 pub trees_at : {A : Type 0} (level start : ℕ) (lower upper : Node A)
     → IsTree (level + 1) lower × IsTree (level + 1) upper → AtHalves level start (size_of (level + 1)) lower upper
 trees_at level start lower upper trees = record { low_tree = trees.0; high_tree = trees.1; size = refl }
 
-pub at_split : {A : Type 0} (level start half : ℕ) (node : Node A) (levels : ℕ) (p : _) (lower : Node A) (q : _)
-    (upper : Node A)
-    → node ≡ Split' levels p lower q upper → IsTree level node → half ≡ size_of (level + 1)
+pub at_split : {A : Type 0} (level start half : ℕ) (node : Node A) (p : _) (lower : Node A) (q : _) (upper : Node A)
+    → node ≡ Split' p lower q upper → IsTree level node → half ≡ size_of (level + 1)
     → AtSplit level start half node lower upper
-at_split level start half node levels p lower q upper e tree size =
+at_split level start half node p lower q upper e tree size =
     subst (λ (other : Node _). AtSplit level start half other lower upper) (sym e)
     (here (subst (λ (other : Node _). IsTree level other) e tree))
   where
-    here : IsTree level (Split' levels p lower q upper)
-        → AtSplit level start half (Split' levels p lower q upper) lower upper
+    here : IsTree level (Split' p lower q upper)
+        → AtSplit level start half (Split' p lower q upper) lower upper
     here tree = record {
       low = tree.0;
       one = tree.1;
@@ -246,29 +240,3 @@ upper_leaf offset level start half lower upper part (LentTo owner front) tree si
       subst (λ (n : ℕ). find (λ leaf. covers offset (span_of leaf)) (lent_in (level + 1) (start + n) upper)
           ≡ Some (leaf_of part owner front)) size e,
     ) refl
-
--- A node that is merged whole is the free leaf that covers the part that was lent in it.
-pub whole_found : {A : Type 0} (part : Span) (level start : ℕ) (node : Node A) (result : Span) → IsTree level node
-    → IsTrue (is_lent (lent_in level start node) part)
-    → result.start ≡ start → result.level ≡ level
-    → find (covers part.start) (record { start = start; level = level } ∷ []) ≡ Some result
-whole_found part level start node result tree lent e f =
-    rw (covered start part.start (size_of level) lies.from (omega (arith, lies.to, size_of-some part.level)))
-    (rw (← e, ← f) refl)
-  where
-    lies : LiesIn start (start + size_of level) part
-    lies = lent_part_lies_in part level start node tree lent
-
-    covered : (a b s : ℕ) → a ≤ b → b < a + s → (nat_le a b && nat_lt b (a + s)) ≡ true
-    covered a b s h k = grind (arith, nat_tests)
-
--- What holds of a value holds of it where it is passed on.
-pub passed_on : (result : Option Span) (span : Span) (P : Span → Type 0) → IfSome result (λ other. other ≡ span)
-    → P span → IfSome result P
-passed_on (Some other) span P e h = subst P (sym e) h
-passed_on None span P e h = tt
-
--- What follows from what holds where there is a value holds there.
-pub on_some_weaker : {T P Q : Type 0} (o : Option T) → (P → Q) → OnSome o P → OnSome o Q
-on_some_weaker (Some value) f p = f p
-on_some_weaker None f p = tt

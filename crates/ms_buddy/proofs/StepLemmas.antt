@@ -1,11 +1,12 @@
--- One step of a walk over levels, and a split of which one half changed.
-use Rattle.std.proofs.Common.{◌≡◌, ◌<◌, ℕ, ◌+◌, ◌&&◌, List, bit_or, sym, ap, ◌∙◌, arith}
-use Rattle.std.specs.Prelude.{IsFalse}
+-- One step of a walk over levels.
+use Rattle.std.proofs.Common.{◌≡◌, ◌<◌, ℕ, ◌+◌, ◌*◌, ◌%◌, ◌^◌, true, ◌&&◌, List, get_or, bit_or, sym, ap, ◌∙◌, inl, inr, arith, w16}
+use Rattle.std.specs.Prelude.{◌==◌, nat_lt}
+use Rattle.std.specs.Int.{bit_at}
+use Rattle.std.proofs.lemmas.Bool.{cases_eq}
+use Rattle.std.proofs.lemmas.Nat.Bits.{bit_at_set_other, bit_at_set_same}
+use Rattle.ms_buddy.specs.Leaves.{has_level}
 use Rattle.std.proofs.lemmas.Bool.Decides.{nat_tests}
-use Rattle.ms_base.specs.Level.{highest_level}
-use Rattle.ms_buddy.specs.declared.node.Node.{Node}
 use Rattle.ms_buddy.specs.Counts.{AreRaised, AreShifted, one_at, one_between}
-use Rattle.ms_buddy.specs.Tree.{IsTree, is_free, levels_of}
 
 last_between : (free level other : ℕ) → free < level
     → one_between free (level + 1) other ≡ one_at level other + one_between free level other
@@ -19,21 +20,36 @@ one_joined old counts new free level h shifted raised = record {
   counts = λ other low. omega (arith, shifted.counts other low, raised.counts other low, last_between free level other h);
 }
 
--- The halves of a split, and the bits that it keeps.
-abbrev pub AreSplit : {A : Type 0} → ℕ → ℕ → Node A → Node A → Type 0
-AreSplit level levels lower upper =
-    (level < highest_level) × IsFalse (is_free lower && is_free upper) × IsTree (level + 1) lower
-    × IsTree (level + 1) upper
-    × (levels ≡ bit_or (levels_of (level + 1) lower) (levels_of (level + 1) upper))
+-- Of the levels below one those are told that have any.
+abbrev pub AreTold : ℕ → List ℕ → ℕ → Type 0
+AreTold levels counts level = (other : ℕ) → has_level levels other ≡ (nat_lt other level && nat_lt 0 (get_or counts other 0))
 
--- The lower half changed, with the same bits.
-pub lower_kept : {A : Type 0} (level levels : ℕ) (lower upper new : Node A) → AreSplit level levels lower upper
-    → IsTree (level + 1) new → is_free new ≡ is_free lower
-    → levels_of (level + 1) new ≡ levels_of (level + 1) lower → AreSplit level levels new upper
-lower_kept level levels lower upper new tree kept free same = (
-  tree.0,
-  ap (λ b. b && is_free upper) free ∙ tree.1,
-  kept,
-  tree.3,
-  tree.4 ∙ ap (λ n. bit_or n (levels_of (level + 1) upper)) (sym same),
-)
+-- Only the level itself is told anew.
+beside : (a b n : ℕ) → (a ≡ b → ⊥) → (nat_lt a b && nat_lt 0 n) ≡ (nat_lt a (b + 1) && nat_lt 0 n)
+beside a b n differs = grind (arith, nat_tests)
+
+-- One level more is told, or passed over.
+pub one_told : (levels : ℕ) (counts : List ℕ) (level : ℕ) → level < 13 → 0 < get_or counts level 0
+    → AreTold levels counts level → AreTold (bit_or levels (1 * 2 ^ level % 2 ^ 16)) counts (level + 1)
+one_told levels counts level low some told other = elim (cases_eq other level) [
+  | inl same ↦
+      ap (λ bit. bit == 1) (ap (bit_at (bit_or levels (1 * 2 ^ level % 2 ^ 16))) same ∙ bit_at_set_same w16 levels level (omega (arith, low)))
+      ∙ sym (here other (get_or counts other 0) (omega (arith, same)) (omega (arith, some, ap (λ n. get_or counts n 0) same)))
+  | inr differs ↦
+      ap (λ bit. bit == 1) (bit_at_set_other w16 levels level (omega (arith, low)) other differs)
+      ∙ told other ∙ beside other level (get_or counts other 0) differs
+]
+  where
+    here : (a n : ℕ) → a < level + 1 → 0 < n → (nat_lt a (level + 1) && nat_lt 0 n) ≡ true
+    here a n h k = grind (arith, nat_tests)
+
+pub one_passed : (levels : ℕ) (counts : List ℕ) (level : ℕ) → get_or counts level 0 ≡ 0 → AreTold levels counts level
+    → AreTold levels counts (level + 1)
+one_passed levels counts level none told other = elim (cases_eq other level) [
+  | inl same ↦
+      told other ∙ none_at other (get_or counts other 0) (omega (arith, none, ap (λ n. get_or counts n 0) same))
+  | inr differs ↦ told other ∙ beside other level (get_or counts other 0) differs
+]
+  where
+    none_at : (a n : ℕ) → n ≡ 0 → (nat_lt a level && nat_lt 0 n) ≡ (nat_lt a (level + 1) && nat_lt 0 n)
+    none_at a n e = grind (arith, nat_tests)

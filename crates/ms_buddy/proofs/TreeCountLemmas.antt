@@ -1,8 +1,10 @@
 -- The counts of a tree's free leaves, as one is parted and as halves merge: that there is room in
 -- them, and that they stay those of the leaves. The calls of the tree use these.
 use Rattle.std.proofs.Common.{◌≡◌, ◌<◌, ◌≤◌, ℕ, zero, suc, ◌+◌, ◌*◌, ◌^◌, List, [], ◌∷◌}
-use Rattle.std.proofs.Common.{length, get_or, replicate, refl, sym, ◌∙◌, arith}
-use Rattle.std.specs.Prelude.{◌==◌}
+use Rattle.std.proofs.Common.{Bool, true, false, cond, ◌&&◌, ◌||◌, length, get_or, replicate, refl, sym, ap, ◌∙◌, inl, inr, arith}
+use Rattle.std.specs.Prelude.{◌==◌, nat_lt}
+use Rattle.std.specs.List.{list_any}
+use Rattle.std.proofs.lemmas.Bool.{cases_lt}
 use Rattle.std.proofs.lemmas.List.{length-append}
 use Rattle.std.proofs.lemmas.List.Sums.{count_by-le-length}
 use Rattle.std.proofs.lemmas.Bool.Decides.{nat_tests}
@@ -12,16 +14,19 @@ use Rattle.ms_base.proofs.free.HalvesLemmas.{size_falls}
 use Rattle.ms_buddy.specs.declared.node.Node.{Node}
 use Rattle.ms_buddy.specs.declared.node.Node.TheVariants.{Free, Lent, Split'}
 use Rattle.ms_buddy.specs.Counts.{AreCounts, AreShifted, IsParted, count_at_level, one_at, one_between}
+use Rattle.ms_buddy.specs.Leaves.{has_level, is_of}
 use Rattle.ms_buddy.specs.Tree.{IsTree, free_in}
 use Rattle.ms_buddy.proofs.TreeHalvesLemmas.{size_of-halves}
-use Rattle.ms_buddy.proofs.CountLemmas.{count-one}
+use Rattle.ms_buddy.proofs.WalkLemmas.{all_weaker, any-none}
+use Rattle.ms_buddy.proofs.CountLemmas.{count-append, count-none, count-one}
+use Rattle.ms_buddy.proofs.FreeNumberLemmas.{IsSpanPlace, free_places, root_place}
 
 -- A tree has at most 4096 free leaves, since each has 128 words or more.
 few_free : {A : Type 0} (level start : ℕ) (node : Node A) → level ≤ highest_level → IsTree level node
     → length (free_in level start node) * 128 ≤ size_of level
 few_free level start Free h tree = omega (arith, size_falls level highest_level h (omega arith))
 few_free level start (Lent owner front) h tree = omega arith
-few_free level start (Split' levels p lower q upper) h tree =
+few_free level start (Split' p lower q upper) h tree =
     omega (
       arith,
       few_free (level + 1) start lower (omega (arith, tree.0)) tree.2,
@@ -47,44 +52,44 @@ room_to_part counts node tree are level h = omega (arith, are.same level h, few_
 own_level : (level : ℕ) → one_at level level ≡ 1
 own_level level = grind (arith, nat_tests)
 
-pub some_to_part : (counts : List ℕ) (before after : List Span) (free lent : ℕ) → AreCounts counts before
-    → IsParted before free lent after → 1 ≤ get_or counts free 0
-some_to_part counts before after free lent are parted =
+pub some_to_part : (counts : List ℕ) (before after : List Span) (leaf part : Span) → AreCounts counts before
+    → IsParted before leaf part after → 1 ≤ get_or counts leaf.level 0
+some_to_part counts before after leaf part are parted =
     omega (
       arith,
-      are.same free (omega (arith, parted.low, parted.order)),
-      parted.counts free,
-      own_level free,
-      own_is_outside free lent,
+      are.same leaf.level (omega (arith, parted.low, parted.order)),
+      parted.counts leaf.level,
+      own_level leaf.level,
+      own_is_outside leaf.level part.level,
     )
   where
     own_is_outside : (free lent : ℕ) → one_between free (lent + 1) free ≡ 0
     own_is_outside free lent = grind (arith, nat_tests)
 
-pub room_to_join : {A : Type 0} (counts : List ℕ) (before : List Span) (node : Node A) (free lent : ℕ) → IsTree 0 node
-    → AreCounts counts before → IsParted (free_in 0 0 node) free lent before → get_or counts free 0 + 1 < 2 ^ 16
-room_to_join counts before node free lent tree are parted =
+pub room_to_join : {A : Type 0} (counts : List ℕ) (before : List Span) (node : Node A) (leaf part : Span) → IsTree 0 node
+    → AreCounts counts before → IsParted (free_in 0 0 node) leaf part before → get_or counts leaf.level 0 + 1 < 2 ^ 16
+room_to_join counts before node leaf part tree are parted =
     omega (
       arith,
-      are.same free (omega (arith, parted.low, parted.order)),
-      parted.counts free,
-      own_level free,
-      own_is_outside free lent,
-      few_of node free tree,
+      are.same leaf.level (omega (arith, parted.low, parted.order)),
+      parted.counts leaf.level,
+      own_level leaf.level,
+      own_is_outside leaf.level part.level,
+      few_of node leaf.level tree,
     )
   where
     own_is_outside : (free lent : ℕ) → one_between free (lent + 1) free ≡ 0
     own_is_outside free lent = grind (arith, nat_tests)
 
-pub some_to_join : (counts : List ℕ) (before after : List Span) (free lent : ℕ) → AreCounts counts before
-    → IsParted after free lent before → (level : ℕ) → free < level → level ≤ lent → 1 ≤ get_or counts level 0
-some_to_join counts before after free lent are parted level h k =
+pub some_to_join : (counts : List ℕ) (before after : List Span) (leaf part : Span) → AreCounts counts before
+    → IsParted after leaf part before → (level : ℕ) → leaf.level < level → level ≤ part.level → 1 ≤ get_or counts level 0
+some_to_join counts before after leaf part are parted level h k =
     omega (
       arith,
       are.same level (omega (arith, parted.low)),
       parted.counts level,
-      one_there free lent level h k,
-      none_there free level h,
+      one_there leaf.level part.level level h k,
+      none_there leaf.level level h,
     )
   where
     one_there : (free lent level : ℕ) → free < level → level ≤ lent → one_between free (lent + 1) level ≡ 1
@@ -94,16 +99,16 @@ some_to_join counts before after free lent are parted level h k =
     none_there free level h = grind (arith, nat_tests)
 
 -- The counts go with the parts.
-pub parted_counts : (old new : List ℕ) (before after : List Span) (free lent : ℕ) → AreCounts old before
-    → IsParted before free lent after → AreShifted old free (lent + 1) new → AreCounts new after
-parted_counts old new before after free lent are parted shifted = record {
+pub parted_counts : (old new : List ℕ) (before after : List Span) (leaf part : Span) → AreCounts old before
+    → IsParted before leaf part after → AreShifted old leaf.level (part.level + 1) new → AreCounts new after
+parted_counts old new before after leaf part are parted shifted = record {
   full = shifted.full ∙ are.full;
   same = λ level h. omega (arith, are.same level h, parted.counts level, shifted.counts level h);
 }
 
-pub joined_counts : (old new : List ℕ) (before after : List Span) (free lent : ℕ) → AreCounts old before
-    → IsParted after free lent before → AreShifted new free (lent + 1) old → AreCounts new after
-joined_counts old new before after free lent are parted shifted = record {
+pub joined_counts : (old new : List ℕ) (before after : List Span) (leaf part : Span) → AreCounts old before
+    → IsParted after leaf part before → AreShifted new leaf.level (part.level + 1) old → AreCounts new after
+joined_counts old new before after leaf part are parted shifted = record {
   full = sym shifted.full ∙ are.full;
   same = λ level h. omega (arith, are.same level h, parted.counts level, shifted.counts level h);
 }
@@ -126,3 +131,41 @@ whole_is_counted = record {
     at_level : (level : ℕ) → get_or (1 ∷ replicate 12 0) level 0 ≡ one_at 0 level
     at_level zero = refl
     at_level (suc level) = no_count highest_level level ∙ sym (past level)
+
+-- A level has a part exactly where it is counted.
+any_counted : (level : ℕ) (parts : List Span) → list_any (is_of level) parts ≡ nat_lt 0 (count_at_level level parts)
+any_counted level [] = ap (nat_lt 0) (sym (count-none level))
+any_counted level (part ∷ parts) =
+    ap (λ (b : Bool). (part.level == level) || b) (any_counted level parts)
+    ∙ either (part.level == level) (count_at_level level parts)
+    ∙ ap (nat_lt 0) (sym (count-append level (part ∷ []) parts ∙ ap (λ (n : ℕ). n + count_at_level level parts) (count-one level part)))
+  where
+    either : (b : Bool) (n : ℕ) → (b || nat_lt 0 n) ≡ nat_lt 0 (cond b 1 0 + n)
+    either true n = grind (arith, nat_tests)
+    either false n = ap (nat_lt 0) (omega arith)
+
+-- The levels that are counted are those of the free leaves.
+pub levels_told : {A : Type 0} (node : Node A) (counts : List ℕ) (levels level : ℕ) → IsTree 0 node
+    → AreCounts counts (free_in 0 0 node)
+    → has_level levels level ≡ (nat_lt level 13 && nat_lt 0 (get_or counts level 0))
+    → has_level levels level ≡ list_any (is_of level) (free_in 0 0 node)
+levels_told node counts levels level tree are told = elim (cases_lt level 13) [
+  | inl low ↦
+      told ∙ within level (get_or counts level 0) low
+      ∙ ap (nat_lt 0) (are.same level low) ∙ sym (any_counted level (free_in 0 0 node))
+  | inr past ↦
+      told ∙ beyond level (get_or counts level 0) past
+      ∙ sym (any-none (is_of level) (free_in 0 0 node)
+      (all_weaker IsSpanPlace (λ part. is_of level part ≡ false)
+      (λ part place. differs part.level level (omega (arith, place.level_fits, past))) (free_in 0 0 node)
+      (free_places 0 0 node tree root_place)))
+]
+  where
+    within : (a n : ℕ) → a < 13 → (nat_lt a 13 && nat_lt 0 n) ≡ nat_lt 0 n
+    within a n h = grind (arith, nat_tests)
+
+    beyond : (a n : ℕ) → 13 ≤ a → (nat_lt a 13 && nat_lt 0 n) ≡ false
+    beyond a n h = grind (arith, nat_tests)
+
+    differs : (a b : ℕ) → a < b → (a == b) ≡ false
+    differs a b h = grind (arith, nat_tests)

@@ -1,8 +1,11 @@
 -- Halves of a part: their sizes and places. For the walks down a node.
-use Rattle.std.proofs.Common.{◌≡◌, ◌<◌, ℕ, ◌+◌, ◌-◌, ◌*◌, ◌/◌, ◌%◌, ◌^◌, sym, ap, subst, ◌∙◌, arith}
-use Rattle.std.proofs.lemmas.Nat.{pow-add, div-add-mod', pow_pos, shl-shr}
+use Rattle.std.proofs.Common.{◌≡◌, ◌<◌, ◌≤◌, ℕ, ◌+◌, ◌-◌, ◌*◌, ◌/◌, ◌%◌, ◌^◌, sym, ap, subst, ◌∙◌, arith}
+use Rattle.std.proofs.lemmas.Nat.{pow-add, div-add-mod', mod-mul-add, pow_pos, shl-shr}
 use Rattle.std.proofs.Math.Nat.{mul-mod_left, add-mod_right}
 use Rattle.ms_base.specs.Level.{size_of, highest_level}
+use Rattle.ms_base.specs.declared.span.Span.{Span}
+use Rattle.ms_buddy.specs.Counts.{holder_of}
+use Rattle.ms_buddy.specs.Leaves.{span_at}
 use Rattle.ms_buddy.specs.Tree.{IsPlace}
 
 -- A part has a word.
@@ -60,3 +63,22 @@ upper_place level start middle place h e = record {
       (add-mod_right start (size_of (level + 1)) ∙ (lower_place level start place h).aligned);
   in_root = omega (arith, size_of-halves level h, place.in_root);
 }
+
+-- A number past a multiple of another by less than that one has it as the multiple below it.
+pub mod-past : (a h w : ℕ) → a % w ≡ 0 → h < w → (a + h) % w ≡ h
+mod-past a h w e k = subst (λ (x : ℕ). (x + h) % w ≡ h) (sym (by_number a w e)) (mod-mul-add (a / w) w h k)
+  where
+    by_number : (a w : ℕ) → a % w ≡ 0 → a ≡ a / w * w
+    by_number a w e = omega (arith, div-add-mod' a w)
+
+floor : (a s w : ℕ) → s % w ≡ 0 → s ≤ a → a < s + w → a - a % w ≡ s
+floor a s w e h k = omega (arith, there ∙ mod-past s (a - s) w e (omega arith))
+  where
+    there : a % w ≡ (s + (a - s)) % w
+    there = let back : a ≡ s + (a - s) = omega arith in ap (λ (n : ℕ). n % w) back
+
+-- A part starts in the part of a level that starts there.
+pub holder_is : (level start : ℕ) (part : Span) → IsPlace level start → start ≤ part.start
+    → part.start < start + size_of level → holder_of level part ≡ span_at start level
+holder_is level start part place from below =
+    ap (λ (n : ℕ). span_at n level) (floor part.start start (size_of level) place.aligned from below)

@@ -9,7 +9,7 @@ use Rattle.ms_buddy.specs.declared.node.Lack.TheVariants.{Room, Memory}
 use Rattle.ms_buddy.specs.declared.node.Node.{Node}
 use Rattle.ms_buddy.specs.Counts.{IsParted}
 use Rattle.ms_buddy.specs.Leaves.{leaf_of}
-use Rattle.ms_buddy.specs.Tree.{IsTree, free_in, is_free, lent_in, levels_between, levels_of}
+use Rattle.ms_buddy.specs.Tree.{IsTree, free_in, is_free, lent_in}
 
 abbrev pub refusal_of : ℕ → Lack → Refusal
 refusal_of level Room = NoRoom level
@@ -23,6 +23,6 @@ told level (Err lack) = Err (refusal_of level lack)
 pub record IsPartedFor {A : Type 0} (level start : ℕ) (part : Span) (owner front : ℕ) (node : Node A) : Type 0 where
   pub tree : IsTree level node
   pub split : is_free node ≡ false
-  pub levels : levels_of level node ≡ levels_between level part.level
   pub lent : lent_in level start node ≡ leaf_of part owner front ∷ []
-  pub parted : IsParted (record { start = start; level = level } ∷ []) level part.level (free_in level start node)
+  pub parted : IsParted (record { start = start; level = level } ∷ []) (record { start = start; level = level }) part
+      (free_in level start node)

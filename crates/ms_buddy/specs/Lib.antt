@@ -4,3 +4,4 @@ pub mod Walk
 pub mod Laws
 pub mod Carving
 pub mod Counts
+pub mod FreeBits

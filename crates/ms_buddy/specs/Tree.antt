@@ -1,6 +1,6 @@
 -- What a node of the split tree stands for, given its level and where it starts.
-use Rattle.std.specs.Prelude.{◌≡◌, ℕ, ◌+◌, ◌-◌, ◌^◌, ◌<◌, ◌≤◌, ◌%◌, bit_or, Bool, true, false, ◌&&◌}
-use Rattle.std.specs.Prelude.{List, [], ◌∷◌, ◌++◌, Option, Some, None, IsTrue, IsFalse}
+use Rattle.std.specs.Prelude.{◌≡◌, ℕ, ◌+◌, ◌<◌, ◌≤◌, ◌%◌, Bool, true, false, ◌&&◌}
+use Rattle.std.specs.Prelude.{List, [], ◌∷◌, ◌++◌, IsTrue, IsFalse}
 use Rattle.ms_base.specs.declared.span.Span.{Span}
 use Rattle.ms_base.specs.Level.{root_words, size_of, highest_level}
 use Rattle.ms_base.specs.Part.{IsPart}
@@ -18,36 +18,28 @@ pub record IsPlace (level start : ℕ) : Type 0 where
 abbrev pub is_free : {A : Type 0} → Node A → Bool
 is_free Free = true
 is_free (Lent owner front) = false
-is_free (Split' levels p lower q upper) = false
+is_free (Split' p lower q upper) = false
 
--- The levels of the free leaves of a node, as bits: those that a split keeps.
-abbrev pub levels_of : {A : Type 0} → ℕ → Node A → ℕ
-levels_of level Free = 2 ^ level
-levels_of level (Lent owner front) = 0
-levels_of level (Split' levels p lower q upper) = levels
-
--- No split has two free halves or is of level 12, each front has a word and fits, and each split
--- keeps the levels of its halves. So the bits are those of the free leaves below.
+-- No split has two free halves or is of level 12, and each front has a word and fits.
 abbrev pub IsTree : {A : Type 0} → ℕ → Node A → Type 0
 IsTree level Free = Unit {0}
 IsTree level (Lent owner front) = (0 < front) × (front ≤ size_of level)
-IsTree level (Split' levels p lower q upper) =
+IsTree level (Split' p lower q upper) =
     (level < highest_level) × IsFalse (is_free lower && is_free upper) × IsTree (level + 1) lower
     × IsTree (level + 1) upper
-    × (levels ≡ bit_or (levels_of (level + 1) lower) (levels_of (level + 1) upper))
 
 -- The lent leaves of the node, in order of address.
 abbrev pub lent_in : {A : Type 0} → ℕ → ℕ → Node A → List LentLeaf
 lent_in level start Free = []
 lent_in level start (Lent owner front) = record { start = start; level = level; owner = owner; front = front } ∷ []
-lent_in level start (Split' levels p lower q upper) =
+lent_in level start (Split' p lower q upper) =
     lent_in (level + 1) start lower ++ lent_in (level + 1) (start + size_of (level + 1)) upper
 
 -- The free leaves of the node, in order of address.
 abbrev pub free_in : {A : Type 0} → ℕ → ℕ → Node A → List Span
 free_in level start Free = record { start = start; level = level } ∷ []
 free_in level start (Lent owner front) = []
-free_in level start (Split' levels p lower q upper) =
+free_in level start (Split' p lower q upper) =
     free_in (level + 1) start lower ++ free_in (level + 1) (start + size_of (level + 1)) upper
 
 -- The lent leaves of two halves of a part of that level, and their free leaves.
@@ -59,35 +51,17 @@ abbrev pub free_in_halves : {A : Type 0} → ℕ → ℕ → Node A → Node A �
 free_in_halves level start lower upper =
     free_in (level + 1) start lower ++ free_in (level + 1) (start + size_of (level + 1)) upper
 
--- All levels below one, down to another, as bits.
-abbrev pub levels_between : ℕ → ℕ → ℕ
-levels_between level lent = 2 ^ (lent + 1) - 2 ^ (level + 1)
-
--- The node is a split with two free halves, which keeps these bits.
-abbrev pub IsSplitInTwo : {A : Type 0} → ℕ → Node A → Type 0
-IsSplitInTwo bits Free = ⊥
-IsSplitInTwo bits (Lent owner front) = ⊥
-IsSplitInTwo bits (Split' levels p lower q upper) =
-    (levels ≡ bits) × (is_free lower ≡ true) × (is_free upper ≡ true)
-
--- Two trees are the halves of a part of that level, and these bits the levels of both.
-pub record AreHalves {A : Type 0} (level levels : ℕ) (lower upper : Node A) : Type 0 where
-  pub low : level < highest_level
-  pub lower_tree : IsTree (level + 1) lower
-  pub upper_tree : IsTree (level + 1) upper
-  pub levels_are : levels ≡ bit_or (levels_of (level + 1) lower) (levels_of (level + 1) upper)
+-- The node is a split with two free halves.
+abbrev pub IsSplitInTwo : {A : Type 0} → Node A → Type 0
+IsSplitInTwo Free = ⊥
+IsSplitInTwo (Lent owner front) = ⊥
+IsSplitInTwo (Split' p lower q upper) = (is_free lower ≡ true) × (is_free upper ≡ true)
 
 -- The part lies in that part of a lower or the same level.
 pub record IsInside (level start : ℕ) (part : Span) : Type 0 where
   pub low : level ≤ part.level
   pub from : start ≤ part.start
   pub to : part.start + size_of part.level ≤ start + size_of level
-
--- The leaves are those of the two halves, or, where someone holds the whole, its one leaf.
-abbrev pub IsEnlarged : {A : Type 0} → ℕ → ℕ → Option ℕ → ℕ → Node A → Node A → List LentLeaf → Type 0
-IsEnlarged level start None front lower upper lent = lent_in_halves level start lower upper ≡ lent
-IsEnlarged level start (Some owner) front lower upper lent =
-    record { start = start; level = level; owner = owner; front = front } ∷ [] ≡ lent
 
 -- In a tree at that place the part may be lent with that front.
 pub record MayBeLent (level start : ℕ) (part : Span) (front : ℕ) : Type 0 where

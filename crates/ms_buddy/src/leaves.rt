@@ -1,8 +1,7 @@
 //! The walk over the free leaves of a tree, from low to high addresses.
 //!
 //! The nodes that are still to be visited lie on a stack of fixed size, the next one on top. A
-//! split puts its halves there, the lower one last, where its bits tell of a free leaf below. A node
-//! of level n has at most n nodes below it on the stack, one for each upper half on the way, so 13
+//! split puts its halves there, the lower one last. A node of level n has at most n nodes below it on the stack, one for each upper half on the way, so 13
 //! places do. Takes no memory.
 ghost use Rattle.std.specs.Prelude.{◌≡◌, ◌+◌, ◌<◌, ◌≤◌, length, Some, [], ◌∷◌, ◌++◌};
 ghost use Rattle.std.specs.Iterator.{YieldsFirst};
@@ -88,9 +87,7 @@ fn next_free<'a, A: Allocator>(stack: &mut ArrayVec<Option<Visit<'a, A>>, 13>) -
         match visit.node {
             Node::Free => return Some(part(visit.start, visit.level)),
             Node::Lent { .. } => {}
-            // No bit tells of a free leaf below.
-            Node::Split(levels, ..) if *levels == 0 => {}
-            Node::Split(_, lower, upper) => {
+            Node::Split(lower, upper) => {
                 put_halves(stack, lower, upper, visit.level, visit.start);
             }
         }

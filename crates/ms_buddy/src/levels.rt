@@ -1,35 +1,23 @@
-//! Levels as bits of a number, that of level 0 the lowest, and counts by level. Takes no memory.
-ghost use Rattle.std.specs.Prelude.{◌≡◌, ℕ, ◌+◌, ◌^◌, ◌<◌, ◌≤◌, get_or};
+//! Counts by level, and the levels that have any as bits, that of level 0 the lowest. Takes no memory.
+ghost use Rattle.std.specs.Prelude.{◌≡◌, ℕ, ◌+◌, ◌^◌, ◌<◌, ◌≤◌, ◌&&◌, nat_lt, get_or};
 ghost use Rattle.ms_buddy.specs.Counts.{AreRaised, AreShifted, one_at};
 ghost use Rattle.ms_buddy.specs.Leaves.{has_level};
-ghost use Rattle.ms_buddy.specs.Tree.{levels_between};
 
 /// How many levels there are: 0 to 12.
 pub(crate) const LEVELS: usize = 13;
 
-/// The bit of a level.
-pub(crate) fn bit_of(level: u8) -> u16
-    requires { level ≤ 13 }
-    ensures { result ≡ 2 ^ level }
+/// Tells the levels of which some are counted, as bits.
+pub(crate) fn levels_of(counts: &[u16; LEVELS]) -> u16
+    ensures { (level : ℕ) → has_level result level
+        ≡ (nat_lt level 13 && nat_lt 0 (get_or counts.now level 0)) }
 {
-    1 << level
-}
-
-/// The bits of all levels below one, down to another.
-pub(crate) fn bits_between(level: u8, lent: u8) -> u16
-    requires order { level ≤ lent }
-    requires low { lent ≤ 12 }
-    ensures { result ≡ levels_between level lent }
-{
-    bit_of(lent + 1) - bit_of(level + 1)
-}
-
-/// Tells whether the bit of a level is set.
-pub(crate) fn has_level(levels: u16, level: u8) -> bool
-    requires { level ≤ 12 }
-    ensures { result ≡ has_level levels level }
-{
-    levels >> level & 1 == 1
+    let mut levels = 0;
+    for level in 0..LEVELS {
+        if counts[level] != 0 {
+            levels |= 1 << level;
+        }
+    }
+    levels
 }
 
 /// Counts a leaf of one level less, and one more of each level below it, down to another.

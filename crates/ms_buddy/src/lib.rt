@@ -8,6 +8,7 @@
 //! walk. Only `carve` takes memory.
 #![tactic(auto)]
 
+mod free_bits;
 pub mod laws;
 mod leaves;
 mod levels;

@@ -2,27 +2,27 @@
 //!
 //! A node does not know where it is, so each function is told its level and where it starts, in
 //! words of the root. Each goes down one path: to the half where the leaf, the part or the offset
-//! lies. What is kept true of a node is `IsTree` in `specs/Tree.antt`: `levels_of_halves` tells the
-//! bits that a split keeps, and each change of a half asks it on the way up.
+//! lies. The call for that half is the last one where it can be, so that the walk is a loop: only
+//! `release` has something left to do, at a split whose other half is free. What is kept true of a
+//! node is `IsTree` in `specs/Tree.antt`.
 //!
 //! Boxes are made for `split` alone. Halves that merge leave theirs as spares for the next split: a
-//! chain of nodes, in which each is a split with a pair of boxes, and the second holds the rest.
-//! The number beside a pair tells how many pairs there are from it on, 12 at most, as many as one
-//! carve takes. No clause says what a spare node holds, and nothing rests on it.
-ghost use Rattle.std.specs.Prelude.{◌≡◌, ℕ, ◌+◌, ◌*◌, ◌<◌, ◌≤◌, ◌&&◌, bit_or, true, false, Some, IsTrue};
+//! chain of nodes, in which each is a split with a pair of boxes, and the second holds the rest, 12
+//! pairs at most, as many as one carve takes. No clause says what a spare node holds, and nothing
+//! rests on it.
+ghost use Rattle.std.specs.Prelude.{◌≡◌, ℕ, ◌+◌, ◌*◌, ◌<◌, ◌≤◌, ◌==◌, false, Some, [], ◌∷◌, IsTrue};
 ghost use Rattle.std.specs.Prelude.{IsFalse, IfSome, OnSome, IfNone, IsOk, IfOk, OnOk, OnErr};
 ghost use Rattle.std.specs.List.{find};
 ghost use Rattle.ms_base.specs.declared.sizes.TheConstants.{ROOT_WORDS};
 ghost use Rattle.ms_base.specs.Level.{size_of};
-ghost use Rattle.ms_buddy.specs.Leaves.{CarveAnswers, EnlargeAnswers, IsLeafAt, covers, has_level, is_lent, is_of_from};
-ghost use Rattle.ms_buddy.specs.Leaves.{leaf_of, with_front, with_leaf, with_parent, without_leaf};
+ghost use Rattle.ms_buddy.specs.Leaves.{CarveAnswers, IsLeafAt, can_enlarge, covers, is_lent, leaf_of};
+ghost use Rattle.ms_buddy.specs.Leaves.{with_front, with_leaf, with_parent, without_leaf};
 ghost use Rattle.ms_buddy.specs.Carving.{IsPartedFor, told};
-ghost use Rattle.ms_buddy.specs.Counts.{IsParted, free_beside, freed_level};
-ghost use Rattle.ms_buddy.specs.Tree.{AreHalves, IsEnlarged, IsPlace, MayBeLent, MayHaveFront, is_free, IsTree};
-ghost use Rattle.ms_buddy.specs.Tree.{lent_in, free_in, levels_of, lent_in_halves, free_in_halves, IsSplitInTwo};
+ghost use Rattle.ms_buddy.specs.Counts.{IsParted, follower_of, holder_of};
+ghost use Rattle.ms_buddy.specs.Tree.{IsPlace, IsSplitInTwo, IsTree, MayBeLent, MayHaveFront, is_free};
+ghost use Rattle.ms_buddy.specs.Tree.{lent_in, free_in, lent_in_halves, free_in_halves};
 
-use crate::levels::{bit_of, bits_between, has_level};
-use ms_base::{Level, ROOT_WORDS, Refusal, Span};
+use ms_base::{Level, ROOT_WORDS, Span};
 use std::alloc::{AllocError, Allocator};
 use std::mem;
 
@@ -39,8 +39,17 @@ pub enum Leaf {
 pub(crate) enum Node<A: Allocator> {
     Free,
     Lent { owner: u32, front: u64 },
-    /// The levels of the free leaves below, as bits, and the halves: the lower one, the upper one.
-    Split(u16, Box<Node<A>, A>, Box<Node<A>, A>),
+    /// The halves: the lower one, the upper one.
+    Split(Box<Node<A>, A>, Box<Node<A>, A>),
+}
+
+/// Boxes of halves that merged, for the next splits.
+#[derive(Drop)]
+pub(crate) struct Spare<A: Allocator> {
+    /// A chain of splits, in which each keeps its own boxes, and the upper one holds the rest.
+    pub(crate) chain: Node<A>,
+    /// How many pairs of boxes there are, 12 at most.
+    pub(crate) pairs: u8,
 }
 
 /// A part that is lent, to whom, and with which front.
@@ -83,74 +92,6 @@ impl<A: Allocator> Node<A> {
         }
     }
 
-    /// The levels of the free leaves, as bits.
-    pub(crate) fn levels(&self, level: u8) -> u16
-        requires { level ≤ 12 }
-        ensures { result ≡ levels_of level self.now }
-    {
-        match self {
-            Node::Free => bit_of(level),
-            Node::Lent { .. } => 0,
-            Node::Split(levels, _, _) => *levels,
-        }
-    }
-
-    /// Finds where the lowest free leaf of a level starts, in a node whose bits tell of one. The bits of
-    /// the lower half tell in which half it is.
-    pub(crate) fn lowest_free(&self, level: u8, start: u64, wanted: u8) -> u64
-        requires tree { IsTree level self.now }
-        requires place { IsPlace level start }
-        requires wanted { wanted ≤ 12 }
-        requires some { has_level (levels_of level self.now) wanted ≡ true }
-        ensures { Some (record { start = result; level = wanted })
-            ≡ find (is_of_from wanted 0) (free_in level start self.now) }
-    {
-        match self {
-            Node::Free => start,
-            // No bit tells of a lent leaf.
-            Node::Lent { .. } => start,
-            Node::Split(_, lower, upper) => {
-                if has_level(lower.levels(level + 1), wanted) {
-                    return lower.lowest_free(level + 1, start, wanted);
-                }
-                upper.lowest_free(level + 1, start + half_of(level), wanted)
-            }
-        }
-    }
-
-    /// Finds the lowest free leaf of a level that starts at the offset or past it. Where the bits
-    /// say that a half has none of that level, its leaves are not looked at.
-    pub(crate) fn next_free(&self, level: u8, start: u64, wanted: u8, from: u64) -> Option<Span>
-        requires tree { IsTree level self.now }
-        requires place { IsPlace level start }
-        requires wanted { wanted ≤ 12 }
-        ensures { result ≡ find (is_of_from wanted from) (free_in level start self.now) }
-    {
-        match self {
-            Node::Free => {
-                if level == wanted && from <= start {
-                    Some(part(start, level))
-                } else {
-                    None
-                }
-            }
-            Node::Lent { .. } => None,
-            Node::Split(levels, lower, upper) => {
-                if !has_level(*levels, wanted) {
-                    return None;
-                }
-                let middle = start + half_of(level);
-                if from >= middle {
-                    return upper.next_free(level + 1, middle, wanted, from);
-                }
-                match lower.next_free(level + 1, start, wanted, from) {
-                    Some(part) => Some(part),
-                    None => upper.next_free(level + 1, middle, wanted, from),
-                }
-            }
-        }
-    }
-
     /// Answers the leaf that covers the offset, and where it is.
     pub(crate) fn leaf_at(&self, level: u8, start: u64, offset: u64) -> (Span, Leaf)
         requires tree { IsTree level self.now }
@@ -170,7 +111,7 @@ impl<A: Allocator> Node<A> {
                     front: *front,
                 },
             ),
-            Node::Split(_, lower, upper) => {
+            Node::Split(lower, upper) => {
                 let middle = start + half_of(level);
                 if offset < middle {
                     lower.leaf_at(level + 1, start, offset)
@@ -188,7 +129,6 @@ impl<A: Allocator> Node<A> {
             span front (size_of span.level) }
         ensures tree { IsTree level self.new }
         ensures free { is_free self.new ≡ is_free self.old }
-        ensures levels { levels_of level self.new ≡ levels_of level self.old }
         ensures lent { lent_in level start self.new
             ≡ with_front span front (lent_in level start self.old) }
         ensures parts { free_in level start self.new ≡ free_in level start self.old }
@@ -196,7 +136,7 @@ impl<A: Allocator> Node<A> {
         match self {
             Node::Free => {}
             Node::Lent { front: kept, .. } => *kept = front,
-            Node::Split(_, lower, upper) => {
+            Node::Split(lower, upper) => {
                 let middle = start + half_of(level);
                 if span.start < middle {
                     lower.set_front(level + 1, start, span, front);
@@ -207,74 +147,122 @@ impl<A: Allocator> Node<A> {
         }
     }
 
-    /// Takes the leaf of that span out, and answers the free part that results. The boxes of halves
-    /// that merge become spares.
-    #[cycle(releasing)]
-    pub(crate) fn release(&mut self, spare: &mut Node<A>, level: u8, start: u64, span: Span) -> Span
+    /// Takes the leaf of that span out, and answers the level of the free part that results. Where the
+    /// half beside the way isn't free, nothing is left to do after the call, so that it is a step of a
+    /// loop. The boxes of halves that merge become spares.
+    pub(crate) fn release(&mut self, spare: &mut Spare<A>, level: u8, start: u64, span: Span) -> u8
         requires tree { IsTree level self.old }
         requires place { IsPlace level start }
         requires lent { IsTrue (is_lent (lent_in level start self.old) span) }
         ensures tree { IsTree level self.new }
+        ensures below { level ≤ result }
+        ensures whole { is_free self.new ≡ (result == level) }
         ensures lent { lent_in level start self.new
             ≡ without_leaf span (lent_in level start self.old) }
-        ensures free { find (covers span.start) (free_in level start self.new) ≡ Some result }
-        ensures merged { IsParted (free_in level start self.new) result.level span.level
+        ensures free { find (covers span.start) (free_in level start self.new)
+            ≡ Some (holder_of result span) }
+        ensures merged { IsParted (free_in level start self.new) (holder_of result span) span
             (free_in level start self.old) }
     {
         match self {
-            Node::Split(levels, lower, upper) => match release_in_half(
-                levels, lower, upper, spare, level, start, span,
-            ) {
-                Some(freed) => freed,
-                None => {
+            Node::Split(lower, upper) => {
+                let middle = start + half_of(level);
+                if span.start < middle {
+                    if !is_free_half(upper) {
+                        return lower.release(spare, level + 1, start, span);
+                    }
+                    let free = lower.release(spare, level + 1, start, span);
+                    if free > level + 1 {
+                        return free;
+                    }
                     keep(spare, mem::replace(self, Node::Free));
-                    part(start, level)
+                    level
+                } else {
+                    if !is_free_half(lower) {
+                        return upper.release(spare, level + 1, middle, span);
+                    }
+                    let free = upper.release(spare, level + 1, middle, span);
+                    if free > level + 1 {
+                        return free;
+                    }
+                    keep(spare, mem::replace(self, Node::Free));
+                    level
                 }
-            },
+            }
             Node::Lent { .. } => {
                 *self = Node::Free;
-                part(start, level)
+                level
             }
             // Nothing is lent in a free leaf.
-            Node::Free => part(start, level),
+            Node::Free => level,
         }
     }
 
-    /// Makes the leaf of that span its parent, with another front, where its buddy is free. The
-    /// boxes of both become spares.
-    #[cycle(enlarging)]
+    /// Makes the leaf of that span its parent, with another front, where its buddy is free, and tells
+    /// whether it did. The boxes of both become spares.
     pub(crate) fn enlarge(
         &mut self,
-        spare: &mut Node<A>,
+        spare: &mut Spare<A>,
         level: u8,
         start: u64,
         span: Span,
         front: u64,
-    ) -> Result<(), Refusal>
+    ) -> bool
         requires tree { IsTree level self.old }
         requires leaf { MayHaveFront level start (lent_in level start self.old)
             span front (2 * size_of span.level) }
         ensures tree { IsTree level self.new }
         ensures split { is_free self.new ≡ is_free self.old }
-        ensures lent { OnOk result (lent_in level start self.new
-            ≡ with_parent span front (lent_in level start self.old)) }
-        ensures answers { EnlargeAnswers span (free_in level start self.old) result }
-        ensures parted { OnOk result (IsParted (free_in level start self.old) span.level span.level
-            (free_in level start self.new)) }
-        ensures unchanged { OnErr result (self.new ≡ self.old) }
+        ensures lent { IsTrue result → lent_in level start self.new
+            ≡ with_parent span front (lent_in level start self.old) }
+        ensures can { result ≡ can_enlarge span (free_in level start self.old) }
+        ensures inside { IsTrue result
+            → span.start + size_of span.level + size_of span.level ≤ start + size_of level }
+        ensures parted { IsTrue result → IsParted (free_in level start self.old) (follower_of span)
+            (follower_of span) (free_in level start self.new) }
+        ensures unchanged { IsFalse result → self.new ≡ self.old }
+    {
+        if span.level.number() == level + 1 {
+            let Some(owner) = self.owner_of_leader(level, start, span) else {
+                return false;
+            };
+            keep(spare, mem::replace(self, Node::Lent { owner, front }));
+            return true;
+        }
+        match self {
+            Node::Split(lower, upper) => {
+                let middle = start + half_of(level);
+                if span.start < middle {
+                    lower.enlarge(spare, level + 1, start, span, front)
+                } else {
+                    upper.enlarge(spare, level + 1, middle, span, front)
+                }
+            }
+            _ => false,
+        }
+    }
+
+    /// Tells who holds the leaf of that span, where it is the lower half and the upper one is free.
+    fn owner_of_leader(&self, level: u8, start: u64, span: Span) -> Option<u32>
+        requires tree { IsTree level self.now }
+        requires place { IsPlace level start }
+        requires lent { IsTrue (is_lent (lent_in level start self.now) span) }
+        requires child { span.level ≡ level + 1 }
+        ensures lent { IfSome result (λ owner. (front : ℕ)
+            → leaf_of (record { start = start; level = level }) owner front ∷ []
+            ≡ with_parent span front (lent_in level start self.now)) }
+        ensures can { OnSome result (IsTrue (can_enlarge span (free_in level start self.now))) }
+        ensures cannot { IfNone result (IsFalse (can_enlarge span (free_in level start self.now))) }
+        ensures parted { OnSome result (IsParted (free_in level start self.now) (follower_of span)
+            (follower_of span) []) }
+        ensures here { OnSome result (span.start ≡ start) }
+        ensures low { level < 12 }
     {
         match self {
-            Node::Split(levels, lower, upper) => match enlarge_in_half(
-                levels, lower, upper, spare, level, start, span, front,
-            ) {
-                Ok(None) => Ok(()),
-                Ok(Some(owner)) => {
-                    keep(spare, mem::replace(self, Node::Lent { owner, front }));
-                    Ok(())
-                }
-                Err(refusal) => Err(refusal),
-            },
-            _ => Err(Refusal::NoRoom { level: span.level }),
+            Node::Split(lower, upper) => merged_leader(lower, upper, level, start, span),
+            // Neither has a leaf of a lower level.
+            Node::Free => None,
+            Node::Lent { .. } => None,
         }
     }
 }
@@ -285,7 +273,7 @@ impl<A: Allocator + Clone> Node<A> {
     #[inline(never)]
     fn part_free(
         &mut self,
-        spare: &mut Node<A>,
+        spare: &mut Spare<A>,
         alloc: &A,
         level: u8,
         start: u64,
@@ -302,9 +290,9 @@ impl<A: Allocator + Clone> Node<A> {
             *self = Node::Lent { owner, front };
             return Ok(());
         }
-        split(self, spare, alloc, bits_between(level, lent))?;
+        split(self, spare, alloc)?;
         match self {
-            Node::Split(_, lower, upper) => {
+            Node::Split(lower, upper) => {
                 let middle = start + half_of(level);
                 if lending.span.start < middle {
                     lower.part_free(spare, alloc, level + 1, start, lending)
@@ -317,10 +305,9 @@ impl<A: Allocator + Clone> Node<A> {
     }
 
     /// Lends that part, where it lies in one free leaf, and answers that leaf's level.
-    #[cycle(carving)]
     pub(crate) fn carve(
         &mut self,
-        spare: &mut Node<A>,
+        spare: &mut Spare<A>,
         alloc: &A,
         level: u8,
         start: u64,
@@ -335,8 +322,8 @@ impl<A: Allocator + Clone> Node<A> {
             (lent_in level start self.old)) }
         ensures answers { CarveAnswers lending.now.span (free_in level start self.old)
             (told lending.now.span.level result) }
-        ensures parted { IfOk result (λ free. IsParted (free_in level start self.old) free
-            lending.now.span.level (free_in level start self.new)) }
+        ensures parted { IfOk result (λ free. IsParted (free_in level start self.old)
+            (holder_of free lending.now.span) lending.now.span (free_in level start self.new)) }
         ensures unchanged { OnErr result (self.new ≡ self.old) }
     {
         match self {
@@ -348,210 +335,112 @@ impl<A: Allocator + Clone> Node<A> {
                 }
             },
             Node::Lent { .. } => Err(Lack::Room),
-            Node::Split(levels, lower, upper) => {
+            Node::Split(lower, upper) => {
                 if lending.span.level.number() == level {
-                    Err(Lack::Room)
+                    return Err(Lack::Room);
+                }
+                let middle = start + half_of(level);
+                if lending.span.start < middle {
+                    lower.carve(spare, alloc, level + 1, start, lending)
                 } else {
-                    carve_in_half(levels, lower, upper, spare, alloc, level, start, lending)
+                    upper.carve(spare, alloc, level + 1, middle, lending)
                 }
             }
         }
     }
 }
 
-/// Makes a node a split with two free halves and those bits: from spare boxes where there are any.
+/// Tells whether a half is one free leaf, by the borrow that it is changed through.
+#[inline(always)]
+fn is_free_half<A: Allocator>(half: &mut Node<A>) -> bool
+    ensures free { result ≡ is_free half.old }
+    ensures same { half.new ≡ half.old }
+{
+    half.is_free()
+}
+
+/// Makes a node a split with two free halves: from spare boxes where there are any.
 #[inline(always)]
 fn split<A: Allocator + Clone>(
     node: &mut Node<A>,
-    spare: &mut Node<A>,
+    spare: &mut Spare<A>,
     alloc: &A,
-    bits: u16,
 ) -> Result<(), AllocError>
-    ensures { OnOk result (IsSplitInTwo bits node.new) }
+    ensures { OnOk result (IsSplitInTwo node.new) }
 {
-    if let Node::Split(levels, first, second) = spare {
-        *levels = bits;
+    if let Node::Split(first, second) = &mut spare.chain {
         if !first.is_free() {
             **first = Node::Free;
         }
         let rest = mem::replace(&mut **second, Node::Free);
-        *node = mem::replace(spare, rest);
+        *node = mem::replace(&mut spare.chain, rest);
+        spare.pairs = spare.pairs.saturating_sub(1);
         return Ok(());
     }
-    *node = split_anew(alloc, bits)?;
+    *node = split_anew(alloc)?;
     Ok(())
 }
 
-/// Makes a split with two free halves and those bits, in new boxes.
+/// Makes a split with two free halves, in new boxes.
 #[inline(never)]
-fn split_anew<A: Allocator + Clone>(alloc: &A, bits: u16) -> Result<Node<A>, AllocError>
-    ensures { IfOk result (λ node. IsSplitInTwo bits node) }
+fn split_anew<A: Allocator + Clone>(alloc: &A) -> Result<Node<A>, AllocError>
+    ensures { IfOk result (λ node. IsSplitInTwo node) }
 {
     let lower = Box::new(alloc.clone()?, Node::Free)?;
     let upper = Box::new(alloc.clone()?, Node::Free)?;
-    Ok(Node::Split(bits, lower, upper))
+    Ok(Node::Split(lower, upper))
 }
 
 /// Keeps the boxes of a split as spares, where there are fewer than one carve may take.
 #[inline(always)]
-fn keep<A: Allocator>(spare: &mut Node<A>, mut merged: Node<A>) {
-    let count = match spare {
-        Node::Split(count, ..) => *count,
-        _ => 0,
-    };
-    if count >= 12 {
+fn keep<A: Allocator>(spare: &mut Spare<A>, mut merged: Node<A>) {
+    if spare.pairs >= 12 {
         return;
     }
-    if let Node::Split(levels, _, second) = &mut merged {
-        *levels = count + 1;
-        mem::swap(&mut **second, spare);
-        mem::swap(&mut merged, spare);
+    if let Node::Split(_, second) = &mut merged {
+        mem::swap(&mut **second, &mut spare.chain);
+        mem::swap(&mut merged, &mut spare.chain);
+        spare.pairs += 1;
     }
 }
 
-/// The levels of the free leaves of two halves of that level.
-fn levels_of_halves<A: Allocator>(lower: &Node<A>, upper: &Node<A>, level: u8) -> u16
-    requires { level ≤ 12 }
-    ensures { result ≡ bit_or (levels_of level lower.now) (levels_of level upper.now) }
-{
-    lower.levels(level) | upper.levels(level)
-}
-
-/// Enlarges the leaf of that span in the half where it is. Where the halves become one leaf, they
-/// stay, and the answer is who holds it.
-#[cycle(enlarging)]
-fn enlarge_in_half<A: Allocator>(
-    levels: &mut u16,
-    lower: &mut Node<A>,
-    upper: &mut Node<A>,
-    spare: &mut Node<A>,
-    level: u8,
-    start: u64,
-    span: Span,
-    front: u64,
-) -> Result<Option<u32>, Refusal>
-    requires halves { AreHalves level levels.old lower.old upper.old }
-    requires leaf { MayHaveFront level start (lent_in_halves level start lower.old upper.old)
-        span front (2 * size_of span.level) }
-    ensures halves { AreHalves level levels.new lower.new upper.new }
-    ensures split { (is_free lower.new
-        ≡ is_free lower.old) × (is_free upper.new ≡ is_free upper.old) }
-    ensures lent { IfOk result
-        (λ owner. IsEnlarged level start owner front lower.new upper.new
-        (with_parent span front (lent_in_halves level start lower.old upper.old))) }
-    ensures fits { IfOk result (λ owner. OnSome owner (front ≤ size_of level)) }
-    ensures answers { EnlargeAnswers span (free_in_halves level start lower.old upper.old) result }
-    ensures parted { IfOk result
-        (λ owner. IsParted (free_in_halves level start lower.old upper.old) span.level span.level
-        (free_beside level start owner lower.new upper.new)) }
-    ensures unchanged { OnErr result
-        ((levels.new ≡ levels.old) × (lower.new ≡ lower.old) × (upper.new ≡ upper.old)) }
-{
-    let middle = start + half_of(level);
-    if span.level.number() == level + 1 {
-        merged_leader(lower, upper, level, start, span)
-    } else if span.start < middle {
-        match lower.enlarge(spare, level + 1, start, span, front) {
-            Ok(()) => {
-                *levels = levels_of_halves(lower, upper, level + 1);
-                Ok(None)
-            }
-            Err(refusal) => Err(refusal),
-        }
-    } else {
-        match upper.enlarge(spare, level + 1, middle, span, front) {
-            Ok(()) => {
-                *levels = levels_of_halves(lower, upper, level + 1);
-                Ok(None)
-            }
-            Err(refusal) => Err(refusal),
-        }
-    }
-}
-
-/// Tells who holds the leaf of that span, where it is the lower half and the upper one is free.
+/// Tells who holds the leaf of that span, where it is the lower one of two halves, and the upper one is
+/// free.
 fn merged_leader<A: Allocator>(
     lower: &Node<A>,
     upper: &Node<A>,
     level: u8,
     start: u64,
     span: Span,
-) -> Result<Option<u32>, Refusal>
+) -> Option<u32>
     requires low { level < 12 }
     requires place { IsPlace level start }
     requires trees { IsTree (level + 1) lower.now × IsTree (level + 1) upper.now }
     requires lent { IsTrue (is_lent (lent_in_halves level start lower.now upper.now) span) }
     requires child { span.level ≡ level + 1 }
-    ensures lent { IfOk result
-        (λ owner. (front : ℕ) → IsEnlarged level start owner front lower.now upper.now
-        (with_parent span front (lent_in_halves level start lower.now upper.now))) }
-    ensures answers { EnlargeAnswers span (free_in_halves level start lower.now upper.now) result }
-    ensures parted { IfOk result
-        (λ owner. IsParted (free_in_halves level start lower.now upper.now) span.level span.level
-        (free_beside level start owner lower.now upper.now)) }
+    ensures lent { IfSome result (λ owner. (front : ℕ)
+        → leaf_of (record { start = start; level = level }) owner front ∷ []
+        ≡ with_parent span front (lent_in_halves level start lower.now upper.now)) }
+    ensures can { OnSome result
+        (IsTrue (can_enlarge span (free_in_halves level start lower.now upper.now))) }
+    ensures cannot { IfNone result
+        (IsFalse (can_enlarge span (free_in_halves level start lower.now upper.now))) }
+    ensures here { OnSome result (span.start ≡ start) }
+    ensures parted { OnSome result (IsParted (free_in_halves level start lower.now upper.now)
+        (follower_of span) (follower_of span) []) }
 {
-    let no_room = Err(Refusal::NoRoom { level: span.level });
     if span.start > start {
-        return no_room;
+        return None;
     }
     match upper {
         Node::Free => match lower {
-            Node::Lent { owner, .. } => Ok(Some(*owner)),
+            Node::Lent { owner, .. } => Some(*owner),
             // A leaf of this level that starts here is the whole of the lower half.
-            Node::Free => no_room,
-            Node::Split(..) => no_room,
+            Node::Free => None,
+            Node::Split(..) => None,
         },
-        Node::Lent { .. } => no_room,
-        Node::Split(..) => no_room,
-    }
-}
-
-/// Lends that part within the half where it lies, and answers the level of the free leaf
-/// that it is of.
-#[cycle(carving)]
-fn carve_in_half<A: Allocator + Clone>(
-    levels: &mut u16,
-    lower: &mut Node<A>,
-    upper: &mut Node<A>,
-    spare: &mut Node<A>,
-    alloc: &A,
-    level: u8,
-    start: u64,
-    lending: &Lending,
-) -> Result<u8, Lack>
-    requires halves { AreHalves level levels.old lower.old upper.old }
-    requires part { MayBeLent level start lending.now.span lending.now.front }
-    requires low { level < lending.now.span.level }
-    ensures halves { AreHalves level levels.new lower.new upper.new }
-    ensures split { OnOk result (IsFalse (is_free lower.new && is_free upper.new)) }
-    ensures lent { OnOk result (lent_in_halves level start lower.new upper.new
-        ≡ with_leaf (leaf_of lending.now.span lending.now.owner lending.now.front)
-        (lent_in_halves level start lower.old upper.old)) }
-    ensures answers { CarveAnswers lending.now.span (free_in_halves level start lower.old upper.old)
-        (told lending.now.span.level result) }
-    ensures parted { IfOk result
-        (λ free. IsParted (free_in_halves level start lower.old upper.old) free lending.now.span.level
-        (free_in_halves level start lower.new upper.new)) }
-    ensures unchanged { OnErr result
-        ((levels.new ≡ levels.old) × (lower.new ≡ lower.old) × (upper.new ≡ upper.old)) }
-{
-    let middle = start + half_of(level);
-    if lending.span.start < middle {
-        match lower.carve(spare, alloc, level + 1, start, lending) {
-            Ok(free) => {
-                *levels = levels_of_halves(lower, upper, level + 1);
-                Ok(free)
-            }
-            Err(lack) => Err(lack),
-        }
-    } else {
-        match upper.carve(spare, alloc, level + 1, middle, lending) {
-            Ok(free) => {
-                *levels = levels_of_halves(lower, upper, level + 1);
-                Ok(free)
-            }
-            Err(lack) => Err(lack),
-        }
+        Node::Lent { .. } => None,
+        Node::Split(..) => None,
     }
 }
 
@@ -564,64 +453,5 @@ pub(crate) fn part(start: u64, level: u8) -> Span
     Span {
         start,
         level: Level::new(level),
-    }
-}
-
-/// Passes a span on and tells the levels of two halves, unless both are one free leaf each.
-#[inline(always)]
-fn unless_free<A: Allocator>(
-    levels: &mut u16,
-    lower: &Node<A>,
-    upper: &Node<A>,
-    level: u8,
-    span: Span,
-) -> Option<Span>
-    requires { level ≤ 12 }
-    ensures same { IfSome result (λ other. other ≡ span) }
-    ensures split { OnSome result (IsFalse (is_free lower.now && is_free upper.now)) }
-    ensures free { IfNone result (IsTrue (is_free lower.now && is_free upper.now)) }
-    ensures levels { OnSome result
-        (levels.new ≡ bit_or (levels_of level lower.now) (levels_of level upper.now)) }
-{
-    if lower.is_free() && upper.is_free() {
-        return None;
-    }
-    *levels = levels_of_halves(lower, upper, level);
-    Some(span)
-}
-
-/// Takes the leaf of that span out of the half where it is, and answers the free part that results
-/// there, unless both halves are then free.
-#[cycle(releasing)]
-fn release_in_half<A: Allocator>(
-    levels: &mut u16,
-    lower: &mut Node<A>,
-    upper: &mut Node<A>,
-    spare: &mut Node<A>,
-    level: u8,
-    start: u64,
-    span: Span,
-) -> Option<Span>
-    requires halves { AreHalves level levels.old lower.old upper.old }
-    requires place { IsPlace level start }
-    requires lent { IsTrue (is_lent (lent_in_halves level start lower.old upper.old) span) }
-    ensures halves { OnSome result (AreHalves level levels.new lower.new upper.new) }
-    ensures lent { lent_in_halves level start lower.new upper.new
-        ≡ without_leaf span (lent_in_halves level start lower.old upper.old) }
-    ensures free { IfSome result
-        (λ freed. find (covers span.start) (free_in_halves level start lower.new upper.new)
-        ≡ Some freed) }
-    ensures split { OnSome result (IsFalse (is_free lower.new && is_free upper.new)) }
-    ensures whole { IfNone result (IsTrue (is_free lower.new && is_free upper.new)) }
-    ensures merged { IsParted (free_in_halves level start lower.new upper.new)
-        (freed_level level result) span.level (free_in_halves level start lower.old upper.old) }
-{
-    let middle = start + half_of(level);
-    if span.start < middle {
-        let freed = lower.release(spare, level + 1, start, span);
-        unless_free(levels, lower, upper, level + 1, freed)
-    } else {
-        let freed = upper.release(spare, level + 1, middle, span);
-        unless_free(levels, lower, upper, level + 1, freed)
     }
 }

@@ -33,10 +33,11 @@ ghost use Rattle.ms_buddy.specs.Leaves.{AreLeaves, IsCarveRefusal, IsLeafAt, can
 ghost use Rattle.ms_buddy.specs.Leaves.{has_level, is_lent, is_of, is_of_from, leaf_of, parent_of, root, span_at};
 ghost use Rattle.ms_buddy.specs.Leaves.{with_front, with_leaf, with_parent, without_leaf};
 
+use crate::free_bits::{FreeBits, first_from, number, start_of, start_of_holder, words_of};
 use crate::leaves::FreeLeaves;
-use crate::levels::{LEVELS, has_level, join_counts, part_counts};
-use crate::node::{Lack, Leaf, Lending, Node, part};
-use ms_base::{Level, Refusal, Span};
+use crate::levels::{LEVELS, join_counts, levels_of, part_counts};
+use crate::node::{Lack, Leaf, Lending, Node, Spare, part};
+use ms_base::{Level, ROOT_WORDS, Refusal, Span};
 use std::alloc::Allocator;
 use std::marker::Model;
 
@@ -47,22 +48,24 @@ pub struct SplitTree<A: Allocator> {
     /// The root's node: level 0, from word 0 on.
     node: Node<A>,
     /// Boxes of halves that merged, for the next carve: 24 at most.
-    spare: Node<A>,
+    spare: Spare<A>,
     /// How many free leaves there are of each level.
     counts: [u16; LEVELS],
+    /// Which parts of the root are free leaves.
+    free: FreeBits,
 }
 
 impl<A: Allocator> Model for SplitTree<A> {
     ghost use Rattle.std.specs.Prelude.{List};
     ghost use Rattle.ms_buddy.specs.Leaves.{LentLeaf};
-    ghost use Rattle.ms_buddy.specs.Counts.{IsCountedTree};
+    ghost use Rattle.ms_buddy.specs.FreeBits.{IsKeptTree};
     ghost use Rattle.ms_buddy.specs.Tree.{lent_in};
 
     ghost Value = { List LentLeaf };
 
     ghost view = { λ t. lent_in 0 0 t.node };
 
-    ghost invariant = { λ t. IsCountedTree t.node t.counts };
+    ghost invariant = { λ t. IsKeptTree t.node t.counts t.free.words };
 }
 
 impl<A: Allocator> SplitTree<A> {
@@ -72,8 +75,12 @@ impl<A: Allocator> SplitTree<A> {
     {
         SplitTree {
             node: Node::Free,
-            spare: Node::Free,
+            spare: Spare {
+                chain: Node::Free,
+                pairs: 0,
+            },
             counts: [1, 0, 0, 0, 0, 0, 0, 0, 0, 0, 0, 0, 0],
+            free: FreeBits::whole(),
         }
     }
 
@@ -111,7 +118,7 @@ impl<A: Allocator> SplitTree<A> {
     pub fn free_levels(&self) -> u16
         ensures { (level : ℕ) → has_level result level ≡ list_any (is_of level) (free_of self.now) }
     {
-        self.node.levels(0)
+        levels_of(&self.counts)
     }
 
     /// Tells how many free leaves there are of a level, without a look at them. Takes no memory. This
@@ -127,11 +134,7 @@ impl<A: Allocator> SplitTree<A> {
     pub fn lowest_free(&self, level: Level) -> Option<Span>
         ensures { result ≡ find (is_of level) (free_of self.now) }
     {
-        let number = level.number();
-        if !has_level(self.node.levels(0), number) {
-            return None;
-        }
-        Some(part(self.node.lowest_free(0, 0, number), number))
+        self.next_free(level, 0)
     }
 
     /// Finds the lowest free leaf of a level that starts at an offset in words or past it. Goes
@@ -139,10 +142,15 @@ impl<A: Allocator> SplitTree<A> {
     pub fn next_free(&self, level: Level, from: u64) -> Option<Span>
         ensures { result ≡ find (is_of_from level from) (free_of self.now) }
     {
-        if from == 0 {
-            return self.lowest_free(level);
+        let free = &self.free;
+        if from >= ROOT_WORDS {
+            return None;
         }
-        self.node.next_free(0, 0, level.number(), from)
+        let number = level.number();
+        match free.next(first_from(number, from), 2 << number) {
+            Some(found) => Some(part(start_of(number, found), number)),
+            None => None,
+        }
     }
 
     /// Changes the front of a lent leaf, in words from 1 to its size; the other leaves stay. Takes
@@ -164,11 +172,12 @@ impl<A: Allocator> SplitTree<A> {
         ensures lent { self.new ≡ without_leaf span self.old }
         ensures free { find (covers span.start) (free_of self.new) ≡ Some result }
     {
+        let start = span.start;
         let lent = span.level.number();
-        let part = self.node.release(&mut self.spare, 0, 0, span);
-        let free = part.level.number();
+        let free = self.node.release(&mut self.spare, 0, 0, span);
         join_counts(&mut self.counts, free, lent);
-        part
+        self.free.join(free, start, lent);
+        part(start_of_holder(free, start), free)
     }
 
     /// Makes a lent leaf its parent, with a front in words from 1 to the parent's size, and answers
@@ -185,15 +194,15 @@ impl<A: Allocator> SplitTree<A> {
         ensures no_room { IfErr result (λ refusal. refusal ≡ Refusal.NoRoom span.level) }
         ensures unchanged { OnErr result (self.new ≡ self.old) }
     {
+        let no_room = Err(Refusal::NoRoom { level: span.level });
         let start = span.start;
         let level = span.level.number();
-        match self.node.enlarge(&mut self.spare, 0, 0, span, front) {
-            Ok(()) => {
-                part_counts(&mut self.counts, level, level);
-                Ok(part(start, level - 1))
-            }
-            Err(refusal) => Err(refusal),
+        if !self.node.enlarge(&mut self.spare, 0, 0, span, front) {
+            return no_room;
         }
+        part_counts(&mut self.counts, level, level);
+        self.free.clear(number(level, start + words_of(level)));
+        Ok(part(start, level - 1))
     }
 }
 
@@ -233,6 +242,7 @@ impl<A: Allocator + Clone> SplitTree<A> {
         match self.node.carve(&mut self.spare, &alloc, 0, 0, &lending) {
             Ok(free) => {
                 part_counts(&mut self.counts, free, lent);
+                self.free.part(free, at, lent);
                 Ok(())
             }
             Err(lack) => Err(tell(lack, level)),

@@ -2,8 +2,7 @@
 use Rattle.ms_base.specs.declared.sizes.TheConstants.{ROOT_WORDS}
 use Rattle.std.proofs.Common.{◌<◌, ◌≤◌, ◌+◌, length, rules, arith, ap, refl, sym, ◌∙◌}
 use Rattle.ms_buddy.specs.declared.node.Node.{Node}
-use Rattle.ms_buddy.specs.Tree.{free_in, levels_of}
-use Rattle.ms_buddy.proofs.LeafLevelLemmas.{none_left}
+use Rattle.ms_buddy.specs.Tree.{free_in}
 use Rattle.ms_buddy.proofs.SplitLemmas.{at_split}
 use Rattle.ms_buddy.proofs.StackLemmas.{at_turn, at_end, gap_absurd, past_none, past_split, whole_next}
 use Rattle.ms_buddy.proofs.leaves.next_free.Goals as goal
@@ -27,7 +26,7 @@ returns-in-Free-clause-next g c =
 pub put_halves-requires : goal.put_halves-requires
 put_halves-requires g c =
     let turn = at_turn _ _ _ _ c.in-Some.ensures.items c.in-Some-top.is c.loop-top.invariant.0 in
-    let s = at_split _ c.in-Some-top.visit.start _ _ _ _ _ _ _ c.in-Split-2.is turn.top.tree refl in
+    let s = at_split _ c.in-Some-top.visit.start _ _ _ _ _ _ c.in-Split.is turn.top.tree refl in
     let low : c.in-Some-top.visit.level < 12 = s.low in
     let in_root : c.in-Some-top.visit.start ≤ ROOT_WORDS = omega (arith, turn.top.place.in_root) in
     let room : length c.pop.new.self.items + 1 < 13 = omega (arith, turn.top.low, s.low) in
@@ -47,36 +46,22 @@ loop-top-preserved-in-Lent g c =
     (ap (λ (node : Node _). free_in c.in-Some-top.visit.level c.in-Some-top.visit.start node) c.in-Lent.is) in
     (on.stack, on.left ∙ c.loop-top.invariant.1)
 
-pub loop-top-smaller-then-levels-eq0 : goal.loop-top-smaller-then-levels-eq0
-loop-top-smaller-then-levels-eq0 g c =
-    let turn = at_turn _ _ _ _ c.in-Some.ensures.items c.in-Some-top.is c.loop-top.invariant.0 in
-    (past_none _ _ _ turn (none_left _ _ c.in-Split.levels _ turn.top.tree
-    (ap (levels_of c.in-Some-top.visit.level) c.in-Split.is) c.if-levels-eq0.true)).fewer
-
-pub loop-top-preserved-then-levels-eq0 : goal.loop-top-preserved-then-levels-eq0
-loop-top-preserved-then-levels-eq0 g c =
-    let turn = at_turn _ _ _ _ c.in-Some.ensures.items c.in-Some-top.is c.loop-top.invariant.0 in
-    let on =
-    past_none _ _ _ turn (none_left _ _ c.in-Split.levels _ turn.top.tree
-    (ap (levels_of c.in-Some-top.visit.level) c.in-Split.is) c.if-levels-eq0.true) in
-    (on.stack, on.left ∙ c.loop-top.invariant.1)
-
 pub loop-top-smaller : goal.loop-top-smaller
 loop-top-smaller g c =
     let turn = at_turn _ _ _ _ c.in-Some.ensures.items c.in-Some-top.is c.loop-top.invariant.0 in
-    let s = at_split _ c.in-Some-top.visit.start _ _ _ _ _ _ _ c.in-Split-2.is turn.top.tree refl in
+    let s = at_split _ c.in-Some-top.visit.start _ _ _ _ _ _ c.in-Split.is turn.top.tree refl in
     let on = past_split c.loop-top.stack.items c.pop.new.self.items c.put_halves.new.stack.items c.in-Some-top.visit _ _
-    turn (rw (c.deref.ensures, c.deref-in-Split-2.ensures) s)
-    (rw (c.in-Split-2.is, c.deref.ensures, c.deref-in-Split-2.ensures) refl) c.put_halves.ensures in
+    turn (rw (c.deref.ensures, c.deref-in-Split.ensures) s)
+    (rw (c.in-Split.is, c.deref.ensures, c.deref-in-Split.ensures) refl) c.put_halves.ensures in
     on.fewer
 
 pub loop-top-preserved : goal.loop-top-preserved
 loop-top-preserved g c =
     let turn = at_turn _ _ _ _ c.in-Some.ensures.items c.in-Some-top.is c.loop-top.invariant.0 in
-    let s = at_split _ c.in-Some-top.visit.start _ _ _ _ _ _ _ c.in-Split-2.is turn.top.tree refl in
+    let s = at_split _ c.in-Some-top.visit.start _ _ _ _ _ _ c.in-Split.is turn.top.tree refl in
     let on = past_split c.loop-top.stack.items c.pop.new.self.items c.put_halves.new.stack.items c.in-Some-top.visit _ _
-    turn (rw (c.deref.ensures, c.deref-in-Split-2.ensures) s)
-    (rw (c.in-Split-2.is, c.deref.ensures, c.deref-in-Split-2.ensures) refl) c.put_halves.ensures in
+    turn (rw (c.deref.ensures, c.deref-in-Split.ensures) s)
+    (rw (c.in-Split.is, c.deref.ensures, c.deref-in-Split.ensures) refl) c.put_halves.ensures in
     (on.stack, on.left ∙ c.loop-top.invariant.1)
 
 pub returns-in_default-top-clause-stack : goal.returns-in_default-top-clause-stack

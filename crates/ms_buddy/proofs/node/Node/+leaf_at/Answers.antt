@@ -6,7 +6,7 @@ use Rattle.ms_buddy.proofs.node.Node.+leaf_at.Goals as goal
 
 pub leaf_at-requires : goal.leaf_at-requires
 leaf_at-requires g t c κs within =
-    let s = at_split _ c.args.start _ _ _ _ _ _ _ c.in-Split.is c.requires.tree c.half_of.ensures.size in (
+    let s = at_split _ c.args.start _ _ _ _ _ _ c.in-Split.is c.requires.tree c.half_of.ensures.size in (
       omega (arith, s.low),
       (
         search rules,
@@ -19,7 +19,7 @@ leaf_at-requires g t c κs within =
 
 pub leaf_at-requires-else-offset-middle : goal.leaf_at-requires-else-offset-middle
 leaf_at-requires-else-offset-middle g t c κs within =
-    let s = at_split _ c.args.start _ _ _ _ _ _ _ c.in-Split.is c.requires.tree c.half_of.ensures.size in (
+    let s = at_split _ c.args.start _ _ _ _ _ _ c.in-Split.is c.requires.tree c.half_of.ensures.size in (
       omega (arith, s.low),
       (
         search rules,
@@ -35,14 +35,14 @@ leaf_at-requires-else-offset-middle g t c κs within =
 
 pub returns-then-offset-middle-clause-leaf : goal.returns-then-offset-middle-clause-leaf
 returns-then-offset-middle-clause-leaf g t c =
-    let s = at_split _ c.args.start _ _ _ _ _ _ _ c.in-Split.is c.requires.tree c.half_of.ensures.size in
+    let s = at_split _ c.args.start _ _ _ _ _ _ c.in-Split.is c.requires.tree c.half_of.ensures.size in
     rw (s.lent, s.free)
     (lower_leaf _ _ _ c.in-Split.lower.value c.in-Split.upper.value _ _
     (rw c.deref.ensures at c.leaf_at.ensures.leaf))
 
 pub returns-else-offset-middle-clause-leaf : goal.returns-else-offset-middle-clause-leaf
 returns-else-offset-middle-clause-leaf g t c =
-    let s = at_split _ c.args.start _ _ _ _ _ _ _ c.in-Split.is c.requires.tree c.half_of.ensures.size in
+    let s = at_split _ c.args.start _ _ _ _ _ _ c.in-Split.is c.requires.tree c.half_of.ensures.size in
     rw (s.lent, s.free) (upper_leaf _ _ _ _ c.in-Split.lower.value c.in-Split.upper.value _ _
     s.halves.low_tree s.halves.size (omega arith)
     (rw c.deref-else-offset-middle.ensures at c.leaf_at-else-offset-middle.ensures.leaf))

@@ -1,8 +1,7 @@
 -- The leaf is made in the half where it starts.
-use Rattle.std.proofs.Common.{◌<◌, rules, arith, refl, sym, ap, ◌∙◌}
+use Rattle.std.proofs.Common.{◌<◌, rules, arith, refl, sym, ◌∙◌}
 use Rattle.std.proofs.lemmas.Result.{on_ok_weaker}
 use Rattle.ms_base.specs.Level.{highest_level}
-use Rattle.ms_buddy.specs.Tree.{levels_between}
 use Rattle.ms_buddy.proofs.CarveLemmas.{lower_may, upper_may}
 use Rattle.ms_buddy.proofs.PartFreeLemmas.{whole_for, lower_for, upper_for}
 use Rattle.ms_buddy.proofs.node.Node.+part_free.Goals as goal
@@ -33,10 +32,9 @@ returns-then-lending-middle-clause-parted g t c =
     let below : c.args.level < c.args.lending.now.span.level = omega arith in
     let low : c.args.level < highest_level = omega (arith, c.requires.is_part.0) in
     let two = rw c.in-Split.is at c.in_ok-split.ensures in
-    let bits = c.bits_between.ensures ∙ ap (levels_between c.args.level) c.number-lent.ensures.same in
     on_ok_weaker c.part_free.result
-    (λ half. lower_for c.args.lending.now.span c.args.level c.args.start c.args.lending.now.owner
-    c.args.lending.now.front _ _ _ _ _ _ low below two.0 bits two.2 half)
+    (λ half. lower_for c.args.lending.now.span c.args.level c.args.start c.half_of.result c.args.lending.now.owner
+    c.args.lending.now.front _ _ _ _ low below two.1 c.half_of.ensures.size c.if-lending-middle.true half)
     c.part_free.ensures.parted
 
 pub returns-else-lending-middle-clause-parted : goal.returns-else-lending-middle-clause-parted
@@ -44,8 +42,7 @@ returns-else-lending-middle-clause-parted g t c =
     let below : c.args.level < c.args.lending.now.span.level = omega arith in
     let low : c.args.level < highest_level = omega (arith, c.requires.is_part.0) in
     let two = rw c.in-Split.is at c.in_ok-split.ensures in
-    let bits = c.bits_between.ensures ∙ ap (levels_between c.args.level) c.number-lent.ensures.same in
     on_ok_weaker c.part_free-else-lending-middle.result
     (λ half. upper_for c.args.lending.now.span c.args.level c.args.start c.half_of.result c.args.lending.now.owner
-    c.args.lending.now.front _ _ _ _ _ _ low below two.0 bits two.1 c.half_of.ensures.size half)
+    c.args.lending.now.front _ _ _ _ low below two.0 c.half_of.ensures.size (omega arith) half)
     c.part_free-else-lending-middle.ensures.parted

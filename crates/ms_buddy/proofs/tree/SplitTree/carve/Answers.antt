@@ -5,6 +5,7 @@ use Rattle.ms_buddy.specs.Leaves.{free_of, span_at}
 use Rattle.ms_buddy.specs.Tree.{free_in}
 use Rattle.ms_buddy.proofs.FreeLeafLemmas.{free_of-tree}
 use Rattle.ms_buddy.proofs.CarveLemmas.{ends_in}
+use Rattle.ms_buddy.proofs.FreeNumberLemmas.{tree_may_part}
 use Rattle.ms_buddy.proofs.TreeCountLemmas.{room_to_part}
 use Rattle.ms_buddy.proofs.KeptTreeLemmas.{no_room_exactly}
 use Rattle.ms_buddy.proofs.tree.SplitTree.carve.Goals as goal
@@ -43,3 +44,9 @@ returns-clause-refusal g c =
 pub part_counts-requires-clause-room : goal.part_counts-requires-clause-room
 part_counts-requires-clause-room g c =
     room_to_part _ c.self.inside.node c.self.invariant.tree c.self.invariant.counted
+
+pub part-requires-clause-bits : goal.part-requires-clause-bits
+part-requires-clause-bits g c =
+    rw c.number-lent.ensures.same
+    (tree_may_part _ c.self.inside.node c.carve.new.self _ (span_at c.args.at c.args.level) c.carve.ensures.tree
+    c.self.invariant.marked c.requires.in_root c.in-Ok.ensures.parted)

@@ -1,6 +1,11 @@
 -- A whole root is one free leaf of level 0.
+use Rattle.ms_buddy.proofs.FreeNumberLemmas.{whole_is_marked}
 use Rattle.ms_buddy.proofs.TreeCountLemmas.{whole_is_counted}
 use Rattle.ms_buddy.proofs.tree.SplitTree.new.Goals as goal
 
 pub invariant_of-result : goal.invariant_of-result
-invariant_of-result g c = record { tree = tt; counted = whole_is_counted }
+invariant_of-result g c = record {
+  tree = tt;
+  counted = whole_is_counted;
+  marked = whole_is_marked c.whole.result.words c.whole.ensures;
+}

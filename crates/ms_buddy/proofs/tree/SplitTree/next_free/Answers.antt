@@ -1,12 +1,50 @@
 -- The free leaves of the tree are the free parts that its lent leaves leave over.
-use Rattle.std.proofs.Common.{sym, ap, ◌∙◌}
+use Rattle.std.proofs.Common.{arith, sym, ap, ◌∙◌}
 use Rattle.std.specs.List.{find}
 use Rattle.ms_buddy.specs.Leaves.{free_of, is_of_from}
 use Rattle.ms_buddy.proofs.FreeLeafLemmas.{free_of-tree}
+use Rattle.ms_buddy.proofs.FoundLemmas.{found_lowest, found_none, found_past}
+use Rattle.ms_buddy.proofs.NumberLemmas.{first_in_row, row_end, row_end_fits}
 use Rattle.ms_buddy.proofs.tree.SplitTree.next_free.Goals as goal
 
-pub returns : goal.returns
-returns g c =
-    rw c.number.ensures.same at c.next_free.ensures
+pub next-requires : goal.next-requires
+next-requires g c =
+    omega (
+      arith,
+      row_end c.number-number.result c.number-number.ensures.below,
+      row_end_fits c.number-number.result c.number-number.ensures.below,
+    )
+
+pub start_of-requires-clause-from : goal.start_of-requires-clause-from
+start_of-requires-clause-from g c =
+    omega (
+      arith,
+      c.in-Some.ensures.found.low,
+      c.first_from.ensures,
+      first_in_row c.number-number.result c.args.from c.number-number.ensures.below,
+    )
+
+pub returns-then-from-ge-ROOT_WORDS : goal.returns-then-from-ge-ROOT_WORDS
+returns-then-from-ge-ROOT_WORDS g c =
+    found_past c.self.inside.node c.args.level c.args.from c.self.invariant.tree c.if-from-ge-ROOT_WORDS.true
+    ∙ ap (find (is_of_from c.args.level c.args.from))
+    (sym (free_of-tree c.self.inside.node c.self.invariant.tree) ∙ ap free_of c.self.view_is)
+
+pub returns-in-None : goal.returns-in-None
+returns-in-None g c =
+    found_none c.self.inside.node _ c.args.level c.args.from c.self.invariant.tree c.self.invariant.marked
+    (rw (row_end_fits c.number-number.result c.number-number.ensures.below, c.first_from.ensures, c.number-number.ensures.same)
+    at c.in-None.ensures.none)
+    ∙ ap (find (is_of_from c.args.level c.args.from))
+    (sym (free_of-tree c.self.inside.node c.self.invariant.tree) ∙ ap free_of c.self.view_is)
+
+pub returns-in-Some : goal.returns-in-Some
+returns-in-Some g c =
+    found_lowest c.self.inside.node _ c.args.level c.args.from c.in-Some.found c.part.result c.self.invariant.tree
+    c.self.invariant.marked (omega (arith, c.number-number.ensures.below, c.number-number.ensures.same))
+    (rw (row_end_fits c.number-number.result c.number-number.ensures.below, c.first_from.ensures, c.number-number.ensures.same)
+    at c.in-Some.ensures.found)
+    (c.part.ensures.level ∙ c.number-number.ensures.same)
+    (rw c.number-number.ensures.same at (rw (← c.part.ensures.start) at c.start_of.ensures))
     ∙ ap (find (is_of_from c.args.level c.args.from))
     (sym (free_of-tree c.self.inside.node c.self.invariant.tree) ∙ ap free_of c.self.view_is)

@@ -1,0 +1,139 @@
+-- Bits of words: one is changed, and the lowest set one is found. For the set of free leaves.
+use Rattle.std.proofs.Common.{◌≡◌, ◌≢◌, ◌<◌, ◌≤◌, ℕ, zero, suc, ◌+◌, ◌-◌, ◌*◌, ◌/◌, ◌%◌, ◌^◌, true, false, cond, List}
+use Rattle.std.proofs.Common.{length, get_or, replicate, refl, sym, ap, ◌∙◌, inl, inr, arith, w64, bit_and, bit_or}
+use Rattle.std.specs.Prelude.{◌==◌, slice_set}
+use Rattle.std.specs.Int.{bit_at, bit_not, trailing_zeros}
+use Rattle.std.proofs.lemmas.Bool.{cases_lt, cases_eq}
+use Rattle.std.proofs.lemmas.Bool.Decides.{nat_tests}
+use Rattle.std.proofs.lemmas.List.{get_or-set_same, get_or-set_other}
+use Rattle.std.proofs.lemmas.Nat.{shr_le, shr-shr}
+use Rattle.std.proofs.lemmas.Nat.Bits.{bit_at-zero, bit_at-trailing_zeros, bit_at_above, bit_at_set_same}
+use Rattle.std.proofs.lemmas.Nat.Bits.{bit_at_set_other, bit_at_clear_same, bit_at_clear_other}
+use Rattle.ms_buddy.specs.FreeBits.{IsLowestBit, IsNextSet, bit_of}
+
+is_same_number : (a b : ℕ) → a ≡ b → (a == b) ≡ true
+is_same_number a b e = grind (arith, nat_tests)
+
+is_other_number : (a b : ℕ) → (b ≡ a → ⊥) → (a == b) ≡ false
+is_other_number a b e = grind (arith, nat_tests)
+
+-- A word is changed at the place of a number alone.
+changed : (words : List ℕ) (number other word bit : ℕ) → number / 64 < length words
+    → bit_at word (number % 64) ≡ bit
+    → ((place : ℕ) → place < 64 → place ≢ number % 64 → bit_at word place ≡ bit_at (get_or words (number / 64) 0) place)
+    → bit_of (slice_set words (number / 64) word) other ≡ cond (number == other) bit (bit_of words other)
+changed words number other word bit within here there = elim (cases_eq (other / 64) (number / 64)) [
+  | inl row ↦
+      ap (λ at. bit_at (get_or (slice_set words (number / 64) word) at 0) (other % 64)) row
+      ∙ ap (λ w. bit_at w (other % 64)) (get_or-set_same words (number / 64) word 0 within)
+      ∙ elim (cases_eq (other % 64) (number % 64)) [
+        | inl column ↦
+            ap (bit_at word) column ∙ here
+            ∙ sym (ap (λ b. cond b bit (bit_of words other)) (is_same_number number other (omega (arith, row, column))))
+        | inr differs ↦
+            there (other % 64) (omega arith) differs
+            ∙ ap (λ at. bit_at (get_or words at 0) (other % 64)) (sym row)
+            ∙ sym (ap (λ b. cond b bit (bit_of words other))
+            (is_other_number number other (λ e. differs (ap (λ n. n % 64) e))))
+      ]
+  | inr differs ↦
+      ap (λ w. bit_at w (other % 64)) (get_or-set_other words (number / 64) (other / 64) word 0 differs)
+      ∙ sym (ap (λ b. cond b bit (bit_of words other))
+      (is_other_number number other (λ e. differs (ap (λ n. n / 64) e))))
+]
+
+-- The bit of a number is set, or cleared, and all others stay.
+pub bit_set : (words : List ℕ) (number other : ℕ) → number / 64 < length words
+    → bit_of (slice_set words (number / 64)
+    (bit_or (get_or words (number / 64) 0) (1 * 2 ^ (number % 64) % 2 ^ 64))) other
+    ≡ cond (number == other) 1 (bit_of words other)
+bit_set words number other within =
+    changed words number other _ 1 within
+    (bit_at_set_same w64 (get_or words (number / 64) 0) (number % 64) (omega arith))
+    (λ place low differs. bit_at_set_other w64 (get_or words (number / 64) 0) (number % 64) (omega arith) place differs)
+
+pub bit_cleared : (words : List ℕ) (number other : ℕ) → number / 64 < length words
+    → bit_of (slice_set words (number / 64)
+    (bit_and (get_or words (number / 64) 0) (bit_not w64 (1 * 2 ^ (number % 64) % 2 ^ 64)))) other
+    ≡ cond (number == other) 0 (bit_of words other)
+bit_cleared words number other within =
+    changed words number other _ 0 within
+    (bit_at_clear_same w64 (get_or words (number / 64) 0) (number % 64) (omega arith))
+    (λ place low differs.
+    bit_at_clear_other w64 (get_or words (number / 64) 0) (number % 64) (omega arith) place low differs)
+
+-- No bit is set in words of zeros.
+zero_word : (n at : ℕ) → get_or {A = ℕ} (replicate n 0) at 0 ≡ 0
+zero_word zero at = refl
+zero_word (suc n) zero = refl
+zero_word (suc n) (suc at) = zero_word n at
+
+pub no_bit : (n number : ℕ) → bit_of (replicate n 0) number ≡ 0
+no_bit n number = ap (λ w. bit_at w (number % 64)) (zero_word n (number / 64)) ∙ bit_at-zero (number % 64)
+
+-- The bits of a word moved down are those from a place on.
+moved : (word from place : ℕ) → from ≤ place → bit_at word place ≡ bit_at (word / 2 ^ from) (place - from)
+moved word from place h =
+    let there : place ≡ from + (place - from) = omega arith in
+    ap (bit_at word) there ∙ sym (ap (λ x. x % 2) (shr-shr word from (place - from)))
+
+pub no_later_bit : (word from place : ℕ) → word / 2 ^ from ≡ 0 → from ≤ place → bit_at word place ≡ 0
+no_later_bit word from place none h =
+    moved word from place h ∙ ap (λ w. bit_at w (place - from)) none ∙ bit_at-zero (place - from)
+
+pub lowest_later_bit : (word from : ℕ) → 0 < word / 2 ^ from → word < 2 ^ 64
+    → IsLowestBit word from (from + trailing_zeros w64 (word / 2 ^ from))
+lowest_later_bit word from some fits = record {
+  low = omega arith;
+  high = elim (cases_lt (from + trailing_zeros w64 (word / 2 ^ from)) 64) [
+    | inl inside ↦ inside
+    | inr over ↦ absurd (omega (arith, one, bit_at_above word 64 (from + trailing_zeros w64 (word / 2 ^ from)) fits over))
+  ];
+  set = one;
+  below = λ place low under. moved word from place low ∙ lies.2 (place - from) (omega (arith, low, under));
+}
+  where
+    lies : (trailing_zeros w64 (word / 2 ^ from) < 64)
+        × (bit_at (word / 2 ^ from) (trailing_zeros w64 (word / 2 ^ from)) ≡ 1)
+        × ((i : ℕ) → i < trailing_zeros w64 (word / 2 ^ from) → bit_at (word / 2 ^ from) i ≡ 0)
+    lies = bit_at-trailing_zeros w64 (word / 2 ^ from) some (omega (arith, fits, shr_le word from))
+
+    one : bit_at word (from + trailing_zeros w64 (word / 2 ^ from)) ≡ 1
+    one = sym (ap (λ x. x % 2) (shr-shr word from (trailing_zeros w64 (word / 2 ^ from)))) ∙ lies.1
+
+-- No number that was passed has its bit set.
+abbrev pub NoneSet : List ℕ → ℕ → ℕ → Type 0
+NoneSet words from end = (number : ℕ) → from ≤ number → number < end → bit_of words number ≡ 0
+
+bit_in_row : (words : List ℕ) (row number : ℕ) → number / 64 ≡ row
+    → bit_of words number ≡ bit_at (get_or words row 0) (number % 64)
+bit_in_row words row number e = ap (λ at. bit_at (get_or words at 0) (number % 64)) e
+
+-- A word has no bit from a place on.
+pub none_later : (words : List ℕ) (from at : ℕ)
+    → ((place : ℕ) → at % 64 ≤ place → place < 64 → bit_at (get_or words (at / 64) 0) place ≡ 0)
+    → NoneSet words from at → NoneSet words from ((at / 64 + 1) * 64)
+none_later words from at none before number low high = elim (cases_lt number at) [
+  | inl under ↦ before number low under
+  | inr past ↦
+      bit_in_row words (at / 64) number (omega (arith, past, high))
+      ∙ none (number % 64) (omega (arith, past, high)) (omega arith)
+]
+
+-- The lowest number that has its bit set, where the word that was reached has one from a place on.
+pub lowest_later : (words : List ℕ) (from end at place : ℕ) → from ≤ at
+    → IsLowestBit (get_or words (at / 64) 0) (at % 64) place
+    → NoneSet words from at → at / 64 * 64 + place < end → IsNextSet words from end (at / 64 * 64 + place)
+lowest_later words from end at place low lowest before below = record {
+  low = omega (arith, low, lowest.low);
+  high = below;
+  set =
+      bit_in_row words (at / 64) (at / 64 * 64 + place) (omega (arith, lowest.high))
+      ∙ ap (bit_at (get_or words (at / 64) 0)) (omega (arith, lowest.high)) ∙ lowest.set;
+  below = λ number least under. elim (cases_lt number at) [
+    | inl passed ↦ before number least passed
+    | inr past ↦
+        bit_in_row words (at / 64) number (omega (arith, past, under, lowest.high))
+        ∙ lowest.below (number % 64) (omega (arith, past, under, lowest.high)) (omega (arith, past, under, lowest.high))
+  ];
+}

@@ -1,0 +1,222 @@
+//! The free leaves of a root as a set of bits, one for each part that there may be.
+//!
+//!     number     1      2      3      4    ..    7      8   ..       4096   ..   8191
+//!             +------+------+------+------+----+------+----+---------+------+------+
+//!             |      | lower| upper| of 2 | .. | of 3 | .. |  the parts of level 12 |
+//!             +------+------+------+------+----+------+----+---------+------+------+
+//!     level      0          1               2            3 ..            12
+//!
+//! The root has the number 1, and the halves of a part have twice its number, and one more: so the
+//! parts of a level stand in a row, in order of address, and the lowest free one is the lowest set bit
+//! there. Takes no memory.
+ghost use Rattle.std.specs.Prelude.{◌≡◌, ℕ, ◌+◌, ◌-◌, ◌*◌, ◌/◌, ◌%◌, ◌^◌, ◌<◌, ◌≤◌, ◌==◌, cond, IfSome, IfNone, [], ◌∷◌};
+ghost use Rattle.std.specs.Int.{bit_at};
+ghost use Rattle.ms_base.specs.declared.sizes.TheConstants.{ROOT_WORDS};
+ghost use Rattle.ms_base.specs.Level.{size_of};
+ghost use Rattle.ms_buddy.specs.Counts.{beside, count_of_number, halves_beside, holder_of, number_of};
+ghost use Rattle.ms_buddy.specs.FreeBits.{IsLowestBit, IsMoved, IsNextSet, MayJoin, MayPart, bit_of};
+ghost use Rattle.ms_buddy.specs.Leaves.{span_at};
+
+use crate::node::half_of;
+use ms_base::ROOT_WORDS;
+
+/// How many bits a word has.
+const BITS: usize = 64;
+
+/// How many words there are: two bits for each part of level 12.
+const WORDS: usize = 128;
+
+/// A bit for each part of a root, set where it is a free leaf.
+#[derive(Drop)]
+pub(crate) struct FreeBits {
+    words: [u64; WORDS],
+}
+
+impl FreeBits {
+    /// The bits of a root that is one free leaf.
+    pub(crate) fn whole() -> FreeBits
+        ensures { (number : ℕ) → bit_of result.words number ≡ cond (1 == number) 1 0 }
+    {
+        let mut bits = FreeBits { words: [0; WORDS] };
+        bits.set(1);
+        bits
+    }
+
+    /// Finds the lowest number from one on, and below another, whose bit is set.
+    pub(crate) fn next(&self, from: usize, end: usize) -> Option<usize>
+        requires { end ≤ 8192 }
+        ensures found { IfSome result (λ number. IsNextSet self.now.words from end number) }
+        ensures none { IfNone result
+            ((number : ℕ) → from ≤ number → number < end → bit_of self.now.words number ≡ 0) }
+    {
+        let mut at = from;
+        while at < end {
+            if let Some(place) = lowest_bit(self.words[at / BITS], at % BITS) {
+                let found = at / BITS * BITS + place;
+                return if found < end { Some(found) } else { None };
+            }
+            at = (at / BITS + 1) * BITS;
+        }
+        None
+    }
+
+    /// Parts the free leaf of a level for the part of a lower one that starts at an offset in it: it is
+    /// free no longer, and the halves that are left over on the way down are.
+    pub(crate) fn part(&mut self, free: u8, at: u64, lent: u8)
+        requires order { free ≤ lent }
+        requires low { lent ≤ 12 }
+        requires in_root { at < ROOT_WORDS }
+        requires bits { MayPart self.old.words (holder_of free (span_at at lent)) (span_at at lent) }
+        ensures { IsMoved self.old.words (holder_of free (span_at at lent) ∷ [])
+            (beside (holder_of free (span_at at lent)) (span_at at lent)) self.new.words }
+    {
+        let start = start_of_holder(free, at);
+        self.clear(number(free, start));
+        self.set_beside(free, start, at, lent);
+    }
+
+    /// Joins the part of a level that starts at an offset and the halves beside it to one free leaf.
+    pub(crate) fn join(&mut self, free: u8, at: u64, lent: u8)
+        requires order { free ≤ lent }
+        requires low { lent ≤ 12 }
+        requires in_root { at < ROOT_WORDS }
+        requires bits { MayJoin self.old.words (holder_of free (span_at at lent)) (span_at at lent) }
+        ensures { IsMoved self.new.words (holder_of free (span_at at lent) ∷ [])
+            (beside (holder_of free (span_at at lent)) (span_at at lent)) self.old.words }
+    {
+        let start = start_of_holder(free, at);
+        self.clear_beside(free, start, at, lent);
+        self.set(number(free, start));
+    }
+
+    /// Sets the bits of the halves that stay free, as the part of a level that starts there is split for
+    /// one of a lower level in it.
+    fn set_beside(&mut self, level: u8, start: u64, at: u64, lent: u8)
+        requires order { level ≤ lent }
+        requires low { lent ≤ 12 }
+        requires in_root { start + size_of level ≤ ROOT_WORDS }
+        requires clear { (number : ℕ) → bit_of self.old.words number
+            + count_of_number number (halves_beside (lent - level) level start at) ≤ 1 }
+        ensures { (number : ℕ) → bit_of self.new.words number ≡ bit_of self.old.words number
+            + count_of_number number (halves_beside (lent - level) level start at) }
+    {
+        if level == lent {
+            return;
+        }
+        let middle = start + half_of(level);
+        if at < middle {
+            self.set(number(level + 1, middle));
+            self.set_beside(level + 1, start, at, lent);
+        } else {
+            self.set(number(level + 1, start));
+            self.set_beside(level + 1, middle, at, lent);
+        }
+    }
+
+    /// Clears the bits of the halves that were free, as the part of a level that starts there was split
+    /// for one of a lower level in it.
+    fn clear_beside(&mut self, level: u8, start: u64, at: u64, lent: u8)
+        requires order { level ≤ lent }
+        requires low { lent ≤ 12 }
+        requires in_root { start + size_of level ≤ ROOT_WORDS }
+        requires set { (number : ℕ) → count_of_number number (halves_beside (lent - level) level start at)
+            ≤ bit_of self.old.words number }
+        ensures { (number : ℕ) → bit_of self.new.words number
+            + count_of_number number (halves_beside (lent - level) level start at)
+            ≡ bit_of self.old.words number }
+    {
+        if level == lent {
+            return;
+        }
+        let middle = start + half_of(level);
+        if at < middle {
+            self.clear(number(level + 1, middle));
+            self.clear_beside(level + 1, start, at, lent);
+        } else {
+            self.clear(number(level + 1, start));
+            self.clear_beside(level + 1, middle, at, lent);
+        }
+    }
+
+    /// Sets the bit of a number.
+    fn set(&mut self, number: usize)
+        requires { number < 8192 }
+        ensures { (other : ℕ) → bit_of self.new.words other
+            ≡ cond (number == other) 1 (bit_of self.old.words other) }
+    {
+        self.words[number / BITS] |= 1 << (number % BITS);
+    }
+
+    /// Clears the bit of a number.
+    pub(crate) fn clear(&mut self, number: usize)
+        requires { number < 8192 }
+        ensures { (other : ℕ) → bit_of self.new.words other
+            ≡ cond (number == other) 0 (bit_of self.old.words other) }
+    {
+        self.words[number / BITS] &= !(1 << (number % BITS));
+    }
+}
+
+/// Finds the lowest set bit of a word from a place on.
+#[inline(always)]
+fn lowest_bit(word: u64, from: usize) -> Option<usize>
+    requires { from < 64 }
+    ensures found { IfSome result (λ place. IsLowestBit word from place) }
+    ensures none { IfNone result
+        ((place : ℕ) → from ≤ place → place < 64 → bit_at word place ≡ 0) }
+{
+    let later = word >> from;
+    if later == 0 {
+        return None;
+    }
+    Some(from + later.trailing_zeros() as usize)
+}
+
+/// Tells the number of the part of a level that starts there.
+pub(crate) fn number(level: u8, start: u64) -> usize
+    requires low { level ≤ 12 }
+    requires in_root { start < ROOT_WORDS }
+    ensures same { result ≡ number_of (record { start = start; level = level }) }
+    ensures within { result < 8192 }
+{
+    ((ROOT_WORDS + start) >> (19 - level)) as usize
+}
+
+/// Tells where the part of a level starts that holds an offset.
+pub(crate) fn start_of_holder(level: u8, at: u64) -> u64
+    requires low { level ≤ 12 }
+    requires in_root { at < ROOT_WORDS }
+    ensures start { result ≡ at - at % size_of level }
+    ensures in_root { result + size_of level ≤ ROOT_WORDS }
+{
+    at - at % words_of(level)
+}
+
+/// Tells the words of a part of a level.
+pub(crate) fn words_of(level: u8) -> u64
+    requires { level ≤ 12 }
+    ensures size { result ≡ size_of level }
+    ensures some { 0 < result }
+    ensures small { result ≤ ROOT_WORDS }
+{
+    ROOT_WORDS >> level
+}
+
+/// Tells the first number of the parts of a level that start at an offset or past it.
+pub(crate) fn first_from(level: u8, from: u64) -> usize
+    requires low { level ≤ 12 }
+    requires in_root { from < ROOT_WORDS }
+    ensures { result ≡ (ROOT_WORDS + from + (size_of level - 1)) / size_of level }
+{
+    ((ROOT_WORDS + from + (words_of(level) - 1)) >> (19 - level)) as usize
+}
+
+/// Tells where the part of a level starts that has a number.
+pub(crate) fn start_of(level: u8, number: usize) -> u64
+    requires low { level ≤ 12 }
+    requires from { 2 ^ level ≤ number }
+    requires below { number < 2 * 2 ^ level }
+    ensures { ROOT_WORDS + result ≡ number * size_of level }
+{
+    ((number as u64) << (19 - level)) - ROOT_WORDS
+}
