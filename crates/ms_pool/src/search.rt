@@ -240,7 +240,9 @@ impl Lender {
         }
     }
 
-    /// Finds where the lowest free part of a root starts.
+    /// Finds where the lowest free part of a root starts. A call of its own would cost as much as a
+    /// short walk.
+    #[inline(always)]
     fn lowest_in_root(&self, root: usize, wish: &Wish, level: Level) -> Option<u64>
         requires kept { IsKept self.now }
         requires there { root < length self.now.trees.items }
