@@ -2,7 +2,7 @@
 -- its leaf takes its place there. For carving.
 use Rattle.std.proofs.Common.{◌≡◌, ◌<◌, ◌≤◌, ℕ, ◌+◌, Bool, true, false, cond, ◌&&◌, ◌||◌, List, [], ◌∷◌, ◌++◌, refl}
 use Rattle.std.proofs.Common.{sym, ap, subst, ◌∙◌, inl, inr, arith}
-use Rattle.std.specs.Prelude.{nat_le, nat_lt, IsTrue, IsFalse, Result, Ok, Err}
+use Rattle.std.specs.Prelude.{nat_le, nat_lt, IsTrue, IsFalse, Result, Ok, Err, IfOk, OnOk}
 use Rattle.std.specs.List.{AllByRecursion, list_any}
 use Rattle.std.proofs.lemmas.List.Folds.{list_any-append}
 use Rattle.std.proofs.lemmas.Bool.Decides.{nat_tests}
@@ -14,9 +14,10 @@ use Rattle.ms_base.specs.Level.{size_of, highest_level}
 use Rattle.ms_base.specs.Part.{IsPart}
 use Rattle.ms_base.proofs.free.PartLemmas.{parts_are_nested_or_apart}
 use Rattle.ms_buddy.specs.declared.node.Node.{Node}
+use Rattle.ms_buddy.specs.declared.node.Node.TheVariants.{Free}
 use Rattle.ms_buddy.specs.declared.node.Lack.{Lack}
-use Rattle.ms_buddy.specs.Carving.{refusal_of, told}
-use Rattle.ms_buddy.specs.Counts.{holder_of}
+use Rattle.ms_buddy.specs.Carving.{IsPartedFor, refusal_of, told}
+use Rattle.ms_buddy.specs.Counts.{IsParted, holder_of}
 use Rattle.ms_buddy.specs.Leaves.{CarveAnswers, LentLeaf, IsCarveRefusal, is_same, fits_in, span_at, words_of, with_leaf}
 use Rattle.ms_buddy.specs.Tree.{IsInside, IsPlace, MayBeLent, IsTree, lent_in, free_in, lent_in_halves, free_in_halves}
 use Rattle.ms_buddy.proofs.TreeHalvesLemmas.{holder_is, size_of-some, size_of-halves, lower_place, upper_place}
@@ -203,6 +204,15 @@ pub held_by_node : (part : Span) (level start front : ℕ) → MayBeLent level s
     → holder_of level part ≡ span_at start level
 held_by_node part level start front may =
     holder_is level start part may.place may.inside.from (omega (arith, may.inside.to, size_of-some part.level))
+
+-- A free leaf that was parted is the part of its level in which the part starts.
+pub leaf_was_parted : {A : Type 0} (part : Span) (level start owner front : ℕ) (before node : Node A)
+    (result : Result ℕ Lack) → before ≡ Free → MayBeLent level start part front
+    → OnOk result (IsPartedFor level start part owner front node) → IfOk result (λ free. free ≡ level)
+    → IfOk result (λ free. IsParted (free_in level start before) (holder_of free part) part (free_in level start node))
+leaf_was_parted part level start owner front before node (Ok free) e may parted is =
+    rw (e, is, held_by_node part level start front may) parted.parted
+leaf_was_parted part level start owner front before node (Err lack) e may parted is = tt
 
 -- A leaf takes its place before all that start past it, and after all that start before it.
 leaf_before : (added : LentLeaf) (middle high : ℕ) (ys : List LentLeaf) → added.start < middle

@@ -6,6 +6,7 @@ pub mod CarveLemmas
 pub mod EnlargeLemmas
 pub mod StackLemmas
 pub mod KeptTreeLemmas
+pub mod LeafLevelLemmas
 pub mod BitLemmas
 pub mod NumberLemmas
 pub mod BesideLemmas

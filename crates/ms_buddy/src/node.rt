@@ -11,7 +11,7 @@
 //! pairs at most, as many as one carve takes. No clause says what a spare node holds, and nothing
 //! rests on it.
 ghost use Rattle.std.specs.Prelude.{◌≡◌, ℕ, ◌+◌, ◌*◌, ◌<◌, ◌≤◌, ◌==◌, false, Some, [], ◌∷◌, IsTrue};
-ghost use Rattle.std.specs.Prelude.{IsFalse, IfSome, OnSome, IfNone, IsOk, IfOk, OnOk, OnErr};
+ghost use Rattle.std.specs.Prelude.{IsFalse, IfSome, OnSome, IfNone, IsOk, IfOk, OnOk, IfErr, OnErr};
 ghost use Rattle.std.specs.List.{find};
 ghost use Rattle.ms_base.specs.declared.sizes.TheConstants.{ROOT_WORDS};
 ghost use Rattle.ms_base.specs.Level.{size_of};
@@ -304,6 +304,34 @@ impl<A: Allocator + Clone> Node<A> {
         }
     }
 
+    /// Lends that part of a free leaf, and answers the leaf's level, or leaves it free. Out of line, since
+    /// what is let go here would keep the walk to it from being a loop.
+    #[inline(never)]
+    fn part_whole(
+        &mut self,
+        spare: &mut Spare<A>,
+        alloc: &A,
+        level: u8,
+        start: u64,
+        lending: &Lending,
+    ) -> Result<u8, Lack>
+        requires { MayBeLent level start lending.now.span lending.now.front }
+        ensures parted { OnOk result (IsPartedFor level start lending.now.span lending.now.owner
+            lending.now.front self.new) }
+        ensures level { IfOk result (λ free. free ≡ level) }
+        ensures memory { IfErr result (λ lack. lack ≡ Lack.Memory) }
+        ensures deeper { OnErr result (level < lending.now.span.level) }
+        ensures unchanged { OnErr result (self.new ≡ Node.Free) }
+    {
+        match self.part_free(spare, alloc, level, start, lending) {
+            Ok(()) => Ok(level),
+            Err(_) => {
+                *self = Node::Free;
+                Err(Lack::Memory)
+            }
+        }
+    }
+
     /// Lends that part, where it lies in one free leaf, and answers that leaf's level.
     pub(crate) fn carve(
         &mut self,
@@ -327,13 +355,7 @@ impl<A: Allocator + Clone> Node<A> {
         ensures unchanged { OnErr result (self.new ≡ self.old) }
     {
         match self {
-            Node::Free => match self.part_free(spare, alloc, level, start, lending) {
-                Ok(()) => Ok(level),
-                Err(_) => {
-                    *self = Node::Free;
-                    Err(Lack::Memory)
-                }
-            },
+            Node::Free => self.part_whole(spare, alloc, level, start, lending),
             Node::Lent { .. } => Err(Lack::Room),
             Node::Split(lower, upper) => {
                 if lending.span.level.number() == level {

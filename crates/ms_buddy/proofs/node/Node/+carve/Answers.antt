@@ -5,7 +5,7 @@ use Rattle.ms_buddy.specs.Leaves.{fits_in, is_same, leaf_of, with_leaf}
 use Rattle.std.specs.List.{list_any}
 use Rattle.ms_buddy.proofs.SplitLemmas.{at_split}
 use Rattle.ms_buddy.proofs.CarveLemmas.{answers_alike, lower_may, upper_may, whole_fits_not, lower_fits, upper_fits}
-use Rattle.ms_buddy.proofs.CarveLemmas.{held_by_node, lower_is_free, upper_is_free, lower_added, upper_added}
+use Rattle.ms_buddy.proofs.CarveLemmas.{leaf_was_parted, lower_is_free, upper_is_free, lower_added, upper_added}
 use Rattle.ms_buddy.proofs.CountLemmas.{lower_parted_at, upper_parted_at}
 use Rattle.ms_buddy.proofs.node.Node.+carve.Goals as goal
 
@@ -30,11 +30,6 @@ carve-requires-else-lending-middle g t c κs within =
     let may = upper_may c.args.lending.now.span c.args.level c.args.start _ _ c.requires.part deep c.half_of.ensures.size
     (omega arith) in
     (omega (arith, s.low), (search rules, (rw c.deref_mut-else-lending-middle.ensures.value s.halves.high_tree, may)))
-
-pub returns-in-Ok-clause-parted : goal.returns-in-Ok-clause-parted
-returns-in-Ok-clause-parted g t c =
-    rw (c.in-Free.is, held_by_node c.args.lending.now.span c.args.level c.args.start c.args.lending.now.front c.requires.part)
-    c.in-Ok.ensures.parted.parted
 
 pub returns-then-lending-middle-clause-lent : goal.returns-then-lending-middle-clause-lent
 returns-then-lending-middle-clause-lent g t c =
@@ -83,3 +78,9 @@ returns-else-lending-middle-clause-parted g t c =
     (λ free parted. rw s.free (upper_parted_at c.args.level c.args.start c.half_of.result c.in-Split.lower.value
     c.in-Split.upper.value c.carve-else-lending-middle.new.self _ _ s.halves.size
     (rw c.deref_mut-else-lending-middle.ensures.value at parted))) c.carve-else-lending-middle.ensures.parted
+
+pub returns-in-Free-clause-parted : goal.returns-in-Free-clause-parted
+returns-in-Free-clause-parted g t c =
+    leaf_was_parted c.args.lending.now.span c.args.level c.args.start c.args.lending.now.owner c.args.lending.now.front
+    c.args.self.now c.part_whole.new.self c.part_whole.result c.in-Free.is c.requires.part c.part_whole.ensures.parted
+    c.part_whole.ensures.level
