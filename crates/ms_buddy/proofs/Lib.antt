@@ -17,3 +17,4 @@ pub mod PartFreeLemmas
 pub mod TreeCountLemmas
 pub mod StepLemmas
 pub mod MergeLemmas
+pub mod BuddyLemmas

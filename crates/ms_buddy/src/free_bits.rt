@@ -13,7 +13,7 @@ ghost use Rattle.std.specs.Prelude.{◌≡◌, ℕ, ◌+◌, ◌-◌, ◌*◌, �
 ghost use Rattle.std.specs.Int.{bit_at};
 ghost use Rattle.ms_base.specs.declared.sizes.TheConstants.{ROOT_WORDS};
 ghost use Rattle.ms_base.specs.Level.{size_of};
-ghost use Rattle.ms_buddy.specs.Counts.{beside, count_of_number, halves_beside, holder_of, number_of};
+ghost use Rattle.ms_buddy.specs.Counts.{beside, buddy_of, count_of_number, halves_beside, holder_of, number_of};
 ghost use Rattle.ms_buddy.specs.FreeBits.{IsLowestBit, IsMoved, IsNextSet, MayJoin, MayPart, bit_of};
 ghost use Rattle.ms_buddy.specs.Leaves.{span_at};
 
@@ -89,6 +89,24 @@ impl FreeBits {
         self.set(number(free, start));
     }
 
+    /// Tells the level to which a part of a level merges that starts at an offset: there it is the
+    /// root, or its buddy isn't free.
+    pub(crate) fn merge_level(&self, level: u8, at: u64) -> u8
+        requires low { level ≤ 12 }
+        requires in_root { at < ROOT_WORDS }
+        ensures low { result ≤ level }
+        ensures apart { 0 < result → bit_of self.now.words
+            (buddy_of (number_of (record { start = at; level = result }))) ≡ 0 }
+    {
+        if level == 0 {
+            return 0;
+        }
+        if !self.has(buddy_of(number(level, at))) {
+            return level;
+        }
+        self.merge_level(level - 1, at)
+    }
+
     /// Sets the bits of the halves that stay free, as the part of a level that starts there is split for
     /// one of a lower level in it.
     fn set_beside(&mut self, level: u8, start: u64, at: u64, lent: u8)
@@ -138,6 +156,14 @@ impl FreeBits {
         }
     }
 
+    /// Tells whether the bit of a number is set.
+    fn has(&self, number: usize) -> bool
+        requires { number < 8192 }
+        ensures { result ≡ (bit_of self.now.words number == 1) }
+    {
+        self.words[number / BITS] >> (number % BITS) & 1 == 1
+    }
+
     /// Sets the bit of a number.
     fn set(&mut self, number: usize)
         requires { number < 8192 }
@@ -180,6 +206,20 @@ pub(crate) fn number(level: u8, start: u64) -> usize
     ensures within { result < 8192 }
 {
     ((ROOT_WORDS + start) >> (19 - level)) as usize
+}
+
+/// Tells the number of the other half of a part's parent.
+#[inline(always)]
+fn buddy_of(number: usize) -> usize
+    requires { number < 8192 }
+    ensures same { result ≡ buddy_of number }
+    ensures within { result < 8192 }
+{
+    if number % 2 == 0 {
+        number + 1
+    } else {
+        number - 1
+    }
 }
 
 /// Tells where the part of a level starts that holds an offset.

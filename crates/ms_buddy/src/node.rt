@@ -18,7 +18,7 @@ ghost use Rattle.ms_base.specs.Level.{size_of};
 ghost use Rattle.ms_buddy.specs.Leaves.{CarveAnswers, IsLeafAt, can_enlarge, covers, is_lent, leaf_of};
 ghost use Rattle.ms_buddy.specs.Leaves.{with_front, with_leaf, with_parent, without_leaf};
 ghost use Rattle.ms_buddy.specs.Carving.{IsPartedFor, told};
-ghost use Rattle.ms_buddy.specs.Counts.{IsParted, follower_of, holder_of};
+ghost use Rattle.ms_buddy.specs.Counts.{IsApart, IsParted, follower_of, holder_of};
 ghost use Rattle.ms_buddy.specs.Tree.{IsPlace, IsSplitInTwo, IsTree, MayBeLent, MayHaveFront, is_free};
 ghost use Rattle.ms_buddy.specs.Tree.{lent_in, free_in, lent_in_halves, free_in_halves};
 
@@ -147,10 +147,56 @@ impl<A: Allocator> Node<A> {
         }
     }
 
-    /// Takes the leaf of that span out, and answers the level of the free part that results. Where the
-    /// half beside the way isn't free, nothing is left to do after the call, so that it is a step of a
-    /// loop. The boxes of halves that merge become spares.
-    pub(crate) fn release(&mut self, spare: &mut Spare<A>, level: u8, start: u64, span: Span) -> u8
+    /// Takes the leaf of that span out, and answers the level of the free part that results, which is that
+    /// of `merge` or a lower one: above it no half is merged, so each call but the last is a step of a
+    /// loop.
+    pub(crate) fn release(
+        &mut self,
+        spare: &mut Spare<A>,
+        level: u8,
+        start: u64,
+        span: Span,
+        merge: u8,
+    ) -> u8
+        requires tree { IsTree level self.old }
+        requires place { IsPlace level start }
+        requires lent { IsTrue (is_lent (lent_in level start self.old) span) }
+        requires deep { merge ≤ span.level }
+        requires apart { level < merge → IsApart merge span (free_in level start self.old) }
+        ensures tree { IsTree level self.new }
+        ensures below { level ≤ result }
+        ensures kept { level < merge → merge ≤ result }
+        ensures whole { is_free self.new ≡ (result == level) }
+        ensures lent { lent_in level start self.new
+            ≡ without_leaf span (lent_in level start self.old) }
+        ensures free { find (covers span.start) (free_in level start self.new)
+            ≡ Some (holder_of result span) }
+        ensures merged { IsParted (free_in level start self.new) (holder_of result span) span
+            (free_in level start self.old) }
+    {
+        if level >= merge {
+            return self.release_merging(spare, level, start, span);
+        }
+        match self {
+            Node::Split(lower, upper) => {
+                let middle = start + half_of(level);
+                if span.start < middle {
+                    lower.release(spare, level + 1, start, span, merge)
+                } else {
+                    upper.release(spare, level + 1, middle, span, merge)
+                }
+            }
+            // A leaf that is lent is not above its own level.
+            Node::Lent { .. } => self.release_merging(spare, level, start, span),
+            // Nothing is lent in a free leaf.
+            Node::Free => level,
+        }
+    }
+
+    /// Takes the leaf of that span out, and answers the level of the free part that results. The boxes of
+    /// halves that merge become spares. Where the half beside the way isn't free, nothing is left to do
+    /// after the call, so that it is a step of a loop.
+    fn release_merging(&mut self, spare: &mut Spare<A>, level: u8, start: u64, span: Span) -> u8
         requires tree { IsTree level self.old }
         requires place { IsPlace level start }
         requires lent { IsTrue (is_lent (lent_in level start self.old) span) }
@@ -169,9 +215,9 @@ impl<A: Allocator> Node<A> {
                 let middle = start + half_of(level);
                 if span.start < middle {
                     if !is_free_half(upper) {
-                        return lower.release(spare, level + 1, start, span);
+                        return lower.release_merging(spare, level + 1, start, span);
                     }
-                    let free = lower.release(spare, level + 1, start, span);
+                    let free = lower.release_merging(spare, level + 1, start, span);
                     if free > level + 1 {
                         return free;
                     }
@@ -179,9 +225,9 @@ impl<A: Allocator> Node<A> {
                     level
                 } else {
                     if !is_free_half(lower) {
-                        return upper.release(spare, level + 1, middle, span);
+                        return upper.release_merging(spare, level + 1, middle, span);
                     }
-                    let free = upper.release(spare, level + 1, middle, span);
+                    let free = upper.release_merging(spare, level + 1, middle, span);
                     if free > level + 1 {
                         return free;
                     }

@@ -174,7 +174,8 @@ impl<A: Allocator> SplitTree<A> {
     {
         let start = span.start;
         let lent = span.level.number();
-        let free = self.node.release(&mut self.spare, 0, 0, span);
+        let merge = self.free.merge_level(lent, start);
+        let free = self.node.release(&mut self.spare, 0, 0, span, merge);
         join_counts(&mut self.counts, free, lent);
         self.free.join(free, start, lent);
         part(start_of_holder(free, start), free)

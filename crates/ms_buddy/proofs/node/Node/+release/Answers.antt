@@ -1,155 +1,118 @@
--- The leaf goes from the half where it starts, and the other half stays; two free halves merge.
+-- The leaf goes from the half where it starts, and the other half stays.
 use Rattle.std.proofs.Common.{rules, arith, sym, ap, ◌∙◌}
 use Rattle.ms_buddy.specs.Leaves.{without_leaf}
-use Rattle.ms_buddy.proofs.TreeHalvesLemmas.{lower_place, upper_place, size_of-halves, size_of-some}
+use Rattle.ms_buddy.proofs.TreeHalvesLemmas.{lower_place, upper_place, size_of-some}
 use Rattle.ms_buddy.proofs.SplitLemmas.{at_split, lent_part_lies_in, lower_lent, upper_lent, without_acts}
 use Rattle.ms_buddy.proofs.SplitLemmas.{lower_changed, upper_changed, lower_found, upper_found}
-use Rattle.ms_buddy.proofs.CountLemmas.{leaf_parted, lower_parted_at, upper_parted_at}
-use Rattle.ms_buddy.proofs.MergeLemmas.{lower_merged, upper_merged, whole_found}
+use Rattle.ms_buddy.proofs.BuddyLemmas.{lower_apart, lower_not_free, still_split, still_split_beside, upper_apart, upper_not_free}
+use Rattle.ms_buddy.proofs.CountLemmas.{lower_parted_at, upper_parted_at}
 use Rattle.ms_buddy.proofs.node.Node.+release.Goals as goal
 
 pub release-requires : goal.release-requires
 release-requires g t c κs within =
     let s = at_split _ c.args.start _ _ _ _ _ _ c.in-Split.is c.requires.tree c.half_of.ensures.size in
-    let value = c.deref_mut-then-not-is_free_half.ensures.value in
-    (omega (arith, s.low), (search rules, (rw value s.halves.low_tree, (lower_place _ _ c.requires.place s.low, rw value (lower_lent _ _ _ _ _ _ s.halves c.if-span-middle.true (rw s.lent at c.requires.lent))))))
+    let apart = rw s.free at (c.requires.apart (omega (arith, c.if-level-merge.false))) in
+    let value = c.deref_mut.ensures.value in (
+      omega (arith, s.low),
+      (
+        search rules,
+        (
+          rw value s.halves.low_tree,
+          (
+            lower_place _ _ c.requires.place s.low,
+            (
+              rw value (lower_lent _ _ _ _ _ _ s.halves c.if-span-middle.true (rw s.lent at c.requires.lent)),
+              (c.requires.deep, λ deeper. rw value (lower_apart c.args.level c.args.start c.args.merge c.args.span c.in-Split.lower.value c.in-Split.upper.value apart)),
+            ),
+          ),
+        ),
+      ),
+    )
 
-pub release-free-requires : goal.release-free-requires
-release-free-requires g t c κs within =
+pub release-requires-else-span-middle : goal.release-requires-else-span-middle
+release-requires-else-span-middle g t c κs within =
     let s = at_split _ c.args.start _ _ _ _ _ _ c.in-Split.is c.requires.tree c.half_of.ensures.size in
-    let value = c.deref_mut-then-span-middle.ensures.value in
-    (omega (arith, s.low), (search rules, (rw value s.halves.low_tree, (lower_place _ _ c.requires.place s.low, rw value (lower_lent _ _ _ _ _ _ s.halves c.if-span-middle.true (rw s.lent at c.requires.lent))))))
+    let apart = rw s.free at (c.requires.apart (omega (arith, c.if-level-merge.false))) in
+    let value = c.deref_mut-else-span-middle.ensures.value in (
+      omega (arith, s.low),
+      (
+        search rules,
+        (
+          rw value s.halves.high_tree,
+          (
+            upper_place _ _ _ c.requires.place s.low (omega (arith, s.halves.size)),
+            (
+              rw value (upper_lent _ _ _ _ _ _ s.halves (omega arith) (rw s.lent at c.requires.lent)),
+              (c.requires.deep, λ deeper. rw value (upper_apart c.args.level c.args.start c.half_of.result c.args.merge c.args.span c.in-Split.lower.value c.in-Split.upper.value s.halves.size apart)),
+            ),
+          ),
+        ),
+      ),
+    )
 
-pub release-requires-then-not-is_free_half-2 : goal.release-requires-then-not-is_free_half-2
-release-requires-then-not-is_free_half-2 g t c κs within =
+pub returns-then-span-middle-clause-tree : goal.returns-then-span-middle-clause-tree
+returns-then-span-middle-clause-tree g t c =
     let s = at_split _ c.args.start _ _ _ _ _ _ c.in-Split.is c.requires.tree c.half_of.ensures.size in
-    let value = c.deref_mut-then-not-is_free_half-2.ensures.value in
-    (omega (arith, s.low), (search rules, (rw value s.halves.high_tree, (upper_place _ _ _ c.requires.place s.low (omega (arith, s.halves.size)), rw value (upper_lent _ _ _ _ _ _ s.halves (omega arith) (rw s.lent at c.requires.lent))))))
+    let apart = rw s.free at (c.requires.apart (omega (arith, c.if-level-merge.false))) in
+    let lies = lent_part_lies_in _ _ _ c.args.self.now c.requires.tree c.requires.lent in (
+      s.low,
+      still_split c.args.level c.args.merge c.release.result _ _ (omega (arith, c.if-level-merge.false)) c.release.ensures.kept c.release.ensures.whole
+          (λ e. upper_not_free c.args.span _ _ _ c.in-Split.lower.value c.in-Split.upper.value c.requires.place s.low
+          s.halves.size lies.from c.if-span-middle.true (rw e at apart)),
+      c.release.ensures.tree,
+      s.halves.high_tree,
+    )
 
-pub release-free-requires-else-span-middle : goal.release-free-requires-else-span-middle
-release-free-requires-else-span-middle g t c κs within =
+pub returns-else-span-middle-clause-tree : goal.returns-else-span-middle-clause-tree
+returns-else-span-middle-clause-tree g t c =
     let s = at_split _ c.args.start _ _ _ _ _ _ c.in-Split.is c.requires.tree c.half_of.ensures.size in
-    let value = c.deref_mut-else-span-middle-2.ensures.value in
-    (omega (arith, s.low), (search rules, (rw value s.halves.high_tree, (upper_place _ _ _ c.requires.place s.low (omega (arith, s.halves.size)), rw value (upper_lent _ _ _ _ _ _ s.halves (omega arith) (rw s.lent at c.requires.lent))))))
+    let apart = rw s.free at (c.requires.apart (omega (arith, c.if-level-merge.false))) in
+    let lies = lent_part_lies_in _ _ _ c.args.self.now c.requires.tree c.requires.lent in (
+      s.low,
+      still_split_beside c.args.level c.args.merge c.release-else-span-middle.result _ _ (omega (arith, c.if-level-merge.false))
+          c.release-else-span-middle.ensures.kept c.release-else-span-middle.ensures.whole
+          (λ e. lower_not_free c.args.span _ _ _ c.in-Split.lower.value c.in-Split.upper.value c.requires.place s.low
+          s.halves.size (omega arith) (omega (arith, lies.to, size_of-some c.args.span.level)) (rw e at apart)),
+      s.halves.low_tree,
+      c.release-else-span-middle.ensures.tree,
+    )
 
-pub returns-then-not-is_free_half-clause-lent : goal.returns-then-not-is_free_half-clause-lent
-returns-then-not-is_free_half-clause-lent g t c =
+pub returns-then-span-middle-clause-lent : goal.returns-then-span-middle-clause-lent
+returns-then-span-middle-clause-lent g t c =
     let s = at_split _ c.args.start _ _ _ _ _ _ c.in-Split.is c.requires.tree c.half_of.ensures.size in
-    rw (c.is_free_half.ensures.same, c.deref_mut.ensures.value)
-    (lower_changed _ _ _ _ c.in-Split.upper.value c.release.new.self _ _ (without_acts c.args.span) s.halves
-    c.if-span-middle.true (rw c.deref_mut-then-not-is_free_half.ensures.value at c.release.ensures.lent)
-    ∙ ap (without_leaf c.args.span) (sym s.lent))
+    lower_changed _ _ _ _ c.in-Split.upper.value c.release.new.self _ _ (without_acts c.args.span) s.halves
+    c.if-span-middle.true (rw c.deref_mut.ensures.value at c.release.ensures.lent)
+    ∙ ap (without_leaf c.args.span) (sym s.lent)
 
-pub returns-then-not-is_free_half-clause-free : goal.returns-then-not-is_free_half-clause-free
-returns-then-not-is_free_half-clause-free g t c =
-    rw (c.is_free_half.ensures.same, c.deref_mut.ensures.value)
-    (lower_found _ _ _ c.release.new.self c.in-Split.upper.value _ c.release.ensures.free)
+pub returns-then-span-middle-clause-free : goal.returns-then-span-middle-clause-free
+returns-then-span-middle-clause-free g t c =
+    lower_found _ _ _ c.release.new.self c.in-Split.upper.value _ c.release.ensures.free
 
-pub returns-then-not-is_free_half-clause-merged : goal.returns-then-not-is_free_half-clause-merged
-returns-then-not-is_free_half-clause-merged g t c =
+pub returns-then-span-middle-clause-merged : goal.returns-then-span-middle-clause-merged
+returns-then-span-middle-clause-merged g t c =
     let s = at_split _ c.args.start _ _ _ _ _ _ c.in-Split.is c.requires.tree c.half_of.ensures.size in
-    rw (c.is_free_half.ensures.same, c.deref_mut.ensures.value, s.free)
+    rw s.free
     (lower_parted_at c.args.level c.args.start c.release.new.self c.in-Split.lower.value c.in-Split.upper.value _ _
-    (rw c.deref_mut-then-not-is_free_half.ensures.value at c.release.ensures.merged))
+    (rw c.deref_mut.ensures.value at c.release.ensures.merged))
 
-pub returns-then-free-level-clause-lent : goal.returns-then-free-level-clause-lent
-returns-then-free-level-clause-lent g t c =
+pub returns-else-span-middle-clause-lent : goal.returns-else-span-middle-clause-lent
+returns-else-span-middle-clause-lent g t c =
     let s = at_split _ c.args.start _ _ _ _ _ _ c.in-Split.is c.requires.tree c.half_of.ensures.size in
-    rw (c.is_free_half.ensures.same, c.deref_mut.ensures.value)
-    (lower_changed _ _ _ _ c.in-Split.upper.value c.release-free.new.self _ _ (without_acts c.args.span) s.halves
-    c.if-span-middle.true (rw c.deref_mut-then-span-middle.ensures.value at c.release-free.ensures.lent)
-    ∙ ap (without_leaf c.args.span) (sym s.lent))
+    upper_changed _ _ _ c.in-Split.lower.value _ c.release-else-span-middle.new.self _ _ (without_acts c.args.span)
+    s.halves (omega arith)
+    (rw c.deref_mut-else-span-middle.ensures.value at c.release-else-span-middle.ensures.lent)
+    ∙ ap (without_leaf c.args.span) (sym s.lent)
 
-pub returns-then-free-level-clause-free : goal.returns-then-free-level-clause-free
-returns-then-free-level-clause-free g t c =
-    rw (c.is_free_half.ensures.same, c.deref_mut.ensures.value)
-    (lower_found _ _ _ c.release-free.new.self c.in-Split.upper.value _ c.release-free.ensures.free)
-
-pub returns-then-free-level-clause-merged : goal.returns-then-free-level-clause-merged
-returns-then-free-level-clause-merged g t c =
+pub returns-else-span-middle-clause-free : goal.returns-else-span-middle-clause-free
+returns-else-span-middle-clause-free g t c =
     let s = at_split _ c.args.start _ _ _ _ _ _ c.in-Split.is c.requires.tree c.half_of.ensures.size in
-    rw (c.is_free_half.ensures.same, c.deref_mut.ensures.value, s.free)
-    (lower_parted_at c.args.level c.args.start c.release-free.new.self c.in-Split.lower.value c.in-Split.upper.value _ _
-    (rw c.deref_mut-then-span-middle.ensures.value at c.release-free.ensures.merged))
+    upper_found _ _ _ _ c.in-Split.lower.value c.release-else-span-middle.new.self _ s.halves.low_tree s.halves.size
+    (omega arith) c.release-else-span-middle.ensures.free
 
-pub returns-then-not-is_free_half-2-clause-lent : goal.returns-then-not-is_free_half-2-clause-lent
-returns-then-not-is_free_half-2-clause-lent g t c =
+pub returns-else-span-middle-clause-merged : goal.returns-else-span-middle-clause-merged
+returns-else-span-middle-clause-merged g t c =
     let s = at_split _ c.args.start _ _ _ _ _ _ c.in-Split.is c.requires.tree c.half_of.ensures.size in
-    rw (c.is_free_half-else-span-middle.ensures.same, c.deref_mut-else-span-middle.ensures.value)
-    (upper_changed _ _ _ c.in-Split.lower.value _ c.release-then-not-is_free_half-2.new.self _ _ (without_acts c.args.span) s.halves
-    (omega arith) (rw c.deref_mut-then-not-is_free_half-2.ensures.value at c.release-then-not-is_free_half-2.ensures.lent)
-    ∙ ap (without_leaf c.args.span) (sym s.lent))
-
-pub returns-then-not-is_free_half-2-clause-free : goal.returns-then-not-is_free_half-2-clause-free
-returns-then-not-is_free_half-2-clause-free g t c =
-    let s = at_split _ c.args.start _ _ _ _ _ _ c.in-Split.is c.requires.tree c.half_of.ensures.size in
-    rw (c.is_free_half-else-span-middle.ensures.same, c.deref_mut-else-span-middle.ensures.value)
-    (upper_found _ _ _ _ c.in-Split.lower.value c.release-then-not-is_free_half-2.new.self _ s.halves.low_tree s.halves.size (omega arith)
-    c.release-then-not-is_free_half-2.ensures.free)
-
-pub returns-then-not-is_free_half-2-clause-merged : goal.returns-then-not-is_free_half-2-clause-merged
-returns-then-not-is_free_half-2-clause-merged g t c =
-    let s = at_split _ c.args.start _ _ _ _ _ _ c.in-Split.is c.requires.tree c.half_of.ensures.size in
-    rw (c.is_free_half-else-span-middle.ensures.same, c.deref_mut-else-span-middle.ensures.value, s.free)
-    (upper_parted_at c.args.level c.args.start c.half_of.result c.in-Split.lower.value c.release-then-not-is_free_half-2.new.self
-    c.in-Split.upper.value _ _ s.halves.size (rw c.deref_mut-then-not-is_free_half-2.ensures.value at c.release-then-not-is_free_half-2.ensures.merged))
-
-pub returns-then-free-level-2-clause-lent : goal.returns-then-free-level-2-clause-lent
-returns-then-free-level-2-clause-lent g t c =
-    let s = at_split _ c.args.start _ _ _ _ _ _ c.in-Split.is c.requires.tree c.half_of.ensures.size in
-    rw (c.is_free_half-else-span-middle.ensures.same, c.deref_mut-else-span-middle.ensures.value)
-    (upper_changed _ _ _ c.in-Split.lower.value _ c.release-free-else-span-middle.new.self _ _ (without_acts c.args.span) s.halves
-    (omega arith) (rw c.deref_mut-else-span-middle-2.ensures.value at c.release-free-else-span-middle.ensures.lent)
-    ∙ ap (without_leaf c.args.span) (sym s.lent))
-
-pub returns-then-free-level-2-clause-free : goal.returns-then-free-level-2-clause-free
-returns-then-free-level-2-clause-free g t c =
-    let s = at_split _ c.args.start _ _ _ _ _ _ c.in-Split.is c.requires.tree c.half_of.ensures.size in
-    rw (c.is_free_half-else-span-middle.ensures.same, c.deref_mut-else-span-middle.ensures.value)
-    (upper_found _ _ _ _ c.in-Split.lower.value c.release-free-else-span-middle.new.self _ s.halves.low_tree s.halves.size (omega arith)
-    c.release-free-else-span-middle.ensures.free)
-
-pub returns-then-free-level-2-clause-merged : goal.returns-then-free-level-2-clause-merged
-returns-then-free-level-2-clause-merged g t c =
-    let s = at_split _ c.args.start _ _ _ _ _ _ c.in-Split.is c.requires.tree c.half_of.ensures.size in
-    rw (c.is_free_half-else-span-middle.ensures.same, c.deref_mut-else-span-middle.ensures.value, s.free)
-    (upper_parted_at c.args.level c.args.start c.half_of.result c.in-Split.lower.value c.release-free-else-span-middle.new.self
-    c.in-Split.upper.value _ _ s.halves.size (rw c.deref_mut-else-span-middle-2.ensures.value at c.release-free-else-span-middle.ensures.merged))
-
-pub returns-else-free-level-clause-free : goal.returns-else-free-level-clause-free
-returns-else-free-level-clause-free g t c =
-    rw c.replace.ensures.after
-    (whole_found c.args.span _ _ c.args.self.now c.requires.tree c.requires.place c.requires.lent)
-
-pub returns-else-free-level-2-clause-free : goal.returns-else-free-level-2-clause-free
-returns-else-free-level-2-clause-free g t c =
-    rw c.replace-else-span-middle.ensures.after
-    (whole_found c.args.span _ _ c.args.self.now c.requires.tree c.requires.place c.requires.lent)
-
-pub returns-else-free-level-clause-merged : goal.returns-else-free-level-clause-merged
-returns-else-free-level-clause-merged g t c =
-    let s = at_split _ c.args.start _ _ _ _ _ _ c.in-Split.is c.requires.tree c.half_of.ensures.size in
-    rw c.replace.ensures.after (
-    lower_merged c.args.span _ _ _ _ _ c.in-Split.lower.value c.in-Split.upper.value c.release-free.new.self s c.requires.tree
-    c.requires.place c.requires.lent c.if-span-middle.true
-    (rw c.deref_mut.ensures.value at (sym c.is_free_half.ensures.free ∙ c.if-not-is_free_half.false))
-    c.release-free.ensures.whole (omega (arith, c.release-free.ensures.below, c.if-free-level.false))
-    (rw c.deref_mut-then-span-middle.ensures.value at c.release-free.ensures.merged))
-
-pub returns-else-free-level-2-clause-merged : goal.returns-else-free-level-2-clause-merged
-returns-else-free-level-2-clause-merged g t c =
-    let s = at_split _ c.args.start _ _ _ _ _ _ c.in-Split.is c.requires.tree c.half_of.ensures.size in
-    let lies = lent_part_lies_in _ _ _ c.args.self.now c.requires.tree c.requires.lent in
-    rw c.replace-else-span-middle.ensures.after (
-    upper_merged c.args.span _ _ _ _ _ c.in-Split.lower.value c.in-Split.upper.value c.release-free-else-span-middle.new.self s
-    c.requires.tree c.requires.place c.requires.lent (omega arith)
-    (omega (arith, lies.to, s.halves.size, size_of-halves c.args.level s.low, size_of-some c.args.span.level))
-    (rw c.deref_mut-else-span-middle.ensures.value at
-    (sym c.is_free_half-else-span-middle.ensures.free ∙ c.if-not-is_free_half-2.false))
-    c.release-free-else-span-middle.ensures.whole
-    (omega (arith, c.release-free-else-span-middle.ensures.below, c.if-free-level-2.false))
-    (rw c.deref_mut-else-span-middle-2.ensures.value at c.release-free-else-span-middle.ensures.merged))
-
-pub returns-in-Lent-clause-merged : goal.returns-in-Lent-clause-merged
-returns-in-Lent-clause-merged g t c =
-    leaf_parted c.args.span c.args.level c.args.start _ _ c.args.self.now c.in-Lent.is c.requires.place c.requires.lent
+    rw s.free
+    (upper_parted_at c.args.level c.args.start c.half_of.result c.in-Split.lower.value
+    c.release-else-span-middle.new.self c.in-Split.upper.value _ _ s.halves.size
+    (rw c.deref_mut-else-span-middle.ensures.value at c.release-else-span-middle.ensures.merged))

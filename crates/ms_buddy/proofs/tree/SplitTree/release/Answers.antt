@@ -15,6 +15,15 @@ returns-clause-free g c =
     ∙ ap Some (sym (alike c.part.result (holder_of c.release-free.result c.args.span)
     (c.part.ensures.start ∙ c.start_of_holder.ensures.start) c.part.ensures.level)))
 
+pub merge_level-merge-requires-clause-in_root : goal.merge_level-merge-requires-clause-in_root
+merge_level-merge-requires-clause-in_root g c =
+    starts_in_root c.args.span c.self.inside.node c.self.invariant.tree
+    (subst (λ (lent : List LentLeaf). IsTrue (is_lent lent c.args.span)) (sym c.self.view_is) c.requires)
+
+pub release-free-requires-clause-apart : goal.release-free-requires-clause-apart
+release-free-requires-clause-apart g c above =
+    sym (c.self.invariant.marked _) ∙ c.merge_level-merge.ensures.apart above
+
 pub join_counts-requires-clause-some : goal.join_counts-requires-clause-some
 join_counts-requires-clause-some g c =
     rw c.number-lent.ensures.same
