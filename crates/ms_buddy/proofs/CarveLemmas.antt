@@ -2,7 +2,7 @@
 -- its leaf takes its place there. For carving.
 use Rattle.std.proofs.Common.{◌≡◌, ◌<◌, ◌≤◌, ℕ, ◌+◌, Bool, true, false, cond, ◌&&◌, ◌||◌, List, [], ◌∷◌, ◌++◌, refl}
 use Rattle.std.proofs.Common.{sym, ap, subst, ◌∙◌, inl, inr, arith}
-use Rattle.std.specs.Prelude.{nat_le, nat_lt, IsTrue, IsFalse, Result, Ok, Err, IfOk, OnOk}
+use Rattle.std.specs.Prelude.{nat_le, nat_lt, IsTrue, IsFalse}
 use Rattle.std.specs.List.{AllByRecursion, list_any}
 use Rattle.std.proofs.lemmas.List.Folds.{list_any-append}
 use Rattle.std.proofs.lemmas.Bool.Decides.{nat_tests}
@@ -16,7 +16,8 @@ use Rattle.ms_base.proofs.free.PartLemmas.{parts_are_nested_or_apart}
 use Rattle.ms_buddy.specs.declared.node.Node.{Node}
 use Rattle.ms_buddy.specs.declared.node.Node.TheVariants.{Free}
 use Rattle.ms_buddy.specs.declared.node.Lack.{Lack}
-use Rattle.ms_buddy.specs.Carving.{IsPartedFor, refusal_of, told}
+use Rattle.ms_buddy.specs.declared.node.Lack.TheVariants.{Nothing, Room, Memory}
+use Rattle.ms_buddy.specs.Carving.{IfLent, IsPartedFor, told}
 use Rattle.ms_buddy.specs.Counts.{IsParted, holder_of}
 use Rattle.ms_buddy.specs.Leaves.{CarveAnswers, LentLeaf, IsCarveRefusal, is_same, fits_in, span_at, words_of, with_leaf}
 use Rattle.ms_buddy.specs.Tree.{IsInside, IsPlace, MayBeLent, IsTree, lent_in, free_in, lent_in_halves, free_in_halves}
@@ -192,12 +193,20 @@ same_refusal part free other e f OutOfMemory h = (e ∙ h.0, f ∙ h.1)
 same_refusal part free other e f _ h = absurd h
 
 -- So they answer alike what lending the part does.
-pub answers_alike : (part : Span) (free other : List Span) (result : Result ℕ Lack)
+pub answers_alike : (part : Span) (free other : List Span) (lack : Lack)
     → fits_in part other ≡ fits_in part free → list_any (is_same part) other ≡ list_any (is_same part) free
-    → CarveAnswers part free (told part.level result) → CarveAnswers part other (told part.level result)
-answers_alike part free other (Ok level) e f answers = record { room = e ∙ answers.room; refusal = tt }
-answers_alike part free other (Err lack) e f answers =
-    record { room = tt; refusal = same_refusal part free other e f (refusal_of part.level lack) answers.refusal }
+    → CarveAnswers part free (told part.level lack) → CarveAnswers part other (told part.level lack)
+answers_alike part free other Nothing e f answers = record { room = e ∙ answers.room; refusal = tt }
+answers_alike part free other Room e f answers =
+    record { room = tt; refusal = same_refusal part free other e f (NoRoom part.level) answers.refusal }
+answers_alike part free other Memory e f answers =
+    record { room = tt; refusal = same_refusal part free other e f OutOfMemory answers.refusal }
+
+-- What follows from what holds where the part was lent holds there.
+pub if_lent_weaker : {P Q : Type 0} (lack : Lack) → (P → Q) → IfLent lack P → IfLent lack Q
+if_lent_weaker Nothing f p = f p
+if_lent_weaker Room f p = tt
+if_lent_weaker Memory f p = tt
 
 -- A part that may be lent in a node starts in it.
 pub held_by_node : (part : Span) (level start front : ℕ) → MayBeLent level start part front
@@ -207,12 +216,13 @@ held_by_node part level start front may =
 
 -- A free leaf that was parted is the part of its level in which the part starts.
 pub leaf_was_parted : {A : Type 0} (part : Span) (level start owner front : ℕ) (before node : Node A)
-    (result : Result ℕ Lack) → before ≡ Free → MayBeLent level start part front
-    → OnOk result (IsPartedFor level start part owner front node) → IfOk result (λ free. free ≡ level)
-    → IfOk result (λ free. IsParted (free_in level start before) (holder_of free part) part (free_in level start node))
-leaf_was_parted part level start owner front before node (Ok free) e may parted is =
-    rw (e, is, held_by_node part level start front may) parted.parted
-leaf_was_parted part level start owner front before node (Err lack) e may parted is = tt
+    (lack : Lack) → before ≡ Free → MayBeLent level start part front
+    → IfLent lack (IsPartedFor level start part owner front node)
+    → IfLent lack (IsParted (free_in level start before) (holder_of level part) part (free_in level start node))
+leaf_was_parted part level start owner front before node Nothing e may parted =
+    rw (e, held_by_node part level start front may) parted.parted
+leaf_was_parted part level start owner front before node Room e may parted = tt
+leaf_was_parted part level start owner front before node Memory e may parted = tt
 
 -- A leaf takes its place before all that start past it, and after all that start before it.
 leaf_before : (added : LentLeaf) (middle high : ℕ) (ys : List LentLeaf) → added.start < middle

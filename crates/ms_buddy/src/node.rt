@@ -17,7 +17,7 @@ ghost use Rattle.ms_base.specs.declared.sizes.TheConstants.{ROOT_WORDS};
 ghost use Rattle.ms_base.specs.Level.{size_of};
 ghost use Rattle.ms_buddy.specs.Leaves.{CarveAnswers, IsLeafAt, can_enlarge, covers, is_lent, leaf_of};
 ghost use Rattle.ms_buddy.specs.Leaves.{with_front, with_leaf, with_parent, without_leaf};
-ghost use Rattle.ms_buddy.specs.Carving.{IsPartedFor, told};
+ghost use Rattle.ms_buddy.specs.Carving.{IfLacking, IfLent, IsPartedFor, told};
 ghost use Rattle.ms_buddy.specs.Counts.{IsApart, IsParted, follower_of, holder_of};
 ghost use Rattle.ms_buddy.specs.Tree.{IsPlace, IsSplitInTwo, IsTree, MayBeLent, MayHaveFront, is_free};
 ghost use Rattle.ms_buddy.specs.Tree.{lent_in, free_in, lent_in_halves, free_in_halves};
@@ -60,10 +60,12 @@ pub(crate) struct Lending {
     pub(crate) front: u64,
 }
 
-/// Why a node does not lend a part: a step's answer of one byte, which `SplitTree` tells as a
-/// refusal.
+/// What a node lacks to lend a part: an answer of one byte, so that the walk down is a loop, which
+/// `SplitTree` tells as a refusal.
 #[derive(Clone, Copy)]
 pub(crate) enum Lack {
+    /// The part is lent.
+    Nothing,
     /// The part lies in no free leaf.
     Room,
     /// The allocator refused a box.
@@ -350,8 +352,8 @@ impl<A: Allocator + Clone> Node<A> {
         }
     }
 
-    /// Lends that part of a free leaf, and answers the leaf's level, or leaves it free. Out of line, since
-    /// what is let go here would keep the walk to it from being a loop.
+    /// Lends that part of a free leaf, or leaves it free. Out of line, since what is let go here would
+    /// keep the walk to it from being a loop.
     #[inline(never)]
     fn part_whole(
         &mut self,
@@ -360,25 +362,24 @@ impl<A: Allocator + Clone> Node<A> {
         level: u8,
         start: u64,
         lending: &Lending,
-    ) -> Result<u8, Lack>
+    ) -> Lack
         requires { MayBeLent level start lending.now.span lending.now.front }
-        ensures parted { OnOk result (IsPartedFor level start lending.now.span lending.now.owner
+        ensures parted { IfLent result (IsPartedFor level start lending.now.span lending.now.owner
             lending.now.front self.new) }
-        ensures level { IfOk result (λ free. free ≡ level) }
-        ensures memory { IfErr result (λ lack. lack ≡ Lack.Memory) }
-        ensures deeper { OnErr result (level < lending.now.span.level) }
-        ensures unchanged { OnErr result (self.new ≡ Node.Free) }
+        ensures memory { IfLacking result (result ≡ Lack.Memory) }
+        ensures deeper { IfLacking result (level < lending.now.span.level) }
+        ensures unchanged { IfLacking result (self.new ≡ Node.Free) }
     {
         match self.part_free(spare, alloc, level, start, lending) {
-            Ok(()) => Ok(level),
+            Ok(()) => Lack::Nothing,
             Err(_) => {
                 *self = Node::Free;
-                Err(Lack::Memory)
+                Lack::Memory
             }
         }
     }
 
-    /// Lends that part, where it lies in one free leaf, and answers that leaf's level.
+    /// Lends that part, where it lies in one free leaf, and tells that leaf's level.
     pub(crate) fn carve(
         &mut self,
         spare: &mut Spare<A>,
@@ -386,32 +387,36 @@ impl<A: Allocator + Clone> Node<A> {
         level: u8,
         start: u64,
         lending: &Lending,
-    ) -> Result<u8, Lack>
+        free: &mut u8,
+    ) -> Lack
         requires tree { IsTree level self.old }
         requires part { MayBeLent level start lending.now.span lending.now.front }
         ensures tree { IsTree level self.new }
-        ensures split { OnOk result (is_free self.new ≡ false) }
-        ensures lent { OnOk result (lent_in level start self.new
+        ensures split { IfLent result (is_free self.new ≡ false) }
+        ensures lent { IfLent result (lent_in level start self.new
             ≡ with_leaf (leaf_of lending.now.span lending.now.owner lending.now.front)
             (lent_in level start self.old)) }
         ensures answers { CarveAnswers lending.now.span (free_in level start self.old)
             (told lending.now.span.level result) }
-        ensures parted { IfOk result (λ free. IsParted (free_in level start self.old)
-            (holder_of free lending.now.span) lending.now.span (free_in level start self.new)) }
-        ensures unchanged { OnErr result (self.new ≡ self.old) }
+        ensures parted { IfLent result (IsParted (free_in level start self.old)
+            (holder_of free.new lending.now.span) lending.now.span (free_in level start self.new)) }
+        ensures unchanged { IfLacking result (self.new ≡ self.old) }
     {
         match self {
-            Node::Free => self.part_whole(spare, alloc, level, start, lending),
-            Node::Lent { .. } => Err(Lack::Room),
+            Node::Free => {
+                *free = level;
+                self.part_whole(spare, alloc, level, start, lending)
+            }
+            Node::Lent { .. } => Lack::Room,
             Node::Split(lower, upper) => {
                 if lending.span.level.number() == level {
-                    return Err(Lack::Room);
+                    return Lack::Room;
                 }
                 let middle = start + half_of(level);
                 if lending.span.start < middle {
-                    lower.carve(spare, alloc, level + 1, start, lending)
+                    lower.carve(spare, alloc, level + 1, start, lending, free)
                 } else {
-                    upper.carve(spare, alloc, level + 1, middle, lending)
+                    upper.carve(spare, alloc, level + 1, middle, lending, free)
                 }
             }
         }

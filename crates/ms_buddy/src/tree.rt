@@ -27,7 +27,6 @@ ghost use Rattle.std.specs.Prelude.{IsOk, IfOk, OnOk, IfErr, OnErr};
 ghost use Rattle.std.specs.List.{find, list_any};
 ghost use Rattle.ms_base.specs.declared.sizes.TheConstants.{ROOT_WORDS};
 ghost use Rattle.ms_base.specs.Level.{size_of};
-ghost use Rattle.ms_buddy.specs.Carving.{refusal_of};
 ghost use Rattle.ms_buddy.specs.Counts.{count_at_level};
 ghost use Rattle.ms_buddy.specs.Leaves.{AreLeaves, IsCarveRefusal, IsLeafAt, can_enlarge, covers, fits_in, free_of};
 ghost use Rattle.ms_buddy.specs.Leaves.{has_level, is_lent, is_of, is_of_from, leaf_of, parent_of, root, span_at};
@@ -240,23 +239,18 @@ impl<A: Allocator + Clone> SplitTree<A> {
             owner,
             front,
         };
-        match self.node.carve(&mut self.spare, &alloc, 0, 0, &lending) {
-            Ok(free) => {
+        let mut free = 0;
+        match self
+            .node
+            .carve(&mut self.spare, &alloc, 0, 0, &lending, &mut free)
+        {
+            Lack::Nothing => {
                 part_counts(&mut self.counts, free, lent);
                 self.free.part(free, at, lent);
                 Ok(())
             }
-            Err(lack) => Err(tell(lack, level)),
+            Lack::Room => Err(Refusal::NoRoom { level }),
+            Lack::Memory => Err(Refusal::OutOfMemory),
         }
-    }
-}
-
-/// Tells what is lacking as the refusal that callers see.
-fn tell(lack: Lack, level: Level) -> Refusal
-    ensures { result ≡ refusal_of level lack }
-{
-    match lack {
-        Lack::Room => Refusal::NoRoom { level },
-        Lack::Memory => Refusal::OutOfMemory,
     }
 }

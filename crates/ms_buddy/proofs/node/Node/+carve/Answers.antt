@@ -1,11 +1,10 @@
 -- The part is carved in the half where it lies, and the other half stays.
 use Rattle.std.proofs.Common.{◌<◌, rules, arith, refl, sym, ap, ◌∙◌}
-use Rattle.std.proofs.lemmas.Result.{IfOk-weaker, on_ok_weaker}
 use Rattle.ms_buddy.specs.Leaves.{fits_in, is_same, leaf_of, with_leaf}
 use Rattle.std.specs.List.{list_any}
 use Rattle.ms_buddy.proofs.SplitLemmas.{at_split}
 use Rattle.ms_buddy.proofs.CarveLemmas.{answers_alike, lower_may, upper_may, whole_fits_not, lower_fits, upper_fits}
-use Rattle.ms_buddy.proofs.CarveLemmas.{leaf_was_parted, lower_is_free, upper_is_free, lower_added, upper_added}
+use Rattle.ms_buddy.proofs.CarveLemmas.{if_lent_weaker, leaf_was_parted, lower_is_free, upper_is_free, lower_added, upper_added}
 use Rattle.ms_buddy.proofs.CountLemmas.{lower_parted_at, upper_parted_at}
 use Rattle.ms_buddy.proofs.node.Node.+carve.Goals as goal
 
@@ -34,7 +33,7 @@ carve-requires-else-lending-middle g t c κs within =
 pub returns-then-lending-middle-clause-lent : goal.returns-then-lending-middle-clause-lent
 returns-then-lending-middle-clause-lent g t c =
     let s = at_split _ c.args.start _ _ _ _ _ _ c.in-Split.is c.requires.tree c.half_of.ensures.size in
-    on_ok_weaker c.carve.result
+    if_lent_weaker c.carve.result
     (λ added. lower_added (leaf_of c.args.lending.now.span c.args.lending.now.owner c.args.lending.now.front) _ _ _
     c.in-Split.lower.value c.in-Split.upper.value c.carve.new.self s.halves c.if-lending-middle.true
     (rw c.deref_mut.ensures.value at added) ∙ ap (with_leaf _) (sym s.lent)) c.carve.ensures.lent
@@ -50,14 +49,14 @@ returns-then-lending-middle-clause-answers g t c =
 pub returns-then-lending-middle-clause-parted : goal.returns-then-lending-middle-clause-parted
 returns-then-lending-middle-clause-parted g t c =
     let s = at_split _ c.args.start _ _ _ _ _ _ c.in-Split.is c.requires.tree c.half_of.ensures.size in
-    IfOk-weaker c.carve.result _ _
-    (λ free parted. rw s.free (lower_parted_at c.args.level c.args.start c.in-Split.lower.value c.carve.new.self
+    if_lent_weaker c.carve.result
+    (λ parted. rw s.free (lower_parted_at c.args.level c.args.start c.in-Split.lower.value c.carve.new.self
     c.in-Split.upper.value _ _ (rw c.deref_mut.ensures.value at parted))) c.carve.ensures.parted
 
 pub returns-else-lending-middle-clause-lent : goal.returns-else-lending-middle-clause-lent
 returns-else-lending-middle-clause-lent g t c =
     let s = at_split _ c.args.start _ _ _ _ _ _ c.in-Split.is c.requires.tree c.half_of.ensures.size in
-    on_ok_weaker c.carve-else-lending-middle.result
+    if_lent_weaker c.carve-else-lending-middle.result
     (λ added. upper_added (leaf_of c.args.lending.now.span c.args.lending.now.owner c.args.lending.now.front) _ _ _
     c.in-Split.lower.value c.in-Split.upper.value c.carve-else-lending-middle.new.self s.halves (omega arith)
     (rw c.deref_mut-else-lending-middle.ensures.value at added) ∙ ap (with_leaf _) (sym s.lent))
@@ -74,8 +73,8 @@ returns-else-lending-middle-clause-answers g t c =
 pub returns-else-lending-middle-clause-parted : goal.returns-else-lending-middle-clause-parted
 returns-else-lending-middle-clause-parted g t c =
     let s = at_split _ c.args.start _ _ _ _ _ _ c.in-Split.is c.requires.tree c.half_of.ensures.size in
-    IfOk-weaker c.carve-else-lending-middle.result _ _
-    (λ free parted. rw s.free (upper_parted_at c.args.level c.args.start c.half_of.result c.in-Split.lower.value
+    if_lent_weaker c.carve-else-lending-middle.result
+    (λ parted. rw s.free (upper_parted_at c.args.level c.args.start c.half_of.result c.in-Split.lower.value
     c.in-Split.upper.value c.carve-else-lending-middle.new.self _ _ s.halves.size
     (rw c.deref_mut-else-lending-middle.ensures.value at parted))) c.carve-else-lending-middle.ensures.parted
 
@@ -83,4 +82,3 @@ pub returns-in-Free-clause-parted : goal.returns-in-Free-clause-parted
 returns-in-Free-clause-parted g t c =
     leaf_was_parted c.args.lending.now.span c.args.level c.args.start c.args.lending.now.owner c.args.lending.now.front
     c.args.self.now c.part_whole.new.self c.part_whole.result c.in-Free.is c.requires.part c.part_whole.ensures.parted
-    c.part_whole.ensures.level
