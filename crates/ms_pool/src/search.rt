@@ -10,7 +10,7 @@
 //! does, the lower root of a new node is taken. Only levels are asked of which the index of `trees`
 //! tells a free part, and for committed words only those whose parts may have them (`levels_for`).
 //! The index tells the roots too, `lowest_free` alone decides whether the mask of granules has to
-//! be asked, and `lowest_in_root` alone looks for leaves, down one path of a tree. So what a search
+//! be asked, and `lowest_in_root` alone looks for leaves, by the bits of one root. So what a search
 //! costs doesn't grow with the chunks that are lent or free, but under policy none with the larger
 //! free parts of a level. Nothing here takes memory. After HotSpot's chunkManager.cpp; the order is
 //! this project's choice.
