@@ -16,11 +16,12 @@
 //!          |                  free, 8                  |        free, 8        | ...
 //!          |                             free, 0                                   |
 //!
-//! Each split keeps, as bits, the levels of the free leaves below it, so the lowest free leaf of a
-//! level is found down one path. Each call but `free_leaves` goes down one path of 13 nodes at
-//! most, `next_free` down two. Only `carve` takes memory, two boxes for each level that it splits:
-//! those of halves that merged first, which `release` and `enlarge` keep, for one carve at most. All
-//! others they give back; the last go back with the tree.
+//! Beside the nodes a bit for each part of the root tells whether it is a free leaf, and so where the
+//! lowest one of a level is, and how far a leaf merges that is released. `free_leaves` goes through
+//! the nodes; each other call goes down one path of 13 at most, or looks at the bits and counts alone.
+//! Only `carve` takes memory, two boxes for each level that it splits: those of halves that merged
+//! first, which `release` and `enlarge` keep, for one carve at most. All others they give back; the
+//! last go back with the tree.
 //! After RootChunkArea in HotSpot's rootChunkArea.hpp, which has a list in place of the tree.
 ghost use Rattle.std.specs.Prelude.{◌≡◌, ℕ, ◌+◌, ◌*◌, ◌%◌, ◌<◌, ◌≤◌, ◌≢◌, ◌↔◌, [], ◌∷◌, Some, Err, IsTrue, IsFalse};
 ghost use Rattle.std.specs.Prelude.{IsOk, IfOk, OnOk, IfErr, OnErr};
@@ -128,16 +129,16 @@ impl<A: Allocator> SplitTree<A> {
         self.counts[level.number() as usize]
     }
 
-    /// Finds the lowest free leaf of a level. Goes down one path, since each split keeps the levels
-    /// of the free leaves below it. Takes no memory. This project's choice.
+    /// Finds the lowest free leaf of a level, by the bits of the free leaves alone. Takes no memory.
+    /// This project's choice.
     pub fn lowest_free(&self, level: Level) -> Option<Span>
         ensures { result ≡ find (is_of level) (free_of self.now) }
     {
         self.next_free(level, 0)
     }
 
-    /// Finds the lowest free leaf of a level that starts at an offset in words or past it. Goes
-    /// down one path to the offset, and one from it. Takes no memory. This project's choice.
+    /// Finds the lowest free leaf of a level that starts at an offset in words or past it, by the bits
+    /// of the free leaves alone. Takes no memory. This project's choice.
     pub fn next_free(&self, level: Level, from: u64) -> Option<Span>
         ensures { result ≡ find (is_of_from level from) (free_of self.now) }
     {
