@@ -65,7 +65,7 @@ impl<A: Allocator> Model for SplitTree<A> {
 
     ghost view = { λ t. lent_in 0 0 t.node };
 
-    ghost invariant = { λ t. IsKeptTree t.node t.counts t.free.words };
+    ghost invariant = { λ t. IsKeptTree t.node t.counts t.free.words t.free.filled };
 }
 
 impl<A: Allocator> SplitTree<A> {
