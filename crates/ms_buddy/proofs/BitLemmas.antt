@@ -9,7 +9,7 @@ use Rattle.std.proofs.lemmas.List.{get_or-set_same, get_or-set_other}
 use Rattle.std.proofs.lemmas.Nat.{shr_le, shr-shr}
 use Rattle.std.proofs.lemmas.Nat.Bits.{bit_at-zero, bit_at-trailing_zeros, bit_at_above, bit_at_set_same}
 use Rattle.std.proofs.lemmas.Nat.Bits.{bit_at_set_other, bit_at_clear_same, bit_at_clear_other}
-use Rattle.ms_buddy.specs.FreeBits.{IsLowestBit, IsNextSet, bit_of}
+use Rattle.ms_buddy.specs.FreeBits.{IsFilled, IsLowestBit, IsNextSet, bit_of}
 
 is_same_number : (a b : ℕ) → a ≡ b → (a == b) ≡ true
 is_same_number a b e = grind (arith, nat_tests)
@@ -137,3 +137,74 @@ lowest_later words from end at place low lowest before below = record {
         ∙ lowest.below (number % 64) (omega (arith, past, under, lowest.high)) (omega (arith, past, under, lowest.high))
   ];
 }
+
+-- A word has a bit exactly where the second row says so: with no bit at all, with one more, and with one less.
+pub none_filled : (n m : ℕ) → IsFilled (replicate n 0) (replicate m 0)
+none_filled n m row = no_bit m row ∙ sym (ap (λ (w : ℕ). cond (w == 0) 0 1) (zero_word n row))
+
+abbrev one_if_some : ℕ → ℕ
+one_if_some w = cond (w == 0) 0 1
+
+is_some : (w : ℕ) → 0 < w → one_if_some w ≡ 1
+is_some w h = grind (arith, nat_tests)
+
+is_none : (w : ℕ) → w ≡ 0 → one_if_some w ≡ 0
+is_none w e = grind (arith, nat_tests)
+
+bit_is_some : (w place : ℕ) → bit_at w place ≡ 1 → 0 < w
+bit_is_some zero place e = absurd (omega (arith, e, bit_at-zero place))
+bit_is_some (suc w) place e = omega arith
+
+-- The word of a row is changed, and so is its bit, or not.
+row_changed : (words filled : List ℕ) (row word bit : ℕ) (new : List ℕ) → row < length words
+    → IsFilled words filled → one_if_some word ≡ bit
+    → ((other : ℕ) → bit_of new other ≡ cond (row == other) bit (bit_of filled other))
+    → IsFilled (slice_set words row word) new
+row_changed words filled row word bit new within are is told other = elim (cases_eq other row) [
+  | inl same ↦
+      told other ∙ ap (λ b. cond b bit (bit_of filled other)) (is_same_number row other (sym same))
+      ∙ sym (ap (λ (w : ℕ). cond (w == 0) 0 1)
+      (ap (λ at. get_or (slice_set words row word) at 0) same ∙ get_or-set_same words row word 0 within) ∙ is)
+  | inr differs ↦
+      told other ∙ ap (λ b. cond b bit (bit_of filled other)) (is_other_number row other differs)
+      ∙ are other ∙ sym (ap (λ (w : ℕ). cond (w == 0) 0 1) (get_or-set_other words row other word 0 differs))
+]
+
+pub filled_set : (words filled : List ℕ) (number : ℕ) → number / 64 < length words → number / 64 / 64 < length filled
+    → IsFilled words filled
+    → IsFilled (slice_set words (number / 64) (bit_or (get_or words (number / 64) 0) (1 * 2 ^ (number % 64) % 2 ^ 64)))
+    (slice_set filled (number / 64 / 64)
+    (bit_or (get_or filled (number / 64 / 64) 0) (1 * 2 ^ (number / 64 % 64) % 2 ^ 64)))
+filled_set words filled number within there are =
+    row_changed words filled (number / 64) _ 1 _ within are
+    (is_some _ (bit_is_some _ (number % 64) (bit_at_set_same w64 (get_or words (number / 64) 0) (number % 64) (omega arith))))
+    (λ other. bit_set filled (number / 64) other there)
+
+pub filled_cleared : (words filled : List ℕ) (number word : ℕ) → number / 64 < length words
+    → number / 64 / 64 < length filled → get_or (slice_set words (number / 64) word) (number / 64) 0 ≡ 0
+    → IsFilled words filled
+    → IsFilled (slice_set words (number / 64) word)
+    (slice_set filled (number / 64 / 64)
+    (bit_and (get_or filled (number / 64 / 64) 0) (bit_not w64 (1 * 2 ^ (number / 64 % 64) % 2 ^ 64))))
+filled_cleared words filled number word within there none are =
+    row_changed words filled (number / 64) word 0 _ within are
+    (is_none word (sym (get_or-set_same words (number / 64) word 0 within) ∙ none))
+    (λ other. bit_cleared filled (number / 64) other there)
+
+-- Words that have no bit are passed over.
+pub none_passed : (words filled : List ℕ) (from at row : ℕ) → IsFilled words filled
+    → ((place : ℕ) → at % 64 ≤ place → place < 64 → bit_at (get_or words (at / 64) 0) place ≡ 0)
+    → ((other : ℕ) → at / 64 + 1 ≤ other → other < row → bit_of filled other ≡ 0)
+    → NoneSet words from at → NoneSet words from (row * 64)
+none_passed words filled from at row are none passed before number low high = elim (cases_lt number ((at / 64 + 1) * 64)) [
+  | inl here ↦ none_later words from at none before number low here
+  | inr past ↦
+      ap (λ (w : ℕ). bit_at w (number % 64))
+      (no_word (get_or words (number / 64) 0)
+      (sym (are (number / 64)) ∙ passed (number / 64) (omega (arith, past)) (omega (arith, high))))
+      ∙ bit_at-zero (number % 64)
+]
+  where
+    no_word : (w : ℕ) → one_if_some w ≡ 0 → w ≡ 0
+    no_word zero e = refl
+    no_word (suc w) e = absurd (omega (arith, e, is_some (suc w) (omega arith)))

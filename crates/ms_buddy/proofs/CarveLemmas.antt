@@ -185,7 +185,7 @@ upper_is_free part level start half lower upper s h =
     (ap (λ (n : ℕ). list_any (is_same part) (free_in (level + 1) (start + n) upper)) (sym s.size))
 
 -- Free leaves among which a part fits alike refuse it alike.
-pub same_refusal : (part : Span) (free other : List Span) → fits_in part other ≡ fits_in part free
+same_refusal : (part : Span) (free other : List Span) → fits_in part other ≡ fits_in part free
     → list_any (is_same part) other ≡ list_any (is_same part) free
     → (refusal : Refusal) → IsCarveRefusal part free refusal → IsCarveRefusal part other refusal
 same_refusal part free other e f (NoRoom level) h = (h.0, e ∙ h.1)
@@ -209,7 +209,7 @@ if_lent_weaker Room f p = tt
 if_lent_weaker Memory f p = tt
 
 -- A part that may be lent in a node starts in it.
-pub held_by_node : (part : Span) (level start front : ℕ) → MayBeLent level start part front
+held_by_node : (part : Span) (level start front : ℕ) → MayBeLent level start part front
     → holder_of level part ≡ span_at start level
 held_by_node part level start front may =
     holder_is level start part may.place may.inside.from (omega (arith, may.inside.to, size_of-some part.level))

@@ -75,7 +75,7 @@ lower_beside times rest level start at e h =
     ∙ rw (past_test at (start + size_of (level + 1)) h) refl
 
 -- A leaf of the lower half is parted, or one of the upper half.
-pub lower_parted : (before after rest : List Span) (leaf part : Span) → IsParted before leaf part after
+lower_parted : (before after rest : List Span) (leaf part : Span) → IsParted before leaf part after
     → IsParted (before ++ rest) leaf part (after ++ rest)
 lower_parted before after rest leaf part parted = record {
   low = parted.low;
@@ -94,7 +94,7 @@ lower_parted before after rest leaf part parted = record {
   );
 }
 
-pub upper_parted : (before after rest : List Span) (leaf part : Span) → IsParted before leaf part after
+upper_parted : (before after rest : List Span) (leaf part : Span) → IsParted before leaf part after
     → IsParted (rest ++ before) leaf part (rest ++ after)
 upper_parted before after rest leaf part parted = record {
   low = parted.low;
@@ -173,11 +173,6 @@ leaf_parted part level start owner front node e place lent =
 
     held : start ≡ part.start → holder_of level part ≡ span_at start level
     held e = holder_is level start part place (omega (arith, e)) (omega (arith, e, size_of-some level))
-
-pub nothing_lent : {A : Type 0} (part : Span) (level start : ℕ) (node : Node A) → node ≡ Free
-    → IsTrue (is_lent (lent_in level start node) part) → ⊥
-nothing_lent part level start node e lent =
-    absurd (cc (subst (λ (x : Node _). is_lent (lent_in level start x) part ≡ true) e lent))
 
 -- A leader becomes its parent, and the free upper half is gone.
 pub leader_parted : {A : Type 0} (part : Span) (level start owner front : ℕ) (lower upper : Node A)

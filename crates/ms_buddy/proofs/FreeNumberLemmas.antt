@@ -69,7 +69,7 @@ placed level start node tree place =
     all_both IsSpanPlace (LiesIn start (start + size_of level)) (free_in level start node)
     (free_places level start node tree place) (free_lies_in level start node tree)
 
-pub few_of_number : {A : Type 0} (level start number : ℕ) (node : Node A) → IsTree level node → IsPlace level start
+few_of_number : {A : Type 0} (level start number : ℕ) (node : Node A) → IsTree level node → IsPlace level start
     → count_of_number number (free_in level start node) ≤ 1
 few_of_number level start number Free tree place =
     omega (
@@ -124,7 +124,7 @@ leaf_apart leaf part number place order low some =
     is a b h = grind (arith, nat_tests)
 
 -- The bits are such that a leaf may be parted, or joined.
-pub may_part : (words : List ℕ) (before after : List Span) (leaf part : Span) → IsSpanPlace leaf
+may_part : (words : List ℕ) (before after : List Span) (leaf part : Span) → IsSpanPlace leaf
     → AreFreeBits words before → IsParted before leaf part after → ((number : ℕ) → count_of_number number after ≤ 1)
     → MayPart words leaf part
 may_part words before after leaf part place are parted few = record {
@@ -140,7 +140,7 @@ may_part words before after leaf part place are parted few = record {
   come = λ number. omega (arith, are number, parted.places number, few number);
 }
 
-pub may_join : (words : List ℕ) (before after : List Span) (leaf part : Span) → IsSpanPlace leaf
+may_join : (words : List ℕ) (before after : List Span) (leaf part : Span) → IsSpanPlace leaf
     → AreFreeBits words before → IsParted after leaf part before → ((number : ℕ) → count_of_number number after ≤ 1)
     → MayJoin words leaf part
 may_join words before after leaf part place are parted few = record {
@@ -181,11 +181,6 @@ starts_in_root part node tree lent =
     omega (arith, lies.to, size_of-some part.level)
 
 -- The bits go with the free leaves.
-pub parted_bits : (old new : List ℕ) (before after : List Span) (leaf part : Span) → AreFreeBits old before
-    → IsParted before leaf part after → IsMoved old (leaf ∷ []) (beside leaf part) new → AreFreeBits new after
-parted_bits old new before after leaf part are parted moved number =
-    omega (arith, are number, parted.places number, moved number)
-
 pub joined_bits : (old new : List ℕ) (before after : List Span) (leaf part : Span) → AreFreeBits old before
     → IsParted after leaf part before → IsMoved new (leaf ∷ []) (beside leaf part) old → AreFreeBits new after
 joined_bits old new before after leaf part are parted moved number =

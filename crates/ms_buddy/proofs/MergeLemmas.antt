@@ -16,7 +16,7 @@ use Rattle.ms_buddy.proofs.SplitLemmas.{AtSplit, lent_part_lies_in}
 use Rattle.ms_buddy.proofs.CountLemmas.{lower_half_parted, upper_half_parted}
 
 -- The part of a node's level in which a part starts that is lent in the node is the node's.
-pub holder_in : {A : Type 0} (part : Span) (level start : ℕ) (node : Node A) → IsTree level node → IsPlace level start
+holder_in : {A : Type 0} (part : Span) (level start : ℕ) (node : Node A) → IsTree level node → IsPlace level start
     → IsTrue (is_lent (lent_in level start node) part) → holder_of level part ≡ span_at start level
 holder_in part level start node tree place lent =
     let lies : LiesIn start (start + size_of level) part = lent_part_lies_in part level start node tree lent in

@@ -11,7 +11,7 @@ use Rattle.ms_buddy.specs.Tree.{IsPlace}
 use Rattle.ms_buddy.proofs.TreeHalvesLemmas.{size_of-some}
 
 -- A root has so many words of each level's size.
-pub row_words : (level : ℕ) → level ≤ highest_level → 2 ^ level * size_of level ≡ 524288
+row_words : (level : ℕ) → level ≤ highest_level → 2 ^ level * size_of level ≡ 524288
 row_words level h = sym (pow-add 2 level (19 - level)) ∙ ap (λ (n : ℕ). 2 ^ n) (there level h)
   where
     there : (level : ℕ) → level ≤ highest_level → level + (19 - level) ≡ 19

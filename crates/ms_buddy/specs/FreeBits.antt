@@ -1,5 +1,5 @@
 -- The free leaves of a root as a set of bits, one for each part that there may be.
-use Rattle.std.specs.Prelude.{◌≡◌, ℕ, ◌+◌, [], ◌∷◌, ◌/◌, ◌%◌, ◌<◌, ◌≤◌, List, get_or}
+use Rattle.std.specs.Prelude.{◌≡◌, ℕ, ◌+◌, [], ◌∷◌, ◌/◌, ◌%◌, ◌<◌, ◌≤◌, List, get_or, ◌==◌, cond}
 use Rattle.std.specs.Int.{bit_at}
 use Rattle.ms_base.specs.declared.span.Span.{Span}
 use Rattle.ms_buddy.specs.declared.node.Node.{Node}
@@ -14,11 +14,16 @@ bit_of words number = bit_at (get_or words (number / 64) 0) (number % 64)
 abbrev pub AreFreeBits : List ℕ → List Span → Type 0
 AreFreeBits words free = (number : ℕ) → bit_of words number ≡ count_of_number number free
 
+-- A second row of bits tells which words have a bit that is set.
+abbrev pub IsFilled : List ℕ → List ℕ → Type 0
+IsFilled words filled = (row : ℕ) → bit_of filled row ≡ cond (get_or words row 0 == 0) 0 1
+
 -- What is kept true of a tree: its node's, how many free leaves it has of each level, and the bits of these.
-pub record IsKeptTree {A : Type 0} (node : Node A) (counts words : List ℕ) : Type 0 where
+pub record IsKeptTree {A : Type 0} (node : Node A) (counts words filled : List ℕ) : Type 0 where
   pub tree : IsTree 0 node
   pub counted : AreCounts counts (free_in 0 0 node)
   pub marked : AreFreeBits words (free_in 0 0 node)
+  pub told : IsFilled words filled
 
 -- The place is the lowest of a word, from one on, whose bit is set.
 pub record IsLowestBit (word from place : ℕ) : Type 0 where

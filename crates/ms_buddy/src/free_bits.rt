@@ -14,7 +14,7 @@ ghost use Rattle.std.specs.Int.{bit_at};
 ghost use Rattle.ms_base.specs.declared.sizes.TheConstants.{ROOT_WORDS};
 ghost use Rattle.ms_base.specs.Level.{size_of};
 ghost use Rattle.ms_buddy.specs.Counts.{beside, buddy_of, count_of_number, halves_beside, holder_of, number_of};
-ghost use Rattle.ms_buddy.specs.FreeBits.{IsLowestBit, IsMoved, IsNextSet, MayJoin, MayPart, bit_of};
+ghost use Rattle.ms_buddy.specs.FreeBits.{IsFilled, IsLowestBit, IsMoved, IsNextSet, MayJoin, MayPart, bit_of};
 ghost use Rattle.ms_buddy.specs.Leaves.{span_at};
 
 use crate::node::half_of;
@@ -30,21 +30,28 @@ const WORDS: usize = 128;
 #[derive(Drop)]
 pub(crate) struct FreeBits {
     words: [u64; WORDS],
+    /// A bit for each word, set where the word has one, so that a look for one passes over the others.
+    filled: [u64; WORDS / BITS],
 }
 
 impl FreeBits {
     /// The bits of a root that is one free leaf.
     pub(crate) fn whole() -> FreeBits
-        ensures { (number : ℕ) → bit_of result.words number ≡ cond (1 == number) 1 0 }
+        ensures bits { (number : ℕ) → bit_of result.words number ≡ cond (1 == number) 1 0 }
+        ensures filled { IsFilled result.words result.filled }
     {
-        let mut bits = FreeBits { words: [0; WORDS] };
+        let mut bits = FreeBits {
+            words: [0; WORDS],
+            filled: [0; WORDS / BITS],
+        };
         bits.set(1);
         bits
     }
 
     /// Finds the lowest number from one on, and below another, whose bit is set.
     pub(crate) fn next(&self, from: usize, end: usize) -> Option<usize>
-        requires { end ≤ 8192 }
+        requires end { end ≤ 8192 }
+        requires filled { IsFilled self.now.words self.now.filled }
         ensures found { IfSome result (λ number. IsNextSet self.now.words from end number) }
         ensures none { IfNone result
             ((number : ℕ) → from ≤ number → number < end → bit_of self.now.words number ≡ 0) }
@@ -55,9 +62,26 @@ impl FreeBits {
                 let found = at / BITS * BITS + place;
                 return if found < end { Some(found) } else { None };
             }
-            at = (at / BITS + 1) * BITS;
+            at = self.next_filled(at / BITS + 1) * BITS;
         }
         None
+    }
+
+    /// Finds the first word from one on that has a set bit, or tells how many words there are.
+    fn next_filled(&self, from: usize) -> usize
+        requires { from ≤ 128 }
+        ensures from { from ≤ result }
+        ensures within { result ≤ 128 }
+        ensures none { (row : ℕ) → from ≤ row → row < result → bit_of self.now.filled row ≡ 0 }
+    {
+        let mut at = from;
+        while at < WORDS {
+            if let Some(place) = lowest_bit(self.filled[at / BITS], at % BITS) {
+                return at / BITS * BITS + place;
+            }
+            at = (at / BITS + 1) * BITS;
+        }
+        WORDS
     }
 
     /// Parts the free leaf of a level for the part of a lower one that starts at an offset in it: it is
@@ -67,8 +91,10 @@ impl FreeBits {
         requires low { lent ≤ 12 }
         requires in_root { at < ROOT_WORDS }
         requires bits { MayPart self.old.words (holder_of free (span_at at lent)) (span_at at lent) }
-        ensures { IsMoved self.old.words (holder_of free (span_at at lent) ∷ [])
+        ensures bits { IsMoved self.old.words (holder_of free (span_at at lent) ∷ [])
             (beside (holder_of free (span_at at lent)) (span_at at lent)) self.new.words }
+        ensures filled { IsFilled self.old.words self.old.filled
+            → IsFilled self.new.words self.new.filled }
     {
         let start = start_of_holder(free, at);
         self.clear(number(free, start));
@@ -81,8 +107,10 @@ impl FreeBits {
         requires low { lent ≤ 12 }
         requires in_root { at < ROOT_WORDS }
         requires bits { MayJoin self.old.words (holder_of free (span_at at lent)) (span_at at lent) }
-        ensures { IsMoved self.new.words (holder_of free (span_at at lent) ∷ [])
+        ensures bits { IsMoved self.new.words (holder_of free (span_at at lent) ∷ [])
             (beside (holder_of free (span_at at lent)) (span_at at lent)) self.old.words }
+        ensures filled { IsFilled self.old.words self.old.filled
+            → IsFilled self.new.words self.new.filled }
     {
         let start = start_of_holder(free, at);
         self.clear_beside(free, start, at, lent);
@@ -115,8 +143,10 @@ impl FreeBits {
         requires in_root { start + size_of level ≤ ROOT_WORDS }
         requires clear { (number : ℕ) → bit_of self.old.words number
             + count_of_number number (halves_beside (lent - level) level start at) ≤ 1 }
-        ensures { (number : ℕ) → bit_of self.new.words number ≡ bit_of self.old.words number
+        ensures bits { (number : ℕ) → bit_of self.new.words number ≡ bit_of self.old.words number
             + count_of_number number (halves_beside (lent - level) level start at) }
+        ensures filled { IsFilled self.old.words self.old.filled
+            → IsFilled self.new.words self.new.filled }
     {
         if level == lent {
             return;
@@ -139,9 +169,11 @@ impl FreeBits {
         requires in_root { start + size_of level ≤ ROOT_WORDS }
         requires set { (number : ℕ) → count_of_number number (halves_beside (lent - level) level start at)
             ≤ bit_of self.old.words number }
-        ensures { (number : ℕ) → bit_of self.new.words number
+        ensures bits { (number : ℕ) → bit_of self.new.words number
             + count_of_number number (halves_beside (lent - level) level start at)
             ≡ bit_of self.old.words number }
+        ensures filled { IsFilled self.old.words self.old.filled
+            → IsFilled self.new.words self.new.filled }
     {
         if level == lent {
             return;
@@ -167,19 +199,30 @@ impl FreeBits {
     /// Sets the bit of a number.
     fn set(&mut self, number: usize)
         requires { number < 8192 }
-        ensures { (other : ℕ) → bit_of self.new.words other
+        ensures bits { (other : ℕ) → bit_of self.new.words other
             ≡ cond (number == other) 1 (bit_of self.old.words other) }
+        ensures filled { IsFilled self.old.words self.old.filled
+            → IsFilled self.new.words self.new.filled }
     {
-        self.words[number / BITS] |= 1 << (number % BITS);
+        let row = number / BITS;
+        self.words[row] |= 1 << (number % BITS);
+        self.filled[row / BITS] |= 1 << (row % BITS);
     }
 
     /// Clears the bit of a number.
     pub(crate) fn clear(&mut self, number: usize)
         requires { number < 8192 }
-        ensures { (other : ℕ) → bit_of self.new.words other
+        ensures bits { (other : ℕ) → bit_of self.new.words other
             ≡ cond (number == other) 0 (bit_of self.old.words other) }
+        ensures filled { IsFilled self.old.words self.old.filled
+            → IsFilled self.new.words self.new.filled }
     {
-        self.words[number / BITS] &= !(1 << (number % BITS));
+        let row = number / BITS;
+        self.words[row] &= !(1 << (number % BITS));
+        if self.words[row] != 0 {
+            return;
+        }
+        self.filled[row / BITS] &= !(1 << (row % BITS));
     }
 }
 

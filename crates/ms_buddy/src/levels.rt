@@ -1,4 +1,5 @@
-//! Counts by level, and the levels that have any as bits, that of level 0 the lowest. Takes no memory.
+//! Counts by level, and the levels that have any, as bits, that of level 0 the lowest. Takes no
+//! memory.
 ghost use Rattle.std.specs.Prelude.{◌≡◌, ℕ, ◌+◌, ◌^◌, ◌<◌, ◌≤◌, ◌&&◌, nat_lt, get_or};
 ghost use Rattle.ms_buddy.specs.Counts.{AreRaised, AreShifted, one_at};
 ghost use Rattle.ms_buddy.specs.Leaves.{has_level};

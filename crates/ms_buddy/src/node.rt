@@ -2,16 +2,15 @@
 //!
 //! A node does not know where it is, so each function is told its level and where it starts, in
 //! words of the root. Each goes down one path: to the half where the leaf, the part or the offset
-//! lies. The call for that half is the last one where it can be, so that the walk is a loop: only
-//! `release` has something left to do, at a split whose other half is free. What is kept true of a
-//! node is `IsTree` in `specs/Tree.antt`.
+//! lies. The call for that half is the last one, so that the walk is a loop, but where halves merge
+//! after it. What is kept true of a node is `IsTree` in `specs/Tree.antt`.
 //!
 //! Boxes are made for `split` alone. Halves that merge leave theirs as spares for the next split: a
 //! chain of nodes, in which each is a split with a pair of boxes, and the second holds the rest, 12
 //! pairs at most, as many as one carve takes. No clause says what a spare node holds, and nothing
 //! rests on it.
 ghost use Rattle.std.specs.Prelude.{◌≡◌, ℕ, ◌+◌, ◌*◌, ◌<◌, ◌≤◌, ◌==◌, false, Some, [], ◌∷◌, IsTrue};
-ghost use Rattle.std.specs.Prelude.{IsFalse, IfSome, OnSome, IfNone, IsOk, IfOk, OnOk, IfErr, OnErr};
+ghost use Rattle.std.specs.Prelude.{IsFalse, IfSome, OnSome, IfNone, IsOk, IfOk, OnOk};
 ghost use Rattle.std.specs.List.{find};
 ghost use Rattle.ms_base.specs.declared.sizes.TheConstants.{ROOT_WORDS};
 ghost use Rattle.ms_base.specs.Level.{size_of};

@@ -16,8 +16,9 @@
 //!          |                  free, 8                  |        free, 8        | ...
 //!          |                             free, 0                                   |
 //!
-//! A bit for each part tells whether it is a free leaf (`free_bits`), so the lowest one of a level is
-//! found without a look at a node. Each call that changes a leaf goes down one path of 13 nodes at most.
+//! Beside the nodes a bit for each part of the root tells whether it is a free leaf, and so where the
+//! lowest one of a level is, and how far a leaf merges that is released. `free_leaves` goes through
+//! the nodes; each other call goes down one path of 13 at most, or looks at the bits and counts alone.
 //! Only `carve` takes memory, two boxes for each level that it splits: those of halves that merged
 //! first, which `release` and `enlarge` keep, for one carve at most. All others they give back; the
 //! last go back with the tree.
@@ -64,7 +65,7 @@ impl<A: Allocator> Model for SplitTree<A> {
 
     ghost view = { λ t. lent_in 0 0 t.node };
 
-    ghost invariant = { λ t. IsKeptTree t.node t.counts t.free.words };
+    ghost invariant = { λ t. IsKeptTree t.node t.counts t.free.words t.free.filled };
 }
 
 impl<A: Allocator> SplitTree<A> {
@@ -128,16 +129,16 @@ impl<A: Allocator> SplitTree<A> {
         self.counts[level.number() as usize]
     }
 
-    /// Finds the lowest free leaf of a level. Looks at no node, since each part has a bit. Takes no
-    /// memory. This project's choice.
+    /// Finds the lowest free leaf of a level, by the bits of the free leaves alone. Takes no memory.
+    /// This project's choice.
     pub fn lowest_free(&self, level: Level) -> Option<Span>
         ensures { result ≡ find (is_of level) (free_of self.now) }
     {
         self.next_free(level, 0)
     }
 
-    /// Finds the lowest free leaf of a level that starts at an offset in words or past it. Looks at no
-    /// node, since each part has a bit. Takes no memory. This project's choice.
+    /// Finds the lowest free leaf of a level that starts at an offset in words or past it, by the bits
+    /// of the free leaves alone. Takes no memory. This project's choice.
     pub fn next_free(&self, level: Level, from: u64) -> Option<Span>
         ensures { result ≡ find (is_of_from level from) (free_of self.now) }
     {

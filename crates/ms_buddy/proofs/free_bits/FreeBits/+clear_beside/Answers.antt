@@ -7,8 +7,8 @@ use Rattle.ms_buddy.proofs.CountLemmas.{lower_beside, upper_beside}
 use Rattle.ms_buddy.proofs.BesideLemmas.{all_cleared, no_halves, rest_are_set}
 use Rattle.ms_buddy.proofs.free_bits.FreeBits.+clear_beside.Goals as goal
 
-pub returns-then-level-lent : goal.returns-then-level-lent
-returns-then-level-lent t c number = omega (
+pub returns-then-level-lent-clause-bits : goal.returns-then-level-lent-clause-bits
+returns-then-level-lent-clause-bits t c number = omega (
   arith,
   no_halves (c.args.lent - c.args.level) c.args.level c.args.start c.args.at number (omega (arith, c.if-level-lent.true)),
 )
@@ -38,7 +38,7 @@ clear_beside-requires t c =
           c.requires.low,
           (
             omega (arith, c.requires.in_root, size_of-halves c.args.level (omega (arith, deep, c.requires.low))),
-            rest_are_set _ _ _ _ _ _ is way c.requires.set c.clear.ensures,
+            rest_are_set _ _ _ _ _ _ is way c.requires.set c.clear.ensures.bits,
           ),
         ),
       ),
@@ -63,25 +63,32 @@ clear_beside-requires-else-at-middle t c =
             ),
             rw c.half_of.ensures.size
                 (rest_are_set _ _ _ _ _ _ c.number-else-at-middle.ensures.same way c.requires.set
-                c.clear-else-at-middle.ensures),
+                c.clear-else-at-middle.ensures.bits),
           ),
         ),
       ),
     )
 
-pub returns-then-at-middle : goal.returns-then-at-middle
-returns-then-at-middle t c =
+pub returns-then-at-middle-clause-bits : goal.returns-then-at-middle-clause-bits
+returns-then-at-middle-clause-bits t c =
     let deep : c.args.level < c.args.lent = omega (arith, c.requires.order, c.if-level-lent.false) in
     let is = c.number.ensures.same
     ∙ ap (λ (n : ℕ). number_of (span_at (c.args.start + n) (c.args.level + 1))) c.half_of.ensures.size in
     let way = upper_beside (c.args.lent - c.args.level) (c.args.lent - (c.args.level + 1)) c.args.level c.args.start
     c.args.at (omega arith) (omega (arith, c.half_of.ensures.size, c.if-at-middle.true)) in
-    all_cleared _ _ _ _ _ _ _ is way c.requires.set c.clear.ensures c.clear_beside.ensures
+    all_cleared _ _ _ _ _ _ _ is way c.requires.set c.clear.ensures.bits c.clear_beside.ensures.bits
 
-pub returns-else-at-middle : goal.returns-else-at-middle
-returns-else-at-middle t c =
+pub returns-else-at-middle-clause-bits : goal.returns-else-at-middle-clause-bits
+returns-else-at-middle-clause-bits t c =
     let deep : c.args.level < c.args.lent = omega (arith, c.requires.order, c.if-level-lent.false) in
     let way = lower_beside (c.args.lent - c.args.level) (c.args.lent - (c.args.level + 1)) c.args.level c.args.start
     c.args.at (omega arith) (omega (arith, c.half_of.ensures.size, c.if-at-middle.false)) in
     all_cleared _ _ _ _ _ _ _ c.number-else-at-middle.ensures.same way c.requires.set
-    c.clear-else-at-middle.ensures (rw c.half_of.ensures.size at c.clear_beside-else-at-middle.ensures)
+    c.clear-else-at-middle.ensures.bits (rw c.half_of.ensures.size at c.clear_beside-else-at-middle.ensures.bits)
+
+pub returns-then-at-middle-clause-filled : goal.returns-then-at-middle-clause-filled
+returns-then-at-middle-clause-filled t c are = c.clear_beside.ensures.filled (c.clear.ensures.filled are)
+
+pub returns-else-at-middle-clause-filled : goal.returns-else-at-middle-clause-filled
+returns-else-at-middle-clause-filled t c are =
+    c.clear_beside-else-at-middle.ensures.filled (c.clear-else-at-middle.ensures.filled are)

@@ -1,6 +1,6 @@
 -- The lowest bit of the word that the loop has reached is the answer, where it is below the end.
 use Rattle.std.proofs.Common.{◌+◌, ◌*◌, ◌/◌, arith}
-use Rattle.ms_buddy.proofs.BitLemmas.{lowest_later, none_later}
+use Rattle.ms_buddy.proofs.BitLemmas.{lowest_later, none_passed}
 use Rattle.ms_buddy.proofs.free_bits.FreeBits.next.Goals as goal
 
 pub returns-then-found-end-clause-found : goal.returns-then-found-end-clause-found
@@ -18,5 +18,6 @@ returns-else-found-end-clause-none c number low high =
 pub loop-at-preserved : goal.loop-at-preserved
 loop-at-preserved c = record {
   low = omega (arith, c.loop-at.invariant.low);
-  before = none_later c.args.self.now.words c.args.from c.loop-at.at c.in_default.ensures.none c.loop-at.invariant.before;
+  before = none_passed c.args.self.now.words c.args.self.now.filled c.args.from c.loop-at.at c.next_filled-at.result
+      c.requires.filled c.in_default.ensures.none c.next_filled-at.ensures.none c.loop-at.invariant.before;
 }

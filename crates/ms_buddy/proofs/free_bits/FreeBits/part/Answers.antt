@@ -11,11 +11,14 @@ set_beside-requires-clause-clear c =
     ∙ ap (λ (n : ℕ). number_of (span_at n c.args.free)) c.start_of_holder-start.ensures.start in
     rw c.start_of_holder-start.ensures.start
     (part_room _ _ _ (holder_of c.args.free (span_at c.args.at c.args.lent)) (span_at c.args.at c.args.lent) is
-    c.requires.bits c.clear.ensures)
+    c.requires.bits c.clear.ensures.bits)
 
-pub returns : goal.returns
-returns c =
+pub returns-clause-bits : goal.returns-clause-bits
+returns-clause-bits c =
     let is = c.number.ensures.same
     ∙ ap (λ (n : ℕ). number_of (span_at n c.args.free)) c.start_of_holder-start.ensures.start in
     part_done _ _ _ _ (holder_of c.args.free (span_at c.args.at c.args.lent)) (span_at c.args.at c.args.lent) is
-    c.requires.bits c.clear.ensures (rw c.start_of_holder-start.ensures.start at c.set_beside.ensures)
+    c.requires.bits c.clear.ensures.bits (rw c.start_of_holder-start.ensures.start at c.set_beside.ensures.bits)
+
+pub returns-clause-filled : goal.returns-clause-filled
+returns-clause-filled c are = c.set_beside.ensures.filled (c.clear.ensures.filled are)

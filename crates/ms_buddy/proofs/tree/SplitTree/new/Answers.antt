@@ -7,5 +7,6 @@ pub invariant_of-result : goal.invariant_of-result
 invariant_of-result g c = record {
   tree = tt;
   counted = whole_is_counted;
-  marked = whole_is_marked c.whole.result.words c.whole.ensures;
+  marked = whole_is_marked c.whole.result.words c.whole.ensures.bits;
+  told = c.whole.ensures.filled;
 }

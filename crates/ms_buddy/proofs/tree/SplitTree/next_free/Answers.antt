@@ -7,8 +7,8 @@ use Rattle.ms_buddy.proofs.FoundLemmas.{found_lowest, found_none, found_past}
 use Rattle.ms_buddy.proofs.NumberLemmas.{first_in_row, row_end, row_end_fits}
 use Rattle.ms_buddy.proofs.tree.SplitTree.next_free.Goals as goal
 
-pub next-requires : goal.next-requires
-next-requires g c =
+pub next-requires-clause-end : goal.next-requires-clause-end
+next-requires-clause-end g c =
     omega (
       arith,
       row_end c.number-number.result c.number-number.ensures.below,

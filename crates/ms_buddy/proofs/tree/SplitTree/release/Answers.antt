@@ -60,5 +60,6 @@ invariant_of-self g c = record {
   counted = joined_counts _ _ _ _ (holder_of c.release-free.result c.args.span) c.args.span c.self.invariant.counted
       c.release-free.ensures.merged (rw c.number-lent.ensures.same at c.join_counts.ensures);
   marked = joined_bits _ _ _ _ (holder_of c.release-free.result c.args.span) c.args.span c.self.invariant.marked
-      c.release-free.ensures.merged (rw c.number-lent.ensures.same at c.join.ensures);
+      c.release-free.ensures.merged (rw c.number-lent.ensures.same at c.join.ensures.bits);
+  told = c.join.ensures.filled c.self.invariant.told;
 }
