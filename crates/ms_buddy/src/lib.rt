@@ -4,13 +4,8 @@
 //! Apart because it needs nothing of the pool that keeps one tree for each root: no limit, no
 //! granule, and any allocator. Contracts see a tree as the list of its lent leaves in order of
 //! address, `specs/Leaves.antt`; the free leaves are a function of that list. The lowest free leaf
-<<<<<<< HEAD
-//! of a level is found by the bits of all parts. Stands on `ms_base`, and on `arrayvec` for the stack
-//! of a walk. Only `carve` takes memory.
-=======
 //! of a level is found by its bit. Stands on `ms_base`, and on `arrayvec` for the stack of a
 //! walk. Only `carve` takes memory.
->>>>>>> 107a7ac2c92cbff3e936d8d673df3acf91241222
 #![tactic(auto)]
 
 mod free_bits;
