@@ -1,33 +1,25 @@
 -- The bits of the halves beside the way to a part, as they are set and cleared one after the other.
-use Rattle.std.proofs.Common.{◌≡◌, ◌<◌, ◌≤◌, ℕ, zero, suc, ◌+◌, ◌^◌, Bool, true, false, cond, List, [], ◌∷◌}
-use Rattle.std.proofs.Common.{refl, ap, ◌∙◌, inl, inr, arith}
-use Rattle.std.specs.Prelude.{◌==◌}
+use Rattle.std.proofs.Common.{◌≡◌, ◌<◌, ◌≤◌, ℕ, zero, suc, ◌+◌, ◌-◌, ◌%◌, ◌^◌, Bool, true, false, cond, List, [], ◌∷◌}
+use Rattle.std.proofs.Common.{refl, sym, ap, ◌∙◌, inl, inr, arith}
+use Rattle.std.specs.Prelude.{◌==◌, nat_lt}
 use Rattle.std.proofs.lemmas.Bool.{cases_lt}
 use Rattle.std.proofs.lemmas.Bool.Decides.{nat_tests}
 use Rattle.std.proofs.lemmas.Nat.Bits.{bit_at-lt}
 use Rattle.std.proofs.Math.Nat.{pow-le-pow_right}
 use Rattle.ms_base.specs.declared.span.Span.{Span}
 use Rattle.ms_base.specs.Level.{size_of, highest_level}
-use Rattle.ms_buddy.specs.Counts.{beside, count_of_number, halves_beside, number_of, one_at}
-use Rattle.ms_buddy.specs.FreeBits.{IsMoved, MayJoin, MayPart, bit_of}
+use Rattle.ms_buddy.specs.Counts.{beside, buddy_of, count_of_number, halves_beside, holder_of, number_of, one_at}
+use Rattle.ms_buddy.specs.FreeBits.{ArePut, IsMoved, MayJoin, MayPart, bit_of}
 use Rattle.ms_buddy.specs.Leaves.{span_at}
 use Rattle.ms_buddy.specs.Tree.{IsPlace}
-use Rattle.ms_buddy.proofs.TreeHalvesLemmas.{lower_place, upper_place}
-use Rattle.ms_buddy.proofs.NumberLemmas.{number_from}
+use Rattle.ms_buddy.proofs.TreeHalvesLemmas.{holder_is, lower_place, size_of-halves, size_of-some, upper_place}
+use Rattle.ms_buddy.proofs.NumberLemmas.{holder_place, number_from}
+use Rattle.ms_buddy.proofs.BuddyLemmas.{lower_is_buddy, past, upper_is_buddy}
 use Rattle.ms_buddy.proofs.CountLemmas.{lower_beside, number-cons, number-none, number-one, none_beside, upper_beside}
 
--- The bit of the first half is set, which is clear before, or cleared, which is set before.
+-- The bit of a number is set or cleared, and the others stay.
 abbrev pub Changed : List ℕ → ℕ → ℕ → List ℕ → Type 0
 Changed words number bit new = (m : ℕ) → bit_of new m ≡ cond (number == m) bit (bit_of words m)
-
-set_one : (words new : List ℕ) (half : Span) (rest : List Span) (m : ℕ) → Changed words (number_of half) 1 new
-    → bit_of words m + count_of_number m (half ∷ rest) ≤ 1 → bit_of new m ≡ bit_of words m + one_at (number_of half) m
-set_one words new half rest m set clear =
-    set m ∙ by_case (number_of half == m) (bit_of words m) (count_of_number m rest) (omega (arith, clear, number-cons m half rest))
-  where
-    by_case : (b : Bool) (bit more : ℕ) → bit + (cond b 1 0 + more) ≤ 1 → cond b 1 bit ≡ bit + cond b 1 0
-    by_case true bit more h = omega (arith, h)
-    by_case false bit more h = omega arith
 
 pub clear_one : (words new : List ℕ) (half : Span) (rest : List Span) (m : ℕ) → Changed words (number_of half) 0 new
     → count_of_number m (half ∷ rest) ≤ bit_of words m → bit_of new m + one_at (number_of half) m ≡ bit_of words m
@@ -40,41 +32,62 @@ clear_one words new half rest m cleared are =
     by_case true bit more small h = omega (arith, small, h)
     by_case false bit more small h = omega arith
 
--- What is left of the halves may be set then, and all are set in the end.
-pub rest_clear : (words new : List ℕ) (number : ℕ) (half : Span) (halves rest : List Span) → number ≡ number_of half
-    → halves ≡ half ∷ rest → ((m : ℕ) → bit_of words m + count_of_number m halves ≤ 1)
-    → Changed words number 1 new → (m : ℕ) → bit_of new m + count_of_number m rest ≤ 1
-rest_clear words new number half halves rest e f clear set m =
-    let whole = rw f at (clear m) in
-    omega (arith, whole, number-cons m half rest, set_one words new half rest m (rw e at set) whole)
-
-pub all_set : (words new last : List ℕ) (number : ℕ) (half : Span) (halves rest : List Span) → number ≡ number_of half
-    → halves ≡ half ∷ rest → ((m : ℕ) → bit_of words m + count_of_number m halves ≤ 1)
-    → Changed words number 1 new → ((m : ℕ) → bit_of last m ≡ bit_of new m + count_of_number m rest)
-    → (m : ℕ) → bit_of last m ≡ bit_of words m + count_of_number m halves
-all_set words new last number half halves rest e f clear set more m =
-    let whole = rw f at (clear m) in
-    rw f (omega (arith, more m, number-cons m half rest, set_one words new half rest m (rw e at set) whole))
-
--- The same of halves that are cleared.
-pub rest_are_set : (words new : List ℕ) (number : ℕ) (half : Span) (halves rest : List Span) → number ≡ number_of half
-    → halves ≡ half ∷ rest → ((m : ℕ) → count_of_number m halves ≤ bit_of words m)
-    → Changed words number 0 new → (m : ℕ) → count_of_number m rest ≤ bit_of new m
-rest_are_set words new number half halves rest e f are cleared m =
-    let whole = rw f at (are m) in
-    omega (arith, whole, number-cons m half rest, clear_one words new half rest m (rw e at cleared) whole)
-
-pub all_cleared : (words new last : List ℕ) (number : ℕ) (half : Span) (halves rest : List Span)
-    → number ≡ number_of half → halves ≡ half ∷ rest → ((m : ℕ) → count_of_number m halves ≤ bit_of words m)
-    → Changed words number 0 new → ((m : ℕ) → bit_of last m + count_of_number m rest ≡ bit_of new m)
-    → (m : ℕ) → bit_of last m + count_of_number m halves ≡ bit_of words m
-all_cleared words new last number half halves rest e f are cleared more m =
-    let whole = rw f at (are m) in
-    rw f (omega (arith, more m, number-cons m half rest, clear_one words new half rest m (rw e at cleared) whole))
-
 -- No half is beside the way to a part that ends where it begins.
 pub no_halves : (times level start at m : ℕ) → times ≡ 0 → count_of_number m (halves_beside times level start at) ≡ 0
 no_halves times level start at m e = ap (count_of_number m) (none_beside times level start at e) ∙ number-none m
+
+-- The halves beside the way from a level on are the other half there and those from the next level on.
+next_beside : (level at lent m : ℕ) → level < lent → lent ≤ highest_level → at < 524288
+    → count_of_number m (beside (holder_of level (span_at at lent)) (span_at at lent))
+    ≡ one_at (buddy_of (number_of (span_at at (level + 1)))) m
+    + count_of_number m (beside (holder_of (level + 1) (span_at at lent)) (span_at at lent))
+next_beside level at lent m deep low below = elim (cases_lt at (start + size_of (level + 1))) [
+  | inl lower ↦
+      ap (count_of_number m) (upper_beside (lent - level) (lent - (level + 1)) level start at (omega arith) lower)
+      ∙ joins (start + size_of (level + 1)) start
+      (upper_is_buddy level start at place (omega arith) (omega arith) lower)
+      (ap (λ (part : Span). part.start) (holder_is (level + 1) start (span_at at lent)
+      (lower_place level start place (omega arith)) (omega arith) lower))
+  | inr above ↦
+      ap (count_of_number m) (lower_beside (lent - level) (lent - (level + 1)) level start at (omega arith) above)
+      ∙ joins start (start + size_of (level + 1))
+      (lower_is_buddy level start at place (omega arith) above (past at (size_of level) (size_of-some level)))
+      (ap (λ (part : Span). part.start) (holder_is (level + 1) (start + size_of (level + 1)) (span_at at lent)
+      (upper_place level start (start + size_of (level + 1)) place (omega arith) refl) above
+      (omega (arith, past at (size_of level) (size_of-some level), size_of-halves level (omega arith)))))
+]
+  where
+    start : ℕ
+    start = at - at % size_of level
+
+    place : IsPlace level start
+    place = holder_place level (span_at at lent) (omega arith) below
+
+    joins : (other next : ℕ) → buddy_of (number_of (span_at at (level + 1))) ≡ number_of (span_at other (level + 1))
+        → at - at % size_of (level + 1) ≡ next
+        → count_of_number m (span_at other (level + 1) ∷ halves_beside (lent - (level + 1)) (level + 1) next at)
+        ≡ one_at (buddy_of (number_of (span_at at (level + 1)))) m
+        + count_of_number m (beside (holder_of (level + 1) (span_at at lent)) (span_at at lent))
+    joins other next e f =
+        number-cons m (span_at other (level + 1)) (halves_beside (lent - (level + 1)) (level + 1) next at)
+        ∙ ap (λ (n : ℕ). one_at n m + count_of_number m (halves_beside (lent - (level + 1)) (level + 1) next at)) (sym e)
+        ∙ ap (λ (n : ℕ). one_at (buddy_of (number_of (span_at at (level + 1)))) m
+        + count_of_number m (halves_beside (lent - (level + 1)) (level + 1) n at)) (sym f)
+
+-- The bit of that half is put, and then those of the others.
+pub next_put : (words mid new : List ℕ) (level at lent number bit : ℕ) → level < lent → lent ≤ highest_level
+    → at < 524288 → number ≡ buddy_of (number_of (span_at at (level + 1))) → Changed words number bit mid
+    → ArePut mid (beside (holder_of (level + 1) (span_at at lent)) (span_at at lent)) bit new
+    → ArePut words (beside (holder_of level (span_at at lent)) (span_at at lent)) bit new
+next_put words mid new level at lent number bit deep low below e one more m =
+    by_case (number == m) (bit_of words m) (bit_of mid m) (bit_of new m) _
+    (count_of_number m (beside (holder_of (level + 1) (span_at at lent)) (span_at at lent)))
+    (rw e (next_beside level at lent m deep low below)) (one m) (more m)
+  where
+    by_case : (is : Bool) (old mid new count rest : ℕ) → count ≡ cond is 1 0 + rest → mid ≡ cond is bit old
+        → new ≡ cond (nat_lt 0 rest) bit mid → new ≡ cond (nat_lt 0 count) bit old
+    by_case true old mid new count rest e one more = grind (arith, nat_tests)
+    by_case false old mid new count rest e one more = grind (arith, nat_tests)
 
 -- The number of the part that is split is that of none of these halves, whose numbers are larger.
 pub none_is_whole : (times level start at m : ℕ) → level + times ≤ highest_level → IsPlace level start
@@ -116,34 +129,30 @@ none_is_whole (suc times) level start at m low place small = elim (cases_lt at (
     other number h = differs number m (omega (arith, small, h))
 
 -- A free leaf is parted: its bit is cleared, and those of the halves beside the way are set.
-pub part_room : (words new : List ℕ) (number : ℕ) (leaf part : Span) → number ≡ number_of leaf
-    → MayPart words leaf part → Changed words number 0 new
-    → (m : ℕ) → bit_of new m + count_of_number m (beside leaf part) ≤ 1
-part_room words new number leaf part e may cleared m = omega (
-  arith,
-  clear_one words new leaf [] m (rw e at cleared) (may.gone m),
-  may.come m,
-  number-one m leaf,
-)
-
-pub part_done : (words new last : List ℕ) (number : ℕ) (leaf part : Span) → number ≡ number_of leaf
-    → MayPart words leaf part → Changed words number 0 new
-    → ((m : ℕ) → bit_of last m ≡ bit_of new m + count_of_number m (beside leaf part))
-    → IsMoved words (leaf ∷ []) (beside leaf part) last
-part_done words new last number leaf part e may cleared set m = omega (
-  arith,
-  clear_one words new leaf [] m (rw e at cleared) (may.gone m),
-  set m,
-  number-one m leaf,
-)
+pub part_done : (words mid new : List ℕ) (number : ℕ) (leaf part : Span) → number ≡ number_of leaf
+    → MayPart words leaf part → Changed words number 0 mid → ArePut mid (beside leaf part) 1 new
+    → IsMoved words (leaf ∷ []) (beside leaf part) new
+part_done words mid new number leaf part e may cleared set m =
+    by_case (number_of leaf == m) (bit_of words m) (bit_of mid m) (bit_of new m) (count_of_number m (leaf ∷ []))
+    (count_of_number m (beside leaf part)) (bit_at-lt _ _) (number-one m leaf) (rw e at (cleared m)) (set m)
+    (may.gone m) (may.come m)
+  where
+    by_case : (is : Bool) (old mid new here more : ℕ) → old < 2 → here ≡ cond is 1 0 → mid ≡ cond is 0 old
+        → new ≡ cond (nat_lt 0 more) 1 mid → here ≤ old → old + more ≤ 1 + here → new + here ≡ old + more
+    by_case true old mid new here more small is one some gone come = grind (arith, nat_tests)
+    by_case false old mid new here more small is one some gone come = grind (arith, nat_tests)
 
 -- It is joined again: the bits of these halves are cleared, and its own is set.
-pub join_done : (words new last : List ℕ) (number : ℕ) (leaf part : Span) → number ≡ number_of leaf
-    → MayJoin words leaf part → ((m : ℕ) → bit_of new m + count_of_number m (beside leaf part) ≡ bit_of words m)
-    → Changed new number 1 last → IsMoved last (leaf ∷ []) (beside leaf part) words
-join_done words new last number leaf part e may cleared set m = omega (
-  arith,
-  set_one new last leaf [] m (rw e at set) (omega (arith, cleared m, may.come m)),
-  cleared m,
-  number-one m leaf,
-)
+pub join_done : (words mid new : List ℕ) (number : ℕ) (leaf part : Span) → number ≡ number_of leaf
+    → MayJoin words leaf part → ArePut words (beside leaf part) 0 mid → Changed mid number 1 new
+    → IsMoved new (leaf ∷ []) (beside leaf part) words
+join_done words mid new number leaf part e may cleared set m =
+    by_case (number_of leaf == m) (bit_of words m) (bit_of mid m) (bit_of new m) (count_of_number m (leaf ∷ []))
+    (count_of_number m (beside leaf part)) (bit_at-lt _ _) (number-one m leaf) (cleared m) (rw e at (set m))
+    (may.gone m) (may.come m)
+  where
+    by_case : (is : Bool) (old mid new here more : ℕ) → old < 2 → here ≡ cond is 1 0
+        → mid ≡ cond (nat_lt 0 more) 0 old → new ≡ cond is 1 mid → more ≤ old → old + here ≤ 1 + more
+        → old + here ≡ new + more
+    by_case true old mid new here more small is one some gone come = grind (arith, nat_tests)
+    by_case false old mid new here more small is one some gone come = grind (arith, nat_tests)

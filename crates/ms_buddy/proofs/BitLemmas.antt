@@ -1,14 +1,13 @@
 -- Bits of words: one is changed, and the lowest set one is found. For the set of free leaves.
-use Rattle.std.proofs.Common.{◌≡◌, ◌≢◌, ◌<◌, ◌≤◌, ℕ, zero, suc, ◌+◌, ◌-◌, ◌*◌, ◌/◌, ◌%◌, ◌^◌, true, false, cond, List}
-use Rattle.std.proofs.Common.{length, get_or, replicate, refl, sym, ap, ◌∙◌, inl, inr, arith, w64, bit_and, bit_or}
+use Rattle.std.proofs.Common.{◌≡◌, ◌≢◌, ◌<◌, ◌≤◌, ℕ, zero, suc, ◌+◌, ◌-◌, ◌*◌, ◌/◌, ◌%◌, ◌^◌, Bool, true, false, cond, not, List}
+use Rattle.std.proofs.Common.{length, get_or, replicate, refl, sym, ap, ◌∙◌, inl, inr, arith, w64}
 use Rattle.std.specs.Prelude.{◌==◌, slice_set}
-use Rattle.std.specs.Int.{bit_at, bit_not, trailing_zeros}
+use Rattle.std.specs.Int.{bit_at, trailing_zeros}
 use Rattle.std.proofs.lemmas.Bool.{cases_lt, cases_eq}
 use Rattle.std.proofs.lemmas.Bool.Decides.{nat_tests}
 use Rattle.std.proofs.lemmas.List.{get_or-set_same, get_or-set_other}
 use Rattle.std.proofs.lemmas.Nat.{shr_le, shr-shr}
-use Rattle.std.proofs.lemmas.Nat.Bits.{bit_at-zero, bit_at-trailing_zeros, bit_at_above, bit_at_set_same}
-use Rattle.std.proofs.lemmas.Nat.Bits.{bit_at_set_other, bit_at_clear_same, bit_at_clear_other}
+use Rattle.std.proofs.lemmas.Nat.Bits.{bit_at-zero, bit_at-trailing_zeros, bit_at_above}
 use Rattle.ms_buddy.specs.FreeBits.{IsFilled, IsLowestBit, IsNextSet, bit_of}
 
 is_same_number : (a b : ℕ) → a ≡ b → (a == b) ≡ true
@@ -18,7 +17,7 @@ is_other_number : (a b : ℕ) → (b ≡ a → ⊥) → (a == b) ≡ false
 is_other_number a b e = grind (arith, nat_tests)
 
 -- A word is changed at the place of a number alone.
-changed : (words : List ℕ) (number other word bit : ℕ) → number / 64 < length words
+pub changed : (words : List ℕ) (number other word bit : ℕ) → number / 64 < length words
     → bit_at word (number % 64) ≡ bit
     → ((place : ℕ) → place < 64 → place ≢ number % 64 → bit_at word place ≡ bit_at (get_or words (number / 64) 0) place)
     → bit_of (slice_set words (number / 64) word) other ≡ cond (number == other) bit (bit_of words other)
@@ -41,26 +40,6 @@ changed words number other word bit within here there = elim (cases_eq (other / 
       ∙ sym (ap (λ b. cond b bit (bit_of words other))
       (is_other_number number other (λ e. differs (ap (λ n. n / 64) e))))
 ]
-
--- The bit of a number is set, or cleared, and all others stay.
-pub bit_set : (words : List ℕ) (number other : ℕ) → number / 64 < length words
-    → bit_of (slice_set words (number / 64)
-    (bit_or (get_or words (number / 64) 0) (1 * 2 ^ (number % 64) % 2 ^ 64))) other
-    ≡ cond (number == other) 1 (bit_of words other)
-bit_set words number other within =
-    changed words number other _ 1 within
-    (bit_at_set_same w64 (get_or words (number / 64) 0) (number % 64) (omega arith))
-    (λ place low differs. bit_at_set_other w64 (get_or words (number / 64) 0) (number % 64) (omega arith) place differs)
-
-pub bit_cleared : (words : List ℕ) (number other : ℕ) → number / 64 < length words
-    → bit_of (slice_set words (number / 64)
-    (bit_and (get_or words (number / 64) 0) (bit_not w64 (1 * 2 ^ (number % 64) % 2 ^ 64)))) other
-    ≡ cond (number == other) 0 (bit_of words other)
-bit_cleared words number other within =
-    changed words number other _ 0 within
-    (bit_at_clear_same w64 (get_or words (number / 64) 0) (number % 64) (omega arith))
-    (λ place low differs.
-    bit_at_clear_other w64 (get_or words (number / 64) 0) (number % 64) (omega arith) place low differs)
 
 -- No bit is set in words of zeros.
 zero_word : (n at : ℕ) → get_or {A = ℕ} (replicate n 0) at 0 ≡ 0
@@ -138,58 +117,35 @@ lowest_later words from end at place low lowest before below = record {
   ];
 }
 
+abbrev one_if : Bool → ℕ
+one_if b = cond b 1 0
+
+abbrev none_if : Bool → ℕ
+none_if b = cond b 0 1
+
 -- A word has a bit exactly where the second row says so: with no bit at all, with one more, and with one less.
 pub none_filled : (n m : ℕ) → IsFilled (replicate n 0) (replicate m 0)
-none_filled n m row = no_bit m row ∙ sym (ap (λ (w : ℕ). cond (w == 0) 0 1) (zero_word n row))
+none_filled n m row = no_bit m row ∙ sym (ap (λ (w : ℕ). none_if (w == 0)) (zero_word n row))
 
-abbrev one_if_some : ℕ → ℕ
-one_if_some w = cond (w == 0) 0 1
-
-is_some : (w : ℕ) → 0 < w → one_if_some w ≡ 1
-is_some w h = grind (arith, nat_tests)
-
-is_none : (w : ℕ) → w ≡ 0 → one_if_some w ≡ 0
-is_none w e = grind (arith, nat_tests)
-
-bit_is_some : (w place : ℕ) → bit_at w place ≡ 1 → 0 < w
-bit_is_some zero place e = absurd (omega (arith, e, bit_at-zero place))
-bit_is_some (suc w) place e = omega arith
-
--- The word of a row is changed, and so is its bit, or not.
-row_changed : (words filled : List ℕ) (row word bit : ℕ) (new : List ℕ) → row < length words
-    → IsFilled words filled → one_if_some word ≡ bit
+-- The word of a row is changed, and its bit is that it has any.
+pub row_changed : (words filled : List ℕ) (row word bit : ℕ) (new : List ℕ) → row < length words
+    → IsFilled words filled → bit ≡ one_if (not (word == 0))
     → ((other : ℕ) → bit_of new other ≡ cond (row == other) bit (bit_of filled other))
     → IsFilled (slice_set words row word) new
 row_changed words filled row word bit new within are is told other = elim (cases_eq other row) [
   | inl same ↦
-      told other ∙ ap (λ b. cond b bit (bit_of filled other)) (is_same_number row other (sym same))
-      ∙ sym (ap (λ (w : ℕ). cond (w == 0) 0 1)
-      (ap (λ at. get_or (slice_set words row word) at 0) same ∙ get_or-set_same words row word 0 within) ∙ is)
+      told other ∙ ap (λ b. cond b bit (bit_of filled other)) (is_same_number row other (sym same)) ∙ is
+      ∙ turned (word == 0)
+      ∙ sym (ap (λ (w : ℕ). none_if (w == 0))
+      (ap (λ at. get_or (slice_set words row word) at 0) same ∙ get_or-set_same words row word 0 within))
   | inr differs ↦
       told other ∙ ap (λ b. cond b bit (bit_of filled other)) (is_other_number row other differs)
-      ∙ are other ∙ sym (ap (λ (w : ℕ). cond (w == 0) 0 1) (get_or-set_other words row other word 0 differs))
+      ∙ are other ∙ sym (ap (λ (w : ℕ). none_if (w == 0)) (get_or-set_other words row other word 0 differs))
 ]
-
-pub filled_set : (words filled : List ℕ) (number : ℕ) → number / 64 < length words → number / 64 / 64 < length filled
-    → IsFilled words filled
-    → IsFilled (slice_set words (number / 64) (bit_or (get_or words (number / 64) 0) (1 * 2 ^ (number % 64) % 2 ^ 64)))
-    (slice_set filled (number / 64 / 64)
-    (bit_or (get_or filled (number / 64 / 64) 0) (1 * 2 ^ (number / 64 % 64) % 2 ^ 64)))
-filled_set words filled number within there are =
-    row_changed words filled (number / 64) _ 1 _ within are
-    (is_some _ (bit_is_some _ (number % 64) (bit_at_set_same w64 (get_or words (number / 64) 0) (number % 64) (omega arith))))
-    (λ other. bit_set filled (number / 64) other there)
-
-pub filled_cleared : (words filled : List ℕ) (number word : ℕ) → number / 64 < length words
-    → number / 64 / 64 < length filled → get_or (slice_set words (number / 64) word) (number / 64) 0 ≡ 0
-    → IsFilled words filled
-    → IsFilled (slice_set words (number / 64) word)
-    (slice_set filled (number / 64 / 64)
-    (bit_and (get_or filled (number / 64 / 64) 0) (bit_not w64 (1 * 2 ^ (number / 64 % 64) % 2 ^ 64))))
-filled_cleared words filled number word within there none are =
-    row_changed words filled (number / 64) word 0 _ within are
-    (is_none word (sym (get_or-set_same words (number / 64) word 0 within) ∙ none))
-    (λ other. bit_cleared filled (number / 64) other there)
+  where
+    turned : (b : Bool) → one_if (not b) ≡ none_if b
+    turned true = refl
+    turned false = refl
 
 -- Words that have no bit are passed over.
 pub none_passed : (words filled : List ℕ) (from at row : ℕ) → IsFilled words filled
@@ -205,6 +161,5 @@ none_passed words filled from at row are none passed before number low high = el
       ∙ bit_at-zero (number % 64)
 ]
   where
-    no_word : (w : ℕ) → one_if_some w ≡ 0 → w ≡ 0
-    no_word zero e = refl
-    no_word (suc w) e = absurd (omega (arith, e, is_some (suc w) (omega arith)))
+    no_word : (w : ℕ) → none_if (w == 0) ≡ 0 → w ≡ 0
+    no_word w e = grind (arith, nat_tests)

@@ -5,17 +5,21 @@ use Rattle.std.specs.Prelude.{◌==◌}
 use Rattle.std.proofs.lemmas.Bool.{cases_lt}
 use Rattle.std.proofs.lemmas.Bool.Decides.{nat_tests}
 use Rattle.std.proofs.lemmas.Nat.{div-mul-add}
-use Rattle.std.proofs.Math.Nat.{le_of_mul-le-mul_right}
+use Rattle.std.proofs.Math.Nat.{le_of_mul-le-mul_right, mod-lt}
 use Rattle.ms_base.specs.declared.span.Span.{Span}
 use Rattle.ms_base.specs.Level.{size_of, highest_level}
 use Rattle.ms_buddy.specs.declared.node.Node.{Node}
 use Rattle.ms_buddy.specs.declared.node.Node.TheVariants.{Free, Lent, Split'}
-use Rattle.ms_buddy.specs.Counts.{IsApart, buddy_of, count_of_number, number_of, one_at}
+use Rattle.ms_buddy.specs.Counts.{IsApart, buddy_of, count_of_number, holder_of, number_of, one_at}
 use Rattle.ms_buddy.specs.Leaves.{span_at}
 use Rattle.ms_buddy.specs.Tree.{IsPlace, free_in, free_in_halves, is_free}
 use Rattle.ms_buddy.proofs.TreeHalvesLemmas.{lower_place, size_of-halves, size_of-some, upper_place}
-use Rattle.ms_buddy.proofs.NumberLemmas.{number_words}
+use Rattle.ms_buddy.proofs.NumberLemmas.{holder_place, number_words}
 use Rattle.ms_buddy.proofs.CountLemmas.{number-append, number-one}
+
+-- An offset lies past the last multiple of a size by less than the size.
+pub past : (a w : ℕ) → 0 < w → a < a - a % w + w
+past a w some = omega (arith, mod-lt a some)
 
 -- The part of a level that holds an offset has the number that is told by the offset.
 number_within : (level start at : ℕ) → IsPlace level start → start ≤ at → at < start + size_of level
@@ -27,6 +31,13 @@ number_within level start at place from below =
   where
     there : 524288 + at ≡ number_of (span_at start level) * size_of level + (at - start)
     there = omega (arith, number_words level start place, from)
+
+-- So the number is that of the part of a level that holds a part.
+pub number_of-holder : (level : ℕ) (part : Span) → level ≤ highest_level → part.start < 524288
+    → number_of (span_at part.start level) ≡ number_of (holder_of level part)
+number_of-holder level part low below =
+    number_within level (part.start - part.start % size_of level) part.start (holder_place level part low below)
+    (omega arith) (past part.start (size_of level) (size_of-some level))
 
 cancel : (a b w : ℕ) → 0 < w → a * w ≡ b * w → a ≡ b
 cancel a b w some e =
@@ -66,6 +77,23 @@ buddy_of-odd n = rw (odd n) (omega arith)
     odd : (n : ℕ) → ((2 * n + 1) % 2 == 0) ≡ false
     odd n = grind (arith, nat_tests)
 
+pub upper_is_buddy : (level start at : ℕ) → IsPlace level start → level < highest_level → start ≤ at
+    → at < start + size_of (level + 1)
+    → buddy_of (number_of (span_at at (level + 1))) ≡ number_of (span_at (start + size_of (level + 1)) (level + 1))
+upper_is_buddy level start at place low from below =
+    ap buddy_of (number_within (level + 1) start at (lower_place level start place low) from below
+    ∙ lower_number level start place low) ∙ buddy_of-even (number_of (span_at start level))
+    ∙ sym (upper_number level start place low)
+
+pub lower_is_buddy : (level start at : ℕ) → IsPlace level start → level < highest_level
+    → start + size_of (level + 1) ≤ at → at < start + size_of level
+    → buddy_of (number_of (span_at at (level + 1))) ≡ number_of (span_at start (level + 1))
+lower_is_buddy level start at place low above below =
+    ap buddy_of (number_within (level + 1) (start + size_of (level + 1)) at
+    (upper_place level start (start + size_of (level + 1)) place low refl) above
+    (omega (arith, below, size_of-halves level low)) ∙ upper_number level start place low)
+    ∙ buddy_of-odd (number_of (span_at start level)) ∙ sym (lower_number level start place low)
+
 -- A node is not free which is none of the free leaves.
 not_there : {A : Type 0} (level start number : ℕ) (node : Node A) → number ≡ number_of (span_at start level)
     → count_of_number number (free_in level start node) ≡ 0 → is_free node ≡ false
@@ -82,9 +110,7 @@ pub upper_not_free : {A : Type 0} (part : Span) (level start half : ℕ) (lower 
     → IsApart (level + 1) part (free_in_halves level start lower upper) → is_free upper ≡ false
 upper_not_free part level start half lower upper place low size from below apart =
     not_there (level + 1) (start + size_of (level + 1)) (buddy_of (number_of (span_at part.start (level + 1)))) upper
-    (ap buddy_of (number_within (level + 1) start part.start (lower_place level start place low) from (omega (arith, size, below))
-    ∙ lower_number level start place low) ∙ buddy_of-even (number_of (span_at start level))
-    ∙ sym (upper_number level start place low))
+    (upper_is_buddy level start part.start place low from (omega (arith, size, below)))
     (omega (
       arith,
       apart,
@@ -98,11 +124,7 @@ pub lower_not_free : {A : Type 0} (part : Span) (level start half : ℕ) (lower 
     → IsApart (level + 1) part (free_in_halves level start lower upper) → is_free lower ≡ false
 lower_not_free part level start half lower upper place low size above below apart =
     not_there (level + 1) start (buddy_of (number_of (span_at part.start (level + 1)))) lower
-    (ap buddy_of (number_within (level + 1) (start + size_of (level + 1)) part.start
-    (upper_place level start (start + size_of (level + 1)) place low refl) (omega (arith, size, above))
-    (omega (arith, below, size_of-halves level low))
-    ∙ upper_number level start place low) ∙ buddy_of-odd (number_of (span_at start level))
-    ∙ sym (lower_number level start place low))
+    (lower_is_buddy level start part.start place low (omega (arith, size, above)) below)
     (omega (
       arith,
       apart,

@@ -1,5 +1,5 @@
 -- The free leaves of a root as a set of bits, one for each part that there may be.
-use Rattle.std.specs.Prelude.{◌≡◌, ℕ, ◌+◌, [], ◌∷◌, ◌/◌, ◌%◌, ◌<◌, ◌≤◌, List, get_or, ◌==◌, cond}
+use Rattle.std.specs.Prelude.{◌≡◌, ℕ, ◌+◌, [], ◌∷◌, ◌/◌, ◌%◌, ◌<◌, ◌≤◌, List, get_or, ◌==◌, cond, nat_lt}
 use Rattle.std.specs.Int.{bit_at}
 use Rattle.ms_base.specs.declared.span.Span.{Span}
 use Rattle.ms_buddy.specs.declared.node.Node.{Node}
@@ -43,6 +43,11 @@ pub record IsNextSet (words : List ℕ) (from end number : ℕ) : Type 0 where
 abbrev pub IsMoved : List ℕ → List Span → List Span → List ℕ → Type 0
 IsMoved old gone come new = (number : ℕ)
     → bit_of new number + count_of_number number gone ≡ bit_of old number + count_of_number number come
+
+-- The bits of some parts are all set, or all cleared, and the others stay.
+abbrev pub ArePut : List ℕ → List Span → ℕ → List ℕ → Type 0
+ArePut old parts bit new = (number : ℕ)
+    → bit_of new number ≡ cond (nat_lt 0 (count_of_number number parts)) bit (bit_of old number)
 
 -- The bits are such that a free leaf may be parted for a part in it.
 pub record MayPart (words : List ℕ) (leaf part : Span) : Type 0 where

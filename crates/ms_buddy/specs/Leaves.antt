@@ -101,12 +101,6 @@ pub record CarveAnswers {A : Type 0} (part : Span) (free : List Span) (result : 
   pub room : OnOk result (IsTrue (fits_in part free))
   pub refusal : IfErr result (λ refusal. IsCarveRefusal part free refusal)
 
--- What enlarging a leaf answers, by the leaves that are free before: it becomes its parent exactly
--- where it can, and a refusal tells its level.
-pub record EnlargeAnswers {A : Type 0} (part : Span) (free : List Span) (result : Result A Refusal) : Type 0 where
-  pub room : IsOk result ↔ IsTrue (can_enlarge part free)
-  pub refusal : IfErr result (λ refusal. refusal ≡ NoRoom part.level)
-
 -- One more leaf, in its place.
 abbrev pub with_leaf : LentLeaf → List LentLeaf → List LentLeaf
 with_leaf added [] = added ∷ []

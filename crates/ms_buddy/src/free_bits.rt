@@ -9,15 +9,14 @@
 //! The root has the number 1, and the halves of a part have twice its number, and one more: so the
 //! parts of a level stand in a row, in order of address, and the lowest free one is the lowest set bit
 //! there. Takes no memory.
-ghost use Rattle.std.specs.Prelude.{◌≡◌, ℕ, ◌+◌, ◌-◌, ◌*◌, ◌/◌, ◌%◌, ◌^◌, ◌<◌, ◌≤◌, ◌==◌, cond, IfSome, IfNone, [], ◌∷◌};
+ghost use Rattle.std.specs.Prelude.{◌≡◌, ◌≢◌, ℕ, ◌+◌, ◌-◌, ◌*◌, ◌/◌, ◌%◌, ◌^◌, ◌<◌, ◌≤◌, ◌==◌, cond, IfSome, IfNone, [], ◌∷◌};
 ghost use Rattle.std.specs.Int.{bit_at};
 ghost use Rattle.ms_base.specs.declared.sizes.TheConstants.{ROOT_WORDS};
 ghost use Rattle.ms_base.specs.Level.{size_of};
-ghost use Rattle.ms_buddy.specs.Counts.{beside, buddy_of, count_of_number, halves_beside, holder_of, number_of};
-ghost use Rattle.ms_buddy.specs.FreeBits.{IsFilled, IsLowestBit, IsMoved, IsNextSet, MayJoin, MayPart, bit_of};
+ghost use Rattle.ms_buddy.specs.Counts.{beside, buddy_of, holder_of, number_of};
+ghost use Rattle.ms_buddy.specs.FreeBits.{ArePut, IsFilled, IsLowestBit, IsMoved, IsNextSet, MayJoin, MayPart, bit_of};
 ghost use Rattle.ms_buddy.specs.Leaves.{span_at};
 
-use crate::node::half_of;
 use ms_base::ROOT_WORDS;
 
 /// How many bits a word has.
@@ -44,7 +43,7 @@ impl FreeBits {
             words: [0; WORDS],
             filled: [0; WORDS / BITS],
         };
-        bits.set(1);
+        bits.put(1, true);
         bits
     }
 
@@ -96,9 +95,8 @@ impl FreeBits {
         ensures filled { IsFilled self.old.words self.old.filled
             → IsFilled self.new.words self.new.filled }
     {
-        let start = start_of_holder(free, at);
-        self.clear(number(free, start));
-        self.set_beside(free, start, at, lent);
+        self.put(number(free, at), false);
+        self.put_beside(free, at, lent, true);
     }
 
     /// Joins the part of a level that starts at an offset and the halves beside it to one free leaf.
@@ -112,9 +110,8 @@ impl FreeBits {
         ensures filled { IsFilled self.old.words self.old.filled
             → IsFilled self.new.words self.new.filled }
     {
-        let start = start_of_holder(free, at);
-        self.clear_beside(free, start, at, lent);
-        self.set(number(free, start));
+        self.put_beside(free, at, lent, false);
+        self.put(number(free, at), true);
     }
 
     /// Tells the level to which a part of a level merges that starts at an offset: there it is the
@@ -135,57 +132,22 @@ impl FreeBits {
         self.merge_level(level - 1, at)
     }
 
-    /// Sets the bits of the halves that stay free, as the part of a level that starts there is split for
-    /// one of a lower level in it.
-    fn set_beside(&mut self, level: u8, start: u64, at: u64, lent: u8)
+    /// Sets or clears the bits of the halves beside the way from the part of a level that holds an offset
+    /// down to the part of a lower level there.
+    fn put_beside(&mut self, level: u8, at: u64, lent: u8, set: bool)
         requires order { level ≤ lent }
         requires low { lent ≤ 12 }
-        requires in_root { start + size_of level ≤ ROOT_WORDS }
-        requires clear { (number : ℕ) → bit_of self.old.words number
-            + count_of_number number (halves_beside (lent - level) level start at) ≤ 1 }
-        ensures bits { (number : ℕ) → bit_of self.new.words number ≡ bit_of self.old.words number
-            + count_of_number number (halves_beside (lent - level) level start at) }
+        requires in_root { at < ROOT_WORDS }
+        ensures bits { ArePut self.old.words
+            (beside (holder_of level (span_at at lent)) (span_at at lent)) (cond set 1 0) self.new.words }
         ensures filled { IsFilled self.old.words self.old.filled
             → IsFilled self.new.words self.new.filled }
     {
         if level == lent {
             return;
         }
-        let middle = start + half_of(level);
-        if at < middle {
-            self.set(number(level + 1, middle));
-            self.set_beside(level + 1, start, at, lent);
-        } else {
-            self.set(number(level + 1, start));
-            self.set_beside(level + 1, middle, at, lent);
-        }
-    }
-
-    /// Clears the bits of the halves that were free, as the part of a level that starts there was split
-    /// for one of a lower level in it.
-    fn clear_beside(&mut self, level: u8, start: u64, at: u64, lent: u8)
-        requires order { level ≤ lent }
-        requires low { lent ≤ 12 }
-        requires in_root { start + size_of level ≤ ROOT_WORDS }
-        requires set { (number : ℕ) → count_of_number number (halves_beside (lent - level) level start at)
-            ≤ bit_of self.old.words number }
-        ensures bits { (number : ℕ) → bit_of self.new.words number
-            + count_of_number number (halves_beside (lent - level) level start at)
-            ≡ bit_of self.old.words number }
-        ensures filled { IsFilled self.old.words self.old.filled
-            → IsFilled self.new.words self.new.filled }
-    {
-        if level == lent {
-            return;
-        }
-        let middle = start + half_of(level);
-        if at < middle {
-            self.clear(number(level + 1, middle));
-            self.clear_beside(level + 1, start, at, lent);
-        } else {
-            self.clear(number(level + 1, start));
-            self.clear_beside(level + 1, middle, at, lent);
-        }
+        self.put(buddy_of(number(level + 1, at)), set);
+        self.put_beside(level + 1, at, lent, set);
     }
 
     /// Tells whether the bit of a number is set.
@@ -196,34 +158,33 @@ impl FreeBits {
         self.words[number / BITS] >> (number % BITS) & 1 == 1
     }
 
-    /// Sets the bit of a number.
-    fn set(&mut self, number: usize)
+    /// Sets the bit of a number, or clears it.
+    pub(crate) fn put(&mut self, number: usize, set: bool)
         requires { number < 8192 }
         ensures bits { (other : ℕ) → bit_of self.new.words other
-            ≡ cond (number == other) 1 (bit_of self.old.words other) }
+            ≡ cond (number == other) (cond set 1 0) (bit_of self.old.words other) }
         ensures filled { IsFilled self.old.words self.old.filled
             → IsFilled self.new.words self.new.filled }
     {
         let row = number / BITS;
-        self.words[row] |= 1 << (number % BITS);
-        self.filled[row / BITS] |= 1 << (row % BITS);
+        let word = with_bit(self.words[row], number % BITS, set);
+        let row_word = with_bit(self.filled[row / BITS], row % BITS, word != 0);
+        self.words[row] = word;
+        self.filled[row / BITS] = row_word;
     }
+}
 
-    /// Clears the bit of a number.
-    pub(crate) fn clear(&mut self, number: usize)
-        requires { number < 8192 }
-        ensures bits { (other : ℕ) → bit_of self.new.words other
-            ≡ cond (number == other) 0 (bit_of self.old.words other) }
-        ensures filled { IsFilled self.old.words self.old.filled
-            → IsFilled self.new.words self.new.filled }
-    {
-        let row = number / BITS;
-        self.words[row] &= !(1 << (number % BITS));
-        if self.words[row] != 0 {
-            return;
-        }
-        self.filled[row / BITS] &= !(1 << (row % BITS));
+/// A word with the bit of a place set, or cleared.
+#[inline(always)]
+fn with_bit(word: u64, place: usize, set: bool) -> u64
+    requires { place < 64 }
+    ensures here { bit_at result place ≡ cond set 1 0 }
+    ensures others { (other : ℕ) → other < 64 → other ≢ place → bit_at result other ≡ bit_at word other }
+{
+    if set {
+        return word | (1 << place);
     }
+    word & !(1 << place)
 }
 
 /// Finds the lowest set bit of a word from a place on.

@@ -202,7 +202,7 @@ impl<A: Allocator> SplitTree<A> {
             return no_room;
         }
         part_counts(&mut self.counts, level, level);
-        self.free.clear(number(level, start + words_of(level)));
+        self.free.put(number(level, start + words_of(level)), false);
         Ok(part(start, level - 1))
     }
 }

@@ -1,16 +1,17 @@
 -- The leaf is the part that holds the offset.
-use Rattle.std.proofs.Common.{ℕ, ap, ◌∙◌}
-use Rattle.ms_buddy.specs.Counts.{holder_of, number_of}
+use Rattle.std.proofs.Common.{arith, ◌∙◌}
+use Rattle.ms_buddy.specs.Counts.{holder_of}
 use Rattle.ms_buddy.specs.Leaves.{span_at}
 use Rattle.ms_buddy.proofs.BesideLemmas.{join_done}
+use Rattle.ms_buddy.proofs.BuddyLemmas.{number_of-holder}
 use Rattle.ms_buddy.proofs.free_bits.FreeBits.join.Goals as goal
 
 pub returns-clause-bits : goal.returns-clause-bits
 returns-clause-bits c =
-    let is = c.number.ensures.same
-    ∙ ap (λ (n : ℕ). number_of (span_at n c.args.free)) c.start_of_holder-start.ensures.start in
-    join_done _ _ _ _ (holder_of c.args.free (span_at c.args.at c.args.lent)) (span_at c.args.at c.args.lent) is
-    c.requires.bits (rw c.start_of_holder-start.ensures.start at c.clear_beside.ensures.bits) c.set.ensures.bits
+    join_done _ _ _ _ (holder_of c.args.free (span_at c.args.at c.args.lent)) (span_at c.args.at c.args.lent)
+    (c.number.ensures.same ∙ number_of-holder c.args.free (span_at c.args.at c.args.lent)
+    (omega (arith, c.requires.order, c.requires.low)) c.requires.in_root)
+    c.requires.bits c.put_beside.ensures.bits c.put.ensures.bits
 
 pub returns-clause-filled : goal.returns-clause-filled
-returns-clause-filled c are = c.set.ensures.filled (c.clear_beside.ensures.filled are)
+returns-clause-filled c are = c.put.ensures.filled (c.put_beside.ensures.filled are)

@@ -4,7 +4,7 @@ use Rattle.ms_buddy.proofs.BitLemmas.{no_bit, none_filled}
 use Rattle.ms_buddy.proofs.free_bits.FreeBits.whole.Goals as goal
 
 pub returns-clause-bits : goal.returns-clause-bits
-returns-clause-bits c number = c.set.ensures.bits number ∙ ap (λ (bit : ℕ). cond (1 == number) 1 bit) (no_bit 128 number)
+returns-clause-bits c number = c.put.ensures.bits number ∙ ap (λ (bit : ℕ). cond (1 == number) 1 bit) (no_bit 128 number)
 
 pub returns-clause-filled : goal.returns-clause-filled
-returns-clause-filled c = c.set.ensures.filled (none_filled 128 2)
+returns-clause-filled c = c.put.ensures.filled (none_filled 128 2)

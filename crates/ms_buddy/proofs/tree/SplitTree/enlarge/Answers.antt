@@ -55,6 +55,6 @@ invariant_of-self-2 g c = record {
       (c.enlarge.ensures.parted c.if-not-enlarge.false) (rw c.number-level.ensures.same at c.part_counts.ensures);
   marked = enlarged_bits _ _ _ _ (follower_of c.args.span) _
       (rw (c.words_of.ensures.size, c.number-level.ensures.same) at c.number.ensures.same)
-      c.self.invariant.marked (c.enlarge.ensures.parted c.if-not-enlarge.false) c.clear.ensures.bits;
-  told = c.clear.ensures.filled c.self.invariant.told;
+      c.self.invariant.marked (c.enlarge.ensures.parted c.if-not-enlarge.false) c.put.ensures.bits;
+  told = c.put.ensures.filled c.self.invariant.told;
 }
