@@ -1,5 +1,5 @@
-//! A session: the whole input is read and parsed, then run, while the text of the answers grows in the
-//! room that the input had, then that text is written.
+//! A session: the whole input is read and parsed, then run, while the text of the answers grows in
+//! the room that the input had, then that text is written.
 ghost use Rattle.std.specs.Prelude.{◌≡◌, ◌⊎◌, ℕ, List, IfOk, IfErr, IfSome, string_bytes};
 ghost use Rattle.std.specs.Io.KnownBytes.{Keeps};
 ghost use Rattle.ms_trace.specs.declared.fault.FaultKind.{FaultKind};

@@ -6,10 +6,10 @@
 //!
 //! Apart because a loader's names are its blocks already: only who has no other list of them needs
 //! this one, a hash map. A block is found and added in about the same time, however many are live.
-//! Kept true: the live blocks are those of the arena below, so they are apart and in use, and starts
-//! rise in what is seen of them. Stands on `raw` for all else. Only `place` and `alloc` take memory;
-//! room for a block is made before the arena below is asked. HotSpot's arenas know no live blocks;
-//! that this one does is this project's choice.
+//! Kept true: the live blocks are those of the arena below, so they are apart and in use, and
+//! starts rise in what is seen of them. Stands on `raw` for all else. Only `place` and `alloc` take
+//! memory; room for a block is made before the arena below is asked. HotSpot's arenas know no live
+//! blocks; that this one does is this project's choice.
 ghost use Rattle.std.specs.Prelude.{◌≡◌, ◌↔◌, ◌<◌, ◌^◌, None, Some, Err, IfOk, OnOk, IfErr, OnErr, []};
 ghost use Rattle.std.specs.Prelude.{IsTrue};
 ghost use Rattle.std.specs.HashMap.{spare};
@@ -66,8 +66,8 @@ impl Arena {
         }
     }
 
-    /// Starts anew over an account that holds no chunk, as empty as `new` makes an arena, and gives the
-    /// former account back. The memory that it had serves it again. Takes none.
+    /// Starts anew over an account that holds no chunk, as empty as `new` makes an arena, and gives
+    /// the former account back. The memory that it had serves it again. Takes none.
     pub fn renew(&mut self, account: Account, kind: Kind) -> Account
         requires { account.chunks ≡ [] }
         ensures former { result ≡ account_of self.old }
@@ -77,10 +77,11 @@ impl Arena {
         self.raw.renew(account, kind)
     }
 
-    /// Places a block of so many words, at least two, where it needs no chunk: in the free block that
-    /// fits best, else at the top of the current chunk. Its words are 0. Answers `None` where a chunk,
-    /// or a growth of one, is needed. Refused with `ZeroWords`, with `TooLarge` for more than 524288
-    /// words, and with `OutOfMemory`; whoever is refused finds the arena as it was. Takes memory.
+    /// Places a block of so many words, at least two, where it needs no chunk: in the free block
+    /// that fits best, else at the top of the current chunk. Its words are 0. Answers `None` where
+    /// a chunk, or a growth of one, is needed. Refused with `ZeroWords`, with `TooLarge` for more
+    /// than 524288 words, and with `OutOfMemory`; whoever is refused finds the arena as it was.
+    /// Takes memory.
     pub fn place(&mut self, words: u64) -> Result<Option<Block>, Refusal>
         ensures placed { IfOk result (λ found. Places self.old words found self.new) }
         ensures refused { IfErr result (λ refusal. PlaceRefused words refusal) }
@@ -100,8 +101,8 @@ impl Arena {
     /// Allocates a block of so many words, at least two, whose words are 0: where it has a place
     /// without a chunk; else at the current chunk's top, once the source has grown that chunk; else
     /// at the start of a new chunk, and the former current chunk retires. Refused with `ZeroWords`,
-    /// with `TooLarge`, with `OutOfMemory`, and as the source's `take` refuses; a refusal leaves the
-    /// arena as it was. Takes memory, all of its own before the source is asked.
+    /// with `TooLarge`, with `OutOfMemory`, and as the source's `take` refuses; a refusal leaves
+    /// the arena as it was. Takes memory, all of its own before the source is asked.
     pub fn alloc<S: ChunkSource>(&mut self, source: &mut S, words: u64) -> Result<Block, Refusal>
         requires { S.serves source.old (account_of self.old) }
         ensures served { S.serves source.new (account_of self.new) }
@@ -175,7 +176,8 @@ impl Arena {
         self.raw.account()
     }
 
-    /// Tells how many words are in use: the sum of the tops. Takes no memory, and looks at no chunk.
+    /// Tells how many words are in use: the sum of the tops. Takes no memory, and looks at no
+    /// chunk.
     pub fn used(&self) -> u64
         ensures sum { result ≡ used_of self.now.books }
         ensures small { result < 2 ^ 52 }
@@ -190,8 +192,8 @@ impl Arena {
         self.raw.kind()
     }
 
-    /// Tells whether the arena's memory is small, as `RawArena` says of its own. A hint, of which nothing
-    /// is promised. Takes no memory.
+    /// Tells whether the arena's memory is small, as `RawArena` says of its own. A hint, of which
+    /// nothing is promised. Takes no memory.
     pub fn is_small(&self) -> bool {
         self.raw.is_small() && self.live.capacity() <= SMALL_BLOCKS
     }

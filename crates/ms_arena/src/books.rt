@@ -86,8 +86,8 @@ impl Books {
         }
     }
 
-    /// Starts anew over an account that holds no chunk, in the memory that there is, and gives the former
-    /// account back. Takes none.
+    /// Starts anew over an account that holds no chunk, in the memory that there is, and gives the
+    /// former account back. Takes none.
     pub fn renew(&mut self, alloc: Global, account: Account) -> Account
         requires { account.chunks ≡ [] }
         ensures former { result ≡ account_in self.old }
@@ -146,8 +146,8 @@ impl Books {
         self.kept.total()
     }
 
-    /// Puts the free blocks in order, and makes room for so many more, and for one top more; all else
-    /// stays.
+    /// Puts the free blocks in order, and makes room for so many more, and for one top more; all
+    /// else stays.
     #[inline(always)]
     pub fn make_room(&mut self, blocks: usize) -> Result<(), Refusal>
         ensures room { OnOk result (blocks ≤ self.new.room) }

@@ -4,9 +4,9 @@
 //!     ordered   [30, 42)  [0, 16)  [80, 120)  ..        by size, a fork of a tree for each
 //!
 //! Most blocks are never freed before their loader goes, so no fork is made for a block while it is
-//! live: a block that comes is only noted, in room that was made when it was placed, and put in order
-//! before the next placement. Kept true: each block that came may be kept beside those that were there
-//! before it, and their words are summed. Only `make_room` takes memory.
+//! live: a block that comes is only noted, in room that was made when it was placed, and put in
+//! order before the next placement. Kept true: each block that came may be kept beside those that
+//! were there before it, and their words are summed. Only `make_room` takes memory.
 ghost use Rattle.std.specs.Prelude.{◌≡◌, ◌+◌, ◌^◌, ◌<◌, ◌≤◌, IsFalse, [], length, OnOk, IfErr, IfSome, IfNone};
 ghost use Rattle.std.specs.Option.{option_map};
 ghost use Rattle.ms_base.specs.Interval.{meets_any};

@@ -3,8 +3,8 @@
 //!     few      | 70: 1 | 3: 2 | 71: 3 |  room  |      eight at most, looked at from the last one on
 //!     many     { 70: 1, 3: 2, 71: 3, .. }             once there may be more
 //!
-//! Most arenas reach into a few stretches: a list for these is asked for once, where a map asks for four
-//! vectors, and is looked at in less time. Only `reserve` takes memory.
+//! Most arenas reach into a few stretches: a list for these is asked for once, where a map asks for
+//! four vectors, and is looked at in less time. Only `reserve` takes memory.
 ghost use Rattle.std.specs.Prelude.{◌≡◌, ℕ, ◌+◌, ◌<◌, ◌≤◌, IfOk, OnOk, [], nat_eq};
 ghost use Rattle.std.specs.Option.{unwrap_or};
 ghost use Rattle.std.specs.HashMap.{spare};

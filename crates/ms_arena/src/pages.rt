@@ -6,10 +6,10 @@
 //!     store    | page 2  | page 0  |        room        |
 //!
 //! A page comes into the store when a word of it is first written, and its other words are made 0
-//! then. So a page that was never written takes no memory but its room, which nothing touches. A page
-//! that is cleared as a whole keeps its place and is only marked: it is zeroed when it is next written.
-//! Kept true: the store has the pages with a place and no others, each at its own.
-//! Only `reserve` takes memory. HotSpot's arenas are memory themselves; this list stands for it.
+//! then. So a page that was never written takes no memory but its room, which nothing touches. A
+//! page that is cleared as a whole keeps its place and is only marked: it is zeroed when it is next
+//! written. Kept true: the store has the pages with a place and no others, each at its own. Only
+//! `reserve` takes memory. HotSpot's arenas are memory themselves; this list stands for it.
 ghost use Rattle.std.specs.Prelude.{◌≡◌, ◌≢◌, ℕ, ◌+◌, ◌-◌, ◌*◌, ◌/◌, ◌^◌, ◌<◌, ◌≤◌, OnOk, OnErr, length};
 ghost use Rattle.std.specs.Prelude.{true, false, IsTrue, slice_index, vec_capacity};
 ghost use Rattle.ms_arena.specs.Pages.{word_at, page_at, Clears};

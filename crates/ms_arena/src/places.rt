@@ -4,9 +4,10 @@
 //!     place      |  3  |       |  1  |  |  2  |     0 where there is none
 //!                 newest            others
 //!
-//! The stretch that got its place last is looked at before the others (`others`), since an arena mostly
-//! allocates there, and small arenas have no other. Beside them are noted some runs of stretches that all
-//! have places, so that a large block needs no look at each of its own. Only `reserve` takes memory.
+//! The stretch that got its place last is looked at before the others (`others`), since an arena
+//! mostly allocates there, and small arenas have no other. Beside them are noted some runs of
+//! stretches that all have places, so that a large block needs no look at each of its own. Only
+//! `reserve` takes memory.
 ghost use Rattle.std.specs.Prelude.{◌≡◌, ℕ, ◌+◌, ◌<◌, ◌≤◌, IsTrue, OnOk, cond, nat_eq};
 ghost use Rattle.ms_arena.specs.Places.{HavePlaces, StayPlaces, place_in, place_of};
 
@@ -143,7 +144,8 @@ impl Places {
     }
 }
 
-/// Makes room for a run more where so many stretches may become one; where that is refused none is noted.
+/// Makes room for a run more where so many stretches may become one; where that is refused none is
+/// noted.
 #[inline(always)]
 fn make_run_room(runs: &mut Vec<Run>, stretches: usize)
     ensures { runs.new.items ≡ runs.old.items }
@@ -153,7 +155,8 @@ fn make_run_room(runs: &mut Vec<Run>, stretches: usize)
     }
 }
 
-/// Notes a run beside others: as a part of the first that it meets or touches, else by itself where it is large.
+/// Notes a run beside others: as a part of the first that it meets or touches, else by itself where
+/// it is large.
 fn note_in(newest: &Option<Placed>, others: &Others, runs: &mut Vec<Run>, first: usize, past: usize)
     requires order { first ≤ past }
     requires places { (stretch : ℕ) → first ≤ stretch → stretch < past

@@ -6,15 +6,14 @@
 //!
 //! `#` are words of live blocks, `.` free blocks and waste below a top, `~` words that are committed
 //! and not in use. A block goes into the free block that fits best, else to the current chunk's
-//! top, else to where the source has more; free blocks are never joined.
-//! It knows how many blocks are live, and how many words they have, but not which: whoever has the
-//! blocks says so with each call, and each clause holds whatever blocks are live. So a block has one
-//! home, its owner's. Kept true: there is room to free each live block.
-//! Room is made before a source is asked: so what it lends is always placed, a refused `alloc`
-//! changes nothing, and `free` takes no memory. Stands on `books` for chunks, tops and free blocks
-//! and on `words` for the words. Only `place` and `alloc` take memory; `alloc` waits as its source
-//! does. After HotSpot's metaspaceArena.cpp, which knows no live blocks either; best fit is this
-//! project's choice.
+//! top, else to where the source has more; free blocks are never joined. It knows how many blocks
+//! are live, and how many words they have, but not which: whoever has the blocks says so with each
+//! call, and each clause holds whatever blocks are live. So a block has one home, its owner's. Kept
+//! true: there is room to free each live block. Room is made before a source is asked: so what it
+//! lends is always placed, a refused `alloc` changes nothing, and `free` takes no memory. Stands on
+//! `books` for chunks, tops and free blocks and on `words` for the words. Only `place` and `alloc`
+//! take memory; `alloc` waits as its source does. After HotSpot's metaspaceArena.cpp, which knows
+//! no live blocks either; best fit is this project's choice.
 ghost use Rattle.std.specs.Prelude.{◌≡◌, ℕ, ◌+◌, ◌%◌, ◌<◌, ◌≤◌, ◌^◌, IfOk, OnOk, IfErr, OnErr, IfSome, IfNone, [], List, false};
 ghost use Rattle.std.specs.Prelude.{Some, None, Err};
 ghost use Rattle.ms_base.specs.Level.{size_of};
@@ -87,8 +86,8 @@ impl RawArena {
         }
     }
 
-    /// Starts anew over an account that holds no chunk, as empty as `new` makes an arena, and gives the
-    /// former account back. The memory that it had serves it again. Takes none.
+    /// Starts anew over an account that holds no chunk, as empty as `new` makes an arena, and gives
+    /// the former account back. The memory that it had serves it again. Takes none.
     pub fn renew(&mut self, account: Account, kind: Kind) -> Account
         requires { account.chunks ≡ [] }
         ensures former { result ≡ raw_account self.old }
@@ -104,10 +103,11 @@ impl RawArena {
         self.books.renew(self.alloc, account)
     }
 
-    /// Places a block of so many words, at least two, where it needs no chunk: in the free block that
-    /// fits best, else at the top of the current chunk. Its words are 0. Answers `None` where a chunk,
-    /// or a growth of one, is needed. Refused with `ZeroWords`, with `TooLarge` for more than 524288
-    /// words, and with `OutOfMemory`; whoever is refused finds the arena as it was. Takes memory.
+    /// Places a block of so many words, at least two, where it needs no chunk: in the free block
+    /// that fits best, else at the top of the current chunk. Its words are 0. Answers `None` where
+    /// a chunk, or a growth of one, is needed. Refused with `ZeroWords`, with `TooLarge` for more
+    /// than 524288 words, and with `OutOfMemory`; whoever is refused finds the arena as it was.
+    /// Takes memory.
     pub fn place(&mut self, words: u64) -> Result<Option<Block>, Refusal>
         ensures placed { (live : List (ℕ × List ℕ)) → IfOk result (λ found.
             Places (with_live self.old live) words found (with_live self.new (live_with live found))) }
@@ -133,8 +133,8 @@ impl RawArena {
     /// Allocates a block of so many words, at least two, whose words are 0: where it has a place
     /// without a chunk; else at the current chunk's top, once the source has grown that chunk; else
     /// at the start of a new chunk, and the former current chunk retires. Refused with `ZeroWords`,
-    /// with `TooLarge`, with `OutOfMemory`, and as the source's `take` refuses; a refusal leaves the
-    /// arena as it was. Takes memory, all of its own before the source is asked.
+    /// with `TooLarge`, with `OutOfMemory`, and as the source's `take` refuses; a refusal leaves
+    /// the arena as it was. Takes memory, all of its own before the source is asked.
     #[inline(always)]
     pub fn alloc<S: ChunkSource>(&mut self, source: &mut S, words: u64) -> Result<Block, Refusal>
         requires { S.serves source.old (raw_account self.old) }
@@ -172,8 +172,8 @@ impl RawArena {
         self.words.write(word, value);
     }
 
-    /// Frees a live block: its words become a free block, which is never joined with another. Takes no
-    /// memory.
+    /// Frees a live block: its words become a free block, which is never joined with another. Takes
+    /// no memory.
     pub fn free(&mut self, block: Block)
         requires some { 0 < self.old.count }
         requires awaits { Awaits self.old.books [] (run_of block) }
@@ -199,7 +199,8 @@ impl RawArena {
         self.books.account()
     }
 
-    /// Tells how many words are in use: the sum of the tops. Takes no memory, and looks at no chunk.
+    /// Tells how many words are in use: the sum of the tops. Takes no memory, and looks at no
+    /// chunk.
     pub fn used(&self) -> u64
         ensures sum { result ≡ used_of self.now.books }
         ensures small { result < 2 ^ 52 }
@@ -251,8 +252,8 @@ fn asked(words: u64) -> Result<u64, Refusal>
     }
 }
 
-/// Tells why a block of so many words is refused where whoever keeps it finds no room for it: as an arena
-/// refuses it that wants memory, so with `ZeroWords`, `TooLarge`, or `OutOfMemory`.
+/// Tells why a block of so many words is refused where whoever keeps it finds no room for it: as an
+/// arena refuses it that wants memory, so with `ZeroWords`, `TooLarge`, or `OutOfMemory`.
 pub fn wanting_room(words: u64) -> Refusal
     ensures { PlaceRefused words result }
 {
@@ -262,9 +263,9 @@ pub fn wanting_room(words: u64) -> Refusal
     }
 }
 
-/// Makes all room that a block of n words may need beside so many live ones: for its words, a top, and
-/// for free blocks, as many as live blocks and two more: its own when it is freed, and the rest of a
-/// chunk that retires.
+/// Makes all room that a block of n words may need beside so many live ones: for its words, a top,
+/// and for free blocks, as many as live blocks and two more: its own when it is freed, and the rest
+/// of a chunk that retires.
 #[inline(always)]
 fn made_room(
     books: &mut Books,

@@ -6,11 +6,11 @@
 //!     place         1                  2                3
 //!              0                2048             4096             6144
 //!
-//! A stretch of 2048 words that a block reaches into gets the next place of the list, and keeps it: so a
-//! word has one home, by its number, and a block that starts where another did finds what that one wrote,
-//! which is cleared first. A word whose stretch has no place is 0.
-//! Kept true: no two stretches have one place, and the list has room for all. Only `reserve` takes memory.
-//! Stands on `places` and `pages`. HotSpot's arenas are memory themselves; this stands for it.
+//! A stretch of 2048 words that a block reaches into gets the next place of the list, and keeps it:
+//! so a word has one home, by its number, and a block that starts where another did finds what that
+//! one wrote, which is cleared first. A word whose stretch has no place is 0. Kept true: no two
+//! stretches have one place, and the list has room for all. Only `reserve` takes memory. Stands on
+//! `places` and `pages`. HotSpot's arenas are memory themselves; this stands for it.
 ghost use Rattle.std.specs.Prelude.{◌≡◌, ℕ, ◌+◌, ◌*◌, ◌/◌, ◌^◌, ◌<◌, ◌≤◌, OnOk};
 ghost use Rattle.ms_arena.specs.Places.{place_of};
 ghost use Rattle.ms_arena.specs.Words.{StayWords, HasRoom, Opens, OpensIn, IsThere, Writes, place_at, value_at};
@@ -62,8 +62,8 @@ impl Words {
         }
     }
 
-    /// Takes all places away, and keeps the memory that they had. What the words held stays there, and is
-    /// cleared where a place is given again.
+    /// Takes all places away, and keeps the memory that they had. What the words held stays there,
+    /// and is cleared where a place is given again.
     pub fn clear(&mut self)
         ensures { (word : ℕ) → place_at self.new word ≡ 0 }
     {
@@ -128,8 +128,8 @@ impl Words {
             .write((place - 1) * STRETCH + word as usize % STRETCH, value);
     }
 
-    /// Opens a run of n words, which are there and 0 then, in room that there is. Most runs lie in one
-    /// stretch.
+    /// Opens a run of n words, which are there and 0 then, in room that there is. Most runs lie in
+    /// one stretch.
     #[inline(always)]
     pub fn open(&mut self, start: u64, n: u64)
         requires some { 0 < n }
@@ -147,8 +147,8 @@ impl Words {
         }
     }
 
-    /// Opens a run of n words stretch by stretch, where they aren't there and 0 anyway: a large block costs
-    /// nothing until a word is written.
+    /// Opens a run of n words stretch by stretch, where they aren't there and 0 anyway: a large
+    /// block costs nothing until a word is written.
     #[inline(never)]
     fn open_across(&mut self, start: u64, n: u64)
         requires some { 0 < n }

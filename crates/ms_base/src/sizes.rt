@@ -1,4 +1,5 @@
-//! The sizes that all of the metaspace is laid out by, each said here once. Addresses count words of
+//! The sizes that all of the metaspace is laid out by, each said here once. Addresses count words
+//! of
 //! 8 bytes.
 //!
 //!     slot     0        1               63       64              79

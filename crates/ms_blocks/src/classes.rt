@@ -3,10 +3,10 @@
 //!     words      0     1     2      3     ..    62     63 and more
 //!     tree     | - | | - | | /\ | | /\ |  ..  | /\ |   |   /\   |
 //!
-//! The blocks of a tree rank before those of the next, so what callers see is one list, and each tree is a low one:
-//! most free blocks are small. A best fit is in the first tree that has a block and may have one so large;
-//! a bit for each tree tells whether it has one.
-//! After the lists by size of HotSpot's binList.hpp.
+//! The blocks of a tree rank before those of the next, so what callers see is one list, and each
+//! tree is a low one: most free blocks are small. A best fit is in the first tree that has a block
+//! and may have one so large; a bit for each tree tells whether it has one. After the lists by size
+//! of HotSpot's binList.hpp.
 ghost use Rattle.std.specs.Prelude.{◌≡◌, ◌≢◌, ◌<◌, ◌≤◌, ℕ, [], cond, IfOk, IfSome, IfNone, IsSome, OnSome};
 ghost use Rattle.std.specs.Prelude.{IsTrue, IsFalse};
 ghost use Rattle.std.specs.Int.{bit_at};
@@ -81,8 +81,8 @@ pub fn insert_in<A: Allocator>(trees: &mut Trees<A>, spare: Box<Fork<A>, A>)
     }
 }
 
-/// Takes the first block of the trees that has so many words, with its fork. Nothing is called where no tree
-/// may have one: in most allocations none has.
+/// Takes the first block of the trees that has so many words, with its fork. Nothing is called
+/// where no tree may have one: in most allocations none has.
 #[inline(always)]
 pub fn take_in<A: Allocator>(trees: &mut Trees<A>, words: u64) -> Option<Box<Fork<A>, A>>
     requires trees { AreTrees trees.old }
@@ -112,8 +112,8 @@ fn insert_among<A: Allocator>(trees: &mut [Tree<A>], some: &mut u64, spare: Box<
     insert(&mut trees[class], spare);
 }
 
-/// Takes the first block of ranked trees that has so many words, with its fork, where the class is the first
-/// with a block that may have so many. Out of line, since few allocations come here.
+/// Takes the first block of ranked trees that has so many words, with its fork, where the class is
+/// the first with a block that may have so many. Out of line, since few allocations come here.
 #[inline(never)]
 fn take_among<A: Allocator>(
     trees: &mut [Tree<A>],

@@ -85,8 +85,8 @@ pub fn insert<A: Allocator>(tree: &mut Tree<A>, spare: Box<Fork<A>, A>) -> bool
 }
 
 /// Takes the first block of a ranked tree that has so many words, with its fork: the fork on the
-/// way that fits, and has nothing to its left that does. Where one is taken, `moved` tells whether the
-/// tree has another height then.
+/// way that fits, and has nothing to its left that does. Where one is taken, `moved` tells whether
+/// the tree has another height then.
 pub fn take_fit<A: Allocator>(
     tree: &mut Tree<A>,
     words: u64,
@@ -188,8 +188,8 @@ fn take_lowest<A: Allocator>(tree: &mut Tree<A>) -> Option<Box<Fork<A>, A>>
     }
 }
 
-/// Puts a fork that was in no tree in the place of one. Out of line, so that what it keeps for itself isn't
-/// kept at each turn of `insert`.
+/// Puts a fork that was in no tree in the place of one. Out of line, so that what it keeps for
+/// itself isn't kept at each turn of `insert`.
 #[inline(never)]
 fn put_alone<A: Allocator>(tree: &mut Tree<A>, mut spare: Box<Fork<A>, A>)
     ensures { blocks_of tree.new ≡ spare.value.block ∷ [] }
@@ -200,8 +200,9 @@ fn put_alone<A: Allocator>(tree: &mut Tree<A>, mut spare: Box<Fork<A>, A>)
     *tree = Tree::Forked(spare);
 }
 
-/// Levels a tree on top, whose sides are level, where one of them has another height than before, and
-/// tells whether the tree has another height then. Else nothing is looked at: few changes reach far up.
+/// Levels a tree on top, whose sides are level, where one of them has another height than before,
+/// and tells whether the tree has another height then. Else nothing is looked at: few changes reach
+/// far up.
 #[inline(always)]
 fn level<A: Allocator>(tree: &mut Tree<A>, moved: bool) -> bool
     ensures { blocks_of tree.new ≡ blocks_of tree.old }

@@ -7,8 +7,8 @@
 //!     level      0          1               2            3 ..            12
 //!
 //! The root has the number 1, and the halves of a part have twice its number, and one more: so the
-//! parts of a level stand in a row, in order of address, and the lowest free one is the lowest set bit
-//! there. Takes no memory.
+//! parts of a level stand in a row, in order of address, and the lowest free one is the lowest set
+//! bit there. Takes no memory.
 ghost use Rattle.std.specs.Prelude.{◌≡◌, ◌≢◌, ℕ, ◌+◌, ◌-◌, ◌*◌, ◌/◌, ◌%◌, ◌^◌, ◌<◌, ◌≤◌, ◌==◌, cond, IfSome, IfNone, [], ◌∷◌};
 ghost use Rattle.std.specs.Int.{bit_at};
 ghost use Rattle.ms_base.specs.declared.sizes.TheConstants.{ROOT_WORDS};
@@ -29,7 +29,8 @@ const WORDS: usize = 128;
 #[derive(Drop)]
 pub(crate) struct FreeBits {
     words: [u64; WORDS],
-    /// A bit for each word, set where the word has one, so that a look for one passes over the others.
+    /// A bit for each word, set where the word has one, so that a look for one passes over the
+    /// others.
     filled: [u64; WORDS / BITS],
 }
 
@@ -83,8 +84,8 @@ impl FreeBits {
         WORDS
     }
 
-    /// Parts the free leaf of a level for the part of a lower one that starts at an offset in it: it is
-    /// free no longer, and the halves that are left over on the way down are.
+    /// Parts the free leaf of a level for the part of a lower one that starts at an offset in it:
+    /// it is free no longer, and the halves that are left over on the way down are.
     pub(crate) fn part(&mut self, free: u8, at: u64, lent: u8)
         requires order { free ≤ lent }
         requires low { lent ≤ 12 }
@@ -99,7 +100,8 @@ impl FreeBits {
         self.put_beside(free, at, lent, true);
     }
 
-    /// Joins the part of a level that starts at an offset and the halves beside it to one free leaf.
+    /// Joins the part of a level that starts at an offset and the halves beside it to one free
+    /// leaf.
     pub(crate) fn join(&mut self, free: u8, at: u64, lent: u8)
         requires order { free ≤ lent }
         requires low { lent ≤ 12 }
@@ -132,8 +134,8 @@ impl FreeBits {
         self.merge_level(level - 1, at)
     }
 
-    /// Sets or clears the bits of the halves beside the way from the part of a level that holds an offset
-    /// down to the part of a lower level there.
+    /// Sets or clears the bits of the halves beside the way from the part of a level that holds an
+    /// offset down to the part of a lower level there.
     fn put_beside(&mut self, level: u8, at: u64, lent: u8, set: bool)
         requires order { level ≤ lent }
         requires low { lent ≤ 12 }

@@ -1,8 +1,8 @@
 //! The walk over the free leaves of a tree, from low to high addresses.
 //!
 //! The nodes that are still to be visited lie on a stack of fixed size, the next one on top. A
-//! split puts its halves there, the lower one last. A node of level n has at most n nodes below it on
-//! the stack, one for each upper half on the way, so 13 places do. Takes no memory.
+//! split puts its halves there, the lower one last. A node of level n has at most n nodes below it
+//! on the stack, one for each upper half on the way, so 13 places do. Takes no memory.
 ghost use Rattle.std.specs.Prelude.{◌≡◌, ◌+◌, ◌<◌, ◌≤◌, length, Some, [], ◌∷◌, ◌++◌};
 ghost use Rattle.std.specs.Iterator.{YieldsFirst};
 ghost use Rattle.ms_buddy.specs.Tree.{IsTree, free_in};

@@ -148,9 +148,9 @@ impl<A: Allocator> Node<A> {
         }
     }
 
-    /// Takes the leaf of that span out, and answers the level of the free part that results, which is that
-    /// of `merge` or a lower one: above it no half is merged, so each call but the last is a step of a
-    /// loop.
+    /// Takes the leaf of that span out, and answers the level of the free part that results, which
+    /// is that of `merge` or a lower one: above it no half is merged, so each call but the last is
+    /// a step of a loop.
     pub(crate) fn release(
         &mut self,
         spare: &mut Spare<A>,
@@ -194,9 +194,9 @@ impl<A: Allocator> Node<A> {
         }
     }
 
-    /// Takes the leaf of that span out, and answers the level of the free part that results. The boxes of
-    /// halves that merge become spares. Where the half beside the way isn't free, nothing is left to do
-    /// after the call, so that it is a step of a loop.
+    /// Takes the leaf of that span out, and answers the level of the free part that results. The
+    /// boxes of halves that merge become spares. Where the half beside the way isn't free, nothing
+    /// is left to do after the call, so that it is a step of a loop.
     fn release_merging(&mut self, spare: &mut Spare<A>, level: u8, start: u64, span: Span) -> u8
         requires tree { IsTree level self.old }
         requires place { IsPlace level start }
@@ -245,8 +245,8 @@ impl<A: Allocator> Node<A> {
         }
     }
 
-    /// Makes the leaf of that span its parent, with another front, where its buddy is free, and tells
-    /// whether it did. The boxes of both become spares.
+    /// Makes the leaf of that span its parent, with another front, where its buddy is free, and
+    /// tells whether it did. The boxes of both become spares.
     pub(crate) fn enlarge(
         &mut self,
         spare: &mut Spare<A>,
@@ -315,8 +315,9 @@ impl<A: Allocator> Node<A> {
 }
 
 impl<A: Allocator + Clone> Node<A> {
-    /// Lends that part of a free leaf, which becomes a split on each level above the part's. Takes two
-    /// boxes for each, spare ones first. Where the allocator refuses one, nothing is told of the node.
+    /// Lends that part of a free leaf, which becomes a split on each level above the part's. Takes
+    /// two boxes for each, spare ones first. Where the allocator refuses one, nothing is told of
+    /// the node.
     #[inline(never)]
     fn part_free(
         &mut self,
@@ -351,8 +352,8 @@ impl<A: Allocator + Clone> Node<A> {
         }
     }
 
-    /// Lends that part of a free leaf, or leaves it free. Out of line, since what is let go here would
-    /// keep the walk to it from being a loop.
+    /// Lends that part of a free leaf, or leaves it free. Out of line, since what is let go here
+    /// would keep the walk to it from being a loop.
     #[inline(never)]
     fn part_whole(
         &mut self,
@@ -476,8 +477,8 @@ fn keep<A: Allocator>(spare: &mut Spare<A>, mut merged: Node<A>) {
     }
 }
 
-/// Tells who holds the leaf of that span, where it is the lower one of two halves, and the upper one is
-/// free.
+/// Tells who holds the leaf of that span, where it is the lower one of two halves, and the upper
+/// one is free.
 fn merged_leader<A: Allocator>(
     lower: &Node<A>,
     upper: &Node<A>,

@@ -16,13 +16,13 @@
 //!          |                  free, 8                  |        free, 8        | ...
 //!          |                             free, 0                                   |
 //!
-//! Beside the nodes a bit for each part of the root tells whether it is a free leaf, and so where the
-//! lowest one of a level is, and how far a leaf merges that is released. `free_leaves` goes through
-//! the nodes; each other call goes down one path of 13 at most, or looks at the bits and counts alone.
-//! Only `carve` takes memory, two boxes for each level that it splits: those of halves that merged
-//! first, which `release` and `enlarge` keep, for one carve at most. All others they give back; the
-//! last go back with the tree.
-//! After RootChunkArea in HotSpot's rootChunkArea.hpp, which has a list in place of the tree.
+//! Beside the nodes a bit for each part of the root tells whether it is a free leaf, and so where
+//! the lowest one of a level is, and how far a leaf merges that is released. `free_leaves` goes
+//! through the nodes; each other call goes down one path of 13 at most, or looks at the bits and
+//! counts alone. Only `carve` takes memory, two boxes for each level that it splits: those of
+//! halves that merged first, which `release` and `enlarge` keep, for one carve at most. All others
+//! they give back; the last go back with the tree. After RootChunkArea in HotSpot's
+//! rootChunkArea.hpp, which has a list in place of the tree.
 ghost use Rattle.std.specs.Prelude.{◌≡◌, ℕ, ◌+◌, ◌*◌, ◌%◌, ◌<◌, ◌≤◌, ◌≢◌, ◌↔◌, [], ◌∷◌, Some, Err, IsTrue, IsFalse};
 ghost use Rattle.std.specs.Prelude.{IsOk, IfOk, OnOk, IfErr, OnErr};
 ghost use Rattle.std.specs.List.{find, list_any};
@@ -121,24 +121,24 @@ impl<A: Allocator> SplitTree<A> {
         levels_of(&self.counts)
     }
 
-    /// Tells how many free leaves there are of a level, without a look at them. Takes no memory. This
-    /// project's choice.
+    /// Tells how many free leaves there are of a level, without a look at them. Takes no memory.
+    /// This project's choice.
     pub fn free_count(&self, level: Level) -> u16
         ensures { result ≡ count_at_level level (free_of self.now) }
     {
         self.counts[level.number() as usize]
     }
 
-    /// Finds the lowest free leaf of a level, by the bits of the free leaves alone. Takes no memory.
-    /// This project's choice.
+    /// Finds the lowest free leaf of a level, by the bits of the free leaves alone. Takes no
+    /// memory. This project's choice.
     pub fn lowest_free(&self, level: Level) -> Option<Span>
         ensures { result ≡ find (is_of level) (free_of self.now) }
     {
         self.next_free(level, 0)
     }
 
-    /// Finds the lowest free leaf of a level that starts at an offset in words or past it, by the bits
-    /// of the free leaves alone. Takes no memory. This project's choice.
+    /// Finds the lowest free leaf of a level that starts at an offset in words or past it, by the
+    /// bits of the free leaves alone. Takes no memory. This project's choice.
     pub fn next_free(&self, level: Level, from: u64) -> Option<Span>
         ensures { result ≡ find (is_of_from level from) (free_of self.now) }
     {

@@ -230,8 +230,8 @@ impl Nodes {
         self.slots.contains(slot as usize) || SLOTS <= slot && slot < SLOTS + self.class_slots
     }
 
-    /// Finds the lowest reserved slot from a number on, 0 to 63, never a class slot; none where no slot
-    /// from there on is reserved. Takes no memory, and looks at the slots' bits alone.
+    /// Finds the lowest reserved slot from a number on, 0 to 63, never a class slot; none where no
+    /// slot from there on is reserved. Takes no memory, and looks at the slots' bits alone.
     pub fn next_reserved(&self, from: u32) -> Option<u32>
         ensures reserved { IfSome result (λ slot. IsTrue (is_reserved (all_slots self.now) slot)) }
         ensures from { IfSome result (λ slot. from ≤ slot) }

@@ -1,8 +1,8 @@
 //! The sums of each loader, space by space, and the maps of roots: what a full report tells beyond
 //! the totals.
 //!
-//! Apart because only a full report asks for them: nothing here sees a system. Only `gather_loaders`
-//! takes memory, for the rows, before it looks at a loader.
+//! Apart because only a full report asks for them: nothing here sees a system. Only
+//! `gather_loaders` takes memory, for the rows, before it looks at a loader.
 ghost use Rattle.std.specs.Prelude.{◌≡◌, IfOk, map};
 ghost use Rattle.ms_loaders.specs.Details.{loader_in, loader_sums};
 ghost use Rattle.ms_loaders.specs.System.{states_of};
@@ -46,7 +46,8 @@ pub struct Details {
     pub roots: Vec<RootMap>,
 }
 
-/// Gathers the sums of each loader. Takes memory for the rows, and fails only where that is refused.
+/// Gathers the sums of each loader. Takes memory for the rows, and fails only where that is
+/// refused.
 pub fn gather_loaders(alloc: Global, loaders: &Loaders) -> Result<Vec<LoaderDetails>, AllocError>
     ensures { IfOk result (λ rows. map loader_in rows.items
         ≡ map loader_sums (states_of loaders.now)) }

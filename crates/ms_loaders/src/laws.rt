@@ -1,6 +1,7 @@
 //! The laws of the whole, each the contract of a function that does nothing. `events` speaks of the
-//! model alone: however the steps of loaders are spread over atomic events, the replies and the state
-//! are those of whole steps, one after another; what happens at an event (`Event` in the specs of
+//! model alone: however the steps of loaders are spread over atomic events, the replies and the
+//! state are those of whole steps, one after another; what happens at an event (`Event` in the
+//! specs of
 //! `ms_base`), how steps are spread over events (`Spread`), and when each counts as done (`Serial`).
 //! `pool_calls_are_events` says that the calls of `Pool` are such events (`CallEvents`).
 ghost use Rattle.ms_base.specs.Laws.Spread.{SpreadsAreSerial};
@@ -20,8 +21,8 @@ pub fn events()
 
 /// Says that the calls of `Pool` are events, each under its premises: what `purge`, `totals`,
 /// `close_both`, `open_both`, `take` and `grow` make of a pool, by the relations of their own
-/// clauses, happens at the machine that the pool and all its loaders are, of however many seats, and
-/// leaves both together, so that the next call is an event too. A single account's `open` and
+/// clauses, happens at the machine that the pool and all its loaders are, of however many seats,
+/// and leaves both together, so that the next call is an event too. A single account's `open` and
 /// `close` are no event: the machine opens and closes a loader's two at once.
 pub fn pool_calls_are_events()
     ensures purges { PurgesAreEvents }

@@ -8,8 +8,9 @@
 //! Kept true: the state of a `System` is a good state of the machine, and each step is one of its
 //! transitions. Apart because everything above speaks of steps and replies, and nothing below does:
 //! the pool knows accounts, the arena knows no names. Stands on `ms_pool` and `ms_arena`, by their
-//! contracts alone. What takes memory: `System::new`, `new_loader`, `step`, `run`, `totals`, `details`, a
-//! loader's `allocate`, `alloc` and `calloc`, `Loaders::insert`; nothing waits, but for a source that does.
+//! contracts alone. What takes memory: `System::new`, `new_loader`, `step`, `run`, `totals`,
+//! `details`, a loader's `allocate`, `alloc` and `calloc`, `Loaders::insert`; nothing waits, but
+//! for a source that does.
 #![tactic(auto)]
 
 mod collecting;

@@ -4,8 +4,9 @@
 //!                       |             |              |
 //!     arenas    [ live | live | free ..  ]       [ live | ..      ]   the class space's
 //!
-//! The names are the only list of its live blocks; the arenas know none. Kept true: each arena holds the
-//! named blocks that lie in its space; a block's space is decided by where it starts. Stands on
+//! The names are the only list of its live blocks; the arenas know none. Kept true: each arena
+//! holds the named blocks that lie in its space; a block's space is decided by where it starts.
+//! Stands on
 //! `ms_arena`. Only `allocate`, `alloc` and `calloc` take memory; they wait as their source does.
 ghost use Rattle.std.specs.Prelude.{◌≡◌, ◌+◌, ◌<◌, ◌^◌, IfOk, IfErr, OnOk, OnErr, []};
 ghost use Rattle.ms_base.specs.declared.kind.Space.TheVariants.{NonClass, Class};
@@ -27,8 +28,8 @@ use ms_pool::{Account, ChunkSource};
 use std::alloc::Global;
 use std::marker::Model;
 
-/// One class loader. After HotSpot's ClassLoaderMetaspace, which has an arena in each space too; the
-/// names are this project's choice.
+/// One class loader. After HotSpot's ClassLoaderMetaspace, which has an arena in each space too;
+/// the names are this project's choice.
 #[derive(Drop)]
 pub struct Loader {
     // Its arena in the space that is not the class space.
@@ -76,8 +77,8 @@ impl Loader {
         }
     }
 
-    /// Starts anew over two accounts, as `new` makes a loader, and gives the former accounts back, the
-    /// class space's last. The memory that it had serves it again. Takes none.
+    /// Starts anew over two accounts, as `new` makes a loader, and gives the former accounts back,
+    /// the class space's last. The memory that it had serves it again. Takes none.
     pub(crate) fn renew(
         &mut self,
         account: Account,
@@ -97,9 +98,9 @@ impl Loader {
         (former, self.class_arena.renew(class_account, kind))
     }
 
-    /// Allocates a block of so many words, at least two, in a space, under a new name; its words are 0.
-    /// Refused with `BlockExists` where the name is used, then as the arena of the space refuses; a
-    /// refusal leaves the loader as it was. Takes memory.
+    /// Allocates a block of so many words, at least two, in a space, under a new name; its words
+    /// are 0. Refused with `BlockExists` where the name is used, then as the arena of the space
+    /// refuses; a refusal leaves the loader as it was. Takes memory.
     pub fn allocate<S: ChunkSource>(
         &mut self,
         source: &mut S,
@@ -181,8 +182,8 @@ impl Loader {
         }
     }
 
-    /// Writes a word of a named block, by its index from 0 on; all else stays. Refused as `read` is,
-    /// and then nothing changes. Takes no memory.
+    /// Writes a word of a named block, by its index from 0 on; all else stays. Refused as `read`
+    /// is, and then nothing changes. Takes no memory.
     pub fn write(&mut self, name: u32, index: u64, value: u64) -> Result<(), Refusal>
         ensures written { OnOk result (WritesWord self.old.state name index value self.new.state) }
         ensures refused { IfErr result (LacksWord self.old.state name index) }

@@ -4,11 +4,11 @@
 //!     7 ──── box of 7 and its loader        from `insert` until it is taken out
 //!
 //! So names need no search, and a walk over the places gives them in order. Kept true: each loader
-//! stands at its name, none below `first`, and there are `count`. Beside them are notes that guess a loader's
-//! name from an owner number (`owners`), of which nothing is kept true, and loaders that were unloaded
-//! wait to start anew (`spares`). Apart from the system so that loaders can be handed to workers
-//! and gathered again. Only `insert` and `open` take memory. A loader is large, so it is made into its box and
-//! taken apart out of it, and else a pointer moves.
+//! stands at its name, none below `first`, and there are `count`. Beside them are notes that guess
+//! a loader's name from an owner number (`owners`), of which nothing is kept true, and loaders that
+//! were unloaded wait to start anew (`spares`). Apart from the system so that loaders can be handed
+//! to workers and gathered again. Only `insert` and `open` take memory. A loader is large, so it is
+//! made into its box and taken apart out of it, and else a pointer moves.
 ghost use Rattle.std.specs.Prelude.{◌≡◌, ◌<◌, ◌^◌, ◌∷◌, None, IfSome, IfNone, OnOk, IfErr, OnErr, Some, [], length};
 ghost use Rattle.std.specs.Option.{option_copied, option_copied_mut, is_some};
 ghost use Rattle.std.specs.List.{All};
@@ -83,9 +83,9 @@ impl Loaders {
         }
     }
 
-    /// Adds a loader over two accounts, as `Loader::new` makes it, under a name that is not used: a spare one
-    /// anew where there is one. Where memory is wanting, the accounts are given back and nothing changes.
-    /// Takes memory.
+    /// Adds a loader over two accounts, as `Loader::new` makes it, under a name that is not used: a
+    /// spare one anew where there is one. Where memory is wanting, the accounts are given back and
+    /// nothing changes. Takes memory.
     pub(crate) fn open(
         &mut self,
         alloc: Global,
@@ -118,8 +118,8 @@ impl Loaders {
         }
     }
 
-    /// Makes room for what is noted of one more loader, by its first owner number, and for its room once it
-    /// goes; the loaders stay. Takes memory.
+    /// Makes room for what is noted of one more loader, by its first owner number, and for its room
+    /// once it goes; the loaders stay. Takes memory.
     fn make_room(&mut self, owner: u32) -> Result<(), AllocError>
         ensures { self.new ≡ self.old }
     {
@@ -127,8 +127,9 @@ impl Loaders {
         self.spares.reserve(self.count + 1)
     }
 
-    /// Puts a loader that is boxed with its name at that name, which is not used, and notes the name by its first
-    /// owner number, for which there is room; or hands it back where memory is wanting. Takes memory.
+    /// Puts a loader that is boxed with its name at that name, which is not used, and notes the
+    /// name by its first owner number, for which there is room; or hands it back where memory is
+    /// wanting. Takes memory.
     fn stand(&mut self, owner: u32, name: u16, boxed: Boxed) -> Result<(), Boxed>
         requires unused { named self.old name ≡ None }
         requires name_is { boxed.0 ≡ name }
@@ -147,7 +148,8 @@ impl Loaders {
         }
     }
 
-    /// Takes the loader of a name out in its box, where there is one; the others stay. What was noted of it stays.
+    /// Takes the loader of a name out in its box, where there is one; the others stay. What was
+    /// noted of it stays.
     fn take_out(&mut self, name: u16) -> Option<Boxed>
         ensures found { IfSome result (λ boxed. named self.old name ≡ Some boxed.1) }
         ensures none { IfNone result (named self.old name ≡ None) }
@@ -162,9 +164,9 @@ impl Loaders {
         }
     }
 
-    /// Takes the loader of a name out and apart, where there is one, and gives its accounts back, the class
-    /// space's last; the others stay. It is kept to start anew where it is small and there is place.
-    /// Takes no memory.
+    /// Takes the loader of a name out and apart, where there is one, and gives its accounts back,
+    /// the class space's last; the others stay. It is kept to start anew where it is small and
+    /// there is place. Takes no memory.
     pub(crate) fn close(&mut self, name: u16) -> Option<(Account, Account)>
         ensures found { IfSome result (AreAccountsAt self.old name) }
         ensures none { IfNone result (named self.old name ≡ None) }
@@ -198,8 +200,8 @@ impl Loaders {
         }
     }
 
-    /// Adds a loader under a name that is not used; or hands it back where memory is wanting, and then nothing
-    /// changes. Takes memory.
+    /// Adds a loader under a name that is not used; or hands it back where memory is wanting, and
+    /// then nothing changes. Takes memory.
     #[inline(always)]
     fn add(&mut self, name: u16, loader: Loader) -> Result<(), Loader>
         requires unused { named self.old name ≡ None }
@@ -262,7 +264,8 @@ impl Loaders {
         }
     }
 
-    /// Lends the loader of a name, where there is one; the others stay as they are. Takes no memory.
+    /// Lends the loader of a name, where there is one; the others stay as they are. Takes no
+    /// memory.
     pub fn get_mut(&mut self, name: u16) -> Option<&mut Loader>
         ensures* writes_back { sem 𝓛 (LendsLoader self.entry name result) }
         ensures found { option_copied_mut result ≡ named self.old name }
@@ -287,15 +290,15 @@ impl Loaders {
         self.get(name).is_some()
     }
 
-    /// Tells the name that was noted of an owner number, where one was: that of the loader whose first
-    /// number it is, if none was changed in its place. A guess, of which nothing is promised; whoever
-    /// asks looks at the loader. Takes no memory.
+    /// Tells the name that was noted of an owner number, where one was: that of the loader whose
+    /// first number it is, if none was changed in its place. A guess, of which nothing is promised;
+    /// whoever asks looks at the loader. Takes no memory.
     pub(crate) fn noted(&self, owner: u32) -> Option<u16> {
         self.owners.get(owner)
     }
 
-    /// Tells the words in use of the loader of a name, in both spaces, and 0 where there is none. Takes
-    /// no memory, and looks at no chunk.
+    /// Tells the words in use of the loader of a name, in both spaces, and 0 where there is none.
+    /// Takes no memory, and looks at no chunk.
     pub fn used_by(&self, name: u16) -> u64
         ensures { result ≡ used_at (named self.now name) }
     {
@@ -314,8 +317,8 @@ impl Loaders {
         self.count
     }
 
-    /// Says what is true of all loaders: their names rise, and each is sound. Takes no memory, and looks
-    /// at each loader once.
+    /// Says what is true of all loaders: their names rise, and each is sound. Takes no memory, and
+    /// looks at each loader once.
     pub fn learn(&self)
         ensures names { AreNamed self.now }
         ensures sound { All IsSoundView (values_of self.now) }

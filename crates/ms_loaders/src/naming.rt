@@ -2,9 +2,9 @@
 //!
 //!     allocate_in ── room for the name ── is it new? ──> the arena ──> the name enters the room
 //!
-//! A name is found, entered and taken out in about the same time, however many there are (`table`). Making
-//! room for a name takes memory, so it is done before the arena is asked. Where the arena refuses, no name was
-//! ever entered, and the room stays for a later one.
+//! A name is found, entered and taken out in about the same time, however many there are (`table`).
+//! Making room for a name takes memory, so it is done before the arena is asked. Where the arena
+//! refuses, no name was ever entered, and the room stays for a later one.
 ghost use Rattle.std.specs.Prelude.{◌≡◌, IfNone, OnOk, []};
 ghost use Rattle.ms_base.specs.Names.{AreNamed, named, without};
 ghost use Rattle.ms_arena.specs.Raw.{raw_account};
@@ -84,9 +84,9 @@ impl Names {
     }
 }
 
-/// Allocates a block of so many words in the arena, under a new name. Refused with `BlockExists` where
-/// the name is used, then with `ZeroWords` and `TooLarge`, with `OutOfMemory` where the name finds no
-/// room, and as the arena refuses; then nothing changes. Takes memory.
+/// Allocates a block of so many words in the arena, under a new name. Refused with `BlockExists`
+/// where the name is used, then with `ZeroWords` and `TooLarge`, with `OutOfMemory` where the name
+/// finds no room, and as the arena refuses; then nothing changes. Takes memory.
 pub fn allocate_in<S: ChunkSource>(
     names: &mut Names,
     arena: &mut RawArena,
@@ -136,8 +136,9 @@ fn allocate_in_row<S: ChunkSource>(
     Ok(block)
 }
 
-/// Allocates a block whose name is beside the row. The room for it is held until the block is known, and the
-/// name enters it with no second look. Where memory was refused already a new name is refused.
+/// Allocates a block whose name is beside the row. The room for it is held until the block is
+/// known, and the name enters it with no second look. Where memory was refused already a new name
+/// is refused.
 #[inline(never)]
 fn allocate_beside<S: ChunkSource>(
     others: &mut HashMap<u32, SmallBlock>,

@@ -3,8 +3,8 @@
 //! Apart because no one state tells them: who runs the steps keeps them, and a full report has them
 //! beside what the state tells. Takes no memory.
 
-/// The most that a run had at once so far, each number by itself: one state that was reached has it,
-/// and none has more. This project's choice.
+/// The most that a run had at once so far, each number by itself: one state that was reached has
+/// it, and none has more. This project's choice.
 #[derive(Clone, Copy, Debug)]
 pub struct Peaks {
     /// Committed granules, of both spaces together, at most 40960.

@@ -1,8 +1,8 @@
 //! What a run of a trace answers: a reply to each command line, and totals where a report was
 //! asked; and what takes these answers as they come.
 //!
-//! Apart from the run because few who have answers keep them: what only tells them as a text needs one at
-//! a time, and 100,000 of them are 6 MB. Takes memory where a sink does; nothing waits.
+//! Apart from the run because few who have answers keep them: what only tells them as a text needs
+//! one at a time, and 100,000 of them are 6 MB. Takes memory where a sink does; nothing waits.
 ghost use Rattle.std.specs.Prelude.{◌≡◌, ◌++◌, ◌∷◌, [], List, OnOk};
 ghost use Rattle.ms_loaders.specs.declared.replies.Answer.{Answer as AnswerOf};
 
@@ -28,14 +28,14 @@ pub struct Replies {
     pub answers: Vec<Answer>,
 }
 
-/// What takes the answers of a run one by one: a list of them, or a text that tells them. This project's
-/// choice.
+/// What takes the answers of a run one by one: a list of them, or a text that tells them. This
+/// project's choice.
 pub trait AnswerSink {
     /// These answers were put between a first state and a second, in their order.
     ghost took: { Self → Self → List AnswerOf → Type 0 };
 
-    /// Takes one answer more, after those that it was given before. An error means that a growth was
-    /// refused; what the sink has then is not told. Takes memory.
+    /// Takes one answer more, after those that it was given before. An error means that a growth
+    /// was refused; what the sink has then is not told. Takes memory.
     fn put(&mut self, answer: Answer) -> Result<(), AllocError>
         ensures { OnOk result ((first : Self) (before : List AnswerOf) → took first self.old before
             → took first self.new (before ++ answer ∷ [])) };

@@ -1,11 +1,12 @@
-//! One step of the machine, over any source of accounts: the pool itself, or the pool behind a lock.
+//! One step of the machine, over any source of accounts: the pool itself, or the pool behind a
+//! lock.
 //!
 //!     step ── serve ──> the loader that it names ── its arena ──> take, grow
 //!                 ╰───────────────────────────────────────────>  open_both, close_both, purge
 //!
-//! So a step has one body, whether one thread runs it or many do; what it says is said of the source's
-//! own relations. A refusal changes no loader. Takes memory for a new loader, a block and its chunk;
-//! waits as the source does.
+//! So a step has one body, whether one thread runs it or many do; what it says is said of the
+//! source's own relations. A refusal changes no loader. Takes memory for a new loader, a block and
+//! its chunk; waits as the source does.
 ghost use Rattle.std.specs.Prelude.{IfOk, IfErr};
 ghost use Rattle.ms_loaders.specs.Serving.{MayServe, Served, calls_of, AllocatesAt, AllocatesNone};
 ghost use Rattle.ms_loaders.specs.Serving.{AnswersNew, AnswersAlloc, AnswersWrite, AnswersRead, AnswersFree, AnswersUnload};
@@ -17,9 +18,9 @@ use ms_pool::AccountSource;
 use std::alloc::Global;
 
 /// Takes one step of the machine: answers what it is done with, or why it is refused. A refusal
-/// changes no loader; what it leaves of the source, the source's own relations say. Words and indices
-/// are in words of 8 bytes. Takes memory for a new loader, a block and its chunk; waits as the source
-/// does. This project's choice.
+/// changes no loader; what it leaves of the source, the source's own relations say. Words and
+/// indices are in words of 8 bytes. Takes memory for a new loader, a block and its chunk; waits as
+/// the source does. This project's choice.
 #[inline(always)]
 pub fn serve<S: AccountSource>(
     alloc: Global,
@@ -64,8 +65,8 @@ pub fn serve<S: AccountSource>(
     }
 }
 
-/// Makes a loader with two accounts of its own. The accounts that were opened are closed again where
-/// memory for the loader is wanting.
+/// Makes a loader with two accounts of its own. The accounts that were opened are closed again
+/// where memory for the loader is wanting.
 fn new_loader<S: AccountSource>(
     alloc: Global,
     source: &mut S,

@@ -1,10 +1,10 @@
 //! The system: loaders by name over one pool, and the steps of the machine.
 //!
 //! Kept true: the pool serves the two accounts of each loader and lends to no other, so the machine
-//! that a system stands for is good. A step is `serve` over the pool: it looks for its refusals in the
-//! machine's order, and a refusal changes nothing, but that want of memory for a new loader uses its
-//! owner numbers up. After it `committed` is called: it reads two counters, and tells what is true of
-//! every pool. Takes memory for loaders, chunks, blocks and replies; nothing waits.
+//! that a system stands for is good. A step is `serve` over the pool: it looks for its refusals in
+//! the machine's order, and a refusal changes nothing, but that want of memory for a new loader
+//! uses its owner numbers up. After it `committed` is called: it reads two counters, and tells what
+//! is true of every pool. Takes memory for loaders, chunks, blocks and replies; nothing waits.
 ghost use Rattle.std.specs.Prelude.{◌≡◌, ◌≢◌, ◌+◌, ◌↔◌, IfOk, OnOk, OnErr, IfErr, [], Ok, Err, length};
 ghost use Rattle.ms_base.specs.State.{empty_machine, limits_of};
 ghost use Rattle.ms_base.specs.Totals.{committed_words, used_words, over_spaces, sums_of};
@@ -37,8 +37,8 @@ use std::alloc::{AllocError, Global};
 use std::marker::Model;
 pub use sums::LoaderTotals;
 
-/// The interval machine in one thread: class loaders by name, each with an arena in each space, over
-/// one pool.
+/// The interval machine in one thread: class loaders by name, each with an arena in each space,
+/// over one pool.
 #[derive(Drop)]
 pub struct System {
     // Where loaders, blocks and replies come from.
@@ -128,8 +128,8 @@ impl System {
         })
     }
 
-    /// Tells the words in use, in both spaces: the sum of the tops of all chunks. Takes no memory, and
-    /// looks at each loader once.
+    /// Tells the words in use, in both spaces: the sum of the tops of all chunks. Takes no memory,
+    /// and looks at each loader once.
     pub fn used(&self) -> u64
         ensures { result ≡ over_spaces (λ space. used_words space self.now) }
     {
@@ -140,16 +140,16 @@ impl System {
         words
     }
 
-    /// Tells the words in use of one loader, in both spaces, and 0 where none has the name. Takes no
-    /// memory, and looks at no other loader.
+    /// Tells the words in use of one loader, in both spaces, and 0 where none has the name. Takes
+    /// no memory, and looks at no other loader.
     pub fn used_by(&self, name: u16) -> u64
         ensures { result ≡ used_if (named self.now.loaders name) }
     {
         self.loaders.used_by(name)
     }
 
-    /// Tells the committed words of both spaces, a multiple of a granule's. Takes no memory, and looks
-    /// at no chunk and no loader.
+    /// Tells the committed words of both spaces, a multiple of a granule's. Takes no memory, and
+    /// looks at no chunk and no loader.
     pub fn committed(&self) -> u64
         ensures { result ≡ over_spaces (λ space. committed_words space self.now) }
     {
@@ -177,9 +177,9 @@ impl System {
     }
 
     /// Takes one step of the machine: answers what it is done with, or why it is refused, which
-    /// changes nothing but, for want of memory for a new loader, its owner numbers. Words and indices
-    /// are in words of 8 bytes. Takes memory for a new loader, a block and its chunk. This project's
-    /// choice, as are the machine and its refusals.
+    /// changes nothing but, for want of memory for a new loader, its owner numbers. Words and
+    /// indices are in words of 8 bytes. Takes memory for a new loader, a block and its chunk. This
+    /// project's choice, as are the machine and its refusals.
     #[inline(always)]
     pub fn step(&mut self, step: Step) -> Reply
         ensures step { Transition self.old step result self.new }

@@ -3,9 +3,10 @@
 //!     taken       first            second      third, the current one
 //!                 [0, 512) front 512  [1024, ..)  ..
 //!
-//! Kept true: the chunks are parts of the account's space, no two share a word, and each front has a
-//! word and fits. The pool keeps a record of its own of each owner, in order of address; that both
-//! have the same chunks is what "the pool serves the account" means. Nothing here takes memory.
+//! Kept true: the chunks are parts of the account's space, no two share a word, and each front has
+//! a word and fits. The pool keeps a record of its own of each owner, in order of address; that
+//! both have the same chunks is what "the pool serves the account" means. Nothing here takes
+//! memory.
 ghost use Rattle.std.specs.Prelude.{◌≡◌, ◌<◌, [], length, slice_get, Some};
 ghost use Rattle.ms_pool.specs.Account.{AreChunks};
 
@@ -37,8 +38,8 @@ impl Model for Account {
 }
 
 impl Account {
-    /// Makes an account that is closed: of owner number 0, which no pool gives out, and with no chunk. It
-    /// stands where an open one is to come. Takes no memory.
+    /// Makes an account that is closed: of owner number 0, which no pool gives out, and with no
+    /// chunk. It stands where an open one is to come. Takes no memory.
     pub fn closed(alloc: Global, space: Space) -> Account
         ensures { result ≡ record { owner = 0; space = space; chunks = [] } }
     {
@@ -49,8 +50,8 @@ impl Account {
         }
     }
 
-    /// Tells how many chunks the account holds. A caller also learns here what is true of the chunks
-    /// of every account. Takes no memory.
+    /// Tells how many chunks the account holds. A caller also learns here what is true of the
+    /// chunks of every account. Takes no memory.
     pub fn held(&self) -> u32
         ensures count { result ≡ length self.now.chunks }
         ensures chunks { AreChunks self.now.space self.now.chunks }
@@ -66,7 +67,8 @@ impl Account {
         self.chunks[place as usize]
     }
 
-    /// Tells the owner's number, 1 to 4294967295, or 0 where the account is closed. Takes no memory.
+    /// Tells the owner's number, 1 to 4294967295, or 0 where the account is closed. Takes no
+    /// memory.
     pub fn owner(&self) -> u32
         ensures { result ≡ self.now.owner }
     {

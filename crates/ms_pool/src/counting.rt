@@ -1,5 +1,5 @@
-//! The sums over a space: what `lent` has counted, and the free parts that the tree of each reserved
-//! root has counted by level.
+//! The sums over a space: what `lent` has counted, and the free parts that the tree of each
+//! reserved root has counted by level.
 ghost use Rattle.std.specs.Prelude.{◌≡◌, ◌+◌, ◌<◌, ◌≤◌, ◌^◌, ◌==◌, cond, [], get_or, length};
 ghost use Rattle.ms_base.specs.Part.{is_reserved};
 ghost use Rattle.ms_base.specs.FreeParts.{free_in_slot};

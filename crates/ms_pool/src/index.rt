@@ -28,7 +28,8 @@ const GROUPS: usize = ROOTS / GROUP;
 /// The first of them that is of the class space.
 const FIRST_CLASS_GROUP: usize = 2 * SLOTS as usize / GROUP;
 
-/// The levels of free leaves, as bits, that of level 0 the lowest. Contracts see those of each root.
+/// The levels of free leaves, as bits, that of level 0 the lowest. Contracts see those of each
+/// root.
 #[derive(Drop)]
 pub(crate) struct Index {
     /// Of each root, by its number.

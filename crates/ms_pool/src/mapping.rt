@@ -7,10 +7,11 @@
 //!     granule  x     x           x     x
 //!     told     O     O     u     o     .     -           -
 //!
-//! A place has 8192 words, as a granule has, or as four have under policy aggressive: it is committed
-//! where one of its granules is. Nothing is kept for a map: it is read from the free leaves of its
-//! root's tree, in one walk; what lies in none of them is lent. Only the list of all maps takes memory.
-//! After HotSpot's VM.metaspace vsmap; places and what is told of them are this project's choice.
+//! A place has 8192 words, as a granule has, or as four have under policy aggressive: it is
+//! committed where one of its granules is. Nothing is kept for a map: it is read from the free
+//! leaves of its root's tree, in one walk; what lies in none of them is lent. Only the list of all
+//! maps takes memory. After HotSpot's VM.metaspace vsmap; places and what is told of them are this
+//! project's choice.
 ghost use Rattle.std.specs.Prelude.{◌≡◌, ◌+◌, ◌*◌, ◌<◌, ◌≤◌, ◌^◌, ◌++◌, cond, [], get_or, map, OnOk};
 ghost use Rattle.ms_base.specs.Part.{IsPart, is_reserved};
 ghost use Rattle.ms_base.specs.Level.{root_words, size_of};
@@ -48,7 +49,8 @@ pub enum Place {
     LentWholly,
 }
 
-/// What each place of a root is. The root's number, 0 to 159, is over both spaces, two roots a slot.
+/// What each place of a root is. The root's number, 0 to 159, is over both spaces, two roots a
+/// slot.
 #[derive(Clone, Copy, Debug, PartialEq, Eq)]
 pub struct RootMap {
     /// The root's number; its slot is half of it.
@@ -159,7 +161,8 @@ impl Lender {
     }
 }
 
-/// Tells what leaves each place of a root meets, in one walk over the free ones: at first all are lent.
+/// Tells what leaves each place of a root meets, in one walk over the free ones: at first all are
+/// lent.
 fn found_in(tree: &SplitTree<Global>) -> Found
     ensures { AreFound tree.now result.lent result.free }
 {

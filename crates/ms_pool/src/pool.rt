@@ -28,8 +28,8 @@ use std::marker::Model;
 /// After HotSpot's chunkManager.cpp and virtualSpaceList.cpp.
 #[derive(Drop)]
 pub struct Pool {
-    /// All that is kept; `Lender` has units and ranges. In a box, since it has some kilobytes and a pool
-    /// is moved into and out of locks.
+    /// All that is kept; `Lender` has units and ranges. In a box, since it has some kilobytes and a
+    /// pool is moved into and out of locks.
     lender: Box<Lender>,
 }
 
@@ -78,10 +78,10 @@ impl Pool {
         self.lender.open_both()
     }
 
-    /// Lends the account a chunk: the free part that the searches find first for so many words, of a
-    /// level from the wanted one up to the most that serves, split where it is larger than wanted.
-    /// Refused with `ReserveLimit`, with `CommitLimit`, and with `OutOfMemory`, in that order;
-    /// nothing changes then but a tally. Takes memory. After HotSpot, chunkManager.cpp.
+    /// Lends the account a chunk: the free part that the searches find first for so many words, of
+    /// a level from the wanted one up to the most that serves, split where it is larger than
+    /// wanted. Refused with `ReserveLimit`, with `CommitLimit`, and with `OutOfMemory`, in that
+    /// order; nothing changes then but a tally. Takes memory. After HotSpot, chunkManager.cpp.
     pub fn take(
         &mut self,
         account: &mut Account,
@@ -170,8 +170,8 @@ impl Pool {
         self.lender.totals(space)
     }
 
-    /// Tells how many granules are committed, in both spaces. A caller also learns here what is true
-    /// of every pool. Takes no memory, and looks at no chunk.
+    /// Tells how many granules are committed, in both spaces. A caller also learns here what is
+    /// true of every pool. Takes no memory, and looks at no chunk.
     pub fn committed(&self) -> u64
         ensures count { result ≡ length self.now.committed + length self.now.class_committed }
         ensures sound { IsSoundLedger self.now }
@@ -188,8 +188,8 @@ impl Pool {
         self.lender.policy
     }
 
-    /// Tells how many accounts are open, in both spaces, below 2 ^ 33. Takes no memory, and looks at
-    /// no chunk.
+    /// Tells how many accounts are open, in both spaces, below 2 ^ 33. Takes no memory, and looks
+    /// at no chunk.
     pub fn accounts(&self) -> u64
         ensures { result ≡ self.now.opened + self.now.class_opened }
     {

@@ -1,10 +1,10 @@
-//! What an arena knows of where its chunks come from, and a loader of where its accounts do: the pool,
-//! or the pool behind a lock.
+//! What an arena knows of where its chunks come from, and a loader of where its accounts do: the
+//! pool, or the pool behind a lock.
 //!
 //! A source serves accounts: it gave their numbers out, and its record of each such owner has the
-//! account's chunks. Each call keeps all of them served, changes the chunks of its own accounts alone
-//! and stands in a relation that the source states itself. `take` takes memory; a source behind a
-//! lock waits in each call.
+//! account's chunks. Each call keeps all of them served, changes the chunks of its own accounts
+//! alone and stands in a relation that the source states itself. `take` takes memory; a source
+//! behind a lock waits in each call.
 ghost use Rattle.std.specs.Prelude.{◌≡◌, ◌≢◌, ℕ, ◌+◌, ◌<◌, Bool, [], Result, IfOk, OnErr, MatchResult};
 ghost use Rattle.std.specs.Prelude.{IsTrue};
 ghost use Rattle.ms_base.specs.declared.kind.Space.{Space};
@@ -29,8 +29,8 @@ pub trait ChunkSource {
     ghost opened: { Self → Space → ℕ };
     /// The limits and the policy that it follows.
     ghost limits: { Self → Limits };
-    /// What `take`, asked for an account, a wanted level, the most that serves and words, may answer
-    /// and make of the source.
+    /// What `take`, asked for an account, a wanted level, the most that serves and words, may
+    /// answer and make of the source.
     ghost took: { Self → AccountState → ℕ → ℕ → ℕ → Result Span Refusal → Self → Type 0 };
     /// What `grow`, asked for an account, a start, words in all, and whether the chunk may be
     /// enlarged, may answer and make of the source.
@@ -40,8 +40,8 @@ pub trait ChunkSource {
     /// What `totals` may answer and make of the source.
     ghost totalled: { Self → AccountState → PoolTotals → Self → Type 0 };
 
-    /// Lends a chunk to the account, of a level from the wanted one up to the most that serves, with
-    /// a front for so many words, 1 to the size of the latter; it comes last. Refused with
+    /// Lends a chunk to the account, of a level from the wanted one up to the most that serves,
+    /// with a front for so many words, 1 to the size of the latter; it comes last. Refused with
     /// `ReserveLimit`, with `CommitLimit`, and with `OutOfMemory`, in that order; then the account
     /// is as it was. Takes memory.
     fn take(
@@ -103,8 +103,8 @@ pub trait ChunkSource {
         ensures totalled { totalled self.old account.now result self.new };
 }
 
-/// What also opens and closes the accounts of a loader, one in each space, and drops nodes: all that a
-/// step of the machine asks of a pool. This project's choice.
+/// What also opens and closes the accounts of a loader, one in each space, and drops nodes: all
+/// that a step of the machine asks of a pool. This project's choice.
 pub trait AccountSource: ChunkSource {
     /// What `open_both` may answer and make of the source.
     ghost opened_both: { Self → Result (AccountState × AccountState) Refusal → Self → Type 0 };

@@ -1,7 +1,7 @@
 //! The list of a closed account, whose memory serves the next one.
 //!
-//! Where loaders come and go, each account would ask for the memory of its list of chunks anew. Nothing
-//! outside rests on what is here: a list that is given is empty. Nothing here takes memory.
+//! Where loaders come and go, each account would ask for the memory of its list of chunks anew.
+//! Nothing outside rests on what is here: a list that is given is empty. Nothing here takes memory.
 ghost use Rattle.std.specs.Prelude.{◌≡◌, []};
 
 use crate::account::Account;

@@ -3,8 +3,8 @@
 /// How many levels chunks have: 0 to 12.
 pub(crate) const LEVELS: usize = 13;
 
-/// The sums over one space of a pool: reserved nodes, committed granules, chunks lent and parts free
-/// by level (0 to 12), the words that are lent and those of fronts, and open accounts. After
+/// The sums over one space of a pool: reserved nodes, committed granules, chunks lent and parts
+/// free by level (0 to 12), the words that are lent and those of fronts, and open accounts. After
 /// HotSpot's VM.metaspace, with this project's numbers.
 #[derive(Clone, Copy, Debug, PartialEq, Eq)]
 pub struct PoolTotals {

@@ -1,9 +1,9 @@
 //! The split trees of all roots that may be reserved, and an index of them (`index`).
 //!
-//! Kept true: the index tells of each root exactly the levels of which the root's tree has a free leaf.
-//! A root that isn't reserved is whole, so it is told to have level 0, and whoever asks looks whether
-//! its slot is reserved. A change of a tree tells the levels of its root anew, where they are others.
-//! The places of trees and index are made once.
+//! Kept true: the index tells of each root exactly the levels of which the root's tree has a free
+//! leaf. A root that isn't reserved is whole, so it is told to have level 0, and whoever asks looks
+//! whether its slot is reserved. A change of a tree tells the levels of its root anew, where they
+//! are others. The places of trees and index are made once.
 ghost use Rattle.std.specs.Prelude.{◌≡◌, ℕ, ◌-◌, ◌/◌, ◌%◌, ◌<◌, ◌≤◌, false, [], get_or, length, replicate};
 ghost use Rattle.std.specs.Prelude.{IfOk, IfSome, IfNone, IsTrue, IsFalse, Some};
 ghost use Rattle.std.specs.List.{All, find};
@@ -61,8 +61,8 @@ impl Trees {
         &self.trees[root]
     }
 
-    /// Tells the lowest root of a range whose tree has a free leaf of a level, without a look at the
-    /// trees.
+    /// Tells the lowest root of a range whose tree has a free leaf of a level, without a look at
+    /// the trees.
     pub(crate) fn next_root(&self, level: Level, from: usize, end: usize) -> Option<usize>
         requires there { end ≤ length self.now.items }
         ensures from { IfSome result (λ root. from ≤ root) }

@@ -3,8 +3,8 @@
 //!     Answer ── push ──> its line, its report ──> the text
 //!                  `──> refusals so far, for the reports after it
 //!
-//! No answer has to be kept until all are there. Kept true: no more answers are counted than the text has
-//! bytes, so no count wraps. Stands on `reply_lines`. Takes memory for the text alone.
+//! No answer has to be kept until all are there. Kept true: no more answers are counted than the
+//! text has bytes, so no count wraps. Stands on `reply_lines`. Takes memory for the text alone.
 ghost use Rattle.std.specs.Prelude.{◌≡◌, ◌++◌, ◌∷◌, [], List, IfOk, OnErr, OnOk, string_bytes};
 ghost use Rattle.ms_loaders.specs.declared.replies.Answer.{Answer as AnswerOf};
 ghost use Rattle.ms_report.specs.AnswerText.{AnswerTextView, Tells, no_answer};
@@ -18,8 +18,8 @@ use ms_loaders::{Answer, AnswerSink, Detail, Replies};
 use std::alloc::{AllocError, Global};
 use std::marker::Model;
 
-/// A line for each answer that was put, in their order: the number of the trace's line, a space, the
-/// reply; after an answer with totals comes their report. This project's choice.
+/// A line for each answer that was put, in their order: the number of the trace's line, a space,
+/// the reply; after an answer with totals comes their report. This project's choice.
 #[derive(Drop)]
 pub struct AnswerText {
     // The lines and reports so far.
@@ -55,9 +55,10 @@ impl Model for AnswerText {
 }
 
 impl AnswerText {
-    /// Makes the text of no answer, in the room of a text that is done with, which is emptied. Where a block
-    /// starts, a word number, is told only if addresses are asked for, and reports are told with as much
-    /// detail as is asked for; the settings are those of the run. Takes no memory yet.
+    /// Makes the text of no answer, in the room of a text that is done with, which is emptied.
+    /// Where a block starts, a word number, is told only if addresses are asked for, and reports
+    /// are told with as much detail as is asked for; the settings are those of the run. Takes no
+    /// memory yet.
     pub fn new(mut room: String, addresses: bool, detail: Detail, settings: Settings) -> AnswerText
         ensures { result ≡ no_answer addresses detail settings }
     {
@@ -72,8 +73,9 @@ impl AnswerText {
         }
     }
 
-    /// Appends the line of one answer more, and its report, with the refusals of the answers before it. An
-    /// error means that a growth was refused; then the text is that of no answer. Takes memory.
+    /// Appends the line of one answer more, and its report, with the refusals of the answers before
+    /// it. An error means that a growth was refused; then the text is that of no answer. Takes
+    /// memory.
     #[inline(always)]
     pub fn push(&mut self, answer: &Answer) -> Result<(), AllocError>
         ensures told { OnOk result ((first : AnswerTextView) (before : List AnswerOf) → Tells first self.old before

@@ -4,9 +4,9 @@
 //!                     ^  ^
 //!                  from  ones
 //!
-//! Kept true: from a byte on it is the line of the number that it was told last, and blank after it. So
-//! a piece of constant length is appended and what is too long cut off, which no call copies. Takes
-//! memory for the text alone.
+//! Kept true: from a byte on it is the line of the number that it was told last, and blank after
+//! it. So a piece of constant length is appended and what is too long cut off, which no call
+//! copies. Takes memory for the text alone.
 ghost use Rattle.std.specs.Prelude.{◌≡◌, ◌≤◌, ◌-◌, ◌++◌, OnOk, IsAscii, string_bytes, codes, decimal, drop, length, take};
 ghost use Rattle.ms_report.specs.DoneLine.{IsDoneLine};
 
@@ -66,7 +66,8 @@ impl DoneLine {
     }
 }
 
-/// Makes the line that of another number: of the next one by its ones alone where these are below nine.
+/// Makes the line that of another number: of the next one by its ones alone where these are below
+/// nine.
 #[inline(always)]
 fn count_on(bytes: &mut [u8], from: &mut usize, last: &mut u32, number: u32)
     requires { IsDoneLine last.old from.old bytes.old }

@@ -4,8 +4,8 @@
 //!     Metaspace               .. then the report, where one was asked for
 //!       loaders          1
 //!
-//! Kept true: a line is the bytes that `ms_base/specs/ReplyText.antt` gives. Takes memory for the text
-//! alone.
+//! Kept true: a line is the bytes that `ms_base/specs/ReplyText.antt` gives. Takes memory for the
+//! text alone.
 ghost use Rattle.std.specs.Prelude.{◌≡◌, ◌++◌, OnOk, string_bytes, codes, decimal};
 ghost use Rattle.ms_base.specs.ReplyText.{name_of, reply_line};
 ghost use Rattle.ms_report.specs.ReplyLines.{answer_text};

@@ -1,9 +1,10 @@
 //! Lines run by one worker: by the caller itself, line by line, over one system. They are a whole
 //! trace, or a phase of which one worker has all lines.
 //!
-//! Kept true: each line has one answer, in the trace's order, which goes to a sink: a list of answers, or
-//! what only tells them; where they are counted, the words in use follow, and so do the peaks, for full
-//! reports. A line costs the same however many loaders stand by. Takes memory; nothing waits.
+//! Kept true: each line has one answer, in the trace's order, which goes to a sink: a list of
+//! answers, or what only tells them; where they are counted, the words in use follow, and so do the
+//! peaks, for full reports. A line costs the same however many loaders stand by. Takes memory;
+//! nothing waits.
 ghost use Rattle.std.specs.Prelude.{◌≡◌, IfOk, OnOk, [], ◌∷◌, IsTrue};
 ghost use Rattle.ms_base.specs.Good.{IsGood};
 ghost use Rattle.ms_base.specs.State.{empty_machine, limits_of};

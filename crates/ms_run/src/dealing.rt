@@ -269,7 +269,8 @@ fn empty_lists(
     Ok(lists)
 }
 
-/// Counts the lines that ask a step, by the share that they go to. A guess, of which nothing is promised.
+/// Counts the lines that ask a step, by the share that they go to. A guess, of which nothing is
+/// promised.
 fn rooms_for(turn: &Turn, lines: &[Line]) -> [usize; MOST_WORKERS] {
     let mut rooms = [0_usize; MOST_WORKERS];
     for line in lines {

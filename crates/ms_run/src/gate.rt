@@ -11,8 +11,8 @@ pub trait Gate {
     /// 2^64. With one worker they are the system's.
     fn after(&self, worker: usize, line: u32, used: u64);
 
-    /// Tells whether `after` looks at the words in use. Where it doesn't, a worker needn't count or read
-    /// them and tells 0.
+    /// Tells whether `after` looks at the words in use. Where it doesn't, a worker needn't count or
+    /// read them and tells 0.
     fn looks(&self) -> bool {
         true
     }

@@ -1,7 +1,7 @@
 //! Merging the replies of a phase's shares: an answer to each line, in the trace's order.
 //!
-//! Kept true: of each share, as many replies are taken as it had lines so far. Takes memory as the sink
-//! does, and for a number for each share; nothing waits.
+//! Kept true: of each share, as many replies are taken as it had lines so far. Takes memory as the
+//! sink does, and for a number for each share; nothing waits.
 ghost use Rattle.std.specs.Prelude.{◌≡◌, ◌<◌, List, OnOk, Some, vec_len};
 ghost use Rattle.ms_base.specs.declared.step.Step.{Step as Asked};
 ghost use Rattle.ms_base.specs.Request.{loader_of};

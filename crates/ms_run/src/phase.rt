@@ -62,7 +62,8 @@ pub fn run_phase<R: Threads + Wait + Sync, G: Gate + Sync, S: AnswerSink>(
     turn.activate(lines);
     if turn.shares() == 1 {
         let mut run = run;
-        // Into a list, so that the loop that puts each answer into the sink has one user, and is inlined there.
+        // Into a list, so that the loop that puts each answer into the sink has one user, and is
+        // inlined there.
         let mut answers = Vec::new(alloc);
         answer_lines(
             alloc,

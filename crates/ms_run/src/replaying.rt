@@ -64,9 +64,10 @@ pub fn replay<R: Threads + Wait + Sync, G: Gate + Sync>(
     Ok(Replies { answers })
 }
 
-/// Replays a trace as `replay` does, and puts the answers into a sink in their order, so that none is kept:
-/// those of one worker as they come, and those of a phase of several once it has been worked. An error
-/// leaves in the sink what it leaves. Takes memory, and waits as `replay` does. This project's choice.
+/// Replays a trace as `replay` does, and puts the answers into a sink in their order, so that none
+/// is kept: those of one worker as they come, and those of a phase of several once it has been
+/// worked. An error leaves in the sink what it leaves. Takes memory, and waits as `replay` does.
+/// This project's choice.
 pub fn replay_into<R: Threads + Wait + Sync, G: Gate + Sync, S: AnswerSink>(
     rt: &R,
     alloc: Global,

@@ -7,8 +7,9 @@
 //! Kept true between any two steps: there is one pool, in the slot where the word is 0, and else
 //! with one seat. Each owner number that it gave out is served by one seat, once, with the pool's
 //! record of the owner; its open accounts and tallies are the sums of the seats'. One history of
-//! events leads from the lock's first pool to it, of which each seat has just its own. Views, plays,
-//! cuts and joins have no bytes and do nothing when they run. Nothing here takes memory or waits.
+//! events leads from the lock's first pool to it, of which each seat has just its own. Views,
+//! plays, cuts and joins have no bytes and do nothing when they run. Nothing here takes memory or
+//! waits.
 ghost use Rattle.ms_shared.specs.LockRule.{IsLocked, Tries, LetsGo, first_view, own_seat, other_seats, both, nothing};
 ghost use Rattle.ms_shared.specs.LockRule.{view_without, note_of, less_part, spare_part};
 

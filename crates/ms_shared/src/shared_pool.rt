@@ -57,10 +57,10 @@ impl Model for SharedPool {
 }
 
 impl SharedPool {
-    /// Puts a pool behind a lock and makes its seats, 1 to 8 of them, numbered from 0 on and with no
-    /// event. The first serves every owner number that was given out, counts all open accounts and
-    /// has the pool's tallies; the others have nothing. Takes memory; where that is refused the pool
-    /// is handed back. This project's choice.
+    /// Puts a pool behind a lock and makes its seats, 1 to 8 of them, numbered from 0 on and with
+    /// no event. The first serves every owner number that was given out, counts all open accounts
+    /// and has the pool's tallies; the others have nothing. Takes memory; where that is refused the
+    /// pool is handed back. This project's choice.
     pub fn new(
         alloc: Global,
         pool: Pool,

@@ -24,8 +24,8 @@ pub(crate) fn cut_line(text: &[u8]) -> (&[u8], Option<&[u8]>)
     cut_at(text, b'\n', first_newline(text))
 }
 
-/// Cuts off the first line where it is blank or a comment, and not too long, and answers what stands
-/// after it.
+/// Cuts off the first line where it is blank or a comment, and not too long, and answers what
+/// stands after it.
 #[inline(always)]
 pub(crate) fn cut_silent(text: &[u8]) -> Option<&[u8]>
     requires { 0 < length text.now }

@@ -17,9 +17,9 @@ use std::alloc::{Allocator, Global};
 /// The bytes of the shortest command line with its newline, `sync`.
 const SHORTEST: usize = 5;
 
-/// Reads a text as a trace. The fault is that of the first faulty line, by its first failing
-/// check; OutOfMemory comes only where the allocator refused a growth. One pass over the text,
-/// which isn't copied; memory for the command lines alone, in one piece. The grammar is this project's choice.
+/// Reads a text as a trace. The fault is that of the first faulty line, by its first failing check;
+/// OutOfMemory comes only where the allocator refused a growth. One pass over the text, which isn't
+/// copied; memory for the command lines alone, in one piece. The grammar is this project's choice.
 pub fn parse(alloc: Global, text: &[u8]) -> Result<Trace, ParseFault>
     ensures reads { IfOk result (λ trace. ReadsAs text.now trace) }
     ensures in_order { IfOk result (λ trace. IsTrue (rises_above 0 trace.lines)) }
@@ -59,8 +59,8 @@ pub(crate) fn read_lines<A: Allocator>(alloc: A, text: &[u8]) -> Result<Vec<Line
 }
 
 /// Keeps the command of a text's first line, which has that number, if it gives one, and answers
-/// what stands after that line. Most lines are spelled as `spellings` reads them, or silent; any other
-/// is cut off and judged.
+/// what stands after that line. Most lines are spelled as `spellings` reads them, or silent; any
+/// other is cut off and judged.
 fn keep_first<'a, A: Allocator>(
     lines: &mut Vec<Line, A>,
     number: u32,

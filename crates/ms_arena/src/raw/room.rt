@@ -1,8 +1,8 @@
 //! The memory that an arena has, which it keeps when it starts anew.
 //!
-//! Apart because it is a hint: a loader may live for two allocations, and to ask for the memory of its
-//! arenas costs more than all that is done in it, so whoever has arenas come and go keeps some of those
-//! that are done, but no large ones.
+//! Apart because it is a hint: a loader may live for two allocations, and to ask for the memory of
+//! its arenas costs more than all that is done in it, so whoever has arenas come and go keeps some
+//! of those that are done, but no large ones.
 use super::RawArena;
 
 /// For how many stretches of 2048 words a small arena has memory at most.
@@ -18,9 +18,10 @@ const SMALL_TOPS: usize = 64;
 const SMALL_PAGES: usize = 4;
 
 impl RawArena {
-    /// Tells whether the arena's memory is small: some 25 KiB, its chunks aside, and the table of pages, which
-    /// is longer where a page far on was written. A hint to whoever keeps arenas to be renewed, of which
-    /// nothing is promised. Takes no memory. This project's choice; HotSpot's arenas are memory themselves.
+    /// Tells whether the arena's memory is small: some 25 KiB, its chunks aside, and the table of
+    /// pages, which is longer where a page far on was written. A hint to whoever keeps arenas to be
+    /// renewed, of which nothing is promised. Takes no memory. This project's choice; HotSpot's
+    /// arenas are memory themselves.
     pub fn is_small(&self) -> bool {
         let (stretches, pages) = self.words.sizes();
         let (tops, blocks) = self.books.sizes();

@@ -42,8 +42,8 @@ impl Boxed {
         }
     }
 
-    /// Makes a loader in a box over two accounts, as `Loader::new` does, or gives these back where memory is
-    /// wanting. Takes memory.
+    /// Makes a loader in a box over two accounts, as `Loader::new` does, or gives these back where
+    /// memory is wanting. Takes memory.
     pub(super) fn made(
         alloc: Global,
         name: u16,
@@ -66,8 +66,8 @@ impl Boxed {
         )
     }
 
-    /// Starts the loader anew over two accounts, as `Loader::renew` does, under a name, and gives its former
-    /// accounts back, the class space's last. Takes no memory.
+    /// Starts the loader anew over two accounts, as `Loader::renew` does, under a name, and gives
+    /// its former accounts back, the class space's last. Takes no memory.
     pub(super) fn renew(
         &mut self,
         name: u16,
@@ -87,8 +87,8 @@ impl Boxed {
         self.named.1.renew(account, class_account, kind)
     }
 
-    /// Has the loader keep its memory alone: its accounts are given back, the class space's last, and closed
-    /// ones stand in their place. Takes no memory.
+    /// Has the loader keep its memory alone: its accounts are given back, the class space's last,
+    /// and closed ones stand in their place. Takes no memory.
     pub(super) fn close(&mut self, alloc: Global) -> (Account, Account)
         ensures { AreAccountsOf self.old.1 result }
     {

@@ -3,10 +3,11 @@
 //!     owner      3 │  7 │ 12 │ 15 │       rising, since numbers are given out so; each loader is noted
 //!     name       7 │  5 │  2 │  9 │       once, at the first of its two owner numbers
 //!
-//! Nothing outside rests on it: whoever asks looks at the loader of that name before believing it. So it may
-//! tell a name that is used no more, or none where a loader was changed in its place. Where a loader goes
-//! its note stays until the list is full, and is swept out then. A number that doesn't rise, as where
-//! loaders come back from workers, is noted in a hash map beside the list. Only `reserve` takes memory;
+//! Nothing outside rests on it: whoever asks looks at the loader of that name before believing it.
+//! So it may tell a name that is used no more, or none where a loader was changed in its place.
+//! Where a loader goes its note stays until the list is full, and is swept out then. A number that
+//! doesn't rise, as where loaders come back from workers, is noted in a hash map beside the list.
+//! Only `reserve` takes memory;
 //! `note` takes none in the room that was made.
 
 use super::first_owner;
@@ -54,8 +55,9 @@ impl Owners {
         self.others.get(&owner).copied()
     }
 
-    /// Makes room for the note of an owner number. Where the list is full, notes of loaders that stand at
-    /// their names no more are swept out first, and it is lengthened where few were. Takes memory.
+    /// Makes room for the note of an owner number. Where the list is full, notes of loaders that
+    /// stand at their names no more are swept out first, and it is lengthened where few were. Takes
+    /// memory.
     #[inline(always)]
     pub(super) fn reserve(&mut self, owner: u32, places: &Places) -> Result<(), AllocError> {
         if !self.rises(owner) {

@@ -3,7 +3,8 @@
 //!     unload ──> | closed | closed | closed |  place  |  place  | ──> new       at most 64, each small
 //!
 //! Where loaders come and go, each would ask for the memory of its arenas and names anew. Nothing
-//! outside rests on which loaders are here: one that starts anew is as new as any. Only `reserve` and
+//! outside rests on which loaders are here: one that starts anew is as new as any. Only `reserve`
+//! and
 //! `make` take memory, the latter where none is here: there is place for each loader, since it was made
 //! when the loader came.
 ghost use Rattle.std.specs.Prelude.{◌≡◌, IfOk, IfErr, []};
@@ -46,8 +47,8 @@ impl Spares {
         self.boxes.reserve(wanted.saturating_sub(self.boxes.len()))
     }
 
-    /// Makes a loader in a box over two accounts, as `Boxed::made` does: a spare one anew where there is
-    /// one, else one that takes memory.
+    /// Makes a loader in a box over two accounts, as `Boxed::made` does: a spare one anew where
+    /// there is one, else one that takes memory.
     pub(super) fn make(
         &mut self,
         alloc: Global,
@@ -73,8 +74,8 @@ impl Spares {
         }
     }
 
-    /// Gives the accounts of a loader back, the class space's last. It is kept where it is small and has a
-    /// place, else dropped. Takes no memory.
+    /// Gives the accounts of a loader back, the class space's last. It is kept where it is small
+    /// and has a place, else dropped. Takes no memory.
     pub(super) fn close(&mut self, alloc: Global, mut boxed: Boxed) -> (Account, Account)
         ensures { AreAccountsOf boxed.1 result }
     {

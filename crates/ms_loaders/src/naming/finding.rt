@@ -13,8 +13,8 @@ use ms_base::Block;
 use std::collections::HashMap;
 
 impl Names {
-    /// Tells under which name a block stands, if it has one. Takes no memory, and looks at each name
-    /// until it is found, in no order.
+    /// Tells under which name a block stands, if it has one. Takes no memory, and looks at each
+    /// name until it is found, in no order.
     pub fn name_of(&self, block: Block) -> Option<u32>
         ensures named { IfSome result (λ name. named self.now.entries name ≡ Some block) }
         ensures none { IfNone result ((name : ℕ) → named self.now.entries name ≢ Some block) }

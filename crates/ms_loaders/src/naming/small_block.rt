@@ -1,7 +1,7 @@
 //! A block as the table of names keeps it: in half of the room of a `Block`.
 //!
-//! Words are numbered below 2^27, so 32 bits are enough for a start and for a number of words. A table that
-//! grows copies all that it has, and a loader may have 100,000 names.
+//! Words are numbered below 2^27, so 32 bits are enough for a start and for a number of words. A
+//! table that grows copies all that it has, and a loader may have 100,000 names.
 ghost use Rattle.std.specs.Prelude.{◌≡◌, ◌+◌, ◌<◌, ◌^◌, nat_eq};
 ghost use Rattle.ms_loaders.specs.Table.{no_block};
 

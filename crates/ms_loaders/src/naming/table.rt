@@ -3,11 +3,12 @@
 //!     name         first    first + 1  first + 2                 3        3000000000
 //!     row     |   -    | [0, 10) | [14, 18) |   -    |     [10, 14)       [18, 30)      others
 //!
-//! Who names blocks mostly counts them, so that a name is a place of the row, found by one indexing. The
-//! row is no longer than four names for each that it has ask for. Where a name comes next that would have it
-//! longer, as where most blocks are freed, the row slides on by half, and the few blocks of the names that it
-//! leaves behind are others from then on; so is that of any name further off. Kept true: each name
-//! of the row is a number of 32 bits. Only `make_place` takes memory. This project's choice.
+//! Who names blocks mostly counts them, so that a name is a place of the row, found by one
+//! indexing. The row is no longer than four names for each that it has ask for. Where a name comes
+//! next that would have it longer, as where most blocks are freed, the row slides on by half, and
+//! the few blocks of the names that it leaves behind are others from then on; so is that of any
+//! name further off. Kept true: each name of the row is a number of 32 bits. Only `make_place`
+//! takes memory. This project's choice.
 ghost use Rattle.std.specs.Prelude.{◌≡◌, ◌≢◌, ℕ, ◌+◌, ◌<◌, ◌≤◌, ◌^◌, ◌⊎◌, None, OnOk, Some, cond, length, nat_eq, take, true};
 ghost use Rattle.std.specs.Prelude.{IsFalse, IsTrue};
 ghost use Rattle.std.specs.Map.{lookup};
@@ -101,8 +102,9 @@ impl Table {
         look_up(&self.others, name)
     }
 
-    /// Makes a place in the row for a name, where it may have one, and tells whether it has; all names stay.
-    /// Where it hasn't, there may be room ahead beside the row. Tells too whether memory was refused.
+    /// Makes a place in the row for a name, where it may have one, and tells whether it has; all
+    /// names stay. Where it hasn't, there may be room ahead beside the row. Tells too whether
+    /// memory was refused.
     #[inline(always)]
     pub fn make_place(&mut self, name: u32, many: bool, refused: &mut bool) -> bool
         ensures place { IsTrue result → HasPlace self.new.first self.new.row name }
@@ -122,9 +124,9 @@ impl Table {
         false
     }
 
-    /// Makes the row longer, or has it slide on, for a name that has no place in it, where the name is near. It
-    /// slides only once so many names came as a quarter of its places, so that it costs no more than they
-    /// did. All names stay.
+    /// Makes the row longer, or has it slide on, for a name that has no place in it, where the name
+    /// is near. It slides only once so many names came as a quarter of its places, so that it costs
+    /// no more than they did. All names stay.
     #[inline(never)]
     fn grow(&mut self, name: usize, many: bool) -> Result<(), AllocError>
         requires { name < 2 ^ 32 }
@@ -162,8 +164,8 @@ impl Table {
         self.row.resize(places, SmallBlock::none())
     }
 
-    /// Has the row begin so many names further on, and as long as it was; the blocks of the names before
-    /// are others then.
+    /// Has the row begin so many names further on, and as long as it was; the blocks of the names
+    /// before are others then.
     fn slide(&mut self, names: usize) -> Result<(), AllocError>
         requires within { names ≤ length self.old.row }
         requires few { self.old.first + names + length self.old.row ≤ 2 ^ 32 }
@@ -227,8 +229,8 @@ impl Table {
     }
 }
 
-/// Makes room ahead for names beside the row, where all is used up: for the first ones at once where many are to
-/// come, and for more than one where there are many.
+/// Makes room ahead for names beside the row, where all is used up: for the first ones at once
+/// where many are to come, and for more than one where there are many.
 #[inline(always)]
 fn make_more_room(others: &mut HashMap<u32, SmallBlock>, many: bool) -> Result<(), AllocError>
     ensures { (name : ℕ) → lookup (nat_eq name) others.new.entries ≡ lookup (nat_eq name) others.old.entries }
@@ -286,7 +288,8 @@ fn set_block(first: usize, row: &mut [SmallBlock], name: u32, small: SmallBlock)
     false
 }
 
-/// Gives the first names of a row that have a block there that block among the others too, and tells how many.
+/// Gives the first names of a row that have a block there that block among the others too, and
+/// tells how many.
 fn hand_over(
     first: usize,
     row: &[SmallBlock],

@@ -55,10 +55,10 @@ impl Edge {
 
 impl System {
     /// Allocates a block of zeros in a space, as a step does, and tells the run of granules that it
-    /// committed: each that became committed lies in it, and each of it is committed then. Under the
-    /// policies balanced and aggressive these are all granules of the run; under none some of it may
-    /// have been committed before. Refused as the step is, and then nothing changes. Takes memory.
-    /// This project's choice.
+    /// committed: each that became committed lies in it, and each of it is committed then. Under
+    /// the policies balanced and aggressive these are all granules of the run; under none some of
+    /// it may have been committed before. Refused as the step is, and then nothing changes. Takes
+    /// memory. This project's choice.
     pub fn allocate_with_run(
         &mut self,
         space: Space,
@@ -101,7 +101,8 @@ fn edge_at(loaders: &Loaders, space: Space, name: u16) -> Edge
     }
 }
 
-/// Tells the same once so many granules came: where none did, nobody asks for it, and none is looked for.
+/// Tells the same once so many granules came: where none did, nobody asks for it, and none is
+/// looked for.
 fn edge_after(loaders: &Loaders, space: Space, name: u16, came: u64) -> Edge
     ensures edge { 0 < came → IfSome (named loaders.now name)
         (λ loader. IsEdge (arena_of space loader.state).chunks result) }

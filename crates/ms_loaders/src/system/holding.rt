@@ -9,9 +9,9 @@ use crate::loaders::Loaders;
 
 impl System {
     /// Tells the name of the loader in whose chunk a word lies, in either space, if it lies in one:
-    /// in use or not, committed or not. Takes no memory, goes down one path of one tree of the pool,
-    /// and looks the owner up once. Each loader is looked at only where one was exchanged in its
-    /// place, or has owner numbers that weren't given together. This project's choice.
+    /// in use or not, committed or not. Takes no memory, goes down one path of one tree of the
+    /// pool, and looks the owner up once. Each loader is looked at only where one was exchanged in
+    /// its place, or has owner numbers that weren't given together. This project's choice.
     pub fn holder(&self, word: u64) -> Option<u16>
         ensures held { IfSome result (λ name. IsTrue (holds self.now name word)) }
         ensures only { IfSome result
@@ -35,7 +35,8 @@ fn first_owner(word: u64, owner: u32) -> u32 {
     }
 }
 
-/// Tells the name of the loader with an account of that owner's number, of which the first may be known.
+/// Tells the name of the loader with an account of that owner's number, of which the first may be
+/// known.
 fn name_of(loaders: &Loaders, owner: u32, first: u32) -> Option<u16>
     ensures some { IfSome result (λ name. IsTrue (list_any (has_owner name owner) loaders.now)) }
     ensures none { IfNone result ((name : ℕ) → IsFalse (list_any (has_owner name owner) loaders.now)) }

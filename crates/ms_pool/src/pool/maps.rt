@@ -12,7 +12,8 @@ use std::alloc::{AllocError, Global};
 impl Pool {
     /// Tells the map of each root of each reserved node, in order of address, those of the class
     /// space last. Takes memory for the list alone, and fails only where that is refused; looks at
-    /// each leaf of each root. After HotSpot's VM.metaspace vsmap; its places are this project's choice.
+    /// each leaf of each root. After HotSpot's VM.metaspace vsmap; its places are this project's
+    /// choice.
     pub fn maps(&self, alloc: Global) -> Result<Vec<RootMap>, AllocError>
         ensures { IfOk result (λ maps. map map_in maps.items
             ≡ maps_of (state_in NonClass self.now) ++ maps_of (state_in Class self.now)) }
