@@ -4,8 +4,7 @@
 //! Apart because it is proved once, over any source of chunks: it knows the trait `ChunkSource` and
 //! nothing of pools, limits or locks. `RawArena` leaves it to its caller which blocks are live,
 //! `Arena` knows them. Stands on `ms_pool` for that trait and on `ms_blocks` for free blocks. Only
-//! `place` and
-//! `alloc` take memory; `alloc` waits as its source does.
+//! `place` and `alloc` take memory; `alloc` waits as its source does.
 #![tactic(auto)]
 
 mod arena;

@@ -4,16 +4,16 @@
 //!                                   |##..##.####|  past    |      |###..##~~~~~|  past    |
 //!                                           top = front                  top   front   size
 //!
-//! `#` are words of live blocks, `.` free blocks and waste below a top, `~` words that are committed
-//! and not in use. A block goes into the free block that fits best, else to the current chunk's
-//! top, else to where the source has more; free blocks are never joined. It knows how many blocks
-//! are live, and how many words they have, but not which: whoever has the blocks says so with each
-//! call, and each clause holds whatever blocks are live. So a block has one home, its owner's. Kept
-//! true: there is room to free each live block. Room is made before a source is asked: so what it
-//! lends is always placed, a refused `alloc` changes nothing, and `free` takes no memory. Stands on
-//! `books` for chunks, tops and free blocks and on `words` for the words. Only `place` and `alloc`
-//! take memory; `alloc` waits as its source does. After HotSpot's metaspaceArena.cpp, which knows
-//! no live blocks either; best fit is this project's choice.
+//! `#` are words of live blocks, `.` free blocks and waste below a top, `~` words that are
+//! committed and not in use. A block goes into the free block that fits best, else to the current
+//! chunk's top, else to where the source has more; free blocks are never joined. It knows how many
+//! blocks are live, and how many words they have, but not which: whoever has the blocks says so
+//! with each call, and each clause holds whatever blocks are live. So a block has one home, its
+//! owner's. Kept true: there is room to free each live block. Room is made before a source is
+//! asked: so what it lends is always placed, a refused `alloc` changes nothing, and `free` takes no
+//! memory. Stands on `books` for chunks, tops and free blocks and on `words` for the words. Only
+//! `place` and `alloc` take memory; `alloc` waits as its source does. After HotSpot's
+//! metaspaceArena.cpp, which knows no live blocks either; best fit is this project's choice.
 ghost use Rattle.std.specs.Prelude.{◌≡◌, ℕ, ◌+◌, ◌%◌, ◌<◌, ◌≤◌, ◌^◌, IfOk, OnOk, IfErr, OnErr, IfSome, IfNone, [], List, false};
 ghost use Rattle.std.specs.Prelude.{Some, None, Err};
 ghost use Rattle.ms_base.specs.Level.{size_of};

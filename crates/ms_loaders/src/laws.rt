@@ -1,9 +1,9 @@
 //! The laws of the whole, each the contract of a function that does nothing. `events` speaks of the
 //! model alone: however the steps of loaders are spread over atomic events, the replies and the
 //! state are those of whole steps, one after another; what happens at an event (`Event` in the
-//! specs of
-//! `ms_base`), how steps are spread over events (`Spread`), and when each counts as done (`Serial`).
-//! `pool_calls_are_events` says that the calls of `Pool` are such events (`CallEvents`).
+//! specs of `ms_base`), how steps are spread over events (`Spread`), and when each counts as done
+//! (`Serial`). `pool_calls_are_events` says that the calls of `Pool` are such events
+//! (`CallEvents`).
 ghost use Rattle.ms_base.specs.Laws.Spread.{SpreadsAreSerial};
 ghost use Rattle.ms_base.specs.Laws.Sum.{NoLoaderHoldsNothing};
 ghost use Rattle.ms_loaders.specs.CallEvents.{PurgesAreEvents, TotalsAreEvents, ClosesAreEvents};

@@ -6,8 +6,8 @@
 //!
 //! The names are the only list of its live blocks; the arenas know none. Kept true: each arena
 //! holds the named blocks that lie in its space; a block's space is decided by where it starts.
-//! Stands on
-//! `ms_arena`. Only `allocate`, `alloc` and `calloc` take memory; they wait as their source does.
+//! Stands on `ms_arena`. Only `allocate`, `alloc` and `calloc` take memory; they wait as their
+//! source does.
 ghost use Rattle.std.specs.Prelude.{◌≡◌, ◌+◌, ◌<◌, ◌^◌, IfOk, IfErr, OnOk, OnErr, []};
 ghost use Rattle.ms_base.specs.declared.kind.Space.TheVariants.{NonClass, Class};
 ghost use Rattle.ms_base.specs.Spaces.{is_in};

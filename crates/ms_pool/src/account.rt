@@ -15,8 +15,8 @@ use std::alloc::Global;
 use std::marker::Model;
 
 /// What was lent to one owner in one space. It can't be cloned; an account that is dropped without
-/// `close` stays open, and its chunks stay lent. This project's choice; HotSpot's arenas keep such a
-/// list themselves.
+/// `close` stays open, and its chunks stay lent. This project's choice; HotSpot's arenas keep such
+/// a list themselves.
 #[derive(Drop)]
 pub struct Account {
     /// The owner's number, 1 to 4294967295; 0 where the account is closed.

@@ -4,8 +4,7 @@
 //! trait `ChunkSource` is all that an arena knows, and `AccountSource` all that a step of the
 //! machine does. Contracts see a pool as a `Ledger`, and each call is one relation of
 //! `specs/Calls.antt`. Stands on `ms_commit` for nodes and granules and on `ms_buddy` for the parts
-//! of each root. Only
-//! `Pool::new`, `take` and `maps` take memory; nothing waits.
+//! of each root. Only `Pool::new`, `take` and `maps` take memory; nothing waits.
 #![tactic(auto)]
 
 mod account;

@@ -7,8 +7,7 @@
 //! So it may tell a name that is used no more, or none where a loader was changed in its place.
 //! Where a loader goes its note stays until the list is full, and is swept out then. A number that
 //! doesn't rise, as where loaders come back from workers, is noted in a hash map beside the list.
-//! Only `reserve` takes memory;
-//! `note` takes none in the room that was made.
+//! Only `reserve` takes memory; `note` takes none in the room that was made.
 
 use super::first_owner;
 use super::places::Places;

@@ -4,9 +4,8 @@
 //!
 //! Where loaders come and go, each would ask for the memory of its arenas and names anew. Nothing
 //! outside rests on which loaders are here: one that starts anew is as new as any. Only `reserve`
-//! and
-//! `make` take memory, the latter where none is here: there is place for each loader, since it was made
-//! when the loader came.
+//! and `make` take memory, the latter where none is here: there is place for each loader, since it
+//! was made when the loader came.
 ghost use Rattle.std.specs.Prelude.{◌≡◌, IfOk, IfErr, []};
 ghost use Rattle.ms_base.specs.declared.kind.Space.TheVariants.{NonClass, Class};
 ghost use Rattle.ms_loaders.specs.GivenBack.{AreAccountsOf};
