@@ -4,3 +4,4 @@ pub mod ColumnLemmas
 pub mod KindLemmas
 pub mod ReplyLemmas
 pub mod DoneLemmas
+mod SpaceLemmas
