@@ -1,7 +1,7 @@
 -- The loop of printing, and that a printed trace reads as itself.
 use Rattle.std.proofs.Common.{◌≡◌, ℕ, inl, inr, zero, suc, not, ◌&&◌, ◌+◌, ◌-◌, ◌^◌, ◌<◌, ◌≤◌, Bool, true, false, eqb}
 use Rattle.std.proofs.Common.{ltb, leb, List, [], ◌∷◌, ◌++◌, length, get_or, drop, replicate, refl, ◌∙◌, ap, arith}
-use Rattle.std.proofs.Common.{add-zero, add-one, append_assoc}
+use Rattle.std.proofs.Common.{sym, subst, add-zero, add-one, append_assoc}
 use Rattle.std.proofs.lemmas.Bool.{and_parts, and_from, not-true, ltb-true, leb-true}
 use Rattle.std.proofs.lemmas.Bool.Decides.{nat_tests}
 use Rattle.std.proofs.lemmas.Fmt.{digits_decimal}
@@ -154,6 +154,15 @@ rises_on items i last d inside rises =
     let front : rises_above last (get_or items i d ∷ drop (i + 1) items) ≡ true =
     rw (drop_here items i d inside) at rises in
     (and_parts _ _ front).1
+
+-- So that line's number is above the last one.
+pub rises_at : (items : List Line) (i last : ℕ) (line : Line) → i < length items → line ≡ get_or items i line
+    → rises_above last (drop i items) ≡ true → last < line.number
+rises_at items i last line inside is rises =
+    let front : rises_above last (get_or items i line ∷ drop (i + 1) items) ≡ true =
+    rw (drop_here items i line inside) at rises in
+    subst (λ (line : Line). last < line.number) (sym is)
+    (ltb-true last (get_or items i line).number (and_parts _ _ (and_parts _ _ front).0).0)
 
 -- A line whose number is above the last one, and not too great, leaves the question to those after it.
 pub rises_past : (items : List Line) (i last : ℕ) (d : Line) → i < length items → last < (get_or items i d).number
