@@ -4,7 +4,7 @@ use Rattle.std.proofs.Common.{◌≡◌, ℕ, zero, suc, ◌+◌, ◌-◌, ◌*�
 use Rattle.std.proofs.Common.{List, [], ◌∷◌, ◌++◌, length, refl, sym, ap, ◌∙◌, inl, inr, arith}
 use Rattle.std.specs.Prelude.{nat_eq, slice_index_or, slice_set}
 use Rattle.std.proofs.lemmas.Bool.{cases_eq, cases_lt, eq-eqb, ne_eqb}
-use Rattle.std.proofs.lemmas.List.{get_or_past, get_or-set_other, length-set}
+use Rattle.std.proofs.lemmas.List.{get_or_default, get_or_past, get_or-set_other, get_or-set_same, length-set}
 use Rattle.std.proofs.lemmas.Grind.{get_or-set_at}
 use Rattle.ms_loaders.specs.Loader.{LoaderView}
 use Rattle.ms_loaders.specs.Places.{IsEmptyFrom, IsNext, ChangesAt, in_page, page_of, placed_at, placed_from, rest_of}
@@ -25,6 +25,19 @@ pub with_page : {E : Type 0} (pages : List (List (Option E))) (added : List (Opt
     → placed_at (pages ++ added ∷ []) number ≡ placed_at pages number
 with_page pages added number none = ap (λ page. placed_at (pages ++ page ∷ []) number) none
     ∙ ap (λ page. in_page page (number % 256)) (with_default pages (number / 256) [])
+
+-- A page in which the same stands at each place changes nothing.
+pub page_as_it_was : {E : Type 0} (pages : List (List (Option E))) (page : ℕ) (old new : List (Option E))
+    → page < length pages → old ≡ slice_index_or pages page old
+    → ((place : ℕ) → in_page new place ≡ in_page old place) → (number : ℕ)
+    → placed_at (slice_set pages page new) number ≡ placed_at pages number
+page_as_it_was pages page old new there is same number = elim (cases_eq (number / 256) page) [
+  | inl here ↦ ap (λ n. in_page (slice_index_or (slice_set pages page new) n []) (number % 256)) here
+      ∙ ap (λ its. in_page its (number % 256)) (get_or-set_same pages page new [] there) ∙ same (number % 256)
+      ∙ sym (ap (λ n. in_page (slice_index_or pages n []) (number % 256)) here
+      ∙ ap (λ its. in_page its (number % 256)) (get_or_default pages page [] old there ∙ sym is))
+  | inr differ ↦ ap (λ its. in_page its (number % 256)) (get_or-set_other pages page (number / 256) new [] differ)
+]
 
 -- Nothing stands past the last page.
 pub past_pages : {E : Type 0} (pages : List (List (Option E))) (number : ℕ) → 256 * length pages ≤ number
