@@ -19,6 +19,11 @@ returns-in-Some-clause-awaits c = λ live sound.
     c.requires.some
     live (subst (λ (books : BooksView). IsSound books.state live) (sym c.self.view_is) sound)
 
+pub overflow_sub-last : goal.overflow_sub-last
+overflow_sub-last c =
+    let there = last_there c.self.inside.account.chunks c.in_ok-chunk.chunk (sym c.in_ok-chunk.ensures.chunk) in
+    omega (arith, there, c.held.ensures.count)
+
 pub raise-requires-clause-within : goal.raise-requires-clause-within
 raise-requires-clause-within c =
     let there = last_there c.self.inside.account.chunks c.in_ok-chunk.chunk (sym c.in_ok-chunk.ensures.chunk) in
