@@ -14,3 +14,11 @@ mod runs;
 mod traces;
 mod trees;
 mod used_meter;
+
+use std::fmt::Debug;
+use std::process::Abort;
+
+/// Compares what was told with what was wanted. A test that calls it lets nothing go where they differ.
+fn same<T: Debug + PartialEq>(rt: &impl Abort, told: &T, wanted: &T) {
+    assert_eq!(rt; told, wanted);
+}

@@ -2,6 +2,7 @@
 ghost use Rattle.ms_pool.specs.Ledger.{Serves};
 ghost use Rattle.ms_arena.specs.Arena.{account_of};
 
+use super::same;
 use ms_arena::{Arena, ArenaTotals};
 use ms_base::{Block, Kind, Refusal, Settings, Space};
 use ms_pool::Pool;
@@ -33,7 +34,9 @@ fn called_anew(alloc: Global, pool: &mut Pool) -> Option<Told> {
         return None;
     };
     let mut arena = Arena::new(alloc, account, Kind::Standard);
-    Some(called(pool, &mut arena))
+    let told = called(pool, &mut arena);
+    drop(arena);
+    Some(told)
 }
 
 fn block(start: u64, words: u64) -> Block {
@@ -61,6 +64,6 @@ fn calls_that_find_memory_are_served_at_once(rt: HostRuntime) -> Result<(), Fail
         waste: 0,
     };
     let allocated = Ok(block(0, 10));
-    assert_eq!(rt; told, Some((placed, allocated, totals)));
+    same(&rt, &told, &Some((placed, allocated, totals)));
     Ok(())
 }

@@ -1,5 +1,6 @@
 //! What no clause of ms_base says: the texts of refusals. The rows of levels and growth show that the
 //! definitions which the contracts cite are the ones that were meant.
+use super::same;
 use ms_base::{Kind, Level, Refusal, Space, growth, level_for};
 use std::alloc::{AllocError, Global};
 use std::test::Fail;
@@ -18,7 +19,7 @@ fn each_level_has_half_the_words_of_the_one_before(rt: HostRuntime) {
     let wanted = [
         524288, 262144, 131072, 65536, 32768, 16384, 8192, 4096, 2048, 1024, 512, 256, 128,
     ];
-    assert_eq!(rt; words_by_level(), wanted);
+    same(&rt, &words_by_level(), &wanted);
 }
 
 /// The number of the level of so many words.
@@ -57,7 +58,7 @@ fn a_request_takes_the_smallest_chunk_that_holds_it(rt: HostRuntime) {
         (524288, Some(0)),
         (524289, None),
     ];
-    assert_eq!(rt; missed(&rows), None);
+    same(&rt, &missed(&rows), &None);
 }
 
 /// The levels of the next chunk after none to six, and after as many as can be.
@@ -91,7 +92,7 @@ fn the_last_entry_of_a_growth_table_repeats(rt: HostRuntime) {
         [12, 12, 12, 12, 12, 12, 12, 12],
         [12, 12, 12, 12, 12, 12, 12, 12],
     ];
-    assert_eq!(rt; told, wanted);
+    same(&rt, &told, &wanted);
 }
 
 /// Tells whether a refusal says a text.
@@ -126,7 +127,7 @@ fn a_refusal_says_why(rt: HostRuntime) -> Result<(), Fail> {
         ),
         (Refusal::IdsUsedUp, "all owner numbers are used up"),
     ];
-    assert_eq!(rt; missaid(rt.alloc(), &rows)?, None);
+    same(&rt, &missaid(rt.alloc(), &rows)?, &None);
     Ok(())
 }
 
@@ -158,6 +159,6 @@ fn a_refusal_tells_its_numbers(rt: HostRuntime) -> Result<(), Fail> {
         ),
         (Refusal::NoRoom { level }, "no room at level 7"),
     ];
-    assert_eq!(rt; missaid(rt.alloc(), &rows)?, None);
+    same(&rt, &missaid(rt.alloc(), &rows)?, &None);
     Ok(())
 }

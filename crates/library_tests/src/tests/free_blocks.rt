@@ -1,7 +1,8 @@
 //! What no clause says: that memory which is there is given and goes back, that more than can be is
 //! refused, and that the best fit is the one meant, by blocks worked out by hand.
-ghost use Rattle.std.specs.Prelude.{◌≡◌};
+ghost use Rattle.std.specs.Prelude.{◌≡◌, []};
 
+use super::same;
 use linked_list_allocator::LocalHeap;
 use ms_base::{Block, Refusal};
 use ms_blocks::FreeBlocks;
@@ -17,9 +18,18 @@ fn block(start: u64, words: u64) -> Block
 /// What three blocks are answered: room for as many as can't be, the best fits, and what is left.
 type Answers = (Result<(), Refusal>, [Option<Block>; 3], (usize, u64, usize));
 
-/// Calls free blocks: none where there is no room for three.
+/// Calls new free blocks on the heap.
 fn called(heap: &LocalHeap) -> Option<Answers> {
     let mut blocks = FreeBlocks::new(heap);
+    let told = answers(&mut blocks);
+    drop(blocks);
+    told
+}
+
+/// Calls free blocks: none where there is no room for three.
+fn answers(blocks: &mut FreeBlocks<&LocalHeap>) -> Option<Answers>
+    requires { blocks.old.kept ≡ [] }
+{
     if blocks.reserve(3).is_err() {
         return None;
     }
@@ -38,6 +48,6 @@ fn the_best_fit_comes_whole(rt: HostRuntime) -> Result<(), Fail> {
     let wanted = (Err(Refusal::OutOfMemory), fits, (1, 4, 2));
     let told = (called(&heap), heap.used());
     drop(heap);
-    assert_eq!(rt; told, (Some(wanted), 0));
+    same(&rt, &told, &(Some(wanted), 0));
     Ok(())
 }

@@ -2,6 +2,7 @@
 //! that is run. Each expected value was worked out apart from ms_loaders; traces that were worked by
 //! hand are rows of the system tests, which ask it of the program and, growth by growth, of calls.
 use super::reports::ONE_BLOCK;
+use super::same;
 use ms_base::{Block, Kind, Policy, Refusal, Reply, Settings, Space, Step};
 use ms_loaders::{ArenaTotals, Details, Loader, LoaderDetails, Loaders, System, Totals, serve};
 use ms_pool::{Place, Pool, RootMap};
@@ -56,9 +57,9 @@ fn a_loader_has_blocks_in_both_spaces(rt: HostRuntime) -> Result<(), Fail> {
     let first = Block { start, words };
     let (start, words) = (10, 2);
     let second = Block { start, words };
-    assert_eq!(rt; blocks, Some(([Ok(first), Ok(second)], Ok(7), 12)));
+    same(&rt, &blocks, &Some(([Ok(first), Ok(second)], Ok(7), 12)));
     let (start, words) = (67108864, 10);
-    assert_eq!(rt; class_block, Some(Ok(Block { start, words })));
+    same(&rt, &class_block, &Some(Ok(Block { start, words })));
     Ok(())
 }
 
@@ -90,8 +91,8 @@ fn served(alloc: Global, step: Step) -> Result<(Reply, usize), AllocError> {
 fn a_step_is_served_over_a_pool(rt: HostRuntime) -> Result<(), Fail> {
     let made = served(rt.alloc(), STEPS[0])?;
     let refused = served(rt.alloc(), STEPS[1])?;
-    assert_eq!(rt; made, (Reply::Ok, 1));
-    assert_eq!(rt; refused, (Reply::Refused(Refusal::NoLoader), 0));
+    same(&rt, &made, &(Reply::Ok, 1));
+    same(&rt, &refused, &(Reply::Refused(Refusal::NoLoader), 0));
     Ok(())
 }
 
@@ -109,9 +110,10 @@ fn a_run_answers_each_step_and_is_reported(rt: HostRuntime) -> Result<(), Fail> 
     let report = text(rt.alloc(), &sums);
     drop(sums);
     let report = report?;
-    assert_eq!(rt;
-        (replies.as_slice(), report.as_str()),
-        ([Reply::Ok, Reply::At(0)].as_slice(), ONE_BLOCK)
+    same(
+        &rt,
+        &(replies.as_slice(), report.as_str()),
+        &([Reply::Ok, Reply::At(0)].as_slice(), ONE_BLOCK),
     );
     Ok(())
 }
@@ -149,9 +151,10 @@ fn a_run_is_mapped_and_told_in_detail(rt: HostRuntime) -> Result<(), Fail> {
     let first = RootMap { root: 0, places };
     let (root, places) = (1, [Place::Free; 64]);
     let roots = [first, RootMap { root, places }];
-    assert_eq!(rt;
-        (maps.as_slice(), details.roots.as_slice()),
-        (roots.as_slice(), roots.as_slice())
+    same(
+        &rt,
+        &(maps.as_slice(), details.roots.as_slice()),
+        &(roots.as_slice(), roots.as_slice()),
     );
     let loader = LoaderDetails {
         name: 1,
@@ -159,6 +162,6 @@ fn a_run_is_mapped_and_told_in_detail(rt: HostRuntime) -> Result<(), Fail> {
         space: with_block(1, 512, 10),
         class_space: with_block(0, 0, 0),
     };
-    assert_eq!(rt; details.loaders.as_slice(), [loader].as_slice());
+    same(&rt, &details.loaders.as_slice(), &[loader].as_slice());
     Ok(())
 }

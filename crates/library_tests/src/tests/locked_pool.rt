@@ -7,6 +7,7 @@ ghost use Rattle.ms_base.specs.Level.{size_of};
 ghost use Rattle.ms_base.specs.declared.sizes.TheConstants.{MOST_GRANULES};
 ghost use Rattle.ms_shared.specs.SeatView.{ServesBy, opened_by};
 
+use super::same;
 use ms_base::{Level, Policy, Refusal, Settings, Space, Span};
 use ms_pool::{Account, AccountSource, ChunkSource, Pool, PoolTotals};
 use ms_shared::{LockedPool, PoolSeat, SharedPool};
@@ -151,16 +152,39 @@ fn lent_by_eight<R: Threads + Wait + Sync>(
 ) -> Result<Vec<[u64; 64]>, AllocError> {
     let pool = Pool::new(alloc, settings(8192))?;
     match SharedPool::new(alloc, pool, 8) {
-        Ok((lock, seats)) => in_threads(rt, &lock, seats),
-        Err(_) => Err(AllocError),
+        Ok((lock, seats)) => {
+            let lent = in_threads(rt, &lock, seats);
+            drop(lock);
+            lent
+        }
+        Err((_refusal, pool)) => {
+            drop(pool);
+            Err(AllocError)
+        }
     }
 }
 
 #[test]
 fn eight_threads_are_lent_each_part_once(rt: HostRuntime) -> Result<(), Fail> {
     let lent = lent_by_eight(&rt, rt.alloc())?;
-    assert_eq!(rt; times_lent(lent.as_slice()), [1; 512]);
+    same(&rt, &times_lent(lent.as_slice()), &[1; 512]);
     Ok(())
+}
+
+/// Makes a lock over a new pool with a limit of committed granules, and its two seats.
+fn locked(alloc: Global, max_granules: u64) -> Result<(SharedPool, Vec<PoolSeat>), AllocError>
+    requires some { 1 ≤ max_granules }
+    requires few { max_granules ≤ MOST_GRANULES }
+    ensures { IfOk result (λ made. All (λ seat. seat.id ≡ made.0.id) made.1.items) }
+{
+    let pool = Pool::new(alloc, settings(max_granules))?;
+    match SharedPool::new(alloc, pool, 2) {
+        Ok(made) => Ok(made),
+        Err((_refusal, pool)) => {
+            drop(pool);
+            Err(AllocError)
+        }
+    }
 }
 
 /// Makes a lock of two seats over a pool with a limit of committed granules.
@@ -173,13 +197,10 @@ fn two_seats(
     requires few { max_granules ≤ MOST_GRANULES }
     ensures { IfOk result (λ made. (made.1.id ≡ made.0.id) × (made.2.id ≡ made.0.id)) }
 {
-    let Ok((lock, mut seats)) = SharedPool::new(alloc, Pool::new(alloc, settings(max_granules))?, 2)
-    else {
-        panic!(rt; "there is memory")
-    };
-    let (Some(spare), Some(first)) = (seats.pop(), seats.pop()) else {
-        panic!(rt; "two seats were made")
-    };
+    let (lock, mut seats) = locked(alloc, max_granules)?;
+    let spare = seats.pop().expect(rt, "two seats were made");
+    let first = seats.pop().expect(rt, "two seats were made");
+    drop(seats);
     Ok((lock, first, spare))
 }
 
@@ -239,12 +260,12 @@ fn of_two(
 fn what_another_seat_took_is_counted(rt: HostRuntime) -> Result<(), Fail> {
     let (start, level) = (8192, Level::new(6));
     let served = Ok(Span { start, level });
-    assert_eq!(rt; of_two(&rt, 8192)?, (served, 2, 2));
+    same(&rt, &of_two(&rt, 8192)?, &(served, 2, 2));
     let refused = Err(Refusal::CommitLimit {
         committed: 1,
         limit: 1,
         need: 1,
     });
-    assert_eq!(rt; of_two(&rt, 1)?, (refused, 1, 2));
+    same(&rt, &of_two(&rt, 1)?, &(refused, 1, 2));
     Ok(())
 }

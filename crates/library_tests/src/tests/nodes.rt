@@ -2,6 +2,7 @@
 ghost use Rattle.std.specs.Prelude.{IsTrue};
 ghost use Rattle.ms_commit.specs.Nodes.{AreInReserved};
 
+use super::same;
 use ms_base::Refusal;
 use ms_commit::Nodes;
 
@@ -75,5 +76,9 @@ fn both_spaces_share_five_granules_of_2048_words(rt: HostRuntime) {
         Some(Ok(1)),
         None,
     ];
-    assert_eq!(rt; called(), ([Ok(0), reserve_limit, Ok(0)], newly, [5, 3]));
+    same(
+        &rt,
+        &called(),
+        &([Ok(0), reserve_limit, Ok(0)], newly, [5, 3]),
+    );
 }

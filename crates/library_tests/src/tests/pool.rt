@@ -7,6 +7,7 @@ ghost use Rattle.ms_base.specs.declared.sizes.TheConstants.{MOST_GRANULES};
 ghost use Rattle.ms_pool.specs.Account.{has_chunk_at};
 ghost use Rattle.ms_pool.specs.Ledger.{Serves};
 
+use super::same;
 use ms_base::{Level, Policy, Refusal, Settings, Space, Span};
 use ms_pool::{Account, ChunkSource, Place, Pool, RootMap};
 use std::alloc::{AllocError, Global};
@@ -281,9 +282,10 @@ fn a_map_tells_what_is_lent_and_committed(rt: HostRuntime) -> Result<(), Fail> {
     places[3] = Place::LentUncommitted;
     let first = RootMap { root: 0, places };
     let (root, places) = (1, [Place::Free; 64]);
-    assert_eq!(rt;
-        maps.as_slice(),
-        [first, RootMap { root, places }].as_slice()
+    same(
+        &rt,
+        &maps.as_slice(),
+        &[first, RootMap { root, places }].as_slice(),
     );
     Ok(())
 }

@@ -2,6 +2,7 @@
 //! the names of all refusals, and a map of given roots, byte for byte. Other reports, and each part of
 //! a full one, the system tests compare.
 
+use super::same;
 use ms_base::{Kind, Policy, Refusal, Reply, Settings};
 use ms_loaders::{
     Answer, ArenaTotals, Details, LoaderDetails, LoaderRow, Replies, SpaceTotals, Totals,
@@ -9,6 +10,7 @@ use ms_loaders::{
 use ms_pool::{Place, RootMap};
 use ms_report::{Detail, full_text, lines, map_text, tally};
 use std::alloc::{AllocError, Global};
+use std::process::Abort;
 use std::test::Fail;
 
 /// The report of `new 1 standard`, `alloc 1 1 10`.
@@ -77,14 +79,21 @@ fn largest_arena() -> ArenaTotals {
     }
 }
 
-/// The totals of one loader that holds as much in each space.
-fn largest(alloc: Global) -> Result<Totals, AllocError> {
+/// The details of one loader that holds as much in each space.
+fn largest_details(alloc: Global) -> Result<Details, AllocError> {
     let loader = LoaderDetails {
         name: 65_535,
         kind: Kind::Reflection,
         space: largest_arena(),
         class_space: largest_arena(),
     };
+    let loaders = vec![in alloc; loader]?;
+    let roots = Vec::new(alloc);
+    Ok(Details { loaders, roots })
+}
+
+/// The row of one loader that holds as much.
+fn largest_rows(alloc: Global) -> Result<Vec<LoaderRow>, AllocError> {
     let row = LoaderRow {
         name: 65_535,
         kind: Kind::Reflection,
@@ -93,19 +102,31 @@ fn largest(alloc: Global) -> Result<Totals, AllocError> {
         used: 83_886_080,
         live: 83_886_080,
     };
-    let rows = vec![in alloc; row]?;
-    let details = Details {
-        loaders: vec![in alloc; loader]?,
-        roots: Vec::new(alloc),
-    };
-    Ok(Totals {
+    Ok(vec![in alloc; row]?)
+}
+
+/// The totals of one loader that holds as much in each space.
+fn largest(rows: Vec<LoaderRow>, details: Details) -> Totals {
+    Totals {
         loaders: 65_536,
         space: largest_space(),
         class_space: largest_space(),
         rows,
         details: Some(details),
         peaks: None,
-    })
+    }
+}
+
+/// Those totals, where there is memory.
+fn largest_totals(alloc: Global) -> Result<Totals, AllocError> {
+    let details = largest_details(alloc)?;
+    match largest_rows(alloc) {
+        Ok(rows) => Ok(largest(rows, details)),
+        Err(error) => {
+            drop(details);
+            Err(error)
+        }
+    }
 }
 
 /// A report in which each number is as large as the limits let it be.
@@ -210,9 +231,9 @@ Loaders by space
   65535  reflection      class  655360  83886080  83886080  83886080         0     83886080         0
 ";
 
-#[test]
-fn the_largest_numbers_fit_their_columns(rt: HostRuntime) -> Result<(), Fail> {
-    let totals = largest(rt.alloc())?;
+/// The full report of the largest totals.
+fn largest_report(alloc: Global) -> Result<String, AllocError> {
+    let totals = largest_totals(alloc)?;
     let settings = Settings {
         workers: 1,
         nodes: 64,
@@ -220,48 +241,65 @@ fn the_largest_numbers_fit_their_columns(rt: HostRuntime) -> Result<(), Fail> {
         policy: Policy::None,
         class_nodes: 16,
     };
-    let report = full_text(rt.alloc(), &totals, &settings, &tally(&[]));
+    let report = full_text(alloc, &totals, &settings, &tally(&[]));
     drop(totals);
-    let report = report?;
-    let text = report.as_str();
-    let is_fixed = text.starts_with(LARGEST);
-    let found = (text.contains(LARGEST_USAGE), text.contains(LARGEST_KINDS));
-    assert_eq!(rt; (is_fixed, found), (true, (true, true)), "{text}");
+    report
+}
+
+#[test]
+fn the_largest_numbers_fit_their_columns(rt: HostRuntime) -> Result<(), Fail> {
+    let report = largest_report(rt.alloc())?;
+    expect_largest(&rt, report.as_str());
+    drop(report);
     Ok(())
 }
 
-/// A reply of each sort, the last line of a trace.
-fn of_each_sort(alloc: Global) -> Result<Replies, AllocError> {
-    let replies = [
-        Reply::Ok,
-        Reply::At(67_108_864),
-        Reply::Value(18_446_744_073_709_551_615),
-        Reply::Refused(Refusal::ZeroWords),
-        Reply::Refused(Refusal::TooLarge),
-        Reply::Refused(Refusal::CommitLimit {
-            committed: 1,
-            limit: 1,
-            need: 1,
-        }),
-        Reply::Refused(Refusal::ReserveLimit { nodes: 1, limit: 1 }),
-        Reply::Refused(Refusal::NotLive),
-        Reply::Refused(Refusal::OutOfRange { words: 4 }),
-        Reply::Refused(Refusal::OutOfMemory),
-        Reply::Refused(Refusal::NoLoader),
-        Reply::Refused(Refusal::LoaderExists),
-        Reply::Refused(Refusal::NoBlock),
-        Reply::Refused(Refusal::BlockExists),
-        Reply::Refused(Refusal::IdsUsedUp),
-    ];
-    let mut answers = Vec::with_capacity(alloc, replies.len())?;
-    for reply in replies {
-        answers.push(Answer {
-            line: 100_000,
-            reply,
-            report: None,
-        })?;
+/// Compares a report with the largest.
+fn expect_largest(rt: &impl Abort, text: &str) {
+    let is_fixed = text.starts_with(LARGEST);
+    let found = (text.contains(LARGEST_USAGE), text.contains(LARGEST_KINDS));
+    assert_eq!(rt; (is_fixed, found), (true, (true, true)), "{text}");
+}
+
+/// A reply of each sort.
+const REPLIES: [Reply; 15] = [
+    Reply::Ok,
+    Reply::At(67_108_864),
+    Reply::Value(18_446_744_073_709_551_615),
+    Reply::Refused(Refusal::ZeroWords),
+    Reply::Refused(Refusal::TooLarge),
+    Reply::Refused(Refusal::CommitLimit {
+        committed: 1,
+        limit: 1,
+        need: 1,
+    }),
+    Reply::Refused(Refusal::ReserveLimit { nodes: 1, limit: 1 }),
+    Reply::Refused(Refusal::NotLive),
+    Reply::Refused(Refusal::OutOfRange { words: 4 }),
+    Reply::Refused(Refusal::OutOfMemory),
+    Reply::Refused(Refusal::NoLoader),
+    Reply::Refused(Refusal::LoaderExists),
+    Reply::Refused(Refusal::NoBlock),
+    Reply::Refused(Refusal::BlockExists),
+    Reply::Refused(Refusal::IdsUsedUp),
+];
+
+/// A reply to the last line of a trace.
+fn last(reply: Reply) -> Answer {
+    Answer {
+        line: 100_000,
+        reply,
+        report: None,
     }
-    Ok(Replies { answers })
+}
+
+/// A reply of each sort, the last line of a trace.
+fn of_each_sort(alloc: Global) -> Result<Vec<Answer>, AllocError> {
+    let mut answers = Vec::with_capacity(alloc, 15)?;
+    for reply in REPLIES {
+        answers.push(last(reply))?;
+    }
+    Ok(answers)
 }
 
 /// Their lines behind the second, which alone has an address.
@@ -280,24 +318,34 @@ const LINES: &str = "100000 value 18446744073709551615
 100000 refused IdsUsedUp
 ";
 
+/// Compares the text of the replies with how it begins and the lines behind.
+fn expect_lines(
+    rt: &(impl Abort + AllocGlobal),
+    replies: &Replies,
+    has_addresses: bool,
+    begins: &str,
+) -> Result<(), AllocError> {
+    let told = lines(
+        rt.alloc(),
+        replies,
+        has_addresses,
+        Detail::Basic,
+        &Settings::DEFAULT,
+    )?;
+    let rest = told.as_str().strip_prefix(begins);
+    same(rt, &rest, &Some(LINES));
+    Ok(())
+}
+
 #[test]
 fn replies_are_told_by_their_words(rt: HostRuntime) -> Result<(), Fail> {
-    let replies = of_each_sort(rt.alloc())?;
-    for (has_addresses, begins) in [
-        (true, "100000 ok\n100000 at 67108864\n"),
-        (false, "100000 ok\n100000 ok\n"),
-    ] {
-        let told = lines(
-            rt.alloc(),
-            &replies,
-            has_addresses,
-            Detail::Basic,
-            &Settings::DEFAULT,
-        )?;
-        let rest = told.as_str().strip_prefix(begins);
-        assert_eq!(rt; rest, Some(LINES));
-    }
-    Ok(())
+    let answers = of_each_sort(rt.alloc())?;
+    let replies = Replies { answers };
+    let with = expect_lines(&rt, &replies, true, "100000 ok\n100000 at 67108864\n");
+    let without = expect_lines(&rt, &replies, false, "100000 ok\n100000 ok\n");
+    drop(replies);
+    with?;
+    Ok(without?)
 }
 
 /// The map of root 129, the upper one of slot 64, which is the first of the class space.
@@ -320,6 +368,6 @@ fn each_place_has_its_letter(rt: HostRuntime) -> Result<(), Fail> {
     places[63] = Place::FreeCommitted;
     let maps = [RootMap { root: 129, places }];
     let told = map_text(rt.alloc(), &maps)?;
-    assert_eq!(rt; told.as_str(), MAP);
+    same(&rt, &told.as_str(), &MAP);
     Ok(())
 }

@@ -3,12 +3,14 @@
 //! Traces that were worked by hand, and races for the limits, are system tests.
 ghost use Rattle.std.specs.Prelude.{◌≤◌};
 
+use super::same;
 use ms_base::{Policy, Reply, Settings};
-use ms_loaders::Detail;
+use ms_loaders::{Detail, Replies};
 use ms_report::AnswerText;
-use ms_run::{Gate, NoGate, replay, replay_into};
-use ms_trace::parse;
+use ms_run::{Gate, NoGate, RunFault, replay, replay_into};
+use ms_trace::{Trace, parse};
 use std::alloc::{AllocError, Global};
+use std::process::Abort;
 use std::sync::Wait;
 use std::sync::atomic::{AtomicU64, Ordering};
 use std::test::Fail;
@@ -29,6 +31,28 @@ fn settings(workers: u32) -> Settings
     }
 }
 
+/// Reads a text as a trace.
+fn trace_of(alloc: Global, text: &str) -> Result<Trace, Fail> {
+    Ok(parse(alloc, text.as_bytes()).ok().ok_or("no trace")?)
+}
+
+/// Lists what lines are answered.
+fn listed(alloc: Global, replies: &Replies) -> Result<Vec<Reply>, AllocError> {
+    let mut told = Vec::with_capacity(alloc, replies.answers.len())?;
+    for answer in &replies.answers {
+        told.push(answer.reply)?;
+    }
+    Ok(told)
+}
+
+/// Lists what lines are answered, where they are.
+fn replies_of(alloc: Global, replayed: Result<Replies, RunFault>) -> Result<Vec<Reply>, Fail> {
+    let replies = replayed.ok().ok_or("no replies")?;
+    let told = listed(alloc, &replies);
+    drop(replies);
+    Ok(told?)
+}
+
 /// Replays a text with a gate: what its lines are answered.
 fn replayed<G: Gate + Sync>(
     rt: &(impl AllocGlobal + Threads + Wait + Sync),
@@ -39,50 +63,60 @@ fn replayed<G: Gate + Sync>(
     requires some { 1 ≤ workers }
     requires few { workers ≤ 8 }
 {
-    let trace = parse(rt.alloc(), text.as_bytes()).ok().ok_or("no trace")?;
-    let replies = replay(
-        rt,
-        rt.alloc(),
-        &trace,
-        settings(workers),
-        Detail::Basic,
-        gate,
-    );
-    let replies = replies.ok().ok_or("no replies")?;
-    let mut told = Vec::with_capacity(rt.alloc(), replies.answers.len())?;
-    for answer in &replies.answers {
-        told.push(answer.reply)?;
-    }
-    Ok(told)
+    let trace = trace_of(rt.alloc(), text)?;
+    let settings = settings(workers);
+    let replayed = replay(rt, rt.alloc(), &trace, settings, Detail::Basic, gate);
+    drop(trace);
+    replies_of(rt.alloc(), replayed)
 }
 
 /// One loader with a block that is written and read, and one that isn't there.
 const ONE_BLOCK: &str = "new 1 standard\nalloc 1 7 10\nwrite 1 7 3 5\nread 1 7 3\nfree 2 1\n";
 
+/// Replays a trace into a text: whether it is all answered, and the text.
+fn replayed_into(
+    rt: &(impl AllocGlobal + Threads + Wait + Sync),
+    workers: u32,
+    trace: &Trace,
+) -> (Result<(), RunFault>, String)
+    requires some { 1 ≤ workers }
+    requires few { workers ≤ 8 }
+{
+    let settings = settings(workers);
+    let mut answers = AnswerText::new(String::new(rt.alloc()), false, Detail::Basic, settings);
+    let replayed = replay_into(
+        rt,
+        rt.alloc(),
+        trace,
+        settings,
+        Detail::Basic,
+        &NoGate,
+        &mut answers,
+    );
+    (replayed, answers.into_text())
+}
+
+/// Replays a trace into a text, and compares the text.
+fn expect_told(rt: &(impl Abort + AllocGlobal + Threads + Wait + Sync), workers: u32, trace: &Trace)
+    requires some { 1 ≤ workers }
+    requires few { workers ≤ 8 }
+{
+    let (replayed, text) = replayed_into(rt, workers, trace);
+    same(
+        rt,
+        &(replayed.is_ok(), text.as_str()),
+        &(true, "1 ok\n2 ok\n3 ok\n4 value 5\n5 refused NoLoader\n"),
+    );
+    drop(text);
+}
+
 #[test]
 fn a_text_takes_the_answers_as_they_come(rt: HostRuntime) -> Result<(), Fail> {
-    let trace = parse(rt.alloc(), ONE_BLOCK.as_bytes())
-        .ok()
-        .ok_or("no trace")?;
+    let trace = trace_of(rt.alloc(), ONE_BLOCK)?;
     for workers in [1, 2] {
-        let settings = settings(workers);
-        let mut answers = AnswerText::new(String::new(rt.alloc()), false, Detail::Basic, settings);
-        let replayed = replay_into(
-            &rt,
-            rt.alloc(),
-            &trace,
-            settings,
-            Detail::Basic,
-            &NoGate,
-            &mut answers,
-        );
-        replayed.ok().ok_or("no answers")?;
-        let text = answers.into_text();
-        assert_eq!(rt;
-            text.as_str(),
-            "1 ok\n2 ok\n3 ok\n4 value 5\n5 refused NoLoader\n"
-        );
+        expect_told(&rt, workers, &trace);
     }
+    drop(trace);
     Ok(())
 }
 
@@ -114,17 +148,23 @@ impl Gate for Meeting {
     fn after(&self, _worker: usize, _line: u32, _used: u64) {}
 }
 
-#[test]
-fn gate_two_workers(rt: HostRuntime) -> Result<(), Fail> {
+/// Replays two lines by two workers that meet: how often one missed the other, and the replies.
+fn met(rt: &(impl AllocGlobal + Threads + Wait + Sync)) -> (u64, Result<Vec<Reply>, Fail>) {
     let gate = Meeting {
         first: AtomicU64::new(0),
         second: AtomicU64::new(0),
         missed: AtomicU64::new(0),
     };
-    let replies = replayed(&rt, 2, "new 1 standard\nnew 2 standard\n", &gate)?;
-    let missed = gate.missed.load(Ordering::SeqCst);
+    let replies = replayed(rt, 2, "new 1 standard\nnew 2 standard\n", &gate);
+    (gate.missed.load(Ordering::SeqCst), replies)
+}
+
+#[test]
+fn gate_two_workers(rt: HostRuntime) -> Result<(), Fail> {
+    let (missed, replies) = met(&rt);
+    let replies = replies?;
     let served = [Reply::Ok, Reply::Ok];
-    assert_eq!(rt; (missed, replies.as_slice()), (0, served.as_slice()));
+    same(&rt, &(missed, replies.as_slice()), &(0, served.as_slice()));
     Ok(())
 }
 
@@ -168,7 +208,7 @@ fn who_reads_last_reads_what_all_have_in_use(rt: HostRuntime) -> Result<(), Fail
     for workers in [1, 2, 4, 8] {
         for _ in 0..20 {
             let (_, most) = watched(&rt, workers, text)?;
-            assert_eq!(rt; most, 12);
+            same(&rt, &most, &12);
         }
     }
     Ok(())
@@ -188,7 +228,7 @@ fn words_in_use_are_counted_on_from_phase_to_phase(rt: HostRuntime) -> Result<()
             watched(&rt, workers, THREE_PHASES)?,
             watched(&rt, workers, ALL_GIVEN_BACK)?,
         );
-        assert_eq!(rt; told, ((11, 12), (0, 10)));
+        same(&rt, &told, &((11, 12), (0, 10)));
     }
     Ok(())
 }
@@ -270,6 +310,18 @@ unload 3
 unload 1
 ";
 
+/// Makes a gate that has heard nobody.
+fn make_listening(alloc: Global) -> Result<Listening, AllocError> {
+    let before = sums(alloc)?;
+    match sums(alloc) {
+        Ok(after) => Ok(Listening { before, after }),
+        Err(error) => {
+            drop(before);
+            Err(error)
+        }
+    }
+}
+
 /// Replays five phases: who came before each line, and who after it.
 fn listen(
     rt: &(impl AllocGlobal + Threads + Wait + Sync),
@@ -278,15 +330,15 @@ fn listen(
     requires some { 1 ≤ workers }
     requires few { workers ≤ 8 }
 {
-    let gate = Listening {
-        before: sums(rt.alloc())?,
-        after: sums(rt.alloc())?,
-    };
-    let _ = replayed(rt, workers, FIVE_PHASES, &gate)?;
-    Ok([
+    let gate = make_listening(rt.alloc())?;
+    let replayed = replayed(rt, workers, FIVE_PHASES, &gate);
+    let heard = [
         heard_of(gate.before.as_slice()),
         heard_of(gate.after.as_slice()),
-    ])
+    ];
+    drop(gate);
+    drop(replayed?);
+    Ok(heard)
 }
 
 // Loader number j has worker (j + k) mod W in phase k, and a purge has worker 0.
@@ -303,6 +355,6 @@ fn each_line_is_worked_by_the_worker_whose_turn_it_is(rt: HostRuntime) -> Result
     ];
     let heard = [listen(&rt, 2)?, listen(&rt, 3)?, listen(&rt, 8)?];
     let wanted = [[of_two, of_two], [of_three, of_three], [of_eight, of_eight]];
-    assert_eq!(rt; heard, wanted);
+    same(&rt, &heard, &wanted);
     Ok(())
 }

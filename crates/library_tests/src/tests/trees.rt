@@ -3,6 +3,7 @@
 ghost use Rattle.std.specs.Prelude.{◌<◌, ◌≤◌};
 ghost use Rattle.ms_base.specs.declared.sizes.TheConstants.{ROOT_WORDS};
 
+use super::same;
 use linked_list_allocator::LocalHeap;
 use ms_base::{Level, Refusal, Span};
 use ms_buddy::{Leaf, SplitTree};
@@ -110,7 +111,7 @@ fn a_tree_lends_and_merges_and_gives_its_memory_back(rt: HostRuntime) -> Result<
     );
     let told = (called(&heap), heap.used());
     drop(heap);
-    assert_eq!(rt; told, (wanted, 0));
+    same(&rt, &told, &(wanted, 0));
     Ok(())
 }
 
@@ -128,7 +129,7 @@ fn a_carve_that_is_refused_gives_back_what_it_took(rt: HostRuntime) -> Result<()
     let wanted = (Err(Refusal::OutOfMemory), true, 0);
     let told = called_without_room(&heap);
     drop(heap);
-    assert_eq!(rt; told, wanted);
+    same(&rt, &told, &wanted);
     Ok(())
 }
 
@@ -171,6 +172,6 @@ fn merged_halves_serve_the_next_carve(rt: HostRuntime) -> Result<(), Fail> {
     let wanted = ([4096, 4096], 1152, Ok(()), 1152);
     let told = (called_again(&heap), heap.used());
     drop(heap);
-    assert_eq!(rt; told, (wanted, 0));
+    same(&rt, &told, &(wanted, 0));
     Ok(())
 }

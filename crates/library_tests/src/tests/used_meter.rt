@@ -4,6 +4,7 @@
 ghost use Rattle.std.specs.Prelude.{◌≡◌, IfOk};
 ghost use Rattle.std.specs.List.{All};
 
+use super::same;
 use ms_shared::{MeterSeat, UsedMeter};
 use std::alloc::AllocError;
 use std::test::Fail;
@@ -25,11 +26,14 @@ fn read_beside(meter: &UsedMeter, one: &mut MeterSeat, other: &mut MeterSeat) ->
 #[test]
 fn now_counts_what_other_seats_added(rt: HostRuntime) -> Result<(), Fail> {
     let (meter, mut seats) = UsedMeter::new(rt.alloc(), 2)?;
-    let (Some(mut one), Some(mut other)) = (seats.pop(), seats.pop()) else {
-        panic!(rt; "two seats were made")
-    };
+    let mut one = seats.pop().expect(&rt, "two seats were made");
+    let mut other = seats.pop().expect(&rt, "two seats were made");
     let read = read_beside(&meter, &mut one, &mut other);
-    assert_eq!(rt; read, [12, u64::MAX - 9]);
+    drop(one);
+    drop(other);
+    drop(seats);
+    drop(meter);
+    same(&rt, &read, &[12, u64::MAX - 9]);
     Ok(())
 }
 
@@ -69,6 +73,7 @@ fn in_threads<R: Threads + Sync>(
 fn eight_threads_lose_no_add(rt: HostRuntime) -> Result<(), Fail> {
     let (meter, seats) = UsedMeter::new(rt.alloc(), 8)?;
     let seats = in_threads(&rt, &meter, seats)?;
-    assert!(rt; meter.close(seats).is_ok_and(|words| words == 24));
+    let words = meter.close(seats).ok();
+    same(&rt, &words, &Some(24));
     Ok(())
 }
