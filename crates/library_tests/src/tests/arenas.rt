@@ -7,7 +7,6 @@ use ms_arena::{Arena, ArenaTotals};
 use ms_base::{Block, Kind, Refusal, Settings, Space};
 use ms_pool::Pool;
 use std::alloc::Global;
-use std::test::Fail;
 
 /// A block that is placed, where there is a place.
 type Placed = Result<Option<Block>, Refusal>;
@@ -44,8 +43,8 @@ fn block(start: u64, words: u64) -> Block {
 }
 
 #[test]
-fn calls_that_find_memory_are_served_at_once(rt: HostRuntime) -> Result<(), Fail> {
-    let mut pool = Pool::new(rt.alloc(), Settings::DEFAULT)?;
+fn calls_that_find_memory_are_served_at_once(rt: HostRuntime) {
+    let mut pool = Pool::new(rt.alloc(), Settings::DEFAULT).expect(&rt, "memory is ample");
     let told = called_anew(rt.alloc(), &mut pool);
     drop(pool);
     let placed = [
@@ -65,5 +64,4 @@ fn calls_that_find_memory_are_served_at_once(rt: HostRuntime) -> Result<(), Fail
     };
     let allocated = Ok(block(0, 10));
     same(&rt, &told, &Some((placed, allocated, totals)));
-    Ok(())
 }

@@ -3,7 +3,6 @@
 use super::same;
 use ms_base::{Kind, Level, Refusal, Space, growth, level_for};
 use std::alloc::{AllocError, Global};
-use std::test::Fail;
 
 /// The words of each level.
 fn words_by_level() -> [u64; 13] {
@@ -112,7 +111,7 @@ fn missaid(alloc: Global, rows: &[(Refusal, &'static str)]) -> Result<Option<Ref
 }
 
 #[test]
-fn a_refusal_says_why(rt: HostRuntime) -> Result<(), Fail> {
+fn a_refusal_says_why(rt: HostRuntime) {
     let rows = [
         (Refusal::ZeroWords, "zero words were asked for"),
         (Refusal::TooLarge, "more than 524288 words were asked for"),
@@ -127,12 +126,15 @@ fn a_refusal_says_why(rt: HostRuntime) -> Result<(), Fail> {
         ),
         (Refusal::IdsUsedUp, "all owner numbers are used up"),
     ];
-    same(&rt, &missaid(rt.alloc(), &rows)?, &None);
-    Ok(())
+    same(
+        &rt,
+        &missaid(rt.alloc(), &rows).expect(&rt, "memory is ample"),
+        &None,
+    );
 }
 
 #[test]
-fn a_refusal_tells_its_numbers(rt: HostRuntime) -> Result<(), Fail> {
+fn a_refusal_tells_its_numbers(rt: HostRuntime) {
     let over = Refusal::CommitLimit {
         committed: 60,
         limit: 63,
@@ -159,6 +161,9 @@ fn a_refusal_tells_its_numbers(rt: HostRuntime) -> Result<(), Fail> {
         ),
         (Refusal::NoRoom { level }, "no room at level 7"),
     ];
-    same(&rt, &missaid(rt.alloc(), &rows)?, &None);
-    Ok(())
+    same(
+        &rt,
+        &missaid(rt.alloc(), &rows).expect(&rt, "memory is ample"),
+        &None,
+    );
 }

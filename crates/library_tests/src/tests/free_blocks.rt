@@ -6,7 +6,6 @@ use super::same;
 use linked_list_allocator::LocalHeap;
 use ms_base::{Block, Refusal};
 use ms_blocks::FreeBlocks;
-use std::test::Fail;
 
 fn block(start: u64, words: u64) -> Block
     ensures start { result.start ≡ start }
@@ -42,12 +41,11 @@ fn answers(blocks: &mut FreeBlocks<&LocalHeap>) -> Option<Answers>
 }
 
 #[test]
-fn the_best_fit_comes_whole(rt: HostRuntime) -> Result<(), Fail> {
-    let heap = LocalHeap::new(rt.alloc(), 4096)?;
+fn the_best_fit_comes_whole(rt: HostRuntime) {
+    let heap = LocalHeap::new(rt.alloc(), 4096).expect(&rt, "memory is ample");
     let fits = [Some(block(20, 4)), Some(block(0, 10)), None];
     let wanted = (Err(Refusal::OutOfMemory), fits, (1, 4, 2));
     let told = (called(&heap), heap.used());
     drop(heap);
     same(&rt, &told, &(Some(wanted), 0));
-    Ok(())
 }

@@ -7,8 +7,8 @@ use ms_base::{Block, Kind, Policy, Refusal, Reply, Settings, Space, Step};
 use ms_loaders::{ArenaTotals, Details, Loader, LoaderDetails, Loaders, System, Totals, serve};
 use ms_pool::{Place, Pool, RootMap};
 use ms_report::{text, totals};
-use std::alloc::{AllocError, Global};
-use std::test::Fail;
+use std::alloc::Global;
+use std::process::Abort;
 
 /// Settings with a node of the class space.
 const SETTINGS: Settings = Settings {
@@ -48,8 +48,8 @@ fn class_block_of_one(alloc: Global, pool: &mut Pool) -> Option<Result<Block, Re
 }
 
 #[test]
-fn a_loader_has_blocks_in_both_spaces(rt: HostRuntime) -> Result<(), Fail> {
-    let mut pool = Pool::new(rt.alloc(), SETTINGS)?;
+fn a_loader_has_blocks_in_both_spaces(rt: HostRuntime) {
+    let mut pool = Pool::new(rt.alloc(), SETTINGS).expect(&rt, "memory is ample");
     let blocks = blocks_of_one(rt.alloc(), &mut pool);
     let class_block = class_block_of_one(rt.alloc(), &mut pool);
     drop(pool);
@@ -60,7 +60,6 @@ fn a_loader_has_blocks_in_both_spaces(rt: HostRuntime) -> Result<(), Fail> {
     same(&rt, &blocks, &Some(([Ok(first), Ok(second)], Ok(7), 12)));
     let (start, words) = (67108864, 10);
     same(&rt, &class_block, &Some(Ok(Block { start, words })));
-    Ok(())
 }
 
 /// A loader, and a block of it.
@@ -77,56 +76,56 @@ const STEPS: [Step; 2] = [
 ];
 
 /// Serves one step over a new pool, where there is no loader: the reply, and how many there are then.
-fn served(alloc: Global, step: Step) -> Result<(Reply, usize), AllocError> {
-    let mut pool = Pool::new(alloc, SETTINGS)?;
-    let mut loaders = Loaders::new(alloc);
-    let reply = serve(alloc, &mut pool, &mut loaders, step);
+fn served(rt: &(impl Abort + AllocGlobal), step: Step) -> (Reply, usize) {
+    let mut pool = Pool::new(rt.alloc(), SETTINGS).expect(rt, "memory is ample");
+    let mut loaders = Loaders::new(rt.alloc());
+    let reply = serve(rt.alloc(), &mut pool, &mut loaders, step);
     let count = loaders.len();
     drop(loaders);
     drop(pool);
-    Ok((reply, count))
+    (reply, count)
 }
 
 #[test]
-fn a_step_is_served_over_a_pool(rt: HostRuntime) -> Result<(), Fail> {
-    let made = served(rt.alloc(), STEPS[0])?;
-    let refused = served(rt.alloc(), STEPS[1])?;
+fn a_step_is_served_over_a_pool(rt: HostRuntime) {
+    let made = served(&rt, STEPS[0]);
+    let refused = served(&rt, STEPS[1]);
     same(&rt, &made, &(Reply::Ok, 1));
     same(&rt, &refused, &(Reply::Refused(Refusal::NoLoader), 0));
-    Ok(())
 }
 
 /// Runs steps by a new system: the replies, and the totals after the last.
-fn ran(alloc: Global, steps: &[Step]) -> Result<(Vec<Reply>, Totals), AllocError> {
-    let mut system = System::new(alloc, Settings::DEFAULT)?;
+fn ran(rt: &(impl Abort + AllocGlobal), steps: &[Step]) -> (Vec<Reply>, Totals) {
+    let mut system = System::new(rt.alloc(), Settings::DEFAULT).expect(rt, "memory is ample");
     let (replies, sums) = (system.run(steps), totals(&system));
     drop(system);
-    Ok((replies?, sums?))
+    let replies = replies.expect(rt, "memory is ample");
+    (replies, sums.expect(rt, "memory is ample"))
 }
 
 #[test]
-fn a_run_answers_each_step_and_is_reported(rt: HostRuntime) -> Result<(), Fail> {
-    let (replies, sums) = ran(rt.alloc(), &STEPS)?;
+fn a_run_answers_each_step_and_is_reported(rt: HostRuntime) {
+    let (replies, sums) = ran(&rt, &STEPS);
     let report = text(rt.alloc(), &sums);
     drop(sums);
-    let report = report?;
+    let report = report.expect(&rt, "memory is ample");
     same(
         &rt,
         &(replies.as_slice(), report.as_str()),
         &([Reply::Ok, Reply::At(0)].as_slice(), ONE_BLOCK),
     );
-    Ok(())
 }
 
 /// Takes steps by a new system: the maps of its roots after the last, and the details.
-fn mapped(alloc: Global, steps: &[Step]) -> Result<(Vec<RootMap>, Details), AllocError> {
-    let mut system = System::new(alloc, Settings::DEFAULT)?;
+fn mapped(rt: &(impl Abort + AllocGlobal), steps: &[Step]) -> (Vec<RootMap>, Details) {
+    let mut system = System::new(rt.alloc(), Settings::DEFAULT).expect(rt, "memory is ample");
     for step in steps {
         let _ = system.step(*step);
     }
     let (maps, details) = (system.maps(), system.details());
     drop(system);
-    Ok((maps?, details?))
+    let maps = maps.expect(rt, "memory is ample");
+    (maps, details.expect(rt, "memory is ample"))
 }
 
 /// The sums of an arena whose chunks hold one block of so many words and nothing else.
@@ -144,8 +143,8 @@ fn with_block(chunks: u32, capacity: u64, words: u64) -> ArenaTotals {
 
 /// A node of two roots is reserved; the block has 10 words of a chunk of 512 in the first place.
 #[test]
-fn a_run_is_mapped_and_told_in_detail(rt: HostRuntime) -> Result<(), Fail> {
-    let (maps, details) = mapped(rt.alloc(), &STEPS)?;
+fn a_run_is_mapped_and_told_in_detail(rt: HostRuntime) {
+    let (maps, details) = mapped(&rt, &STEPS);
     let mut places = [Place::Free; 64];
     places[0] = Place::LentPartly;
     let first = RootMap { root: 0, places };
@@ -163,5 +162,4 @@ fn a_run_is_mapped_and_told_in_detail(rt: HostRuntime) -> Result<(), Fail> {
         class_space: with_block(0, 0, 0),
     };
     same(&rt, &details.loaders.as_slice(), &[loader].as_slice());
-    Ok(())
 }

@@ -14,7 +14,6 @@ use ms_shared::{LockedPool, PoolSeat, SharedPool};
 use std::alloc::{AllocError, Global};
 use std::process::Abort;
 use std::sync::Wait;
-use std::test::Fail;
 use std::thread;
 use std::thread::Threads;
 
@@ -165,10 +164,9 @@ fn lent_by_eight<R: Threads + Wait + Sync>(
 }
 
 #[test]
-fn eight_threads_are_lent_each_part_once(rt: HostRuntime) -> Result<(), Fail> {
-    let lent = lent_by_eight(&rt, rt.alloc())?;
+fn eight_threads_are_lent_each_part_once(rt: HostRuntime) {
+    let lent = lent_by_eight(&rt, rt.alloc()).expect(&rt, "memory is ample");
     same(&rt, &times_lent(lent.as_slice()), &[1; 512]);
-    Ok(())
 }
 
 /// Makes a lock over a new pool with a limit of committed granules, and its two seats.
@@ -188,20 +186,16 @@ fn locked(alloc: Global, max_granules: u64) -> Result<(SharedPool, Vec<PoolSeat>
 }
 
 /// Makes a lock of two seats over a pool with a limit of committed granules.
-fn two_seats(
-    rt: &impl Abort,
-    alloc: Global,
-    max_granules: u64,
-) -> Result<(SharedPool, PoolSeat, PoolSeat), Fail>
+fn two_seats(rt: &impl Abort, alloc: Global, max_granules: u64) -> (SharedPool, PoolSeat, PoolSeat)
     requires some { 1 ≤ max_granules }
     requires few { max_granules ≤ MOST_GRANULES }
-    ensures { IfOk result (λ made. (made.1.id ≡ made.0.id) × (made.2.id ≡ made.0.id)) }
+    ensures { (result.1.id ≡ result.0.id) × (result.2.id ≡ result.0.id) }
 {
-    let (lock, mut seats) = locked(alloc, max_granules)?;
+    let (lock, mut seats) = locked(alloc, max_granules).expect(rt, "there is memory");
     let spare = seats.pop().expect(rt, "two seats were made");
     let first = seats.pop().expect(rt, "two seats were made");
     drop(seats);
-    Ok((lock, first, spare))
+    (lock, first, spare)
 }
 
 /// Has a seat at its lock, and opens an account there.
@@ -247,25 +241,25 @@ fn taken_by_two<R: Wait + Abort>(
 fn of_two(
     rt: &(impl Abort + AllocGlobal + Wait),
     max_granules: u64,
-) -> Result<(Result<Span, Refusal>, u32, u32), Fail>
+) -> (Result<Span, Refusal>, u32, u32)
     requires some { 1 ≤ max_granules }
     requires few { max_granules ≤ MOST_GRANULES }
 {
-    let (lock, one, other) = two_seats(rt, rt.alloc(), max_granules)?;
+    let (lock, one, other) = two_seats(rt, rt.alloc(), max_granules);
     let (answer, totals) = taken_by_two(rt, &lock, one, other);
-    Ok((answer, totals.lent[6], totals.accounts))
+    drop(lock);
+    (answer, totals.lent[6], totals.accounts)
 }
 
 #[test]
-fn what_another_seat_took_is_counted(rt: HostRuntime) -> Result<(), Fail> {
+fn what_another_seat_took_is_counted(rt: HostRuntime) {
     let (start, level) = (8192, Level::new(6));
     let served = Ok(Span { start, level });
-    same(&rt, &of_two(&rt, 8192)?, &(served, 2, 2));
+    same(&rt, &of_two(&rt, 8192), &(served, 2, 2));
     let refused = Err(Refusal::CommitLimit {
         committed: 1,
         limit: 1,
         need: 1,
     });
-    same(&rt, &of_two(&rt, 1)?, &(refused, 1, 2));
-    Ok(())
+    same(&rt, &of_two(&rt, 1), &(refused, 1, 2));
 }

@@ -12,7 +12,6 @@ use ms_base::{Level, Policy, Refusal, Settings, Space, Span};
 use ms_pool::{Account, ChunkSource, Place, Pool, RootMap};
 use std::alloc::{AllocError, Global};
 use std::process::Abort;
-use std::test::Fail;
 
 /// What a row of the table asks for the account.
 #[derive(Clone, Copy, Debug)]
@@ -273,8 +272,8 @@ fn mapped(alloc: Global) -> Result<Vec<RootMap>, AllocError> {
 
 /// The first chunk is place 0, the second places 2 and 3, the third 512 words of place 1.
 #[test]
-fn a_map_tells_what_is_lent_and_committed(rt: HostRuntime) -> Result<(), Fail> {
-    let maps = mapped(rt.alloc())?;
+fn a_map_tells_what_is_lent_and_committed(rt: HostRuntime) {
+    let maps = mapped(rt.alloc()).expect(&rt, "memory is ample");
     let mut places = [Place::Free; 64];
     places[0] = Place::LentWholly;
     places[1] = Place::LentPartly;
@@ -287,5 +286,4 @@ fn a_map_tells_what_is_lent_and_committed(rt: HostRuntime) -> Result<(), Fail> {
         &maps.as_slice(),
         &[first, RootMap { root, places }].as_slice(),
     );
-    Ok(())
 }

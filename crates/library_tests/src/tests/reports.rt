@@ -11,7 +11,6 @@ use ms_pool::{Place, RootMap};
 use ms_report::{Detail, full_text, lines, map_text, tally};
 use std::alloc::{AllocError, Global};
 use std::process::Abort;
-use std::test::Fail;
 
 /// The report of `new 1 standard`, `alloc 1 1 10`.
 pub(super) const ONE_BLOCK: &str = "Metaspace
@@ -247,11 +246,10 @@ fn largest_report(alloc: Global) -> Result<String, AllocError> {
 }
 
 #[test]
-fn the_largest_numbers_fit_their_columns(rt: HostRuntime) -> Result<(), Fail> {
-    let report = largest_report(rt.alloc())?;
+fn the_largest_numbers_fit_their_columns(rt: HostRuntime) {
+    let report = largest_report(rt.alloc()).expect(&rt, "memory is ample");
     expect_largest(&rt, report.as_str());
     drop(report);
-    Ok(())
 }
 
 /// Compares a report with the largest.
@@ -338,14 +336,14 @@ fn expect_lines(
 }
 
 #[test]
-fn replies_are_told_by_their_words(rt: HostRuntime) -> Result<(), Fail> {
-    let answers = of_each_sort(rt.alloc())?;
+fn replies_are_told_by_their_words(rt: HostRuntime) {
+    let answers = of_each_sort(rt.alloc()).expect(&rt, "memory is ample");
     let replies = Replies { answers };
     let with = expect_lines(&rt, &replies, true, "100000 ok\n100000 at 67108864\n");
     let without = expect_lines(&rt, &replies, false, "100000 ok\n100000 ok\n");
     drop(replies);
-    with?;
-    Ok(without?)
+    with.expect(&rt, "memory is ample");
+    without.expect(&rt, "memory is ample");
 }
 
 /// The map of root 129, the upper one of slot 64, which is the first of the class space.
@@ -360,14 +358,13 @@ const MAP: &str = "Map
 ";
 
 #[test]
-fn each_place_has_its_letter(rt: HostRuntime) -> Result<(), Fail> {
+fn each_place_has_its_letter(rt: HostRuntime) {
     let mut places = [Place::Free; 64];
     places[0] = Place::LentWholly;
     places[1] = Place::LentPartly;
     places[2] = Place::LentUncommitted;
     places[63] = Place::FreeCommitted;
     let maps = [RootMap { root: 129, places }];
-    let told = map_text(rt.alloc(), &maps)?;
+    let told = map_text(rt.alloc(), &maps).expect(&rt, "memory is ample");
     same(&rt, &told.as_str(), &MAP);
-    Ok(())
 }

@@ -13,7 +13,6 @@ use std::alloc::{AllocError, Global};
 use std::process::Abort;
 use std::sync::Wait;
 use std::sync::atomic::{AtomicU64, Ordering};
-use std::test::Fail;
 use std::thread;
 use std::thread::Threads;
 
@@ -32,8 +31,8 @@ fn settings(workers: u32) -> Settings
 }
 
 /// Reads a text as a trace.
-fn trace_of(alloc: Global, text: &str) -> Result<Trace, Fail> {
-    Ok(parse(alloc, text.as_bytes()).ok().ok_or("no trace")?)
+fn trace_of(rt: &(impl Abort + AllocGlobal), text: &str) -> Trace {
+    parse(rt.alloc(), text.as_bytes()).expect(rt, "no trace")
 }
 
 /// Lists what lines are answered.
@@ -45,29 +44,24 @@ fn listed(alloc: Global, replies: &Replies) -> Result<Vec<Reply>, AllocError> {
     Ok(told)
 }
 
-/// Lists what lines are answered, where they are.
-fn replies_of(alloc: Global, replayed: Result<Replies, RunFault>) -> Result<Vec<Reply>, Fail> {
-    let replies = replayed.ok().ok_or("no replies")?;
-    let told = listed(alloc, &replies);
-    drop(replies);
-    Ok(told?)
-}
-
 /// Replays a text with a gate: what its lines are answered.
 fn replayed<G: Gate + Sync>(
-    rt: &(impl AllocGlobal + Threads + Wait + Sync),
+    rt: &(impl Abort + AllocGlobal + Threads + Wait + Sync),
     workers: u32,
     text: &str,
     gate: &G,
-) -> Result<Vec<Reply>, Fail>
+) -> Vec<Reply>
     requires some { 1 ≤ workers }
     requires few { workers ≤ 8 }
 {
-    let trace = trace_of(rt.alloc(), text)?;
+    let trace = trace_of(rt, text);
     let settings = settings(workers);
     let replayed = replay(rt, rt.alloc(), &trace, settings, Detail::Basic, gate);
     drop(trace);
-    replies_of(rt.alloc(), replayed)
+    let replies = replayed.expect(rt, "no replies");
+    let told = listed(rt.alloc(), &replies);
+    drop(replies);
+    told.expect(rt, "memory is ample")
 }
 
 /// One loader with a block that is written and read, and one that isn't there.
@@ -75,7 +69,7 @@ const ONE_BLOCK: &str = "new 1 standard\nalloc 1 7 10\nwrite 1 7 3 5\nread 1 7 3
 
 /// Replays a trace into a text: whether it is all answered, and the text.
 fn replayed_into(
-    rt: &(impl AllocGlobal + Threads + Wait + Sync),
+    rt: &(impl Abort + AllocGlobal + Threads + Wait + Sync),
     workers: u32,
     trace: &Trace,
 ) -> (Result<(), RunFault>, String)
@@ -111,13 +105,12 @@ fn expect_told(rt: &(impl Abort + AllocGlobal + Threads + Wait + Sync), workers:
 }
 
 #[test]
-fn a_text_takes_the_answers_as_they_come(rt: HostRuntime) -> Result<(), Fail> {
-    let trace = trace_of(rt.alloc(), ONE_BLOCK)?;
+fn a_text_takes_the_answers_as_they_come(rt: HostRuntime) {
+    let trace = trace_of(&rt, ONE_BLOCK);
     for workers in [1, 2] {
         expect_told(&rt, workers, &trace);
     }
     drop(trace);
-    Ok(())
 }
 
 /// Holds each of two workers at its first line until the other has come to its own.
@@ -149,7 +142,7 @@ impl Gate for Meeting {
 }
 
 /// Replays two lines by two workers that meet: how often one missed the other, and the replies.
-fn met(rt: &(impl AllocGlobal + Threads + Wait + Sync)) -> (u64, Result<Vec<Reply>, Fail>) {
+fn met(rt: &(impl Abort + AllocGlobal + Threads + Wait + Sync)) -> (u64, Vec<Reply>) {
     let gate = Meeting {
         first: AtomicU64::new(0),
         second: AtomicU64::new(0),
@@ -160,12 +153,10 @@ fn met(rt: &(impl AllocGlobal + Threads + Wait + Sync)) -> (u64, Result<Vec<Repl
 }
 
 #[test]
-fn gate_two_workers(rt: HostRuntime) -> Result<(), Fail> {
+fn gate_two_workers(rt: HostRuntime) {
     let (missed, replies) = met(&rt);
-    let replies = replies?;
     let served = [Reply::Ok, Reply::Ok];
     same(&rt, &(missed, replies.as_slice()), &(0, served.as_slice()));
-    Ok(())
 }
 
 /// Keeps the words in use that it was told after the last line, and the most that it was told.
@@ -186,10 +177,10 @@ impl Gate for Watching {
 
 /// Replays a text with a gate that watches the words in use: the last and the most that it was told.
 fn watched(
-    rt: &(impl AllocGlobal + Threads + Wait + Sync),
+    rt: &(impl Abort + AllocGlobal + Threads + Wait + Sync),
     workers: u32,
     text: &str,
-) -> Result<(u64, u64), Fail>
+) -> (u64, u64)
     requires some { 1 ≤ workers }
     requires few { workers ≤ 8 }
 {
@@ -197,21 +188,20 @@ fn watched(
         last: AtomicU64::new(0),
         most: AtomicU64::new(0),
     };
-    let _ = replayed(rt, workers, text, &gate)?;
+    drop(replayed(rt, workers, text, &gate));
     let last = gate.last.load(Ordering::SeqCst);
-    Ok((last, gate.most.load(Ordering::SeqCst)))
+    (last, gate.most.load(Ordering::SeqCst))
 }
 
 #[test]
-fn who_reads_last_reads_what_all_have_in_use(rt: HostRuntime) -> Result<(), Fail> {
+fn who_reads_last_reads_what_all_have_in_use(rt: HostRuntime) {
     let text = "new 1 standard\nnew 2 standard\nalloc 1 1 5\nalloc 2 1 7\n";
     for workers in [1, 2, 4, 8] {
         for _ in 0..20 {
-            let (_, most) = watched(&rt, workers, text)?;
+            let (_, most) = watched(&rt, workers, text);
             same(&rt, &most, &12);
         }
     }
-    Ok(())
 }
 
 /// In use are 12 words of two loaders, 7 once the first is gone, and 11 at last.
@@ -222,15 +212,14 @@ unload 1\nsync\nalloc 2 2 4\nwrite 2 2 0 9\nfree 2 2\nread 2 1 0\n";
 const ALL_GIVEN_BACK: &str = "new 1 standard\nalloc 1 1 10\nreport\nunload 1\n";
 
 #[test]
-fn words_in_use_are_counted_on_from_phase_to_phase(rt: HostRuntime) -> Result<(), Fail> {
+fn words_in_use_are_counted_on_from_phase_to_phase(rt: HostRuntime) {
     for workers in [1, 2, 4, 8] {
         let told = (
-            watched(&rt, workers, THREE_PHASES)?,
-            watched(&rt, workers, ALL_GIVEN_BACK)?,
+            watched(&rt, workers, THREE_PHASES),
+            watched(&rt, workers, ALL_GIVEN_BACK),
         );
         same(&rt, &told, &((11, 12), (0, 10)));
     }
-    Ok(())
 }
 
 /// Keeps for each line who came before it and who came after it: the sum of those workers, each
@@ -311,39 +300,30 @@ unload 1
 ";
 
 /// Makes a gate that has heard nobody.
-fn make_listening(alloc: Global) -> Result<Listening, AllocError> {
-    let before = sums(alloc)?;
-    match sums(alloc) {
-        Ok(after) => Ok(Listening { before, after }),
-        Err(error) => {
-            drop(before);
-            Err(error)
-        }
-    }
+fn make_listening(rt: &(impl Abort + AllocGlobal)) -> Listening {
+    let before = sums(rt.alloc()).expect(rt, "memory is ample");
+    let after = sums(rt.alloc()).expect(rt, "memory is ample");
+    Listening { before, after }
 }
 
 /// Replays five phases: who came before each line, and who after it.
-fn listen(
-    rt: &(impl AllocGlobal + Threads + Wait + Sync),
-    workers: u32,
-) -> Result<[[u64; 25]; 2], Fail>
+fn listen(rt: &(impl Abort + AllocGlobal + Threads + Wait + Sync), workers: u32) -> [[u64; 25]; 2]
     requires some { 1 ≤ workers }
     requires few { workers ≤ 8 }
 {
-    let gate = make_listening(rt.alloc())?;
-    let replayed = replayed(rt, workers, FIVE_PHASES, &gate);
+    let gate = make_listening(rt);
+    drop(replayed(rt, workers, FIVE_PHASES, &gate));
     let heard = [
         heard_of(gate.before.as_slice()),
         heard_of(gate.after.as_slice()),
     ];
     drop(gate);
-    drop(replayed?);
-    Ok(heard)
+    heard
 }
 
 // Loader number j has worker (j + k) mod W in phase k, and a purge has worker 0.
 #[test]
-fn each_line_is_worked_by_the_worker_whose_turn_it_is(rt: HostRuntime) -> Result<(), Fail> {
+fn each_line_is_worked_by_the_worker_whose_turn_it_is(rt: HostRuntime) {
     let of_two = [
         9, 0, 1, 0, 1, 0, 9, 1, 1, 0, 0, 9, 1, 1, 9, 0, 1, 0, 1, 9, 1, 0, 0, 0, 0,
     ];
@@ -353,8 +333,7 @@ fn each_line_is_worked_by_the_worker_whose_turn_it_is(rt: HostRuntime) -> Result
     let of_eight = [
         9, 0, 1, 2, 3, 4, 9, 3, 1, 0, 4, 9, 3, 3, 9, 4, 5, 0, 3, 9, 7, 0, 0, 4, 6,
     ];
-    let heard = [listen(&rt, 2)?, listen(&rt, 3)?, listen(&rt, 8)?];
+    let heard = [listen(&rt, 2), listen(&rt, 3), listen(&rt, 8)];
     let wanted = [[of_two, of_two], [of_three, of_three], [of_eight, of_eight]];
     same(&rt, &heard, &wanted);
-    Ok(())
 }

@@ -7,7 +7,7 @@ use ms_trace::{
     Command, FaultKind, Line, Lines, ParseFault, Trace, TraceFault, laws, parse, print,
 };
 use std::alloc::{AllocError, Global};
-use std::test::Fail;
+use std::process::Abort;
 
 /// The trace of these lines.
 fn trace_of(alloc: Global, lines: &[(u32, Command)]) -> Result<Trace, AllocError> {
@@ -98,21 +98,20 @@ fn reads_as(alloc: Global, text: &[u8], trace: &Trace) -> Result<bool, ParseFaul
 }
 
 /// Prints a trace: whether that is the text that was meant, and whether it reads back.
-fn printed_back(alloc: Global, trace: &Trace) -> Result<(bool, bool), Fail> {
-    let text = printed(alloc, trace)?;
+fn printed_back(rt: &(impl Abort + AllocGlobal), trace: &Trace) -> (bool, bool) {
+    let text = printed(rt.alloc(), trace).expect(rt, "memory is ample");
     let is_meant = text.as_slice() == TEXT;
-    let reads_back = reads_as(alloc, text.as_slice(), trace);
+    let reads_back = reads_as(rt.alloc(), text.as_slice(), trace);
     drop(text);
-    Ok((is_meant, reads_back?))
+    (is_meant, reads_back.expect(rt, "it reads"))
 }
 
 #[test]
-fn a_trace_is_printed_with_its_gaps(rt: HostRuntime) -> Result<(), Fail> {
-    let trace = trace_of(rt.alloc(), LINES.as_slice())?;
-    let told = printed_back(rt.alloc(), &trace);
+fn a_trace_is_printed_with_its_gaps(rt: HostRuntime) {
+    let trace = trace_of(rt.alloc(), LINES.as_slice()).expect(&rt, "memory is ample");
+    let told = printed_back(&rt, &trace);
     drop(trace);
-    same(&rt, &told?, &(true, true));
-    Ok(())
+    same(&rt, &told, &(true, true));
 }
 
 /// Tells whether lines of these numbers may be printed, where there is memory for them.
@@ -138,14 +137,16 @@ fn only_rising_numbers_up_to_100000_may_be_printed(rt: HostRuntime) {
 }
 
 #[test]
-fn faults_of_reading_are_printed(rt: HostRuntime) -> Result<(), Fail> {
+fn faults_of_reading_are_printed(rt: HostRuntime) {
     let fault = ParseFault::Trace(TraceFault {
         line: 7,
         kind: FaultKind::BadKind,
     });
-    let told = format!(in rt.alloc(); "{fault}, {}", ParseFault::OutOfMemory)?;
+    let told = format!(in rt.alloc(); "{fault}, {}", ParseFault::OutOfMemory).expect(
+        &rt,
+        "memory is ample",
+    );
     same(&rt, &told.as_str(), &"line 7: BadKind, out of memory");
-    Ok(())
 }
 
 #[test]

@@ -8,7 +8,6 @@ use linked_list_allocator::LocalHeap;
 use ms_base::{Level, Refusal, Span};
 use ms_buddy::{Leaf, SplitTree};
 use std::alloc::Allocator;
-use std::test::Fail;
 
 /// Releases the leaf that covers the offset, where it is lent.
 fn release_at<A: Allocator>(tree: &mut SplitTree<A>, offset: u64) -> Option<Span>
@@ -89,8 +88,8 @@ fn no_room(level: u8) -> Refusal
 }
 
 #[test]
-fn a_tree_lends_and_merges_and_gives_its_memory_back(rt: HostRuntime) -> Result<(), Fail> {
-    let heap = LocalHeap::new(rt.alloc(), 65536)?;
+fn a_tree_lends_and_merges_and_gives_its_memory_back(rt: HostRuntime) {
+    let heap = LocalHeap::new(rt.alloc(), 65536).expect(&rt, "memory is ample");
     let free = [
         Some(span(512, 11)),
         Some(span(1024, 9)),
@@ -112,7 +111,6 @@ fn a_tree_lends_and_merges_and_gives_its_memory_back(rt: HostRuntime) -> Result<
     let told = (called(&heap), heap.used());
     drop(heap);
     same(&rt, &told, &(wanted, 0));
-    Ok(())
 }
 
 /// Has a new tree lend a part on a heap that is too small: what it is answered, whether the tree is
@@ -124,13 +122,12 @@ fn called_without_room(heap: &LocalHeap) -> (Result<(), Refusal>, bool, usize) {
 }
 
 #[test]
-fn a_carve_that_is_refused_gives_back_what_it_took(rt: HostRuntime) -> Result<(), Fail> {
-    let heap = LocalHeap::new(rt.alloc(), 128)?;
+fn a_carve_that_is_refused_gives_back_what_it_took(rt: HostRuntime) {
+    let heap = LocalHeap::new(rt.alloc(), 128).expect(&rt, "memory is ample");
     let wanted = (Err(Refusal::OutOfMemory), true, 0);
     let told = called_without_room(&heap);
     drop(heap);
     same(&rt, &told, &wanted);
-    Ok(())
 }
 
 /// Lends all parts of the smallest level, and counts them.
@@ -167,11 +164,10 @@ fn called_again(heap: &LocalHeap) -> ([u32; 2], usize, Result<(), Refusal>, usiz
 
 /// The boxes of 12 splits stay for the next carve, and each takes 48 bytes.
 #[test]
-fn merged_halves_serve_the_next_carve(rt: HostRuntime) -> Result<(), Fail> {
-    let heap = LocalHeap::new(rt.alloc(), 1048576)?;
+fn merged_halves_serve_the_next_carve(rt: HostRuntime) {
+    let heap = LocalHeap::new(rt.alloc(), 1048576).expect(&rt, "memory is ample");
     let wanted = ([4096, 4096], 1152, Ok(()), 1152);
     let told = (called_again(&heap), heap.used());
     drop(heap);
     same(&rt, &told, &(wanted, 0));
-    Ok(())
 }

@@ -7,7 +7,6 @@ ghost use Rattle.std.specs.List.{All};
 use super::same;
 use ms_shared::{MeterSeat, UsedMeter};
 use std::alloc::AllocError;
-use std::test::Fail;
 use std::thread;
 use std::thread::Threads;
 
@@ -24,8 +23,8 @@ fn read_beside(meter: &UsedMeter, one: &mut MeterSeat, other: &mut MeterSeat) ->
 }
 
 #[test]
-fn now_counts_what_other_seats_added(rt: HostRuntime) -> Result<(), Fail> {
-    let (meter, mut seats) = UsedMeter::new(rt.alloc(), 2)?;
+fn now_counts_what_other_seats_added(rt: HostRuntime) {
+    let (meter, mut seats) = UsedMeter::new(rt.alloc(), 2).expect(&rt, "memory is ample");
     let mut one = seats.pop().expect(&rt, "two seats were made");
     let mut other = seats.pop().expect(&rt, "two seats were made");
     let read = read_beside(&meter, &mut one, &mut other);
@@ -34,7 +33,6 @@ fn now_counts_what_other_seats_added(rt: HostRuntime) -> Result<(), Fail> {
     drop(seats);
     drop(meter);
     same(&rt, &read, &[12, u64::MAX - 9]);
-    Ok(())
 }
 
 /// Adds 10,000 times and takes off 10,000 times, 3 words more than it took off in all.
@@ -70,10 +68,9 @@ fn in_threads<R: Threads + Sync>(
 }
 
 #[test]
-fn eight_threads_lose_no_add(rt: HostRuntime) -> Result<(), Fail> {
-    let (meter, seats) = UsedMeter::new(rt.alloc(), 8)?;
-    let seats = in_threads(&rt, &meter, seats)?;
+fn eight_threads_lose_no_add(rt: HostRuntime) {
+    let (meter, seats) = UsedMeter::new(rt.alloc(), 8).expect(&rt, "memory is ample");
+    let seats = in_threads(&rt, &meter, seats).expect(&rt, "memory is ample");
     let words = meter.close(seats).ok();
     same(&rt, &words, &Some(24));
-    Ok(())
 }
