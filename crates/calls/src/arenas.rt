@@ -1,5 +1,5 @@
-//! The rows of an arena over a pool: it places a block, or allocates one; its words are written and read,
-//! a block is freed, and the arena starts anew over another account.
+//! The rows of an arena over a pool: it places a block, or allocates one; its words are written and
+//! read, a block is freed, and the arena starts anew over another account.
 
 use crate::pools::{account_lines, opened, tell_account, tell_pool};
 use crate::probing::{Places, tell_places};
@@ -97,7 +97,8 @@ fn tell_both(rt: &HostRuntime, pool: &Pool, arena: &Arena) {
     }
 }
 
-/// Tells the live blocks of so many words that start in the first granule, each with its first word.
+/// Tells the live blocks of so many words that start in the first granule, each with its first
+/// word.
 fn tell_live(rt: &HostRuntime, arena: &Arena, words: u64) {
     for start in 0..8192 {
         let block = Block { start, words };
@@ -136,8 +137,8 @@ impl Model for Allocating {
 }
 
 impl Allocating {
-    /// Prepares an arena of two chunks, a retired one and the current one, with a live block and free
-    /// ones in each.
+    /// Prepares an arena of two chunks, a retired one and the current one, with a live block and
+    /// free ones in each.
     pub fn prepared(alloc: Global, asked: Asked) -> io::Result<Allocating> {
         let mut row = Allocating::new(alloc, asked)?;
         match row.fill() {

@@ -61,7 +61,8 @@ pub fn tell_account(rt: &HostRuntime, account: &Account) {
     }
 }
 
-/// Tells an account on lines of its own: its owner's number, its space, and its chunks in the order taken.
+/// Tells an account on lines of its own: its owner's number, its space, and its chunks in the order
+/// taken.
 pub fn account_lines(rt: &HostRuntime, about: &str, account: &Account) {
     line(rt, about, &(account.owner(), account.space()));
     for place in 0..account.held() {

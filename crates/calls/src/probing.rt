@@ -4,9 +4,9 @@
 //!     free blocks     [64, 74)  [12, 14)           current chunk      |####~~~~~~|  past    |
 //!     asked for          10        2                                   top    front
 //!
-//! Blocks of falling sizes are asked for, of each until there is none. A free block goes to the first
-//! that isn't larger than it, so each is had whole, at its own size, and so is the rest of a current
-//! chunk. Stands on `row`. What is asked may take memory of its own.
+//! Blocks of falling sizes are asked for, of each until there is none. A free block goes to the
+//! first that isn't larger than it, so each is had whole, at its own size, and so is the rest of a
+//! current chunk. Stands on `row`. What is asked may take memory of its own.
 use crate::row::tell;
 use ms_base::Block;
 use std::io;
@@ -19,8 +19,8 @@ const MOST_PLACES: u32 = 4;
 
 /// What has places for blocks.
 pub trait Places {
-    /// Has a block of so many words, two at least. Answers `None` where there is no place for one, and
-    /// fails where it lacks memory.
+    /// Has a block of so many words, two at least. Answers `None` where there is no place for one,
+    /// and fails where it lacks memory.
     fn have(&mut self, words: u64) -> io::Result<Option<Block>>;
 }
 

@@ -1,5 +1,5 @@
-//! The rows of reports: the sums of a system and its maps are written as texts, and so are replies; what
-//! is told beside sums is counted from them, and refusals from replies.
+//! The rows of reports: the sums of a system and its maps are written as texts, and so are replies;
+//! what is told beside sums is counted from them, and refusals from replies.
 use crate::pools::SETTINGS;
 use crate::row::{Answer, Row, gave, line, mark, tell};
 use crate::systems::filled::{FREED, HIDDEN, filled_totals, tell_totals};

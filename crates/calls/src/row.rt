@@ -1,5 +1,5 @@
-//! A row: a state, and a call on it that takes memory, or calls after a mark that take none. How facts are
-//! told. The tests miss what can't be written, so that no row has to end there.
+//! A row: a state, and a call on it that takes memory, or calls after a mark that take none. How
+//! facts are told. The tests miss what can't be written, so that no row has to end there.
 use ms_base::Refusal;
 use std::fmt::Debug;
 use std::io::{self, ErrorKind};
@@ -15,7 +15,8 @@ pub enum Answer {
 
 /// A state, and a call on it that takes memory.
 pub trait Row {
-    /// Tells the state, and leaves it: the rest of a line. It fails where it lacks memory of its own.
+    /// Tells the state, and leaves it: the rest of a line. It fails where it lacks memory of its
+    /// own.
     fn tell_state(&mut self, rt: &HostRuntime) -> io::Result<()>;
 
     /// Makes the call, and tells its answer where it is served: the rest of a line.
@@ -24,8 +25,8 @@ pub trait Row {
 
 /// A row whose state keeps what no call tells.
 pub trait Probed: Row + Drop + Sized {
-    /// Makes calls that use up what the state keeps, and tells what they give: the rest of a line. It
-    /// fails where it lacks memory of its own.
+    /// Makes calls that use up what the state keeps, and tells what they give: the rest of a line.
+    /// It fails where it lacks memory of its own.
     fn probe(self, rt: &HostRuntime) -> io::Result<()>;
 }
 

@@ -69,7 +69,7 @@ impl Model for Books {
 
 impl Books {
     /// Makes the books of an account that holds no chunk. Takes no memory yet.
-    pub fn new(alloc: Global, account: Account) -> Books
+    pub(crate) fn new(alloc: Global, account: Account) -> Books
         requires { account.chunks ≡ [] }
         ensures owner { result.owner ≡ account.owner }
         ensures space { result.space ≡ account.space }
@@ -88,7 +88,7 @@ impl Books {
 
     /// Starts anew over an account that holds no chunk, in the memory that there is, and gives the
     /// former account back. Takes none.
-    pub fn renew(&mut self, alloc: Global, account: Account) -> Account
+    pub(crate) fn renew(&mut self, alloc: Global, account: Account) -> Account
         requires { account.chunks ≡ [] }
         ensures former { result ≡ account_in self.old }
         ensures owner { self.new.owner ≡ account.owner }
@@ -109,19 +109,19 @@ impl Books {
     }
 
     /// Tells for how many tops there is memory, and for how many free blocks that come.
-    pub fn sizes(&self) -> (usize, usize) {
+    pub(crate) fn sizes(&self) -> (usize, usize) {
         (self.tops.capacity(), self.kept.capacity())
     }
 
     /// Gives the account back, and drops all else.
-    pub fn into_account(self) -> Account
+    pub(crate) fn into_account(self) -> Account
         ensures { result ≡ account_in self }
     {
         self.account
     }
 
     /// Lends the account.
-    pub fn account(&self) -> &Account
+    pub(crate) fn account(&self) -> &Account
         ensures account { result.now ≡ account_in self.now }
         ensures chunks { AreChunks self.now.space self.now.state.chunks }
         ensures sound { IsSound self.now.state [] }
@@ -132,7 +132,7 @@ impl Books {
     }
 
     /// Tells the words in use: the sum of the tops.
-    pub fn used(&self) -> u64
+    pub(crate) fn used(&self) -> u64
         ensures sum { result ≡ used_of self.now.state }
         ensures small { result < 2 ^ 52 }
     {
@@ -140,7 +140,7 @@ impl Books {
     }
 
     /// Tells the words of the free blocks.
-    pub fn kept_words(&self) -> u64
+    pub(crate) fn kept_words(&self) -> u64
         ensures { result ≡ kept_of self.now.state }
     {
         self.kept.total()
@@ -149,7 +149,7 @@ impl Books {
     /// Puts the free blocks in order, and makes room for so many more, and for one top more; all
     /// else stays.
     #[inline(always)]
-    pub fn make_room(&mut self, blocks: usize) -> Result<(), Refusal>
+    pub(crate) fn make_room(&mut self, blocks: usize) -> Result<(), Refusal>
         ensures room { OnOk result (blocks ≤ self.new.room) }
         ensures ordered { OnOk result (self.new.came ≡ 0) }
         ensures places { OnOk result (1 ≤ self.new.places) }
@@ -169,14 +169,14 @@ impl Books {
     }
 
     /// Tells the level by which the arena of a loader of that kind grows now.
-    pub fn next_level(&self, kind: Kind) -> Level
+    pub(crate) fn next_level(&self, kind: Kind) -> Level
         ensures { result ≡ next_level kind self.now.space self.now.state }
     {
         growth(kind, self.account.space(), self.account.held())
     }
 
     /// Tells the current chunk, and its top.
-    pub fn current(&self) -> Option<(Chunk, u64)>
+    pub(crate) fn current(&self) -> Option<(Chunk, u64)>
         ensures chunk { option_map (λ at. at.0) result ≡ current self.now.state }
         ensures top { IfSome result (λ at. at.1 ≡ current_top self.now.state) }
         ensures bounds { IfSome result (λ at. IsCurrent at.0 at.1) }
@@ -186,7 +186,7 @@ impl Books {
     }
 
     /// Keeps the words of a freed block, of at least two words, in room that there is.
-    pub fn keep(&mut self, block: Block)
+    pub(crate) fn keep(&mut self, block: Block)
         requires room { 0 < self.old.room }
         requires awaits { Awaits self.old.state [] (run_of block) }
         ensures kept { self.new.state
@@ -204,7 +204,7 @@ impl Books {
     /// Places a block of n words where it needs no chunk: at the start of the free block that fits
     /// best, whose rest of at least two words stays; else at the top of the current chunk.
     #[inline(always)]
-    pub fn place(&mut self, n: u64) -> Option<u64>
+    pub(crate) fn place(&mut self, n: u64) -> Option<u64>
         requires some { 2 ≤ n }
         requires fits { n ≤ size_of 0 }
         requires room { 0 < self.old.room }
@@ -234,7 +234,7 @@ impl Books {
     }
 
     /// Asks the source to grow the current chunk, and raises the top to where it reaches then.
-    pub fn grow<S: ChunkSource>(
+    pub(crate) fn grow<S: ChunkSource>(
         &mut self,
         source: &mut S,
         chunk: Chunk,
@@ -265,7 +265,7 @@ impl Books {
 
     /// Asks the source for a chunk, retires the current one, and places a block of n words at the
     /// new one's start, in room that there is.
-    pub fn take<S: ChunkSource>(
+    pub(crate) fn take<S: ChunkSource>(
         &mut self,
         source: &mut S,
         wanted: Level,

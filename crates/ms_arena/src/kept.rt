@@ -51,7 +51,7 @@ impl Model for Kept {
 
 impl Kept {
     /// Makes a collection of no block, which takes its memory from the allocator. Takes none yet.
-    pub fn new(alloc: Global) -> Kept
+    pub(crate) fn new(alloc: Global) -> Kept
         ensures { result.kept ≡ [] }
     {
         Kept {
@@ -62,7 +62,7 @@ impl Kept {
     }
 
     /// Takes all blocks out, and keeps the memory for those that come.
-    pub fn clear(&mut self, alloc: Global)
+    pub(crate) fn clear(&mut self, alloc: Global)
         ensures { self.new.kept ≡ [] }
     {
         self.ordered = FreeBlocks::new(alloc);
@@ -71,13 +71,13 @@ impl Kept {
     }
 
     /// Tells for how many blocks that come there is memory.
-    pub fn capacity(&self) -> usize {
+    pub(crate) fn capacity(&self) -> usize {
         self.came.capacity()
     }
 
     /// Puts all blocks in order, and makes room for so many more; the blocks stay.
     #[inline(always)]
-    pub fn make_room(&mut self, blocks: usize) -> Result<(), Refusal>
+    pub(crate) fn make_room(&mut self, blocks: usize) -> Result<(), Refusal>
         ensures room { OnOk result (blocks ≤ self.new.room) }
         ensures ordered { OnOk result (self.new.came ≡ 0) }
         ensures more { self.old.room ≤ self.new.room }
@@ -109,7 +109,7 @@ impl Kept {
     }
 
     /// Keeps one block more, of at least two words, in room that there is.
-    pub fn add(&mut self, block: Block)
+    pub(crate) fn add(&mut self, block: Block)
         requires room { 0 < self.old.room }
         requires words { 2 ≤ block.words }
         requires ends { block.start + block.words < 2 ^ 64 }
@@ -123,7 +123,7 @@ impl Kept {
 
     /// Takes out the best fit whole, where all blocks are in order.
     #[inline(always)]
-    pub fn remove(&mut self, words: u64) -> Option<Block>
+    pub(crate) fn remove(&mut self, words: u64) -> Option<Block>
         requires { self.old.came ≡ 0 }
         ensures best { IfSome result (λ block. IsBestFit self.old.kept words (run_of block)) }
         ensures answer { option_map run_of result ≡ best_fit self.old.kept words }
@@ -136,7 +136,7 @@ impl Kept {
     }
 
     /// Tells how many words the blocks have together.
-    pub fn total(&self) -> u64
+    pub(crate) fn total(&self) -> u64
         requires { words_in self.now.kept < 2 ^ 64 }
         ensures { result ≡ words_in self.now.kept }
     {

@@ -44,7 +44,7 @@ impl Model for Others {
 
 impl Others {
     /// Makes a list of no stretch, which takes its memory from the allocator. Takes none yet.
-    pub fn new(alloc: Global) -> Others
+    pub(crate) fn new(alloc: Global) -> Others
         ensures { result.entries ≡ [] }
     {
         Others {
@@ -53,7 +53,7 @@ impl Others {
     }
 
     /// Takes all stretches out, and keeps the memory that they had.
-    pub fn clear(&mut self)
+    pub(crate) fn clear(&mut self)
         ensures { self.new.entries ≡ [] }
     {
         match &mut self.table {
@@ -63,7 +63,7 @@ impl Others {
     }
 
     /// Tells for how many stretches there is memory.
-    pub fn capacity(&self) -> usize {
+    pub(crate) fn capacity(&self) -> usize {
         match &self.table {
             Table::Few(list) => list.capacity(),
             Table::Many(map) => map.capacity(),
@@ -71,7 +71,7 @@ impl Others {
     }
 
     /// Makes room for so many stretches more; the places stay.
-    pub fn reserve(&mut self, alloc: Global, stretches: usize) -> Result<(), AllocError>
+    pub(crate) fn reserve(&mut self, alloc: Global, stretches: usize) -> Result<(), AllocError>
         ensures room { OnOk result (stretches ≤ self.new.spare) }
         ensures stay { StayEntries self.old.entries self.new.entries }
     {
@@ -90,7 +90,7 @@ impl Others {
 
     /// Tells the place of a stretch, or 0 where it has none.
     #[inline(always)]
-    pub fn get(&self, stretch: usize) -> usize
+    pub(crate) fn get(&self, stretch: usize) -> usize
         ensures { result ≡ unwrap_or (lookup (nat_eq stretch) self.now.entries) 0 }
     {
         match &self.table {
@@ -103,7 +103,7 @@ impl Others {
     }
 
     /// Gives a stretch a place, in room that there is.
-    pub fn insert(&mut self, stretch: usize, place: usize)
+    pub(crate) fn insert(&mut self, stretch: usize, place: usize)
         requires { 0 < self.old.spare }
         ensures entered { Enters self.old.entries stretch place self.new.entries }
         ensures room { self.old.spare ≤ self.new.spare + 1 }

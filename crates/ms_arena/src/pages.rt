@@ -55,7 +55,7 @@ impl Model for Pages {
 
 impl Pages {
     /// Makes a list with no room. Takes no memory yet.
-    pub fn new(alloc: Global) -> Pages
+    pub(crate) fn new(alloc: Global) -> Pages
         ensures room { result.room ≡ 0 }
     {
         Pages {
@@ -66,7 +66,7 @@ impl Pages {
     }
 
     /// Makes room for so many words; the words stay.
-    pub fn reserve(&mut self, alloc: Global, words: usize) -> Result<(), AllocError>
+    pub(crate) fn reserve(&mut self, alloc: Global, words: usize) -> Result<(), AllocError>
         ensures room { OnOk result (words ≤ 512 * self.new.room) }
         ensures fits { OnOk result (512 * self.new.room < 2 ^ 63) }
         ensures more { self.old.room ≤ self.new.room }
@@ -102,19 +102,19 @@ impl Pages {
     }
 
     /// Tells how many pages there are in memory.
-    pub fn stored(&self) -> usize {
+    pub(crate) fn stored(&self) -> usize {
         self.store.len() / PAGE
     }
 
     /// Tells whether no word was ever written.
-    pub fn is_blank(&self) -> bool
+    pub(crate) fn is_blank(&self) -> bool
         ensures { IsTrue result → (at : ℕ) → word_at self.now at ≡ 0 }
     {
         self.store.is_empty()
     }
 
     /// Reads a word.
-    pub fn read(&self, at: usize) -> u64
+    pub(crate) fn read(&self, at: usize) -> u64
         ensures { result ≡ word_at self.now at }
     {
         let number = at / PAGE;
@@ -125,7 +125,7 @@ impl Pages {
     }
 
     /// Writes a word; the others stay.
-    pub fn write(&mut self, at: usize, value: u64)
+    pub(crate) fn write(&mut self, at: usize, value: u64)
         requires within { at < 512 * self.old.room }
         ensures written { word_at self.new at ≡ value }
         ensures others { (other : ℕ) → other ≢ at → word_at self.new other ≡ word_at self.old other }
@@ -139,7 +139,7 @@ impl Pages {
 
     /// Clears the words from one on up to an end.
     #[inline(always)]
-    pub fn clear(&mut self, from: usize, end: usize)
+    pub(crate) fn clear(&mut self, from: usize, end: usize)
         requires { from ≤ end }
         ensures { Clears self.old from end self.new }
     {

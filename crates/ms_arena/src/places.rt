@@ -63,7 +63,7 @@ impl Model for Places {
 
 impl Places {
     /// Makes a map of no place, which takes its memory from the allocator. Takes none yet.
-    pub fn new(alloc: Global) -> Places
+    pub(crate) fn new(alloc: Global) -> Places
         ensures { (stretch : ℕ) → place_of result stretch ≡ 0 }
     {
         Places {
@@ -74,7 +74,7 @@ impl Places {
     }
 
     /// Takes all places away, and keeps the memory that they had.
-    pub fn clear(&mut self)
+    pub(crate) fn clear(&mut self)
         ensures { (stretch : ℕ) → place_of self.new stretch ≡ 0 }
     {
         self.newest = None;
@@ -83,12 +83,12 @@ impl Places {
     }
 
     /// Tells for how many stretches there is memory.
-    pub fn capacity(&self) -> usize {
+    pub(crate) fn capacity(&self) -> usize {
         self.others.capacity()
     }
 
     /// Makes room for so many stretches more; the places stay.
-    pub fn reserve(&mut self, alloc: Global, stretches: usize) -> Result<(), AllocError>
+    pub(crate) fn reserve(&mut self, alloc: Global, stretches: usize) -> Result<(), AllocError>
         ensures room { OnOk result (stretches ≤ self.new.spare) }
         ensures stay { StayPlaces self.old self.new }
     {
@@ -98,7 +98,7 @@ impl Places {
 
     /// Tells the place of a stretch, counted from 1, or 0 where it has none.
     #[inline(always)]
-    pub fn get(&self, stretch: usize) -> usize
+    pub(crate) fn get(&self, stretch: usize) -> usize
         ensures { result ≡ place_of self.now stretch }
     {
         if let Some(newest) = self.newest {
@@ -110,7 +110,7 @@ impl Places {
     }
 
     /// Gives a stretch a place, in room that there is.
-    pub fn put(&mut self, stretch: usize, place: usize)
+    pub(crate) fn put(&mut self, stretch: usize, place: usize)
         requires room { 0 < self.old.spare }
         requires some { 0 < place }
         ensures put { (other : ℕ) → place_of self.new other
@@ -121,7 +121,7 @@ impl Places {
     }
 
     /// Tells whether all stretches from one up to another are known to have places.
-    pub fn has_all(&self, first: usize, past: usize) -> bool
+    pub(crate) fn has_all(&self, first: usize, past: usize) -> bool
         ensures { IsTrue result
             → (stretch : ℕ) → first ≤ stretch → stretch < past → 0 < place_of self.now stretch }
     {
@@ -135,7 +135,7 @@ impl Places {
     }
 
     /// Notes that all stretches from one up to another have places.
-    pub fn note(&mut self, first: usize, past: usize)
+    pub(crate) fn note(&mut self, first: usize, past: usize)
         requires order { first ≤ past }
         requires places { (stretch : ℕ) → first ≤ stretch → stretch < past → 0 < place_of self.old stretch }
         ensures { self.new ≡ self.old }

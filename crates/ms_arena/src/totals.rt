@@ -26,7 +26,7 @@ pub struct ArenaTotals {
 }
 
 /// Tells the words of an account's chunks, and those of their fronts.
-pub fn sums_of(account: &Account) -> (u64, u64)
+pub(crate) fn sums_of(account: &Account) -> (u64, u64)
     ensures capacity { result.0 ≡ capacity_of account.now.chunks }
     ensures fronts { result.1 ≡ fronts_of account.now.chunks }
     ensures small { result.0 < 2 ^ 52 }

@@ -51,7 +51,7 @@ impl Model for Words {
 
 impl Words {
     /// Makes a list of no place, which takes its memory from the allocator. Takes none yet.
-    pub fn new(alloc: Global) -> Words
+    pub(crate) fn new(alloc: Global) -> Words
         ensures { (word : ℕ) → place_at result word ≡ 0 }
     {
         Words {
@@ -64,7 +64,7 @@ impl Words {
 
     /// Takes all places away, and keeps the memory that they had. What the words held stays there,
     /// and is cleared where a place is given again.
-    pub fn clear(&mut self)
+    pub(crate) fn clear(&mut self)
         ensures { (word : ℕ) → place_at self.new word ≡ 0 }
     {
         self.places.clear();
@@ -73,13 +73,13 @@ impl Words {
     }
 
     /// Tells for how many stretches there is memory, and how many pages of words are in it.
-    pub fn sizes(&self) -> (usize, usize) {
+    pub(crate) fn sizes(&self) -> (usize, usize) {
         (self.places.capacity(), self.list.stored())
     }
 
     /// Makes room for a run of n words; the words stay.
     #[inline(always)]
-    pub fn reserve(&mut self, alloc: Global, n: u64) -> Result<(), AllocError>
+    pub(crate) fn reserve(&mut self, alloc: Global, n: u64) -> Result<(), AllocError>
         ensures room { OnOk result (HasRoom self.new n) }
         ensures stay { StayWords self.old self.new }
     {
@@ -107,7 +107,7 @@ impl Words {
     }
 
     /// Reads a word.
-    pub fn read(&self, word: u64) -> u64
+    pub(crate) fn read(&self, word: u64) -> u64
         ensures { result ≡ value_at self.now word }
     {
         let place = self.places.get(word as usize / STRETCH);
@@ -119,7 +119,7 @@ impl Words {
     }
 
     /// Writes a word that is there.
-    pub fn write(&mut self, word: u64, value: u64)
+    pub(crate) fn write(&mut self, word: u64, value: u64)
         requires { IsThere self.old word }
         ensures { Writes self.old word value self.new }
     {
@@ -131,7 +131,7 @@ impl Words {
     /// Opens a run of n words, which are there and 0 then, in room that there is. Most runs lie in
     /// one stretch.
     #[inline(always)]
-    pub fn open(&mut self, start: u64, n: u64)
+    pub(crate) fn open(&mut self, start: u64, n: u64)
         requires some { 0 < n }
         requires room { HasRoom self.old n }
         requires ends { start + n < 2 ^ 27 }

@@ -19,7 +19,7 @@ const ROOM: usize = 48;
 pub type Placed = (usize, u64);
 
 /// Appends four numbers, each right in its places, and the line's end.
-pub fn push_four(
+pub(crate) fn push_four(
     text: &mut String,
     first: Placed,
     second: Placed,
@@ -43,7 +43,7 @@ pub fn push_four(
 
 /// Appends a number and what stands after it, in one piece.
 #[inline(always)]
-pub fn push_before(text: &mut String, number: u64, word: &str) -> Result<(), AllocError>
+pub(crate) fn push_before(text: &mut String, number: u64, word: &str) -> Result<(), AllocError>
     requires ascii { IsAscii word.now }
     requires room { length word.now ≤ 28 }
     ensures { OnOk result (string_bytes text.new
@@ -56,7 +56,12 @@ pub fn push_before(text: &mut String, number: u64, word: &str) -> Result<(), All
 
 /// Appends two numbers with a word between them, and the line's end, in one piece.
 #[inline(always)]
-pub fn push_both(text: &mut String, number: u64, word: &str, last: u64) -> Result<(), AllocError>
+pub(crate) fn push_both(
+    text: &mut String,
+    number: u64,
+    word: &str,
+    last: u64,
+) -> Result<(), AllocError>
     requires ascii { IsAscii word.now }
     requires room { length word.now ≤ 7 }
     ensures { OnOk result (string_bytes text.new

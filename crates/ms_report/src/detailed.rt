@@ -61,7 +61,7 @@ pub fn full_text(
 }
 
 /// Appends a report with as much detail as is asked for.
-pub fn push_detailed(
+pub(crate) fn push_detailed(
     text: &mut String,
     detail: Detail,
     settings: &Settings,

@@ -47,7 +47,7 @@ impl Model for DoneLine {
 
 impl DoneLine {
     /// Makes the line of 0.
-    pub fn first() -> DoneLine {
+    pub(crate) fn first() -> DoneLine {
         DoneLine {
             bytes: *b"                   0 ok\n            ",
             from: ONES,
@@ -57,7 +57,7 @@ impl DoneLine {
 
     /// Appends the line of a number to a text.
     #[inline(always)]
-    pub fn push_to(&mut self, text: &mut String, number: u32) -> Result<(), AllocError>
+    pub(crate) fn push_to(&mut self, text: &mut String, number: u32) -> Result<(), AllocError>
         ensures { OnOk result (string_bytes text.new
             ≡ string_bytes text.old ++ (decimal number ++ codes " ok\n")) }
     {

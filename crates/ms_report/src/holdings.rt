@@ -26,7 +26,7 @@ const HEADINGS: &str =
     "Loaders by space\n   name        kind      space  chunks  capacity    fronts      used      live  free blocks     waste\n";
 
 /// Appends the table of what each loader holds.
-pub fn push_holdings(text: &mut String, loaders: &[LoaderDetails]) -> Result<(), AllocError>
+pub(crate) fn push_holdings(text: &mut String, loaders: &[LoaderDetails]) -> Result<(), AllocError>
     ensures { OnOk result (string_bytes text.new
         ≡ string_bytes text.old ++ holdings_part (map loader_in loaders.now)) }
 {

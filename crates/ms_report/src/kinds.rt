@@ -131,7 +131,7 @@ fn both(amount: u64, class_amount: u64) -> u128
 }
 
 /// Appends the table of kinds.
-pub fn push_kinds(text: &mut String, loaders: &[LoaderDetails]) -> Result<(), AllocError>
+pub(crate) fn push_kinds(text: &mut String, loaders: &[LoaderDetails]) -> Result<(), AllocError>
     ensures { OnOk result (string_bytes text.new
         ≡ string_bytes text.old ++ kinds_part (map loader_in loaders.now)) }
 {
@@ -191,7 +191,7 @@ fn push_sums(text: &mut String, totals: &KindTotals) -> Result<(), AllocError>
 }
 
 /// Tells the word of a kind, right in its column.
-pub fn kind_cell(kind: Kind) -> &'static str
+pub(crate) fn kind_cell(kind: Kind) -> &'static str
     ensures cell { result.now ≡ right_in 12 (kind_text kind) }
     ensures long { length result.now ≡ 12 }
     ensures ascii { IsAscii result.now }

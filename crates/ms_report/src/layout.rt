@@ -32,7 +32,11 @@ fn push_spaces(text: &mut String, count: usize) -> Result<(), AllocError>
 }
 
 /// Appends a line with a label and a number, each in a column of its own.
-pub fn push_number_line(text: &mut String, label: &str, number: u64) -> Result<(), AllocError>
+pub(crate) fn push_number_line(
+    text: &mut String,
+    label: &str,
+    number: u64,
+) -> Result<(), AllocError>
     ensures { OnOk result (string_bytes text.new
         ≡ string_bytes text.old ++ number_line label.now number) }
 {
@@ -43,7 +47,10 @@ pub fn push_number_line(text: &mut String, label: &str, number: u64) -> Result<(
 }
 
 /// Appends a line for each label with its number.
-pub fn push_number_lines(text: &mut String, rows: &[(&'static str, u64)]) -> Result<(), AllocError>
+pub(crate) fn push_number_lines(
+    text: &mut String,
+    rows: &[(&'static str, u64)],
+) -> Result<(), AllocError>
     ensures { OnOk result (string_bytes text.new
         ≡ string_bytes text.old ++ number_lines (pairs_in rows.now)) }
 {
@@ -54,7 +61,7 @@ pub fn push_number_lines(text: &mut String, rows: &[(&'static str, u64)]) -> Res
 }
 
 /// Appends a number of 128 bits with spaces before it to so many places.
-pub fn push_wide(text: &mut String, places: usize, number: u128) -> Result<(), AllocError>
+pub(crate) fn push_wide(text: &mut String, places: usize, number: u128) -> Result<(), AllocError>
     ensures { OnOk result (string_bytes text.new
         ≡ string_bytes text.old ++ right_in places (decimal number)) }
 {
@@ -63,7 +70,7 @@ pub fn push_wide(text: &mut String, places: usize, number: u128) -> Result<(), A
 }
 
 /// Appends numbers of 128 bits, each right in its places.
-pub fn push_wides(text: &mut String, columns: &[(usize, u128)]) -> Result<(), AllocError>
+pub(crate) fn push_wides(text: &mut String, columns: &[(usize, u128)]) -> Result<(), AllocError>
     ensures { OnOk result (string_bytes text.new
         ≡ string_bytes text.old ++ all_placed columns.now) }
 {
@@ -74,7 +81,7 @@ pub fn push_wides(text: &mut String, columns: &[(usize, u128)]) -> Result<(), Al
 }
 
 /// Appends two spaces, and a label with spaces after it to the places of a column.
-pub fn push_label(text: &mut String, label: &str) -> Result<(), AllocError>
+pub(crate) fn push_label(text: &mut String, label: &str) -> Result<(), AllocError>
     ensures { OnOk result (string_bytes text.new
         ≡ string_bytes text.old ++ (codes "  " ++ left_in 12 label.now)) }
 {

@@ -53,7 +53,7 @@ impl Model for Line {
 impl Line {
     /// Makes the line's end.
     #[inline(always)]
-    pub fn end() -> Line
+    pub(crate) fn end() -> Line
         ensures { result ≡ codes "\n" }
     {
         let mut bytes = [b' '; ROOM];
@@ -63,7 +63,7 @@ impl Line {
 
     /// Makes a line of nothing, which goes on after what is put.
     #[inline(always)]
-    pub fn open() -> Line
+    pub(crate) fn open() -> Line
         ensures { result ≡ [] }
     {
         Line {
@@ -74,7 +74,7 @@ impl Line {
 
     /// Puts a number before what is written, right in its places.
     #[inline(always)]
-    pub fn put_right(&mut self, places: usize, number: u64)
+    pub(crate) fn put_right(&mut self, places: usize, number: u64)
         requires places { places ≤ 20 }
         requires room { length self.old + 20 ≤ 192 }
         ensures written { self.new ≡ right_in places (decimal number) ++ self.old }
@@ -87,7 +87,7 @@ impl Line {
 
     /// Puts a word before what is written.
     #[inline(always)]
-    pub fn put_word(&mut self, word: &str)
+    pub(crate) fn put_word(&mut self, word: &str)
         requires ascii { IsAscii word.now }
         requires room { length self.old + length word.now ≤ 192 }
         ensures { self.new ≡ word.now ++ self.old }
@@ -100,7 +100,7 @@ impl Line {
 
     /// Appends the line to a text.
     #[inline(always)]
-    pub fn push_to(&self, text: &mut String) -> Result<(), AllocError>
+    pub(crate) fn push_to(&self, text: &mut String) -> Result<(), AllocError>
         ensures { OnOk result (string_bytes text.new ≡ string_bytes text.old ++ self.now) }
     {
         push_ascii(text, &self.bytes[self.from..])
@@ -109,7 +109,7 @@ impl Line {
 
 /// Appends bytes that are ASCII, and so a text.
 #[inline(always)]
-pub fn push_ascii(text: &mut String, bytes: &[u8]) -> Result<(), AllocError>
+pub(crate) fn push_ascii(text: &mut String, bytes: &[u8]) -> Result<(), AllocError>
     requires { IsAscii bytes.now }
     ensures { OnOk result (string_bytes text.new ≡ string_bytes text.old ++ bytes.now) }
 {

@@ -35,7 +35,7 @@ pub fn map_text(alloc: Global, maps: &[RootMap]) -> Result<String, AllocError>
 }
 
 /// Appends the maps of roots.
-pub fn push_maps(text: &mut String, maps: &[RootMap]) -> Result<(), AllocError>
+pub(crate) fn push_maps(text: &mut String, maps: &[RootMap]) -> Result<(), AllocError>
     ensures { OnOk result (string_bytes text.new
         ≡ string_bytes text.old ++ map_part (map map_in maps.now)) }
 {

@@ -20,7 +20,7 @@ use std::alloc::AllocError;
 const HEADINGS: &str = "Peaks\n                    number        size\n";
 
 /// Appends the peaks, where they are told.
-pub fn push_peaks(
+pub(crate) fn push_peaks(
     text: &mut String,
     settings: &Settings,
     peaks: Option<Peaks>,

@@ -71,7 +71,7 @@ pub fn tally(answers: &[Answer]) -> Refusals
 }
 
 /// Counts one more reply.
-pub fn count(counts: &mut Refusals, reply: Reply)
+pub(crate) fn count(counts: &mut Refusals, reply: Reply)
     requires { AreFew (2 ^ 63) counts.old }
     ensures { counts.new ≡ with_reply counts.old reply }
 {
@@ -103,7 +103,7 @@ fn count_refusal(counts: &mut Refusals, refusal: Refusal)
 }
 
 /// Appends the numbers of refused lines.
-pub fn push_refused(text: &mut String, counts: &Refusals) -> Result<(), AllocError>
+pub(crate) fn push_refused(text: &mut String, counts: &Refusals) -> Result<(), AllocError>
     ensures { OnOk result (string_bytes text.new
         ≡ string_bytes text.old ++ refused_part counts.now) }
 {

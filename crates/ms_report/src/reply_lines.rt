@@ -20,7 +20,7 @@ use std::alloc::AllocError;
 
 /// Appends the line of an answer, and its report, with the refusals of the answers before it.
 #[inline(always)]
-pub fn push_answer(
+pub(crate) fn push_answer(
     text: &mut String,
     done: &mut DoneLine,
     addresses: bool,

@@ -40,7 +40,7 @@ pub fn text(alloc: Global, totals: &Totals) -> Result<String, AllocError>
 }
 
 /// Appends the report that shows these totals.
-pub fn push_report(text: &mut String, totals: &Totals) -> Result<(), AllocError>
+pub(crate) fn push_report(text: &mut String, totals: &Totals) -> Result<(), AllocError>
     ensures { OnOk result (string_bytes text.new
         ≡ string_bytes text.old ++ report_text (sums_in totals.now)) }
 {
@@ -172,7 +172,7 @@ fn push_row(text: &mut String, row: &LoaderRow) -> Result<(), AllocError>
 
 /// Puts the first two columns of a loader's line, with the spaces before them.
 #[inline(always)]
-pub fn put_name(line: &mut Line, name: u16, kind: Kind)
+pub(crate) fn put_name(line: &mut Line, name: u16, kind: Kind)
     requires { length line.old + 32 ≤ 192 }
     ensures { line.new
         ≡ codes "  " ++ (right_in 5 (decimal name) ++ (right_in 12 (kind_text kind) ++ line.old)) }

@@ -15,7 +15,7 @@ use ms_base::{Policy, Settings, granule};
 use std::alloc::AllocError;
 
 /// Appends the settings of a run.
-pub fn push_settings(text: &mut String, settings: &Settings) -> Result<(), AllocError>
+pub(crate) fn push_settings(text: &mut String, settings: &Settings) -> Result<(), AllocError>
     ensures { OnOk result (string_bytes text.new
         ≡ string_bytes text.old ++ settings_part settings.now) }
 {

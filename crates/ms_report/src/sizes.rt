@@ -19,7 +19,7 @@ const KB: u128 = 128;
 const MB: u128 = 131_072;
 
 /// Appends a label, a number and a size for people, each in its column.
-pub fn push_sized(
+pub(crate) fn push_sized(
     text: &mut String,
     label: &str,
     number: u128,
@@ -55,7 +55,7 @@ fn push_units(text: &mut String, unit: u128, words: u128) -> Result<(), AllocErr
 }
 
 /// Appends a number with one digit after its point.
-pub fn push_pointed(
+pub(crate) fn push_pointed(
     text: &mut String,
     places: usize,
     whole: u128,

@@ -1,7 +1,7 @@
 //! The places that loaders have for blocks in the chunks that they hold.
 //!
-//! A loader asks a source where its own places don't serve. Here the source has no chunk and lets none
-//! grow, so a block is had exactly where it needs none. Stands on `probing`.
+//! A loader asks a source where its own places don't serve. Here the source has no chunk and lets
+//! none grow, so a block is had exactly where it needs none. Stands on `probing`.
 use crate::probing::{Places, tell_places};
 use crate::row::{tell, unprepared};
 use ms_base::{Block, Level, Refusal, Space, Span};

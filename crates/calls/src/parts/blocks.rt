@@ -1,4 +1,5 @@
-//! The rows of free blocks: room is made for more; in the room that there is they are added and removed.
+//! The rows of free blocks: room is made for more; in the room that there is they are added and
+//! removed.
 use crate::probing::{Places, tell_places};
 use crate::row::{Answer, Probed, Row, line, mark, tell, told, unprepared};
 use ms_base::Block;

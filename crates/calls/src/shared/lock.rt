@@ -1,5 +1,5 @@
-//! The rows of a lock: a pool is put behind it; a seat's account grows, and is handed to another, which
-//! closes it; accounts are opened and closed, nodes are purged, and the pool comes back.
+//! The rows of a lock: a pool is put behind it; a seat's account grows, and is handed to another,
+//! which closes it; accounts are opened and closed, nodes are purged, and the pool comes back.
 ghost use Rattle.std.specs.Prelude.{◌≡◌, ◌<◌, IfOk, IfSome};
 ghost use Rattle.ms_shared.specs.SeatView.{ServesBy, opened_by};
 

@@ -1,5 +1,5 @@
-//! Calls over the lock, each with the seat that it is made from: the seat comes back, once the answer
-//! is told.
+//! Calls over the lock, each with the seat that it is made from: the seat comes back, once the
+//! answer is told.
 ghost use Rattle.std.specs.Prelude.{◌≡◌, ◌<◌, IfSome};
 ghost use Rattle.ms_shared.specs.SeatView.{ServesBy, opened_by};
 

@@ -6,7 +6,8 @@ use ms_loaders::{Details, Peaks, System, Totals};
 use std::alloc::{AllocError, Global};
 use std::io;
 
-/// The first steps of a system: two loaders, one with blocks in a node, the other in the class space.
+/// The first steps of a system: two loaders, one with blocks in a node, the other in the class
+/// space.
 const STEPS: [Step; 5] = [
     Step::New {
         loader: 1,
@@ -114,8 +115,8 @@ fn detailed_totals(system: &System) -> Result<Totals, AllocError> {
     Ok(totals)
 }
 
-/// Tells sums: those over each space, the row of each loader, the peaks and the details where there are
-/// some.
+/// Tells sums: those over each space, the row of each loader, the peaks and the details where there
+/// are some.
 pub fn tell_totals(rt: &HostRuntime, totals: &Totals) {
     tell(rt, &totals.loaders);
     tell(rt, &totals.space);

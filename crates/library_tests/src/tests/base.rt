@@ -1,5 +1,5 @@
-//! What no clause of ms_base says: the texts of refusals. The rows of levels and growth show that the
-//! definitions which the contracts cite are the ones that were meant.
+//! What no clause of ms_base says: the texts of refusals. The rows of levels and growth show that
+//! the definitions which the contracts cite are the ones that were meant.
 use super::same;
 use ms_base::{Kind, Level, Refusal, Space, growth, level_for};
 use std::alloc::{AllocError, Global};

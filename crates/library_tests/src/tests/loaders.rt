@@ -1,6 +1,7 @@
-//! What no clause says: that memory which is there is given, to a loader over a pool and to a system
-//! that is run. Each expected value was worked out apart from ms_loaders; traces that were worked by
-//! hand are rows of the system tests, which ask it of the program and, growth by growth, of calls.
+//! What no clause says: that memory which is there is given, to a loader over a pool and to a
+//! system that is run. Each expected value was worked out apart from ms_loaders; traces that were
+//! worked by hand are rows of the system tests, which ask it of the program and, growth by growth,
+//! of calls.
 use super::reports::ONE_BLOCK;
 use super::same;
 use ms_base::{Block, Kind, Policy, Refusal, Reply, Settings, Space, Step};
@@ -75,7 +76,8 @@ const STEPS: [Step; 2] = [
     },
 ];
 
-/// Serves one step over a new pool, where there is no loader: the reply, and how many there are then.
+/// Serves one step over a new pool, where there is no loader: the reply, and how many there are
+/// then.
 fn served(rt: &(impl Abort + AllocGlobal), step: Step) -> (Reply, usize) {
     let mut pool = Pool::new(rt.alloc(), SETTINGS).expect(rt, "memory is ample");
     let mut loaders = Loaders::new(rt.alloc());

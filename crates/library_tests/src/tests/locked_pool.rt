@@ -1,6 +1,6 @@
-//! What no clause says: that calls over the lock find memory, threads and the pool, that threads which
-//! run beside each other are lent different parts, and what totals and refusals count beside the
-//! caller's own. Everything else is in the clauses.
+//! What no clause says: that calls over the lock find memory, threads and the pool, that threads
+//! which run beside each other are lent different parts, and what totals and refusals count beside
+//! the caller's own. Everything else is in the clauses.
 ghost use Rattle.std.specs.Prelude.{◌≡◌, ◌<◌, ◌≤◌, IfOk, IfSome};
 ghost use Rattle.std.specs.List.{All};
 ghost use Rattle.ms_base.specs.Level.{size_of};

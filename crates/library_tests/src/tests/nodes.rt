@@ -33,15 +33,16 @@ fn unreserve(nodes: &mut Nodes, slot: u32) {
     }
 }
 
-/// The slots that were reserved, the granules that were newly committed, and how many were committed
-/// before and after the slot was given back.
+/// The slots that were reserved, the granules that were newly committed, and how many were
+/// committed before and after the slot was given back.
 type Answers = (
     [Result<u32, Refusal>; 3],
     [Option<Result<u64, Refusal>>; 5],
     [u64; 2],
 );
 
-/// Calls one node and two of the class space, of which five granules of 2048 words may be committed.
+/// Calls one node and two of the class space, of which five granules of 2048 words may be
+/// committed.
 fn called() -> Answers {
     let mut nodes = Nodes::new(1, 5, 2048, 2);
     let (first, second) = (nodes.reserve(), nodes.reserve());

@@ -1,6 +1,6 @@
-//! What no clause says, and no trace of the program shows: the largest reports that the limits allow,
-//! the names of all refusals, and a map of given roots, byte for byte. Other reports, and each part of
-//! a full one, the system tests compare.
+//! What no clause says, and no trace of the program shows: the largest reports that the limits
+//! allow, the names of all refusals, and a map of given roots, byte for byte. Other reports, and
+//! each part of a full one, the system tests compare.
 
 use super::same;
 use ms_base::{Kind, Policy, Refusal, Reply, Settings};

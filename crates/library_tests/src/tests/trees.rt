@@ -1,5 +1,5 @@
-//! What no clause says: that a carve succeeds where memory is ample, what a tree keeps of its memory
-//! and gives back, and leaves worked by hand.
+//! What no clause says: that a carve succeeds where memory is ample, what a tree keeps of its
+//! memory and gives back, and leaves worked by hand.
 ghost use Rattle.std.specs.Prelude.{◌<◌, ◌≤◌};
 ghost use Rattle.ms_base.specs.declared.sizes.TheConstants.{ROOT_WORDS};
 
