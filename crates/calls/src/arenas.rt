@@ -12,7 +12,7 @@ use std::io;
 use std::marker::Model;
 
 /// Tells the row.
-pub fn tell_all(rt: &HostRuntime) -> io::Result<()> {
+pub(crate) fn tell_all(rt: &HostRuntime) -> io::Result<()> {
     let (mut pool, account) = opened(rt.alloc())?;
     let mut arena = Arena::new(rt.alloc(), account, Kind::Reflection);
     let (first, second) = (arena.alloc(&mut pool, 10), arena.alloc(&mut pool, 4000));
@@ -110,7 +110,7 @@ fn tell_live(rt: &HostRuntime, arena: &Arena, words: u64) {
 
 /// How an arena is asked for a block.
 #[derive(Clone, Copy)]
-pub enum Asked {
+pub(crate) enum Asked {
     /// Where it needs no chunk.
     Place,
     /// Wherever it may be.
@@ -119,7 +119,7 @@ pub enum Asked {
 
 /// An arena over a pool, and how it is asked for a block.
 #[derive(Drop)]
-pub struct Allocating {
+pub(crate) struct Allocating {
     pool: Pool,
     arena: Arena,
     asked: Asked,
@@ -139,7 +139,7 @@ impl Model for Allocating {
 impl Allocating {
     /// Prepares an arena of two chunks, a retired one and the current one, with a live block and
     /// free ones in each.
-    pub fn prepared(alloc: Global, asked: Asked) -> io::Result<Allocating> {
+    pub(crate) fn prepared(alloc: Global, asked: Asked) -> io::Result<Allocating> {
         let mut row = Allocating::new(alloc, asked)?;
         match row.fill() {
             Ok(()) => Ok(row),

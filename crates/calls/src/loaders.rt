@@ -1,6 +1,6 @@
 //! The rows of loaders by name: one is put among them; their words are written and read, blocks are
 //! freed, they go.
-pub mod held;
+pub(crate) mod held;
 
 use crate::loaders::held::tell_all_places;
 use crate::pools::{account_lines, tell_account};
@@ -13,7 +13,7 @@ use std::alloc::Global;
 use std::{io, mem};
 
 /// Tells the row.
-pub fn tell_all(rt: &HostRuntime) -> io::Result<()> {
+pub(crate) fn tell_all(rt: &HostRuntime) -> io::Result<()> {
     let system = filled(rt.alloc(), &HIDDEN)?;
     mark(rt, "loaders");
     let (mut pool, mut loaders) = system.into_parts();
@@ -139,14 +139,14 @@ fn tell_loader(rt: &HostRuntime, loader: &Loader) {
 
 /// Loaders, and one that is to be put under its name.
 #[derive(Drop)]
-pub struct Inserting {
+pub(crate) struct Inserting {
     loaders: Loaders,
     loader: Option<Loader>,
 }
 
 impl Inserting {
     /// Prepares a loader with a block, and none under a name.
-    pub fn prepared(alloc: Global) -> io::Result<Inserting> {
+    pub(crate) fn prepared(alloc: Global) -> io::Result<Inserting> {
         let (pool, mut others) = filled(alloc, &FREED)?.into_parts();
         drop(pool);
         let loader = others.remove(2);

@@ -1,5 +1,5 @@
 //! The rows of what stands below a pool: sizes, nodes, split trees and free blocks.
-pub mod blocks;
-pub mod nodes;
-pub mod sizes;
-pub mod tree;
+pub(crate) mod blocks;
+pub(crate) mod nodes;
+pub(crate) mod sizes;
+pub(crate) mod tree;

@@ -2,8 +2,8 @@
 ghost use Rattle.std.specs.Prelude.{◌≡◌, [], IfOk};
 ghost use Rattle.ms_pool.specs.Ledger.{Serves};
 
-pub mod accounts;
-pub mod maps;
+pub(crate) mod accounts;
+pub(crate) mod maps;
 
 use crate::row::{Answer, Row, line, say, served, tell, told, unprepared};
 use ms_base::{Level, Policy, Settings, Space};
@@ -13,7 +13,7 @@ use std::io;
 use std::marker::Model;
 
 /// The settings of all rows: two nodes, and one of the class space.
-pub const SETTINGS: Settings = Settings {
+pub(crate) const SETTINGS: Settings = Settings {
     workers: 2,
     nodes: 2,
     max_granules: 100,
@@ -22,14 +22,14 @@ pub const SETTINGS: Settings = Settings {
 };
 
 /// How many granules there are at most, of 8192 words: 128 in each of 80 nodes.
-pub const GRANULES: u64 = 10240;
+pub(crate) const GRANULES: u64 = 10240;
 
 /// How many chunks of the lowest level, of 128 words, there are at most.
-pub const SMALLEST: u64 = 655360;
+pub(crate) const SMALLEST: u64 = 655360;
 
 /// Tells a pool: the sums over each space, what counts beside the limits, which granules are
 /// committed, and to whom words are lent.
-pub fn tell_pool(rt: &HostRuntime, pool: &Pool) {
+pub(crate) fn tell_pool(rt: &HostRuntime, pool: &Pool) {
     tell(rt, &pool.all_totals(Space::NonClass));
     tell(rt, &pool.all_totals(Space::Class));
     tell(rt, &pool.counts());
@@ -54,7 +54,7 @@ fn tell_owners(rt: &HostRuntime, pool: &Pool) {
 }
 
 /// Tells an account: its space, and its chunks in the order taken.
-pub fn tell_account(rt: &HostRuntime, account: &Account) {
+pub(crate) fn tell_account(rt: &HostRuntime, account: &Account) {
     tell(rt, &account.space());
     for place in 0..account.held() {
         tell(rt, &account.chunk(place));
@@ -63,7 +63,7 @@ pub fn tell_account(rt: &HostRuntime, account: &Account) {
 
 /// Tells an account on lines of its own: its owner's number, its space, and its chunks in the order
 /// taken.
-pub fn account_lines(rt: &HostRuntime, about: &str, account: &Account) {
+pub(crate) fn account_lines(rt: &HostRuntime, about: &str, account: &Account) {
     line(rt, about, &(account.owner(), account.space()));
     for place in 0..account.held() {
         line(rt, about, &account.chunk(place));
@@ -71,7 +71,7 @@ pub fn account_lines(rt: &HostRuntime, about: &str, account: &Account) {
 }
 
 /// Makes a pool with no node but the class space's, and an account of it that holds no chunk.
-pub fn opened(alloc: Global) -> io::Result<(Pool, Account)>
+pub(crate) fn opened(alloc: Global) -> io::Result<(Pool, Account)>
     ensures served { IfOk result (λ made. Serves made.0 made.1) }
     ensures empty { IfOk result (λ made. made.1.chunks ≡ []) }
 {
@@ -84,14 +84,14 @@ pub fn opened(alloc: Global) -> io::Result<(Pool, Account)>
 
 /// A pool that is to be made.
 #[derive(Drop)]
-pub struct Making {
+pub(crate) struct Making {
     alloc: Global,
     pool: Option<Pool>,
 }
 
 impl Making {
     /// Prepares nothing.
-    pub fn prepared(alloc: Global) -> io::Result<Making> {
+    pub(crate) fn prepared(alloc: Global) -> io::Result<Making> {
         Ok(Making { alloc, pool: None })
     }
 }
@@ -118,7 +118,7 @@ impl Row for Making {
 
 /// A pool and an account of it, to which a chunk is to be lent.
 #[derive(Drop)]
-pub struct Taking {
+pub(crate) struct Taking {
     pool: Pool,
     account: Account,
 }
@@ -136,7 +136,7 @@ impl Model for Taking {
 
 impl Taking {
     /// Prepares a pool with no node but the class space's, and an account that holds no chunk.
-    pub fn prepared(alloc: Global) -> io::Result<Taking> {
+    pub(crate) fn prepared(alloc: Global) -> io::Result<Taking> {
         let (pool, account) = opened(alloc)?;
         Ok(Taking { pool, account })
     }

@@ -18,14 +18,14 @@ const MOST_WORDS: u64 = 8192;
 const MOST_PLACES: u32 = 4;
 
 /// What has places for blocks.
-pub trait Places {
+pub(crate) trait Places {
     /// Has a block of so many words, two at least. Answers `None` where there is no place for one,
     /// and fails where it lacks memory.
     fn have(&mut self, words: u64) -> io::Result<Option<Block>>;
 }
 
 /// Asks for blocks of falling sizes, and tells those that were had.
-pub fn tell_places<P: Places>(rt: &HostRuntime, places: &mut P) -> io::Result<()> {
+pub(crate) fn tell_places<P: Places>(rt: &HostRuntime, places: &mut P) -> io::Result<()> {
     for fewer in 0..MOST_WORDS - 1 {
         tell_places_of(rt, places, MOST_WORDS - fewer)?;
     }

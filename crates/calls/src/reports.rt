@@ -13,7 +13,7 @@ use std::alloc::{AllocError, Global};
 use std::io;
 
 /// Tells the row.
-pub fn tell_all(rt: &HostRuntime) -> io::Result<()> {
+pub(crate) fn tell_all(rt: &HostRuntime) -> io::Result<()> {
     let totals = filled_totals(rt.alloc(), &HIDDEN)?;
     mark(rt, "report");
     tell_usages(rt, &weigh(&totals, &SETTINGS));
@@ -75,7 +75,7 @@ const REFUSALS: Refusals = Refusals {
 
 /// What is to be written.
 #[derive(Clone, Copy)]
-pub enum Written {
+pub(crate) enum Written {
     /// A report.
     Text,
     /// A full report.
@@ -86,7 +86,7 @@ pub enum Written {
 
 /// Sums of which something is to be written.
 #[derive(Drop)]
-pub struct Reporting {
+pub(crate) struct Reporting {
     alloc: Global,
     totals: Totals,
     written: Written,
@@ -94,7 +94,7 @@ pub struct Reporting {
 
 impl Reporting {
     /// Prepares the sums of a system with loaders and blocks.
-    pub fn prepared(alloc: Global, written: Written) -> io::Result<Reporting> {
+    pub(crate) fn prepared(alloc: Global, written: Written) -> io::Result<Reporting> {
         let totals = filled_totals(alloc, &FREED)?;
         Ok(Reporting {
             alloc,
@@ -152,14 +152,14 @@ fn tell_text(rt: &HostRuntime, made: Result<String, AllocError>) -> Answer {
 
 /// Replies that are to be written.
 #[derive(Drop)]
-pub struct Replying {
+pub(crate) struct Replying {
     alloc: Global,
     replies: Replies,
 }
 
 impl Replying {
     /// Prepares a reply of each sort, the last with the sums of a system.
-    pub fn prepared(alloc: Global) -> io::Result<Replying> {
+    pub(crate) fn prepared(alloc: Global) -> io::Result<Replying> {
         let report = Box::new(alloc, filled_totals(alloc, &FREED)?)?;
         let answers = answers_with(alloc, report)?;
         let replies = Replies { answers };

@@ -6,7 +6,7 @@ use std::io::{self, ErrorKind};
 
 /// How a call was answered.
 #[derive(Clone, Copy, PartialEq, Eq)]
-pub enum Answer {
+pub(crate) enum Answer {
     /// It was served.
     Served,
     /// A growth was refused.
@@ -14,7 +14,7 @@ pub enum Answer {
 }
 
 /// A state, and a call on it that takes memory.
-pub trait Row {
+pub(crate) trait Row {
     /// Tells the state, and leaves it: the rest of a line. It fails where it lacks memory of its
     /// own.
     fn tell_state(&mut self, rt: &HostRuntime) -> io::Result<()>;
@@ -24,14 +24,14 @@ pub trait Row {
 }
 
 /// A row whose state keeps what no call tells.
-pub trait Probed: Row + Drop + Sized {
+pub(crate) trait Probed: Row + Drop + Sized {
     /// Makes calls that use up what the state keeps, and tells what they give: the rest of a line.
     /// It fails where it lacks memory of its own.
     fn probe(self, rt: &HostRuntime) -> io::Result<()>;
 }
 
 /// Tells a row, once it is prepared.
-pub fn tell_row<R: Row + Drop>(
+pub(crate) fn tell_row<R: Row + Drop>(
     rt: &HostRuntime,
     name: &str,
     prepared: io::Result<R>,
@@ -41,7 +41,7 @@ pub fn tell_row<R: Row + Drop>(
 }
 
 /// Tells a row, once it is prepared, and then what calls find in its state.
-pub fn tell_probed_row<R: Probed>(
+pub(crate) fn tell_probed_row<R: Probed>(
     rt: &HostRuntime,
     name: &str,
     prepared: io::Result<R>,
@@ -94,40 +94,40 @@ fn tell_call<R: Row>(rt: &HostRuntime, name: &str, word: &str, row: &mut R) -> A
 }
 
 /// Tells that all is prepared: from here on a row takes no memory.
-pub fn mark(rt: &HostRuntime, row: &str) {
+pub(crate) fn mark(rt: &HostRuntime, row: &str) {
     let _ = println!(rt; "{row} marked");
 }
 
 /// Tells a fact on a line of its own.
-pub fn line<T: Debug>(rt: &HostRuntime, about: &str, fact: &T) {
+pub(crate) fn line<T: Debug>(rt: &HostRuntime, about: &str, fact: &T) {
     let _ = println!(rt; "{about} {fact:?}");
 }
 
 /// Tells a fact on the line.
-pub fn tell<T: Debug>(rt: &HostRuntime, fact: &T) {
+pub(crate) fn tell<T: Debug>(rt: &HostRuntime, fact: &T) {
     let _ = print!(rt; " {fact:?}");
 }
 
 /// Tells words on the line.
-pub fn say(rt: &HostRuntime, words: &str) {
+pub(crate) fn say(rt: &HostRuntime, words: &str) {
     let _ = print!(rt; " {words}");
 }
 
 /// Tells that a call was served.
-pub fn served(rt: &HostRuntime) -> Answer {
+pub(crate) fn served(rt: &HostRuntime) -> Answer {
     say(rt, "ok");
     Answer::Served
 }
 
 /// Tells what a call gave.
-pub fn gave<T: Debug>(rt: &HostRuntime, fact: &T) -> Answer {
+pub(crate) fn gave<T: Debug>(rt: &HostRuntime, fact: &T) -> Answer {
     say(rt, "ok");
     tell(rt, fact);
     Answer::Served
 }
 
 /// Tells an answer where it is no want of memory.
-pub fn told<T: Debug + Drop>(rt: &HostRuntime, answer: Result<T, Refusal>) -> Answer {
+pub(crate) fn told<T: Debug + Drop>(rt: &HostRuntime, answer: Result<T, Refusal>) -> Answer {
     match answer {
         Ok(value) => gave(rt, &value),
         Err(Refusal::OutOfMemory) => Answer::Refused,
@@ -139,6 +139,6 @@ pub fn told<T: Debug + Drop>(rt: &HostRuntime, answer: Result<T, Refusal>) -> An
 }
 
 /// The error that says that a row was refused a growth outside its call.
-pub fn unprepared() -> io::Error {
+pub(crate) fn unprepared() -> io::Error {
     ErrorKind::OutOfMemory.into()
 }

@@ -9,7 +9,7 @@ use std::sync::Wait;
 use std::thread::Threads;
 
 /// Reads the trace and tells the row, by as many workers as a word says.
-pub fn tell_calls<R: Threads + Wait + Sync>(
+pub(crate) fn tell_calls<R: Threads + Wait + Sync>(
     rt: &HostRuntime,
     waits: &R,
     word: &str,

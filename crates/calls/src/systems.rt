@@ -1,6 +1,6 @@
 //! The rows of a system: a loader is made, steps are run, sums are told.
-pub mod filled;
-pub mod settling;
+pub(crate) mod filled;
+pub(crate) mod settling;
 
 use crate::loaders::held::tell_all_places;
 use crate::pools::{GRANULES, SETTINGS, SMALLEST};
@@ -37,7 +37,7 @@ const ALLOC: Step = Step::Alloc {
 
 /// What a system is asked.
 #[derive(Clone, Copy)]
-pub enum Asked {
+pub(crate) enum Asked {
     /// A loader is to be made.
     NewLoader,
     /// A block is to be allocated, by a step.
@@ -54,21 +54,21 @@ pub enum Asked {
 
 /// A system, and what it is asked.
 #[derive(Drop)]
-pub struct Asking {
+pub(crate) struct Asking {
     system: System,
     asked: Asked,
 }
 
 impl Asking {
     /// Prepares a system with no loader, in which one is to be made.
-    pub fn new_loader(alloc: Global) -> io::Result<Asking> {
+    pub(crate) fn new_loader(alloc: Global) -> io::Result<Asking> {
         let system = System::new(alloc, SETTINGS)?;
         let asked = Asked::NewLoader;
         Ok(Asking { system, asked })
     }
 
     /// Prepares a system with loaders and blocks, which is asked so.
-    pub fn filled(alloc: Global, asked: Asked) -> io::Result<Asking> {
+    pub(crate) fn filled(alloc: Global, asked: Asked) -> io::Result<Asking> {
         let system = filled(alloc, &FREED)?;
         Ok(Asking { system, asked })
     }
@@ -190,7 +190,7 @@ fn details_told(rt: &HostRuntime, answer: Result<Details, AllocError>) -> Answer
 }
 
 /// Tells the maps that were to be told.
-pub fn maps_told(rt: &HostRuntime, answer: Result<Vec<RootMap>, AllocError>) -> Answer {
+pub(crate) fn maps_told(rt: &HostRuntime, answer: Result<Vec<RootMap>, AllocError>) -> Answer {
     match answer {
         Ok(maps) => gave(rt, &maps),
         Err(_) => Answer::Refused,

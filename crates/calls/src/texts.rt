@@ -20,13 +20,13 @@ report
 
 /// A text to be read.
 #[derive(Drop)]
-pub struct Parsing {
+pub(crate) struct Parsing {
     alloc: Global,
 }
 
 impl Parsing {
     /// Prepares a text.
-    pub fn prepared(alloc: Global) -> io::Result<Parsing> {
+    pub(crate) fn prepared(alloc: Global) -> io::Result<Parsing> {
         Ok(Parsing { alloc })
     }
 }
@@ -60,14 +60,14 @@ fn tell_trace(rt: &HostRuntime, trace: &Trace) -> Answer {
 
 /// A trace to be printed.
 #[derive(Drop)]
-pub struct Printing {
+pub(crate) struct Printing {
     alloc: Global,
     trace: Trace,
 }
 
 impl Printing {
     /// Prepares a trace.
-    pub fn prepared(alloc: Global) -> io::Result<Printing> {
+    pub(crate) fn prepared(alloc: Global) -> io::Result<Printing> {
         match parse(alloc, TRACE.as_bytes()) {
             Ok(trace) => Ok(Printing { alloc, trace }),
             Err(_) => Err(unprepared()),

@@ -10,7 +10,7 @@ use std::alloc::Global;
 use std::io;
 
 /// Works an arena, and tells what came of it.
-pub fn show(rt: &HostRuntime) -> io::Result<()> {
+pub(crate) fn show(rt: &HostRuntime) -> io::Result<()> {
     let mut pool = Pool::new(rt.alloc(), Settings::DEFAULT)?;
     let worked = work(rt.alloc(), &mut pool);
     drop(pool);

@@ -4,7 +4,7 @@ use ms_loaders::System;
 use std::io;
 
 /// Steps a system, and tells its replies.
-pub fn show(rt: &HostRuntime) -> io::Result<()> {
+pub(crate) fn show(rt: &HostRuntime) -> io::Result<()> {
     let mut system = System::new(rt.alloc(), Settings::DEFAULT)?;
     let told = step(rt, &mut system);
     drop(system);

@@ -13,7 +13,7 @@ const TRACE: &[u8] = b"new 1 standard\nnew 2 boot\nalloc 1 1 4000\nalloc 2 1 300
     alloc 1 2 100\nunload 2\nalloc 1 1 5\nreport\n";
 
 /// Replays the trace, and tells the answers.
-pub fn show<R: Threads + Wait + Sync>(rt: &HostRuntime, waits: &R) -> io::Result<()> {
+pub(crate) fn show<R: Threads + Wait + Sync>(rt: &HostRuntime, waits: &R) -> io::Result<()> {
     let settings = Settings {
         workers: 2,
         nodes: 2,

@@ -70,6 +70,16 @@ impl Others {
         }
     }
 
+    /// Tells for how many stretches more there is room at least: of a map none is told.
+    pub(crate) fn spare(&self) -> usize
+        ensures { result ≤ self.now.spare }
+    {
+        match &self.table {
+            Table::Few(list) => list.capacity() - list.len(),
+            Table::Many(_) => 0,
+        }
+    }
+
     /// Makes room for so many stretches more; the places stay.
     pub(crate) fn reserve(&mut self, alloc: Global, stretches: usize) -> Result<(), AllocError>
         ensures room { OnOk result (stretches ≤ self.new.spare) }

@@ -101,6 +101,14 @@ impl Pages {
         Ok(())
     }
 
+    /// Tells for how many words there is room.
+    pub(crate) fn words(&self) -> usize
+        requires { 512 * self.now.room < 2 ^ 63 }
+        ensures { result ≡ 512 * self.now.room }
+    {
+        PAGE * self.room
+    }
+
     /// Tells how many pages there are in memory.
     pub(crate) fn stored(&self) -> usize {
         self.store.len() / PAGE

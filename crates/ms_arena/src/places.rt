@@ -87,6 +87,13 @@ impl Places {
         self.others.capacity()
     }
 
+    /// Tells for how many stretches more there is room at least.
+    pub(crate) fn spare(&self) -> usize
+        ensures { result ≤ self.now.spare }
+    {
+        self.others.spare()
+    }
+
     /// Makes room for so many stretches more; the places stay.
     pub(crate) fn reserve(&mut self, alloc: Global, stretches: usize) -> Result<(), AllocError>
         ensures room { OnOk result (stretches ≤ self.new.spare) }

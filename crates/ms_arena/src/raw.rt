@@ -117,7 +117,15 @@ impl RawArena {
         ensures unchanged { OnErr result (IsSameRaw self.old self.new) }
     {
         let n = asked(words)?;
-        made_room(&mut self.books, &mut self.words, self.alloc, self.count, n)?;
+        let many = self.expects_many();
+        made_room(
+            &mut self.books,
+            &mut self.words,
+            self.alloc,
+            many,
+            self.count,
+            n,
+        )?;
         // What is true of all books is learnt here, and once they have placed the block.
         let _ = self.books.account();
         match self.books.place(n) {
@@ -146,7 +154,15 @@ impl RawArena {
         ensures unchanged { OnErr result (IsSameRaw self.old self.new) }
     {
         let n = asked(words)?;
-        made_room(&mut self.books, &mut self.words, self.alloc, self.count, n)?;
+        let many = self.expects_many();
+        made_room(
+            &mut self.books,
+            &mut self.words,
+            self.alloc,
+            many,
+            self.count,
+            n,
+        )?;
         // What is true of all books is learnt here, and once they have placed the block.
         let _ = self.books.account();
         let start = start_of(&mut self.books, source, self.kind, n)?;
@@ -271,6 +287,7 @@ fn made_room(
     books: &mut Books,
     words: &mut Words,
     alloc: Global,
+    many: bool,
     live: usize,
     n: u64,
 ) -> Result<(), Refusal>
@@ -287,7 +304,7 @@ fn made_room(
         return Err(Refusal::OutOfMemory);
     };
     books.make_room(blocks)?;
-    match words.reserve(alloc, n) {
+    match words.reserve(alloc, n, many) {
         Ok(()) => Ok(()),
         Err(_) => Err(Refusal::OutOfMemory),
     }

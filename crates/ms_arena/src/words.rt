@@ -23,8 +23,11 @@ use std::marker::Model;
 /// The words of a stretch.
 const STRETCH: usize = 2048;
 
-/// For how many places room is made at least.
-const LEAST: usize = 4;
+/// For how many places room is made at least, where few blocks are to come.
+const FEW: usize = 4;
+
+/// For how many where many are: so few arenas ask again.
+const MANY: usize = 7;
 
 /// The words of an arena's blocks. A word has its number in the space.
 #[derive(Drop)]
@@ -62,14 +65,14 @@ impl Words {
         }
     }
 
-    /// Takes all places away, and keeps the memory that they had. What the words held stays there,
-    /// and is cleared where a place is given again.
+    /// Takes all places away, and keeps the memory that they had, with the room for more. What the
+    /// words held stays there, and is cleared where a place is given again.
     pub(crate) fn clear(&mut self)
         ensures { (word : ℕ) → place_at self.new word ≡ 0 }
     {
         self.places.clear();
         self.given = 0;
-        self.ready = 0;
+        self.ready = self.places.spare().min(self.list.words() / STRETCH);
     }
 
     /// Tells for how many stretches there is memory, and how many pages of words are in it.
@@ -77,9 +80,9 @@ impl Words {
         (self.places.capacity(), self.list.stored())
     }
 
-    /// Makes room for a run of n words; the words stay.
+    /// Makes room for a run of n words, and for more where many blocks are to come; the words stay.
     #[inline(always)]
-    pub(crate) fn reserve(&mut self, alloc: Global, n: u64) -> Result<(), AllocError>
+    pub(crate) fn reserve(&mut self, alloc: Global, n: u64, many: bool) -> Result<(), AllocError>
         ensures room { OnOk result (HasRoom self.new n) }
         ensures stay { StayWords self.old self.new }
     {
@@ -88,7 +91,8 @@ impl Words {
         if more <= self.ready {
             return Ok(());
         }
-        self.make_room(alloc, more.max(LEAST))
+        let least = if many { MANY } else { FEW };
+        self.make_room(alloc, more.max(least))
     }
 
     /// Makes room for so many places more; the words stay.

@@ -48,6 +48,20 @@ impl<A: Allocator> Tree<A> {
             Tree::Forked(_) => false,
         }
     }
+
+    /// Tells whether there is no fork to the left of that on top.
+    #[inline(always)]
+    fn has_no_left(&self) -> bool
+        ensures { IsTrue result → left_of self.now ≡ [] }
+    {
+        match self {
+            Tree::Empty => true,
+            Tree::Forked(fork) => match fork.left {
+                Tree::Empty => true,
+                Tree::Forked(_) => false,
+            },
+        }
+    }
 }
 
 impl<A: Allocator> Fork<A> {
@@ -120,12 +134,16 @@ pub fn take_fit<A: Allocator>(
     }
 }
 
-/// Takes the fork on top, and joins the trees below it. Out of line, so that what it keeps for
-/// itself isn't kept at each turn of `take_fit`.
+/// Takes the fork on top, and joins the trees below it: mostly there is none to its left. Out of
+/// line, so that what it keeps for itself isn't kept at each turn of `take_fit`.
 #[inline(never)]
 fn take_top<A: Allocator>(tree: &mut Tree<A>, moved: &mut bool) -> Option<Box<Fork<A>, A>>
     ensures { TakesTop tree.old (blocks_of tree.new) (option_map (λ fork. fork.value.block) result) }
 {
+    if tree.has_no_left() {
+        *moved = true;
+        return take_lowest(tree);
+    }
     match mem::replace(tree, Tree::Empty) {
         Tree::Empty => None,
         Tree::Forked(mut fork) => {
@@ -174,6 +192,7 @@ fn take_first<A: Allocator>(tree: &mut Tree<A>, moved: &mut bool) -> Option<Box<
 }
 
 /// Takes the fork on top, where there is none to its left.
+#[inline(always)]
 fn take_lowest<A: Allocator>(tree: &mut Tree<A>) -> Option<Box<Fork<A>, A>>
     requires { left_of tree.old ≡ [] }
     ensures { TakesFirst (blocks_of tree.old) (option_map (λ fork. fork.value.block) result)

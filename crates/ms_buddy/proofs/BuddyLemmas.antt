@@ -103,7 +103,7 @@ not_there level start number Free e none =
     same : (a b : ℕ) → a ≡ b → one_at a b ≡ 1
     same a b e = grind (arith, nat_tests)
 not_there level start number (Lent owner front) e none = refl
-not_there level start number (Split' p lower q upper) e none = refl
+not_there level start number (Split' p lower upper) e none = refl
 
 pub upper_not_free : {A : Type 0} (part : Span) (level start half : ℕ) (lower upper : Node A) → IsPlace level start
     → level < highest_level → half ≡ size_of (level + 1) → start ≤ part.start → part.start < start + half

@@ -141,8 +141,8 @@ not_free_whole : {A : Type 0} (level middle : ℕ) (node : Node A) → is_free n
     → list_any (is_same (record { start = middle; level = level })) (free_in level middle node) ≡ false
 not_free_whole level middle Free e = absurd (cc)
 not_free_whole level middle (Lent owner front) e = refl
-not_free_whole level middle (Split' p lower q upper) e =
-    deeper_differ (record { start = middle; level = level }) (free_in level middle (Split' p lower q upper))
+not_free_whole level middle (Split' p lower upper) e =
+    deeper_differ (record { start = middle; level = level }) (free_in level middle (Split' p lower upper))
     (all_joined (λ other. level < other.level) (free_in (level + 1) middle lower)
     (free_in (level + 1) (middle + size_of (level + 1)) upper)
     (all_weaker (λ other. level + 1 ≤ other.level) (λ other. level < other.level)
@@ -153,11 +153,11 @@ not_free_whole level middle (Split' p lower q upper) e =
 
 -- A leaf of a split's own level is none of its lent leaves.
 pub split_not_lent : {A : Type 0} (part : Span) (level start : ℕ) (node : Node A)
-    (p : _) (lower : Node A) (q : _) (upper : Node A) → node ≡ Split' p lower q upper → part.level ≡ level
+    (p : _) (lower : Node A) (upper : Node A) → node ≡ Split' p lower upper → part.level ≡ level
     → IsFalse (is_lent (lent_in level start node) part)
-split_not_lent part level start node p lower q upper e f =
+split_not_lent part level start node p lower upper e f =
     subst (λ (other : Node _). is_lent (lent_in level start other) part ≡ false) (sym e)
-    (deeper (lent_in level start (Split' p lower q upper))
+    (deeper (lent_in level start (Split' p lower upper))
     (all_joined (λ leaf. part.level < leaf.level) (lent_in (level + 1) start lower)
     (lent_in (level + 1) (start + size_of (level + 1)) upper)
     (all_weaker (λ leaf. level + 1 ≤ leaf.level) (λ leaf. part.level < leaf.level)
@@ -256,13 +256,13 @@ starts_here part level start half lower upper s lent h =
 
 -- A lent part of two halves with that start and a half's level is not in a split.
 pub split_not_leader : {A : Type 0} (part : Span) (level start half : ℕ) (lower upper : Node A)
-    (p : _) (low : Node A) (q : _) (high : Node A) → AtHalves level start half lower upper
+    (p : _) (low : Node A) (high : Node A) → AtHalves level start half lower upper
     → IsTrue (is_lent (lent_in_halves level start lower upper) part) → part.start ≤ start → part.level ≡ level + 1
-    → lower ≡ Split' p low q high → ⊥
-split_not_leader part level start half lower upper p low q high s lent h child e =
+    → lower ≡ Split' p low high → ⊥
+split_not_leader part level start half lower upper p low high s lent h child e =
     differ (is_lent (lent_in (level + 1) start lower) part)
     (lower_lent part level start half lower upper s (omega (arith, s.size, size_of-some (level + 1))) lent)
-    (split_not_lent part (level + 1) start lower p low q high e child)
+    (split_not_lent part (level + 1) start lower p low high e child)
   where
     differ : (b : Bool) → b ≡ true → b ≡ false → ⊥
     differ b e f = absurd (cc)

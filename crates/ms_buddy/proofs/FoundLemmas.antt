@@ -39,7 +39,7 @@ rising_joined middle (x ∷ xs) ys below above a b = (
 free_rising : {A : Type 0} (level start : ℕ) (node : Node A) → IsTree level node → AreRising (free_in level start node)
 free_rising level start Free tree = (tt, tt)
 free_rising level start (Lent owner front) tree = tt
-free_rising level start (Split' p lower q upper) tree =
+free_rising level start (Split' p lower upper) tree =
     rising_joined (start + size_of (level + 1)) (free_in (level + 1) start lower)
     (free_in (level + 1) (start + size_of (level + 1)) upper)
     (all_weaker (LiesIn start (start + size_of (level + 1))) (λ part. part.start < start + size_of (level + 1))

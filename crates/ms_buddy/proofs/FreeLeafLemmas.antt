@@ -127,7 +127,7 @@ node_meets level start (Lent owner front) a n tree e h k =
   where
     meets : (b m a n : ℕ) → 0 < m → a ≤ b → b + m ≤ a + n → meet b m a n ≡ true
     meets b m a n some h k = grind (arith, nat_tests)
-node_meets level start (Split' p lower q upper) a n tree e h k =
+node_meets level start (Split' p lower upper) a n tree e h k =
     ap (λ (held : List Chunk). meets_run held a n)
     (map-append chunk_of (lent_in (level + 1) start lower) (lent_in (level + 1) (start + size_of (level + 1)) upper))
     ∙ list_any-append (λ (chunk : Chunk). meet chunk.start (size_of chunk.level) a n)
@@ -193,11 +193,11 @@ free_walk (suc below) start Free h tree = refl
 free_walk below start (Lent owner front) h tree =
     covered (record { start = start; level = highest_level - below; front = front }) below start h
     (omega arith) (omega arith)
-free_walk zero start (Split' p lower q upper) h tree = absurd (omega (arith, tree.0))
-free_walk (suc below) start (Split' p lower q upper) h tree =
+free_walk zero start (Split' p lower upper) h tree = absurd (omega (arith, tree.0))
+free_walk (suc below) start (Split' p lower upper) h tree =
     split_walk below (highest_level - suc below + 1) start lower upper (omega arith)
     (next_level below (omega arith)) tree.2 tree.3
-    (node_meets (highest_level - suc below) start (Split' p lower q upper) start
+    (node_meets (highest_level - suc below) start (Split' p lower upper) start
     (size_of (highest_level - suc below)) tree refl
     (omega arith) (omega arith))
     (subst (λ (x : ℕ). free_within (map chunk_of (lent_in x start lower)) below start ≡ free_in x start lower)
@@ -221,9 +221,9 @@ free_of-tree node tree = free_walk highest_level 0 node (omega arith) tree
 pub whole_tree : {A : Type 0} (node : Node A) → IsTree 0 node → lent_in 0 0 node ≡ [] → is_free node ≡ true
 whole_tree Free tree e = refl
 whole_tree (Lent owner front) tree e = absurd (cc)
-whole_tree (Split' p lower q upper) tree e =
-    absurd (some (meets_run (map chunk_of (lent_in 0 0 (Split' p lower q upper))) 0 (size_of 0))
-    (node_meets 0 0 (Split' p lower q upper) 0 (size_of 0) tree refl (omega arith) (omega arith))
+whole_tree (Split' p lower upper) tree e =
+    absurd (some (meets_run (map chunk_of (lent_in 0 0 (Split' p lower upper))) 0 (size_of 0))
+    (node_meets 0 0 (Split' p lower upper) 0 (size_of 0) tree refl (omega arith) (omega arith))
     (ap (λ (xs : List LentLeaf). meets_run (map chunk_of xs) 0 (size_of 0)) e))
   where
     some : (b : Bool) → b ≡ true → b ≡ false → ⊥
@@ -232,7 +232,7 @@ whole_tree (Split' p lower q upper) tree e =
 pub free_tree : {A : Type 0} (node : Node A) → is_free node ≡ true → lent_in 0 0 node ≡ []
 free_tree Free e = refl
 free_tree (Lent owner front) e = absurd (cc)
-free_tree (Split' p lower q upper) e = absurd (cc)
+free_tree (Split' p lower upper) e = absurd (cc)
 
 -- With no leaf lent the root is one free leaf.
 pub free_of-none : free_of [] ≡ root ∷ []
@@ -252,7 +252,7 @@ pub whole_tree_is_free : {A : Type 0} (node : Node A) → IsTree 0 node → free
     → is_free node ≡ true
 whole_tree_is_free Free tree e = refl
 whole_tree_is_free (Lent owner front) tree e = absurd (cc)
-whole_tree_is_free (Split' p lower q upper) tree e =
-    absurd (deeper_not_root (free_in 0 0 (Split' p lower q upper))
+whole_tree_is_free (Split' p lower upper) tree e =
+    absurd (deeper_not_root (free_in 0 0 (Split' p lower upper))
     (all_joined (λ part. 1 ≤ part.level) (free_in 1 0 lower) (free_in 1 (size_of 1) upper) (free_levels 1 0 lower)
     (free_levels 1 (size_of 1) upper)) e)

@@ -30,7 +30,7 @@ pub free_places : {A : Type 0} (level start : ℕ) (node : Node A) → IsTree le
     → AllByRecursion IsSpanPlace (free_in level start node)
 free_places level start Free tree place = (place, tt)
 free_places level start (Lent owner front) tree place = tt
-free_places level start (Split' p lower q upper) tree place =
+free_places level start (Split' p lower upper) tree place =
     all_joined IsSpanPlace (free_in (level + 1) start lower) (free_in (level + 1) (start + size_of (level + 1)) upper)
     (free_places (level + 1) start lower tree.2 (lower_place level start place tree.0))
     (free_places (level + 1) (start + size_of (level + 1)) upper tree.3
@@ -69,7 +69,8 @@ placed level start node tree place =
     all_both IsSpanPlace (LiesIn start (start + size_of level)) (free_in level start node)
     (free_places level start node tree place) (free_lies_in level start node tree)
 
-few_of_number : {A : Type 0} (level start number : ℕ) (node : Node A) → IsTree level node → IsPlace level start
+-- No two have one number.
+pub few_of_number : {A : Type 0} (level start number : ℕ) (node : Node A) → IsTree level node → IsPlace level start
     → count_of_number number (free_in level start node) ≤ 1
 few_of_number level start number Free tree place =
     omega (
@@ -78,7 +79,7 @@ few_of_number level start number Free tree place =
       one_or_none (number_of (record { start = start; level = level })) number,
     )
 few_of_number level start number (Lent owner front) tree place = omega (arith, number-none number)
-few_of_number level start number (Split' p lower q upper) tree place =
+few_of_number level start number (Split' p lower upper) tree place =
     let low = few_of_number (level + 1) start number lower tree.2 (lower_place level start place tree.0) in
     let high = few_of_number (level + 1) (start + size_of (level + 1)) number upper tree.3
     (upper_place level start (start + size_of (level + 1)) place tree.0 refl) in

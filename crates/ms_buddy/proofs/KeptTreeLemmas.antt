@@ -35,7 +35,7 @@ lent_in_order : {A : Type 0} (level start : ℕ) (node : Node A) → IsTree leve
     → AreInOrder (lent_in level start node)
 lent_in_order level start Free tree = tt
 lent_in_order level start (Lent owner front) tree = (tt, tt)
-lent_in_order level start (Split' p lower q upper) tree =
+lent_in_order level start (Split' p lower upper) tree =
     in_order_joined (start + size_of (level + 1)) (lent_in (level + 1) start lower)
     (lent_in (level + 1) (start + size_of (level + 1)) upper)
     (all_weaker (LeafIn start (start + size_of (level + 1)))
@@ -52,7 +52,7 @@ lent_parts : {A : Type 0} (level start : ℕ) (node : Node A) → IsTree level n
     → AllByRecursion (λ leaf. IsPart leaf.start leaf.level) (lent_in level start node)
 lent_parts level start Free tree place = tt
 lent_parts level start (Lent owner front) tree place = ((place.level_fits, place.aligned), tt)
-lent_parts level start (Split' p lower q upper) tree place =
+lent_parts level start (Split' p lower upper) tree place =
     all_joined (λ leaf. IsPart leaf.start leaf.level) (lent_in (level + 1) start lower)
     (lent_in (level + 1) (start + size_of (level + 1)) upper)
     (lent_parts (level + 1) start lower tree.2 (lower_place level start place tree.0))
@@ -63,7 +63,7 @@ lent_fronts : {A : Type 0} (level start : ℕ) (node : Node A) → IsTree level 
     → AllByRecursion (λ leaf. (0 < leaf.front) × (leaf.front ≤ size_of leaf.level)) (lent_in level start node)
 lent_fronts level start Free tree = tt
 lent_fronts level start (Lent owner front) tree = (tree, tt)
-lent_fronts level start (Split' p lower q upper) tree =
+lent_fronts level start (Split' p lower upper) tree =
     all_joined (λ leaf. (0 < leaf.front) × (leaf.front ≤ size_of leaf.level))
     (lent_in (level + 1) start lower) (lent_in (level + 1) (start + size_of (level + 1)) upper)
     (lent_fronts (level + 1) start lower tree.2) (lent_fronts (level + 1) (start + size_of (level + 1)) upper tree.3)

@@ -12,6 +12,7 @@ pub mod NumberLemmas
 pub mod BesideLemmas
 pub mod FreeNumberLemmas
 pub mod FoundLemmas
+pub mod FreeBitLemmas
 pub mod CountLemmas
 pub mod PartFreeLemmas
 pub mod TreeCountLemmas

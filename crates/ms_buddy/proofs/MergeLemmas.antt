@@ -45,7 +45,7 @@ free_alone : {A : Type 0} (level start : ℕ) (node : Node A) → is_free node �
     → free_in level start node ≡ span_at start level ∷ []
 free_alone level start Free e = refl
 free_alone level start (Lent owner front) e = absurd (cc)
-free_alone level start (Split' p lower q upper) e = absurd (cc)
+free_alone level start (Split' p lower upper) e = absurd (cc)
 
 -- What a merge makes of the free leaves, where the part was in the lower half, or in the upper one.
 pub lower_merged : {A : Type 0} (part : Span) (level start half free : ℕ) (node lower upper now : Node A)

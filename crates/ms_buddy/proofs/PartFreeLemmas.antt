@@ -24,35 +24,35 @@ whole_for part level start owner front node e may same =
     starts : start ≡ part.start
     starts = omega (arith, may.inside.from, may.inside.to, ap size_of same)
 
-pub lower_for : {A : Type 0} (part : Span) (level start size owner front : ℕ) (p : _) (lower : Node A) (q : _)
+pub lower_for : {A : Type 0} (part : Span) (level start size owner front : ℕ) (p : _) (lower : Node A)
     (upper : Node A)
     → level < highest_level → level < part.level → is_free upper ≡ true → size ≡ size_of (level + 1)
     → part.start < start + size → IsPartedFor (level + 1) start part owner front lower
-    → IsPartedFor level start part owner front (Split' p lower q upper)
-lower_for part level start size owner front p lower q Free low deep free is below half = record {
+    → IsPartedFor level start part owner front (Split' p lower upper)
+lower_for part level start size owner front p lower Free low deep free is below half = record {
   tree = (low, rw half.split refl, half.tree, tt);
   split = refl;
   lent = append-nil (lent_in (level + 1) start lower) ∙ half.lent;
   parted = lower_half_parted part level start _ deep (omega (arith, is, below)) half.parted;
 }
-lower_for part level start size owner front p lower q (Lent other most) low deep free is below half = absurd (cc)
-lower_for part level start size owner front p lower q (Split' r left s right) low deep free is below half = absurd (cc)
+lower_for part level start size owner front p lower (Lent other most) low deep free is below half = absurd (cc)
+lower_for part level start size owner front p lower (Split' r left right) low deep free is below half = absurd (cc)
 
-pub upper_for : {A : Type 0} (part : Span) (level start size owner front : ℕ) (p : _) (lower : Node A) (q : _)
+pub upper_for : {A : Type 0} (part : Span) (level start size owner front : ℕ) (p : _) (lower : Node A)
     (upper : Node A)
     → level < highest_level → level < part.level → is_free lower ≡ true → size ≡ size_of (level + 1)
     → start + size ≤ part.start → IsPartedFor (level + 1) (start + size) part owner front upper
-    → IsPartedFor level start part owner front (Split' p lower q upper)
-upper_for part level start size owner front p Free q upper low deep free is above half =
+    → IsPartedFor level start part owner front (Split' p lower upper)
+upper_for part level start size owner front p Free upper low deep free is above half =
     there (subst (λ (n : ℕ). IsPartedFor (level + 1) (start + n) part owner front upper) is half)
   where
     there : IsPartedFor (level + 1) (start + size_of (level + 1)) part owner front upper
-        → IsPartedFor level start part owner front (Split' p Free q upper)
+        → IsPartedFor level start part owner front (Split' p Free upper)
     there half = record {
       tree = (low, half.split, tt, half.tree);
       split = refl;
       lent = half.lent;
       parted = upper_half_parted part level start _ deep (omega (arith, is, above)) half.parted;
     }
-upper_for part level start size owner front p (Lent other most) q upper low deep free is above half = absurd (cc)
-upper_for part level start size owner front p (Split' r left s right) q upper low deep free is above half = absurd (cc)
+upper_for part level start size owner front p (Lent other most) upper low deep free is above half = absurd (cc)
+upper_for part level start size owner front p (Split' r left right) upper low deep free is above half = absurd (cc)

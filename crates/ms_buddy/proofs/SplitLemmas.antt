@@ -10,6 +10,7 @@ use Rattle.std.proofs.lemmas.List.Elements.{filter-append}
 use Rattle.std.proofs.lemmas.Bool.Decides.{nat_tests}
 use Rattle.ms_base.specs.declared.span.Span.{Span}
 use Rattle.ms_base.specs.Level.{size_of, highest_level}
+use Rattle.ms_buddy.specs.declared.node.Halves.{Halves}
 use Rattle.ms_buddy.specs.declared.node.Node.{Node}
 use Rattle.ms_buddy.specs.declared.node.Node.TheVariants.{Split'}
 use Rattle.ms_buddy.specs.declared.node.Leaf.{Leaf}
@@ -41,15 +42,17 @@ pub trees_at : {A : Type 0} (level start : ℕ) (lower upper : Node A)
     → IsTree (level + 1) lower × IsTree (level + 1) upper → AtHalves level start (size_of (level + 1)) lower upper
 trees_at level start lower upper trees = record { low_tree = trees.0; high_tree = trees.1; size = refl }
 
-pub at_split : {A : Type 0} (level start half : ℕ) (node : Node A) (p : _) (lower : Node A) (q : _) (upper : Node A)
-    → node ≡ Split' p lower q upper → IsTree level node → half ≡ size_of (level + 1)
-    → AtSplit level start half node lower upper
-at_split level start half node p lower q upper e tree size =
-    subst (λ (other : Node _). AtSplit level start half other lower upper) (sym e)
-    (here (subst (λ (other : Node _). IsTree level other) e tree))
+-- The halves are those in the split's box, or a borrow of them.
+pub at_split : {A : Type 0} (level start half : ℕ) (node : Node A) (p : _) (boxed halves : Halves A)
+    → node ≡ Split' p boxed.lower boxed.upper → halves ≡ boxed → IsTree level node → half ≡ size_of (level + 1)
+    → AtSplit level start half node halves.lower halves.upper
+at_split level start half node p boxed halves e same tree size =
+    subst (λ (other : Halves _). AtSplit level start half node other.lower other.upper) (sym same)
+    (subst (λ (other : Node _). AtSplit level start half other boxed.lower boxed.upper) (sym e)
+    (here (subst (λ (other : Node _). IsTree level other) e tree)))
   where
-    here : IsTree level (Split' p lower q upper)
-        → AtSplit level start half (Split' p lower q upper) lower upper
+    here : IsTree level (Split' p boxed.lower boxed.upper)
+        → AtSplit level start half (Split' p boxed.lower boxed.upper) boxed.lower boxed.upper
     here tree = record {
       low = tree.0;
       one = tree.1;

@@ -18,7 +18,7 @@ use Rattle.ms_buddy.proofs.SplitLemmas.{AtSplit}
 abbrev pub nodes_in : {A : Type 0} → Node A → ℕ
 nodes_in Free = 1
 nodes_in (Lent owner front) = 1
-nodes_in (Split' p lower q upper) = nodes_in lower + nodes_in upper + 1
+nodes_in (Split' p lower upper) = nodes_in lower + nodes_in upper + 1
 
 -- How many nodes are to be visited.
 abbrev pub nodes_left : {A : Type 0} → List (Option (Visit A)) → ℕ
@@ -29,7 +29,7 @@ nodes_left (Some visit ∷ visits) = nodes_left visits + nodes_in visit.node.now
 pub nodes_in-some : {A : Type 0} (node : Node A) → 0 < nodes_in node
 nodes_in-some Free = omega arith
 nodes_in-some (Lent owner front) = omega arith
-nodes_in-some (Split' p lower q upper) = omega arith
+nodes_in-some (Split' p lower upper) = omega arith
 
 pub nodes_left-push : {A : Type 0} (visits : List (Option (Visit A))) (visit : Visit A)
     → nodes_left (visits ++ Some visit ∷ []) ≡ nodes_left visits + nodes_in visit.node.now

@@ -26,7 +26,7 @@ few_free : {A : Type 0} (level start : ℕ) (node : Node A) → level ≤ highes
     → length (free_in level start node) * 128 ≤ size_of level
 few_free level start Free h tree = omega (arith, size_falls level highest_level h (omega arith))
 few_free level start (Lent owner front) h tree = omega arith
-few_free level start (Split' p lower q upper) h tree =
+few_free level start (Split' p lower upper) h tree =
     omega (
       arith,
       few_free (level + 1) start lower (omega (arith, tree.0)) tree.2,

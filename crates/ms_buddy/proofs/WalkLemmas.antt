@@ -39,7 +39,7 @@ pub lent_lies_in : {A : Type 0} (level start : ℕ) (node : Node A) → IsTree l
     → AllByRecursion (LeafIn start (start + size_of level)) (lent_in level start node)
 lent_lies_in level start Free tree = tt
 lent_lies_in level start (Lent owner front) tree = (record { from = omega arith; to = omega arith }, tt)
-lent_lies_in level start (Split' p lower q upper) tree =
+lent_lies_in level start (Split' p lower upper) tree =
     all_joined (LeafIn start (start + size_of level)) (lent_in (level + 1) start lower)
     (lent_in (level + 1) (start + size_of (level + 1)) upper)
     (all_weaker (LeafIn start (start + size_of (level + 1))) (LeafIn start (start + size_of level))
@@ -58,7 +58,7 @@ pub free_lies_in : {A : Type 0} (level start : ℕ) (node : Node A) → IsTree l
     → AllByRecursion (LiesIn start (start + size_of level)) (free_in level start node)
 free_lies_in level start Free tree = (record { from = omega arith; to = omega arith }, tt)
 free_lies_in level start (Lent owner front) tree = tt
-free_lies_in level start (Split' p lower q upper) tree =
+free_lies_in level start (Split' p lower upper) tree =
     all_joined (LiesIn start (start + size_of level)) (free_in (level + 1) start lower)
     (free_in (level + 1) (start + size_of (level + 1)) upper)
     (all_weaker (LiesIn start (start + size_of (level + 1))) (LiesIn start (start + size_of level))
@@ -173,7 +173,7 @@ pub lent_levels : {A : Type 0} (level start : ℕ) (node : Node A)
     → AllByRecursion (λ leaf. level ≤ leaf.level) (lent_in level start node)
 lent_levels level start Free = tt
 lent_levels level start (Lent owner front) = (omega arith, tt)
-lent_levels level start (Split' p lower q upper) =
+lent_levels level start (Split' p lower upper) =
     all_joined (λ leaf. level ≤ leaf.level) (lent_in (level + 1) start lower)
     (lent_in (level + 1) (start + size_of (level + 1)) upper)
     (all_weaker (λ leaf. level + 1 ≤ leaf.level) (λ leaf. level ≤ leaf.level) (λ leaf h. omega arith)
@@ -186,7 +186,7 @@ pub free_levels : {A : Type 0} (level start : ℕ) (node : Node A)
     → AllByRecursion (λ part. level ≤ part.level) (free_in level start node)
 free_levels level start Free = (omega arith, tt)
 free_levels level start (Lent owner front) = tt
-free_levels level start (Split' p lower q upper) =
+free_levels level start (Split' p lower upper) =
     all_joined (λ part. level ≤ part.level) (free_in (level + 1) start lower)
     (free_in (level + 1) (start + size_of (level + 1)) upper)
     (all_weaker (λ part. level + 1 ≤ part.level) (λ part. level ≤ part.level) (λ part h. omega arith)

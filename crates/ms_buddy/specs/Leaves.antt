@@ -2,7 +2,7 @@
 -- leaves are not kept: they are the free parts of the root that the lent leaves leave over.
 use Rattle.std.specs.Prelude.{◌≡◌, ℕ, ◌+◌, ◌-◌, ◌<◌, ◌≤◌, Bool, not, cond, ◌&&◌, ◌==◌, nat_le, nat_lt, List, [], ◌∷◌}
 use Rattle.std.specs.Prelude.{map, Some, IsTrue, IsFalse}
-use Rattle.std.specs.Prelude.{◌↔◌, Result, IsOk, OnOk, IfErr}
+use Rattle.std.specs.Prelude.{Result, OnOk, IfErr}
 use Rattle.std.specs.Int.{bit_at}
 use Rattle.std.specs.List.{AllByRecursion, list_any, filter, find}
 use Rattle.ms_base.specs.declared.span.Chunk.{Chunk}

@@ -18,13 +18,13 @@ pub record IsPlace (level start : ℕ) : Type 0 where
 abbrev pub is_free : {A : Type 0} → Node A → Bool
 is_free Free = true
 is_free (Lent owner front) = false
-is_free (Split' p lower q upper) = false
+is_free (Split' p lower upper) = false
 
 -- No split has two free halves or is of level 12, and each front has a word and fits.
 abbrev pub IsTree : {A : Type 0} → ℕ → Node A → Type 0
 IsTree level Free = Unit {0}
 IsTree level (Lent owner front) = (0 < front) × (front ≤ size_of level)
-IsTree level (Split' p lower q upper) =
+IsTree level (Split' p lower upper) =
     (level < highest_level) × IsFalse (is_free lower && is_free upper) × IsTree (level + 1) lower
     × IsTree (level + 1) upper
 
@@ -32,14 +32,14 @@ IsTree level (Split' p lower q upper) =
 abbrev pub lent_in : {A : Type 0} → ℕ → ℕ → Node A → List LentLeaf
 lent_in level start Free = []
 lent_in level start (Lent owner front) = record { start = start; level = level; owner = owner; front = front } ∷ []
-lent_in level start (Split' p lower q upper) =
+lent_in level start (Split' p lower upper) =
     lent_in (level + 1) start lower ++ lent_in (level + 1) (start + size_of (level + 1)) upper
 
 -- The free leaves of the node, in order of address.
 abbrev pub free_in : {A : Type 0} → ℕ → ℕ → Node A → List Span
 free_in level start Free = record { start = start; level = level } ∷ []
 free_in level start (Lent owner front) = []
-free_in level start (Split' p lower q upper) =
+free_in level start (Split' p lower upper) =
     free_in (level + 1) start lower ++ free_in (level + 1) (start + size_of (level + 1)) upper
 
 -- The lent leaves of two halves of a part of that level, and their free leaves.
@@ -55,7 +55,7 @@ free_in_halves level start lower upper =
 abbrev pub IsSplitInTwo : {A : Type 0} → Node A → Type 0
 IsSplitInTwo Free = ⊥
 IsSplitInTwo (Lent owner front) = ⊥
-IsSplitInTwo (Split' p lower q upper) = (is_free lower ≡ true) × (is_free upper ≡ true)
+IsSplitInTwo (Split' p lower upper) = (is_free lower ≡ true) × (is_free upper ≡ true)
 
 -- The part lies in that part of a lower or the same level.
 pub record IsInside (level start : ℕ) (part : Span) : Type 0 where

@@ -153,7 +153,7 @@ impl FreeBits {
     }
 
     /// Tells whether the bit of a number is set.
-    fn has(&self, number: usize) -> bool
+    pub(crate) fn has(&self, number: usize) -> bool
         requires { number < 8192 }
         ensures { result ≡ (bit_of self.now.words number == 1) }
     {

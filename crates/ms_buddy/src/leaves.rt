@@ -10,7 +10,7 @@ ghost use Rattle.ms_buddy.specs.Walk.{IsStack, left_of, visit_of};
 ghost use Rattle.ms_base.specs.Level.{size_of};
 ghost use Rattle.ms_base.specs.declared.sizes.TheConstants.{ROOT_WORDS};
 
-use crate::node::{Node, half_of, part};
+use crate::node::{Halves, Node, half_of, part};
 use arrayvec::ArrayVec;
 use ms_base::Span;
 use std::alloc::Allocator;
@@ -87,7 +87,8 @@ fn next_free<'a, A: Allocator>(stack: &mut ArrayVec<Option<Visit<'a, A>>, 13>) -
         match visit.node {
             Node::Free => return Some(part(visit.start, visit.level)),
             Node::Lent { .. } => {}
-            Node::Split(lower, upper) => {
+            Node::Split(halves) => {
+                let Halves { lower, upper } = &**halves;
                 put_halves(stack, lower, upper, visit.level, visit.start);
             }
         }

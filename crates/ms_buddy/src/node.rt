@@ -5,10 +5,10 @@
 //! lies. The call for that half is the last one, so that the walk is a loop, but where halves merge
 //! after it. What is kept true of a node is `IsTree` in `specs/Tree.antt`.
 //!
-//! Boxes are made for `split` alone. Halves that merge leave theirs as spares for the next split: a
-//! chain of nodes, in which each is a split with a pair of boxes, and the second holds the rest, 12
-//! pairs at most, as many as one carve takes. No clause says what a spare node holds, and nothing
-//! rests on it.
+//! Boxes are made for `split` alone, one for both halves. Halves that merge leave theirs as a spare
+//! for the next split: spares are a chain of nodes, in which each is a split with its own box, and
+//! the upper half holds the rest, 12 boxes at most, as many as one carve takes. No clause says what
+//! a spare node holds, and nothing rests on it.
 ghost use Rattle.std.specs.Prelude.{◌≡◌, ℕ, ◌+◌, ◌*◌, ◌<◌, ◌≤◌, ◌==◌, false, Some, [], ◌∷◌, IsTrue};
 ghost use Rattle.std.specs.Prelude.{IsFalse, IfSome, OnSome, IfNone, IsOk, IfOk, OnOk};
 ghost use Rattle.std.specs.List.{find};
@@ -33,22 +33,30 @@ pub enum Leaf {
     Lent { owner: u32, front: u64 },
 }
 
-/// A node, with the boxes of its halves in the allocator `A`.
+/// A node, with the box of its halves in the allocator `A`.
+#[cycle(node)]
 #[derive(Drop)]
 pub(crate) enum Node<A: Allocator> {
     Free,
     Lent { owner: u32, front: u64 },
-    /// The halves: the lower one, the upper one.
-    Split(Box<Node<A>, A>, Box<Node<A>, A>),
+    Split(Box<Halves<A>, A>),
+}
+
+/// The halves of a split.
+#[cycle(node)]
+#[derive(Drop)]
+pub(crate) struct Halves<A: Allocator> {
+    pub(crate) lower: Node<A>,
+    pub(crate) upper: Node<A>,
 }
 
 /// Boxes of halves that merged, for the next splits.
 #[derive(Drop)]
 pub(crate) struct Spare<A: Allocator> {
-    /// A chain of splits, in which each keeps its own boxes, and the upper one holds the rest.
+    /// A chain of splits, in which each keeps its own box, and the upper half holds the rest.
     pub(crate) chain: Node<A>,
-    /// How many pairs of boxes there are, 12 at most.
-    pub(crate) pairs: u8,
+    /// How many boxes there are, 12 at most.
+    pub(crate) boxes: u8,
 }
 
 /// A part that is lent, to whom, and with which front.
@@ -112,7 +120,8 @@ impl<A: Allocator> Node<A> {
                     front: *front,
                 },
             ),
-            Node::Split(lower, upper) => {
+            Node::Split(halves) => {
+                let Halves { lower, upper } = &**halves;
                 let middle = start + half_of(level);
                 if offset < middle {
                     lower.leaf_at(level + 1, start, offset)
@@ -137,7 +146,8 @@ impl<A: Allocator> Node<A> {
         match self {
             Node::Free => {}
             Node::Lent { front: kept, .. } => *kept = front,
-            Node::Split(lower, upper) => {
+            Node::Split(halves) => {
+                let Halves { lower, upper } = &mut **halves;
                 let middle = start + half_of(level);
                 if span.start < middle {
                     lower.set_front(level + 1, start, span, front);
@@ -179,7 +189,8 @@ impl<A: Allocator> Node<A> {
             return self.release_merging(spare, level, start, span);
         }
         match self {
-            Node::Split(lower, upper) => {
+            Node::Split(halves) => {
+                let Halves { lower, upper } = &mut **halves;
                 let middle = start + half_of(level);
                 if span.start < middle {
                     lower.release(spare, level + 1, start, span, merge)
@@ -212,7 +223,8 @@ impl<A: Allocator> Node<A> {
             (free_in level start self.old) }
     {
         match self {
-            Node::Split(lower, upper) => {
+            Node::Split(halves) => {
+                let Halves { lower, upper } = &mut **halves;
                 let middle = start + half_of(level);
                 if span.start < middle {
                     if !is_free_half(upper) {
@@ -246,7 +258,7 @@ impl<A: Allocator> Node<A> {
     }
 
     /// Makes the leaf of that span its parent, with another front, where its buddy is free, and
-    /// tells whether it did. The boxes of both become spares.
+    /// tells whether it did. The box of both becomes a spare.
     pub(crate) fn enlarge(
         &mut self,
         spare: &mut Spare<A>,
@@ -277,7 +289,8 @@ impl<A: Allocator> Node<A> {
             return true;
         }
         match self {
-            Node::Split(lower, upper) => {
+            Node::Split(halves) => {
+                let Halves { lower, upper } = &mut **halves;
                 let middle = start + half_of(level);
                 if span.start < middle {
                     lower.enlarge(spare, level + 1, start, span, front)
@@ -306,7 +319,7 @@ impl<A: Allocator> Node<A> {
         ensures low { level < 12 }
     {
         match self {
-            Node::Split(lower, upper) => merged_leader(lower, upper, level, start, span),
+            Node::Split(halves) => merged_leader(&halves.lower, &halves.upper, level, start, span),
             // Neither has a leaf of a lower level.
             Node::Free => None,
             Node::Lent { .. } => None,
@@ -316,8 +329,8 @@ impl<A: Allocator> Node<A> {
 
 impl<A: Allocator + Clone> Node<A> {
     /// Lends that part of a free leaf, which becomes a split on each level above the part's. Takes
-    /// two boxes for each, spare ones first. Where the allocator refuses one, nothing is told of
-    /// the node.
+    /// a box for each, spare ones first. Where the allocator refuses one, nothing is told of the
+    /// node.
     #[inline(never)]
     fn part_free(
         &mut self,
@@ -340,7 +353,8 @@ impl<A: Allocator + Clone> Node<A> {
         }
         split(self, spare, alloc)?;
         match self {
-            Node::Split(lower, upper) => {
+            Node::Split(halves) => {
+                let Halves { lower, upper } = &mut **halves;
                 let middle = start + half_of(level);
                 if lending.span.start < middle {
                     lower.part_free(spare, alloc, level + 1, start, lending)
@@ -408,10 +422,11 @@ impl<A: Allocator + Clone> Node<A> {
                 self.part_whole(spare, alloc, level, start, lending)
             }
             Node::Lent { .. } => Lack::Room,
-            Node::Split(lower, upper) => {
+            Node::Split(halves) => {
                 if lending.span.level.number() == level {
                     return Lack::Room;
                 }
+                let Halves { lower, upper } = &mut **halves;
                 let middle = start + half_of(level);
                 if lending.span.start < middle {
                     lower.carve(spare, alloc, level + 1, start, lending, free)
@@ -432,7 +447,7 @@ fn is_free_half<A: Allocator>(half: &mut Node<A>) -> bool
     half.is_free()
 }
 
-/// Makes a node a split with two free halves: from spare boxes where there are any.
+/// Makes a node a split with two free halves: in a spare box where there is any.
 #[inline(always)]
 fn split<A: Allocator + Clone>(
     node: &mut Node<A>,
@@ -441,39 +456,41 @@ fn split<A: Allocator + Clone>(
 ) -> Result<(), AllocError>
     ensures { OnOk result (IsSplitInTwo node.new) }
 {
-    if let Node::Split(first, second) = &mut spare.chain {
-        if !first.is_free() {
-            **first = Node::Free;
+    if let Node::Split(halves) = &mut spare.chain {
+        if !halves.lower.is_free() {
+            halves.lower = Node::Free;
         }
-        let rest = mem::replace(&mut **second, Node::Free);
+        let rest = mem::replace(&mut halves.upper, Node::Free);
         *node = mem::replace(&mut spare.chain, rest);
-        spare.pairs = spare.pairs.saturating_sub(1);
+        spare.boxes = spare.boxes.saturating_sub(1);
         return Ok(());
     }
     *node = split_anew(alloc)?;
     Ok(())
 }
 
-/// Makes a split with two free halves, in new boxes.
+/// Makes a split with two free halves, in a new box.
 #[inline(never)]
 fn split_anew<A: Allocator + Clone>(alloc: &A) -> Result<Node<A>, AllocError>
     ensures { IfOk result (λ node. IsSplitInTwo node) }
 {
-    let lower = Box::new(alloc.clone()?, Node::Free)?;
-    let upper = Box::new(alloc.clone()?, Node::Free)?;
-    Ok(Node::Split(lower, upper))
+    let halves = Halves {
+        lower: Node::Free,
+        upper: Node::Free,
+    };
+    Ok(Node::Split(Box::new(alloc.clone()?, halves)?))
 }
 
-/// Keeps the boxes of a split as spares, where there are fewer than one carve may take.
+/// Keeps the box of a split as a spare, where there are fewer than one carve may take.
 #[inline(always)]
 fn keep<A: Allocator>(spare: &mut Spare<A>, mut merged: Node<A>) {
-    if spare.pairs >= 12 {
+    if spare.boxes >= 12 {
         return;
     }
-    if let Node::Split(_, second) = &mut merged {
-        mem::swap(&mut **second, &mut spare.chain);
+    if let Node::Split(halves) = &mut merged {
+        mem::swap(&mut halves.upper, &mut spare.chain);
         mem::swap(&mut merged, &mut spare.chain);
-        spare.pairs += 1;
+        spare.boxes += 1;
     }
 }
 

@@ -19,7 +19,7 @@
 //! Beside the nodes a bit for each part of the root tells whether it is a free leaf, and so where
 //! the lowest one of a level is, and how far a leaf merges that is released. `free_leaves` goes
 //! through the nodes; each other call goes down one path of 13 at most, or looks at the bits and
-//! counts alone. Only `carve` takes memory, two boxes for each level that it splits: those of
+//! counts alone. Only `carve` takes memory, one box for each level that it splits: those of
 //! halves that merged first, which `release` and `enlarge` keep, for one carve at most. All others
 //! they give back; the last go back with the tree. After RootChunkArea in HotSpot's
 //! rootChunkArea.hpp, which has a list in place of the tree.
@@ -30,8 +30,8 @@ ghost use Rattle.ms_base.specs.declared.sizes.TheConstants.{ROOT_WORDS};
 ghost use Rattle.ms_base.specs.Level.{size_of};
 ghost use Rattle.ms_buddy.specs.Counts.{count_at_level};
 ghost use Rattle.ms_buddy.specs.Leaves.{AreLeaves, IsCarveRefusal, IsLeafAt, can_enlarge, covers, fits_in, free_of};
-ghost use Rattle.ms_buddy.specs.Leaves.{has_level, is_lent, is_of, is_of_from, leaf_of, parent_of, root, span_at};
-ghost use Rattle.ms_buddy.specs.Leaves.{with_front, with_leaf, with_parent, without_leaf};
+ghost use Rattle.ms_buddy.specs.Leaves.{has_level, is_lent, is_of, is_of_from, is_same, leaf_of, parent_of, root};
+ghost use Rattle.ms_buddy.specs.Leaves.{span_at, with_front, with_leaf, with_parent, without_leaf};
 
 use crate::free_bits::{FreeBits, first_from, number, start_of, start_of_holder, words_of};
 use crate::leaves::FreeLeaves;
@@ -47,7 +47,7 @@ use std::marker::Model;
 pub struct SplitTree<A: Allocator> {
     /// The root's node: level 0, from word 0 on.
     node: Node<A>,
-    /// Boxes of halves that merged, for the next carve: 24 at most.
+    /// Boxes of halves that merged, for the next carve: 12 at most.
     spare: Spare<A>,
     /// How many free leaves there are of each level.
     counts: [u16; LEVELS],
@@ -77,7 +77,7 @@ impl<A: Allocator> SplitTree<A> {
             node: Node::Free,
             spare: Spare {
                 chain: Node::Free,
-                pairs: 0,
+                boxes: 0,
             },
             counts: [1, 0, 0, 0, 0, 0, 0, 0, 0, 0, 0, 0, 0],
             free: FreeBits::whole(),
@@ -127,6 +127,16 @@ impl<A: Allocator> SplitTree<A> {
         ensures { result ≡ count_at_level level (free_of self.now) }
     {
         self.counts[level.number() as usize]
+    }
+
+    /// Tells whether the part of a level at an offset in words, 0 to 524287, is a free leaf itself,
+    /// by its bit alone. Takes no memory. This project's choice.
+    pub fn is_free(&self, level: Level, at: u64) -> bool
+        requires in_root { at < ROOT_WORDS }
+        requires aligned { at % size_of level ≡ 0 }
+        ensures { result ≡ list_any (is_same (span_at at level)) (free_of self.now) }
+    {
+        self.free.has(number(level.number(), at))
     }
 
     /// Finds the lowest free leaf of a level, by the bits of the free leaves alone. Takes no

@@ -19,7 +19,7 @@ mod small_block;
 mod table;
 
 use ms_arena::{RawArena, wanting_room};
-use ms_base::{Block, Kind, Refusal};
+use ms_base::{Block, Refusal};
 use ms_pool::ChunkSource;
 use small_block::SmallBlock;
 use std::alloc::Global;
@@ -101,7 +101,7 @@ pub fn allocate_in<S: ChunkSource>(
         arena.old name words source.old result names.new.entries arena.new source.new }
     ensures chunks { OnOk result (AreChunks arena.new.space arena.new.books.chunks) }
 {
-    let many = arena.kind() != Kind::Hidden && arena.kind() != Kind::Reflection;
+    let many = arena.expects_many();
     let mut refused = false;
     if names.table.make_place(name, many, &mut refused) {
         return allocate_in_row(&mut names.table, arena, source, name, words);

@@ -27,7 +27,7 @@ use crate::lender::Lender;
 use crate::search::{granules_meeting, missing_among};
 use crate::trees::{carve, put_back, raise};
 use ms_base::{Chunk, Level, NODE_WORDS, Policy, ROOT_WORDS, Refusal, SLOTS, Space, Span, granule};
-use ms_buddy::{Leaf, SplitTree};
+use ms_buddy::SplitTree;
 use ms_commit::Nodes;
 use std::alloc::Global;
 
@@ -417,18 +417,7 @@ fn can_become_parent(tree: &SplitTree<Global>, start: u64, level: Level) -> bool
     if level.number() == 0 || start % (2 * size) != 0 {
         return false;
     }
-    let (span, leaf) = tree.leaf_at(start + size);
-    is_free_leaf(leaf) && span.level == level
-}
-
-/// Tells whether a leaf is free.
-fn is_free_leaf(leaf: Leaf) -> bool
-    ensures { IsTrue result ↔ (leaf ≡ Leaf.Free) }
-{
-    match leaf {
-        Leaf::Free => true,
-        Leaf::Lent { .. } => false,
-    }
+    tree.is_free(level, start + size)
 }
 
 /// Reserves a slot where it isn't reserved; then it is the lowest, and one more may be.

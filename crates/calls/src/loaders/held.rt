@@ -107,7 +107,7 @@ impl Places for Held {
 }
 
 /// Tells the places that the loaders have, loader by loader.
-pub fn tell_all_places(rt: &HostRuntime, loaders: &mut Loaders) -> io::Result<()> {
+pub(crate) fn tell_all_places(rt: &HostRuntime, loaders: &mut Loaders) -> io::Result<()> {
     for _ in 0..MOST_LOADERS {
         if let Some((name, loader)) = loaders.pop_first() {
             tell(rt, &name);

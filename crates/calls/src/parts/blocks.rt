@@ -8,7 +8,7 @@ use std::alloc::Global;
 use std::io;
 
 /// Tells the row.
-pub fn tell_all(rt: &HostRuntime) -> io::Result<()> {
+pub(crate) fn tell_all(rt: &HostRuntime) -> io::Result<()> {
     let mut blocks = FreeBlocks::new(rt.alloc());
     if blocks.reserve(3).is_err() {
         return Err(unprepared());
@@ -53,13 +53,13 @@ fn tell_blocks(rt: &HostRuntime, blocks: &FreeBlocks) {
 
 /// Free blocks, for more of which room is to be made.
 #[derive(Drop)]
-pub struct Reserving {
+pub(crate) struct Reserving {
     blocks: FreeBlocks,
 }
 
 impl Reserving {
     /// Prepares two free blocks and room for one more.
-    pub fn prepared(alloc: Global) -> io::Result<Reserving> {
+    pub(crate) fn prepared(alloc: Global) -> io::Result<Reserving> {
         let mut blocks = FreeBlocks::new(alloc);
         match blocks.reserve(3) {
             Ok(()) => {

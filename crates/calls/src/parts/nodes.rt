@@ -8,7 +8,7 @@ use ms_commit::Nodes;
 use std::io;
 
 /// Tells the row.
-pub fn tell_all(rt: &HostRuntime) -> io::Result<()> {
+pub(crate) fn tell_all(rt: &HostRuntime) -> io::Result<()> {
     mark(rt, "nodes");
     let mut nodes = Nodes::new(1, 3, 8192, 1);
     line(rt, "nodes reserve", &(nodes.reserve(), nodes.reserve()));

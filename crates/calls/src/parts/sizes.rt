@@ -6,7 +6,7 @@ use ms_base::{Kind, Level, Policy, Space, granule, growth, level_for};
 use std::io;
 
 /// Tells the row.
-pub fn tell_all(rt: &HostRuntime) -> io::Result<()> {
+pub(crate) fn tell_all(rt: &HostRuntime) -> io::Result<()> {
     mark(rt, "sizes");
     for number in 0..13 {
         tell_level(rt, number);

@@ -10,7 +10,7 @@ use std::alloc::Global;
 use std::io;
 
 /// Tells the row.
-pub fn tell_all(rt: &HostRuntime) -> io::Result<()> {
+pub(crate) fn tell_all(rt: &HostRuntime) -> io::Result<()> {
     let Ok(mut tree) = lending(rt.alloc()) else {
         return Err(unprepared());
     };
@@ -95,6 +95,12 @@ fn tell_tree(rt: &HostRuntime, tree: &SplitTree<Global>) {
     }
     let level = Level::new(10);
     line(rt, "tree is whole", &(tree.is_whole(), tree.free_levels()));
+    let below = Level::new(11);
+    line(
+        rt,
+        "tree has",
+        &(tree.is_free(below, 256), tree.is_free(level, 512)),
+    );
     line(
         rt,
         "tree found",
@@ -111,14 +117,14 @@ fn tell_tree(rt: &HostRuntime, tree: &SplitTree<Global>) {
 
 /// A tree, of which a part is to be lent.
 #[derive(Drop)]
-pub struct Carving {
+pub(crate) struct Carving {
     alloc: Global,
     tree: SplitTree<Global>,
 }
 
 impl Carving {
     /// Prepares a tree that has lent a part.
-    pub fn prepared(alloc: Global) -> io::Result<Carving> {
+    pub(crate) fn prepared(alloc: Global) -> io::Result<Carving> {
         let mut tree = SplitTree::new();
         match tree.carve(alloc, Level::new(10), 512, 1, 100) {
             Ok(()) => Ok(Carving { alloc, tree }),

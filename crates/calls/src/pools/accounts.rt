@@ -11,7 +11,7 @@ use std::alloc::Global;
 use std::io;
 
 /// Tells the row.
-pub fn tell_all(rt: &HostRuntime) -> io::Result<()> {
+pub(crate) fn tell_all(rt: &HostRuntime) -> io::Result<()> {
     let (mut pool, account) = lent(rt.alloc())?;
     mark(rt, "accounts");
     tell_pool(rt, &pool);
@@ -68,7 +68,7 @@ fn grow(pool: &mut Pool, account: &mut Account) -> Option<Result<Span, Refusal>>
 }
 
 /// Tells the first chunk of an account.
-pub fn first_chunk(account: &Account) -> Option<Chunk>
+pub(crate) fn first_chunk(account: &Account) -> Option<Chunk>
     ensures { IfSome result
         (λ chunk. IsTrue (has_chunk_at account.now.chunks chunk.start)) }
 {

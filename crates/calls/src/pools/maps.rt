@@ -9,14 +9,14 @@ use std::io;
 
 /// A pool of whose roots maps are to be told.
 #[derive(Drop)]
-pub struct Mapping {
+pub(crate) struct Mapping {
     alloc: Global,
     pool: Pool,
 }
 
 impl Mapping {
     /// Prepares the pool of a system with loaders and blocks.
-    pub fn prepared(alloc: Global) -> io::Result<Mapping> {
+    pub(crate) fn prepared(alloc: Global) -> io::Result<Mapping> {
         let (pool, loaders) = filled(alloc, &FREED)?.into_parts();
         drop(loaders);
         Ok(Mapping { alloc, pool })

@@ -15,7 +15,7 @@ use std::io;
 use std::sync::Wait;
 
 /// Tells the row.
-pub fn tell_all<R: Wait>(rt: &HostRuntime, waits: &R) -> io::Result<()> {
+pub(crate) fn tell_all<R: Wait>(rt: &HostRuntime, waits: &R) -> io::Result<()> {
     let mut both = Vec::with_capacity(rt.alloc(), 2)?;
     let (lock, one, mut other, mut account) = prepared(rt.alloc(), waits)?;
     mark(rt, "lock");
@@ -97,7 +97,7 @@ fn tell_taken(rt: &HostRuntime, taken: &Result<Pool, (Refusal, SharedPool, Vec<P
 
 /// A pool that is to be put behind a lock.
 #[derive(Drop)]
-pub struct Sharing {
+pub(crate) struct Sharing {
     alloc: Global,
     pool: Option<Pool>,
     made: Option<(SharedPool, Vec<PoolSeat>)>,
@@ -105,7 +105,7 @@ pub struct Sharing {
 
 impl Sharing {
     /// Prepares a pool.
-    pub fn prepared(alloc: Global) -> io::Result<Sharing> {
+    pub(crate) fn prepared(alloc: Global) -> io::Result<Sharing> {
         let pool = Some(Pool::new(alloc, SETTINGS)?);
         let made = None;
         Ok(Sharing { alloc, pool, made })

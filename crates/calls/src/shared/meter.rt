@@ -10,7 +10,7 @@ use std::alloc::Global;
 use std::io;
 
 /// Tells the row.
-pub fn tell_all(rt: &HostRuntime) -> io::Result<()> {
+pub(crate) fn tell_all(rt: &HostRuntime) -> io::Result<()> {
     let mut both = Vec::with_capacity(rt.alloc(), 2)?;
     let (meter, mut seats) = UsedMeter::new(rt.alloc(), 2)?;
     let Some(mut other) = seats.pop() else {
@@ -65,14 +65,14 @@ fn tell_closed(rt: &HostRuntime, closed: &Result<u64, (Refusal, UsedMeter, Vec<M
 
 /// A meter that is to be made.
 #[derive(Drop)]
-pub struct Metering {
+pub(crate) struct Metering {
     alloc: Global,
     made: Option<(UsedMeter, Vec<MeterSeat>)>,
 }
 
 impl Metering {
     /// Prepares nothing.
-    pub fn prepared(alloc: Global) -> io::Result<Metering> {
+    pub(crate) fn prepared(alloc: Global) -> io::Result<Metering> {
         Ok(Metering { alloc, made: None })
     }
 }

@@ -11,7 +11,11 @@ use ms_shared::{PoolSeat, SharedPool};
 use std::sync::Wait;
 
 /// Opens an account and lends it a chunk: none where one of these is refused. Takes memory.
-pub fn lent<R: Wait>(waits: &R, lock: &SharedPool, seat: PoolSeat) -> (PoolSeat, Option<Account>)
+pub(crate) fn lent<R: Wait>(
+    waits: &R,
+    lock: &SharedPool,
+    seat: PoolSeat,
+) -> (PoolSeat, Option<Account>)
     requires { seat.id ≡ lock.now.id }
     ensures own { result.0.id ≡ seat.id }
     ensures served { IfSome result.1 (λ account. ServesBy result.0.knows account) }
@@ -47,7 +51,7 @@ fn with_chunk<R: Wait>(
 }
 
 /// Has the first chunk of an account grow to its parent.
-pub fn grown<R: Wait>(
+pub(crate) fn grown<R: Wait>(
     rt: &HostRuntime,
     waits: &R,
     lock: &SharedPool,
@@ -72,7 +76,7 @@ pub fn grown<R: Wait>(
 }
 
 /// Tells the sums over an account's space, and closes the account.
-pub fn closed<R: Wait>(
+pub(crate) fn closed<R: Wait>(
     rt: &HostRuntime,
     waits: &R,
     lock: &SharedPool,
@@ -91,7 +95,12 @@ pub fn closed<R: Wait>(
 }
 
 /// Opens an account of classes and closes it: tells its owner's number.
-pub fn opened<R: Wait>(rt: &HostRuntime, waits: &R, lock: &SharedPool, seat: PoolSeat) -> PoolSeat
+pub(crate) fn opened<R: Wait>(
+    rt: &HostRuntime,
+    waits: &R,
+    lock: &SharedPool,
+    seat: PoolSeat,
+) -> PoolSeat
     requires { seat.id ≡ lock.now.id }
     ensures { result.id ≡ seat.id }
 {
@@ -110,7 +119,7 @@ pub fn opened<R: Wait>(rt: &HostRuntime, waits: &R, lock: &SharedPool, seat: Poo
 }
 
 /// Opens both accounts of a loader and closes them: tells their owners' numbers.
-pub fn opened_both<R: Wait>(
+pub(crate) fn opened_both<R: Wait>(
     rt: &HostRuntime,
     waits: &R,
     lock: &SharedPool,
@@ -135,7 +144,12 @@ pub fn opened_both<R: Wait>(
 }
 
 /// Drops the nodes that hold no chunk.
-pub fn purged<R: Wait>(rt: &HostRuntime, waits: &R, lock: &SharedPool, seat: PoolSeat) -> PoolSeat
+pub(crate) fn purged<R: Wait>(
+    rt: &HostRuntime,
+    waits: &R,
+    lock: &SharedPool,
+    seat: PoolSeat,
+) -> PoolSeat
     requires { seat.id ≡ lock.now.id }
     ensures { result.id ≡ seat.id }
 {

@@ -35,7 +35,7 @@ const STEPS: [Step; 5] = [
 ];
 
 /// Further steps: a free block in each space, and a word that is written.
-pub const FREED: [Step; 5] = [
+pub(crate) const FREED: [Step; 5] = [
     Step::Alloc {
         loader: 2,
         block: 2,
@@ -59,7 +59,7 @@ pub const FREED: [Step; 5] = [
 ];
 
 /// Further steps: a third loader, with a block in the class space.
-pub const HIDDEN: [Step; 2] = [
+pub(crate) const HIDDEN: [Step; 2] = [
     Step::New {
         loader: 3,
         kind: Kind::Hidden,
@@ -80,7 +80,7 @@ const PEAKS: Peaks = Peaks {
 };
 
 /// Makes a system with loaders and blocks, by the first steps and further ones.
-pub fn filled(alloc: Global, more: &[Step]) -> io::Result<System> {
+pub(crate) fn filled(alloc: Global, more: &[Step]) -> io::Result<System> {
     let mut system = System::new(alloc, SETTINGS)?;
     if is_served(&mut system, &STEPS) && is_served(&mut system, more) {
         return Ok(system);
@@ -100,7 +100,7 @@ fn is_served(system: &mut System, steps: &[Step]) -> bool {
 }
 
 /// Tells the sums of a system with loaders and blocks, with details and peaks.
-pub fn filled_totals(alloc: Global, more: &[Step]) -> io::Result<Totals> {
+pub(crate) fn filled_totals(alloc: Global, more: &[Step]) -> io::Result<Totals> {
     let system = filled(alloc, more)?;
     let totals = detailed_totals(&system);
     drop(system);
@@ -117,7 +117,7 @@ fn detailed_totals(system: &System) -> Result<Totals, AllocError> {
 
 /// Tells sums: those over each space, the row of each loader, the peaks and the details where there
 /// are some.
-pub fn tell_totals(rt: &HostRuntime, totals: &Totals) {
+pub(crate) fn tell_totals(rt: &HostRuntime, totals: &Totals) {
     tell(rt, &totals.loaders);
     tell(rt, &totals.space);
     tell(rt, &totals.class_space);
@@ -131,7 +131,7 @@ pub fn tell_totals(rt: &HostRuntime, totals: &Totals) {
 }
 
 /// Tells the sums of each loader in each space, and the maps of roots.
-pub fn tell_details(rt: &HostRuntime, details: &Details) {
+pub(crate) fn tell_details(rt: &HostRuntime, details: &Details) {
     tell(rt, &details.loaders);
     tell(rt, &details.roots);
 }

@@ -31,7 +31,7 @@ const STEPS: [Step; 5] = [
 ];
 
 /// Tells the row.
-pub fn tell_all(rt: &HostRuntime) -> io::Result<()> {
+pub(crate) fn tell_all(rt: &HostRuntime) -> io::Result<()> {
     let mut system = filled(rt.alloc(), &HIDDEN)?;
     mark(rt, "system");
     tell_system(rt, &system);

@@ -18,7 +18,7 @@ use Rattle.ms_base.proofs.free.FreeLemmas.{by_halves}
 use Rattle.ms_base.proofs.free.RoomLemmas.{root_of, roots_are_whole}
 
 -- Parts rise from low to high: each starts where the one before ends, or later.
-abbrev pub Rises : ℕ → ℕ → List Span → Type 0
+abbrev Rises : ℕ → ℕ → List Span → Type 0
 Rises low high [] = low ≤ high
 Rises low high (part ∷ parts) = (low ≤ part.start) × Rises (part.start + size_of part.level) high parts
 
@@ -33,7 +33,7 @@ rises_joined low middle high (part ∷ xs) ys first second =
     (first.0, rises_joined (part.start + size_of part.level) middle high xs ys first.1 second)
 
 -- The free parts of a part rise from its start to its end.
-pub within_rises : (held : List Chunk) (below start : ℕ) → below ≤ highest_level → IsStart below start
+within_rises : (held : List Chunk) (below start : ℕ) → below ≤ highest_level → IsStart below start
     → Rises start (start + words_over below) (free_within held below start)
 within_rises held = by_halves held (λ below start parts. Rises start (start + words_over below) parts) (record {
   none = λ start whole meets. omega arith;

@@ -72,12 +72,12 @@ impl Table {
         }
     }
 
-    /// Takes all names out, and keeps the memory that they had.
+    /// Takes all names out, and keeps the memory that they had, and the row its length.
     pub fn clear(&mut self)
         ensures { (name : ℕ) → block_of self.new name ≡ None }
     {
         self.first = 0;
-        self.row.clear();
+        forget_all(self.row.as_mut_slice());
         if !self.others.is_empty() {
             self.others.clear();
         }
@@ -227,6 +227,14 @@ impl Table {
         }
         Some(small.block())
     }
+}
+
+/// Has a row from the name 0 on name no block.
+fn forget_all(row: &mut [SmallBlock])
+    ensures none { (name : ℕ) → in_row 0 row.new name ≡ no_block }
+    ensures stays { length row.new ≡ length row.old }
+{
+    row.fill(SmallBlock::none());
 }
 
 /// Makes room ahead for names beside the row, where all is used up: for the first ones at once

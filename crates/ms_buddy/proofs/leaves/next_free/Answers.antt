@@ -26,7 +26,7 @@ returns-in-Free-clause-next g c =
 pub put_halves-requires : goal.put_halves-requires
 put_halves-requires g c =
     let turn = at_turn _ _ _ _ c.in-Some.ensures.items c.in-Some-top.is c.loop-top.invariant.0 in
-    let s = at_split _ c.in-Some-top.visit.start _ _ _ _ _ _ c.in-Split.is turn.top.tree refl in
+    let s = at_split _ c.in-Some-top.visit.start _ _ _ _ _ c.in-Split.is c.deref.ensures turn.top.tree refl in
     let low : c.in-Some-top.visit.level < 12 = s.low in
     let in_root : c.in-Some-top.visit.start ≤ ROOT_WORDS = omega (arith, turn.top.place.in_root) in
     let room : length c.pop.new.self.items + 1 < 13 = omega (arith, turn.top.low, s.low) in
@@ -49,19 +49,17 @@ loop-top-preserved-in-Lent g c =
 pub loop-top-smaller : goal.loop-top-smaller
 loop-top-smaller g c =
     let turn = at_turn _ _ _ _ c.in-Some.ensures.items c.in-Some-top.is c.loop-top.invariant.0 in
-    let s = at_split _ c.in-Some-top.visit.start _ _ _ _ _ _ c.in-Split.is turn.top.tree refl in
+    let s = at_split _ c.in-Some-top.visit.start _ _ _ _ _ c.in-Split.is c.deref.ensures turn.top.tree refl in
     let on = past_split c.loop-top.stack.items c.pop.new.self.items c.put_halves.new.stack.items c.in-Some-top.visit _ _
-    turn (rw (c.deref.ensures, c.deref-in-Split.ensures) s)
-    (rw (c.in-Split.is, c.deref.ensures, c.deref-in-Split.ensures) refl) c.put_halves.ensures in
+    turn s (rw (c.in-Split.is, c.deref.ensures) refl) c.put_halves.ensures in
     on.fewer
 
 pub loop-top-preserved : goal.loop-top-preserved
 loop-top-preserved g c =
     let turn = at_turn _ _ _ _ c.in-Some.ensures.items c.in-Some-top.is c.loop-top.invariant.0 in
-    let s = at_split _ c.in-Some-top.visit.start _ _ _ _ _ _ c.in-Split.is turn.top.tree refl in
+    let s = at_split _ c.in-Some-top.visit.start _ _ _ _ _ c.in-Split.is c.deref.ensures turn.top.tree refl in
     let on = past_split c.loop-top.stack.items c.pop.new.self.items c.put_halves.new.stack.items c.in-Some-top.visit _ _
-    turn (rw (c.deref.ensures, c.deref-in-Split.ensures) s)
-    (rw (c.in-Split.is, c.deref.ensures, c.deref-in-Split.ensures) refl) c.put_halves.ensures in
+    turn s (rw (c.in-Split.is, c.deref.ensures) refl) c.put_halves.ensures in
     (on.stack, on.left ∙ c.loop-top.invariant.1)
 
 pub returns-in_default-top-clause-stack : goal.returns-in_default-top-clause-stack

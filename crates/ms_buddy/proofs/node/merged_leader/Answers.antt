@@ -22,7 +22,7 @@ returns-then-span-start-clause-cannot g c =
 pub returns-in-Split-lower-clause-cannot : goal.returns-in-Split-lower-clause-cannot
 returns-in-Split-lower-clause-cannot g c =
     let halves = trees_at c.args.level c.args.start c.args.lower.now c.args.upper.now c.requires.trees in
-    absurd (split_not_leader c.args.span _ _ _ _ _ _ _ _ _ halves c.requires.lent c.if-span-start.false
+    absurd (split_not_leader c.args.span _ _ _ _ _ _ _ _ halves c.requires.lent c.if-span-start.false
     c.requires.child c.in-Split-lower.is)
 
 pub returns-in-Lent-clause-cannot : goal.returns-in-Lent-clause-cannot

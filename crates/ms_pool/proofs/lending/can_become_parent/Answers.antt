@@ -1,8 +1,9 @@
-use Rattle.ms_base.specs.Level.{highest_level}
-use Rattle.std.proofs.Common.{◌≤◌, ℕ, ◌*◌, ◌%◌, Bool, ◌&&◌, ◌==◌, sym, ap, ◌∙◌, arith}
-use Rattle.ms_buddy.specs.Leaves.{free_of, span_at}
-use Rattle.ms_pool.proofs.growths.BuddyLemmas.{decided_by_buddy, follower_cannot, leader_there, lent_place, parent_size}
-use Rattle.ms_pool.proofs.growths.BuddyLemmas.{root_cannot}
+use Rattle.ms_base.specs.Level.{highest_level, size_of}
+use Rattle.std.proofs.Common.{◌≤◌, ℕ, ◌+◌, ◌*◌, ◌%◌, sym, ap, ◌∙◌, arith}
+use Rattle.std.specs.List.{list_any}
+use Rattle.ms_buddy.specs.Leaves.{free_of, is_same, span_at}
+use Rattle.ms_pool.proofs.growths.BuddyLemmas.{buddy_is_part, follower_cannot, leader_can, leader_there, lent_place}
+use Rattle.ms_pool.proofs.growths.BuddyLemmas.{parent_size, root_cannot}
 use Rattle.ms_pool.proofs.lending.can_become_parent.Goals.{then-number-eq0-via-then-number-eq0}
 use Rattle.ms_pool.proofs.lending.can_become_parent.Goals.{then-number-eq0-via-else-number-eq0+then-start-size-ne0}
 use Rattle.ms_pool.proofs.lending.can_become_parent.Goals as goal
@@ -30,33 +31,30 @@ overflow_add-start c =
           c.is_whole.ensures.leaves.in_root c.requires).1,
     )
 
-pub leaf_at-span-requires : goal.leaf_at-span-requires
-leaf_at-span-requires c =
+pub is_free-requires-clause-in_root : goal.is_free-requires-clause-in_root
+is_free-requires-clause-in_root c =
     let there =
     leader_there c.args.tree.now c.args.start c.args.level c.number.result c.words-size.result
     c.is_whole.ensures.leaves c.requires c.number.ensures.same c.number.ensures.below c.if-number-eq0.false
     c.words-size.ensures.size c.if-start-size-ne0.false in
     omega (arith, there.within)
 
-pub returns-then-is_free_leaf : goal.returns-then-is_free_leaf
-returns-then-is_free_leaf c =
+pub is_free-requires-clause-aligned : goal.is_free-requires-clause-aligned
+is_free-requires-clause-aligned c =
     let there =
     leader_there c.args.tree.now c.args.start c.args.level c.number.result c.words-size.result
     c.is_whole.ensures.leaves c.requires c.number.ensures.same c.number.ensures.below c.if-number-eq0.false
     c.words-size.ensures.size c.if-start-size-ne0.false in
-    c.eq.ensures ∙ ap (λ (b : Bool). b && (c.leaf_at-span.result.0.level == c.args.level)) (sym c.if-is_free_leaf.true)
-    ∙ decided_by_buddy c.args.tree.now c.args.start c.args.level c.words-size.result c.leaf_at-span.result.0
-    c.leaf_at-span.result.1 c.is_free_leaf.result there c.words-size.ensures.size c.leaf_at-span.ensures.leaf
-    c.is_free_leaf.ensures
+    ap (λ (n : ℕ). (c.args.start + n) % size_of c.args.level) c.words-size.ensures.size
+    ∙ (buddy_is_part c.args.start c.args.level there.placed).1
 
-pub returns-else-is_free_leaf : goal.returns-else-is_free_leaf
-returns-else-is_free_leaf c =
+pub returns : goal.returns
+returns c =
     let there =
     leader_there c.args.tree.now c.args.start c.args.level c.number.result c.words-size.result
     c.is_whole.ensures.leaves c.requires c.number.ensures.same c.number.ensures.below c.if-number-eq0.false
     c.words-size.ensures.size c.if-start-size-ne0.false in
-    c.if-is_free_leaf.false
-    ∙ ap (λ (b : Bool). b && (c.leaf_at-span.result.0.level == c.args.level)) (sym c.if-is_free_leaf.false)
-    ∙ decided_by_buddy c.args.tree.now c.args.start c.args.level c.words-size.result c.leaf_at-span.result.0
-    c.leaf_at-span.result.1 c.is_free_leaf.result there c.words-size.ensures.size c.leaf_at-span.ensures.leaf
-    c.is_free_leaf.ensures
+    c.is_free.ensures
+    ∙ ap (λ (n : ℕ). list_any (is_same (span_at (c.args.start + n) c.args.level)) (free_of c.args.tree.now))
+    c.words-size.ensures.size
+    ∙ sym (leader_can c.args.start c.args.level (free_of c.args.tree.now) there.some there.leads)

@@ -6,12 +6,12 @@ use Rattle.ms_buddy.proofs.node.Node.+leaf_at.Goals as goal
 
 pub leaf_at-requires : goal.leaf_at-requires
 leaf_at-requires g t c κs within =
-    let s = at_split _ c.args.start _ _ _ _ _ _ c.in-Split.is c.requires.tree c.half_of.ensures.size in (
+    let s = at_split _ c.args.start _ _ _ _ _ c.in-Split.is c.deref.ensures c.requires.tree c.half_of.ensures.size in (
       omega (arith, s.low),
       (
         search rules,
         (
-          rw c.deref.ensures s.halves.low_tree,
+          s.halves.low_tree,
           (lower_place _ _ c.requires.place s.low, (search rules, omega (arith, s.halves.size))),
         ),
       ),
@@ -19,12 +19,12 @@ leaf_at-requires g t c κs within =
 
 pub leaf_at-requires-else-offset-middle : goal.leaf_at-requires-else-offset-middle
 leaf_at-requires-else-offset-middle g t c κs within =
-    let s = at_split _ c.args.start _ _ _ _ _ _ c.in-Split.is c.requires.tree c.half_of.ensures.size in (
+    let s = at_split _ c.args.start _ _ _ _ _ c.in-Split.is c.deref.ensures c.requires.tree c.half_of.ensures.size in (
       omega (arith, s.low),
       (
         search rules,
         (
-          rw c.deref-else-offset-middle.ensures s.halves.high_tree,
+          s.halves.high_tree,
           (
             upper_place _ _ _ c.requires.place s.low (omega (arith, s.halves.size)),
             (omega arith, omega (arith, s.halves.size, size_of-halves c.args.level s.low)),
@@ -35,14 +35,15 @@ leaf_at-requires-else-offset-middle g t c κs within =
 
 pub returns-then-offset-middle-clause-leaf : goal.returns-then-offset-middle-clause-leaf
 returns-then-offset-middle-clause-leaf g t c =
-    let s = at_split _ c.args.start _ _ _ _ _ _ c.in-Split.is c.requires.tree c.half_of.ensures.size in
+    let halves = c.deref.result.now in
+    let s = at_split _ c.args.start _ _ _ _ _ c.in-Split.is c.deref.ensures c.requires.tree c.half_of.ensures.size in
     rw (s.lent, s.free)
-    (lower_leaf _ _ _ c.in-Split.lower.value c.in-Split.upper.value _ _
-    (rw c.deref.ensures at c.leaf_at.ensures.leaf))
+    (lower_leaf _ _ _ halves.lower halves.upper _ _ c.leaf_at.ensures.leaf)
 
 pub returns-else-offset-middle-clause-leaf : goal.returns-else-offset-middle-clause-leaf
 returns-else-offset-middle-clause-leaf g t c =
-    let s = at_split _ c.args.start _ _ _ _ _ _ c.in-Split.is c.requires.tree c.half_of.ensures.size in
-    rw (s.lent, s.free) (upper_leaf _ _ _ _ c.in-Split.lower.value c.in-Split.upper.value _ _
+    let halves = c.deref.result.now in
+    let s = at_split _ c.args.start _ _ _ _ _ c.in-Split.is c.deref.ensures c.requires.tree c.half_of.ensures.size in
+    rw (s.lent, s.free) (upper_leaf _ _ _ _ halves.lower halves.upper _ _
     s.halves.low_tree s.halves.size (omega arith)
-    (rw c.deref-else-offset-middle.ensures at c.leaf_at-else-offset-middle.ensures.leaf))
+    c.leaf_at-else-offset-middle.ensures.leaf)

@@ -31,18 +31,18 @@ pub returns-then-lending-middle-clause-parted : goal.returns-then-lending-middle
 returns-then-lending-middle-clause-parted g t c =
     let below : c.args.level < c.args.lending.now.span.level = omega arith in
     let low : c.args.level < highest_level = omega (arith, c.requires.is_part.0) in
-    let two = rw c.in-Split.is at c.in_ok-split.ensures in
+    let two = rw (c.in-Split.is, ← c.deref_mut.ensures.value) at c.in_ok-split.ensures in
     on_ok_weaker c.part_free.result
     (λ half. lower_for c.args.lending.now.span c.args.level c.args.start c.half_of.result c.args.lending.now.owner
-    c.args.lending.now.front _ _ _ _ low below two.1 c.half_of.ensures.size c.if-lending-middle.true half)
+    c.args.lending.now.front _ _ _ low below two.1 c.half_of.ensures.size c.if-lending-middle.true half)
     c.part_free.ensures.parted
 
 pub returns-else-lending-middle-clause-parted : goal.returns-else-lending-middle-clause-parted
 returns-else-lending-middle-clause-parted g t c =
     let below : c.args.level < c.args.lending.now.span.level = omega arith in
     let low : c.args.level < highest_level = omega (arith, c.requires.is_part.0) in
-    let two = rw c.in-Split.is at c.in_ok-split.ensures in
+    let two = rw (c.in-Split.is, ← c.deref_mut.ensures.value) at c.in_ok-split.ensures in
     on_ok_weaker c.part_free-else-lending-middle.result
     (λ half. upper_for c.args.lending.now.span c.args.level c.args.start c.half_of.result c.args.lending.now.owner
-    c.args.lending.now.front _ _ _ _ low below two.0 c.half_of.ensures.size (omega arith) half)
+    c.args.lending.now.front _ _ _ low below two.0 c.half_of.ensures.size (omega arith) half)
     c.part_free-else-lending-middle.ensures.parted

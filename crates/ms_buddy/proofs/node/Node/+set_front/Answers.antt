@@ -9,51 +9,52 @@ use Rattle.ms_buddy.proofs.node.Node.+set_front.Goals as goal
 
 pub set_front-requires : goal.set_front-requires
 set_front-requires g t c κs within =
-    let s = at_split _ c.args.start _ _ _ _ _ _ c.in-Split.is c.requires.tree c.half_of.ensures.size in
-    let value = c.deref_mut.ensures.value in
+    let s = at_split _ c.args.start _ _ _ _ _ c.in-Split.is c.deref_mut.ensures.value c.requires.tree c.half_of.ensures.size in
     let may = lower_front _ _ _ _ _ _ _ _ s.halves s.low c.if-span-middle.true (rw s.lent at c.requires.leaf) in
-    (omega (arith, s.low), (search rules, (rw value s.halves.low_tree, rw value may)))
+    (omega (arith, s.low), (search rules, (s.halves.low_tree, may)))
 
 pub set_front-requires-else-span-middle : goal.set_front-requires-else-span-middle
 set_front-requires-else-span-middle g t c κs within =
-    let s = at_split _ c.args.start _ _ _ _ _ _ c.in-Split.is c.requires.tree c.half_of.ensures.size in
-    let value = c.deref_mut-else-span-middle.ensures.value in
+    let s = at_split _ c.args.start _ _ _ _ _ c.in-Split.is c.deref_mut.ensures.value c.requires.tree c.half_of.ensures.size in
     let may = upper_front _ _ _ _ _ _ _ _ s.halves s.low (omega arith) (rw s.lent at c.requires.leaf) in
-    (omega (arith, s.low), (search rules, (rw value s.halves.high_tree, rw value may)))
+    (omega (arith, s.low), (search rules, (s.halves.high_tree, may)))
 
 pub returns-then-span-middle-clause-lent : goal.returns-then-span-middle-clause-lent
 returns-then-span-middle-clause-lent g t c =
-    let s = at_split _ c.args.start _ _ _ _ _ _ c.in-Split.is c.requires.tree c.half_of.ensures.size in
+    let s = at_split _ c.args.start _ _ _ _ _ c.in-Split.is c.deref_mut.ensures.value c.requires.tree c.half_of.ensures.size in
     lower_changed _ _ _ _ _ c.set_front.new.self _ _ (front_acts c.args.span c.args.front)
-    s.halves c.if-span-middle.true (rw c.deref_mut.ensures.value at c.set_front.ensures.lent)
+    s.halves c.if-span-middle.true c.set_front.ensures.lent
     ∙ ap (with_front c.args.span c.args.front) (sym s.lent)
 
 pub returns-else-span-middle-clause-lent : goal.returns-else-span-middle-clause-lent
 returns-else-span-middle-clause-lent g t c =
-    let s = at_split _ c.args.start _ _ _ _ _ _ c.in-Split.is c.requires.tree c.half_of.ensures.size in
+    let s = at_split _ c.args.start _ _ _ _ _ c.in-Split.is c.deref_mut.ensures.value c.requires.tree c.half_of.ensures.size in
     upper_changed _ _ _ _ _ c.set_front-else-span-middle.new.self _ _ (front_acts c.args.span c.args.front) s.halves
     (omega arith)
-    (rw c.deref_mut-else-span-middle.ensures.value at c.set_front-else-span-middle.ensures.lent)
+    c.set_front-else-span-middle.ensures.lent
     ∙ ap (with_front c.args.span c.args.front) (sym s.lent)
 
 pub returns-then-span-middle-clause-parts : goal.returns-then-span-middle-clause-parts
 returns-then-span-middle-clause-parts g t c =
-    let s = at_split _ c.args.start _ _ _ _ _ _ c.in-Split.is c.requires.tree c.half_of.ensures.size in
-    ap (λ (xs : List Span). xs ++ free_in (c.args.level + 1) (c.args.start + size_of (c.args.level + 1)) c.in-Split.upper.value)
-    (rw c.deref_mut.ensures.value at c.set_front.ensures.parts) ∙ sym s.free
+    let halves = c.deref_mut.result.now in
+    let s = at_split _ c.args.start _ _ _ _ _ c.in-Split.is c.deref_mut.ensures.value c.requires.tree c.half_of.ensures.size in
+    ap (λ (xs : List Span). xs ++ free_in (c.args.level + 1) (c.args.start + size_of (c.args.level + 1)) halves.upper)
+    c.set_front.ensures.parts ∙ sym s.free
 
 pub returns-else-span-middle-clause-parts : goal.returns-else-span-middle-clause-parts
 returns-else-span-middle-clause-parts g t c =
-    let s = at_split _ c.args.start _ _ _ _ _ _ c.in-Split.is c.requires.tree c.half_of.ensures.size in
-    ap (λ (xs : List Span). free_in (c.args.level + 1) c.args.start c.in-Split.lower.value ++ xs)
-    (rw (c.deref_mut-else-span-middle.ensures.value, c.half_of.ensures.size) at c.set_front-else-span-middle.ensures.parts)
+    let halves = c.deref_mut.result.now in
+    let s = at_split _ c.args.start _ _ _ _ _ c.in-Split.is c.deref_mut.ensures.value c.requires.tree c.half_of.ensures.size in
+    ap (λ (xs : List Span). free_in (c.args.level + 1) c.args.start halves.lower ++ xs)
+    (rw c.half_of.ensures.size at c.set_front-else-span-middle.ensures.parts)
     ∙ sym s.free
 
 pub returns-then-span-middle-clause-tree : goal.returns-then-span-middle-clause-tree
 returns-then-span-middle-clause-tree g t c =
-    let s = at_split _ c.args.start _ _ _ _ _ _ c.in-Split.is c.requires.tree c.half_of.ensures.size in (
+    let halves = c.deref_mut.result.now in
+    let s = at_split _ c.args.start _ _ _ _ _ c.in-Split.is c.deref_mut.ensures.value c.requires.tree c.half_of.ensures.size in (
       s.low,
-      ap (λ b. b && is_free c.in-Split.upper.value) (rw c.deref_mut.ensures.value at c.set_front.ensures.free)
+      ap (λ b. b && is_free halves.upper) c.set_front.ensures.free
           ∙ s.one,
       c.set_front.ensures.tree,
       s.halves.high_tree,
