@@ -37,8 +37,8 @@ def sums_line(about, name, **sums):
 # Lines that stand in a row, in this order among others, worked by hand.
 SAID = {
     "blocks": ("reserve all Err(OutOfMemory)",),
-    "tree": ("has (true, false)", "count (9, 1)", "count (10, 0)", "count (11, 1)", "count (12, 1)", "count (11, 1)",
-             "count (12, 0)", "has (true, true)", "count (10, 1)", "has (false, false)", "count (8, 0)", "count (9, 0)"),
+    "tree": ("can (Some(true), Some(false))", "count (9, 1)", "count (10, 0)", "count (11, 1)", "count (12, 1)", "count (11, 1)",
+             "count (12, 0)", "can (Some(true), None)", "count (10, 1)", "can (None, None)", "count (8, 0)", "count (9, 0)"),
     "arena": ("write (3999, Ok(()))", "read (1, Ok(0))", "read (3999, Ok(7))",
               "read (4000, Err(OutOfRange { words: 4000 }))", "free Ok(())", "free Err(NotLive)",
               "account (1, NonClass)", "read gone Err(NotLive)",

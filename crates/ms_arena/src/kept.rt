@@ -20,9 +20,6 @@ use ms_blocks::FreeBlocks;
 use std::alloc::Global;
 use std::marker::Model;
 
-/// For how many blocks room is made at least: nothing touches it until blocks come.
-const LEAST_ROOM: usize = 64;
-
 /// The free blocks of one arena, and room for more of them. A start is a word number.
 #[derive(Drop)]
 pub struct Kept {
@@ -87,7 +84,7 @@ impl Kept {
         if !self.came.is_empty() {
             self.order()?;
         }
-        match self.came.reserve(blocks.max(LEAST_ROOM)) {
+        match self.came.reserve(blocks) {
             Ok(()) => Ok(()),
             Err(_) => Err(Refusal::OutOfMemory),
         }

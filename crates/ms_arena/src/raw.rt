@@ -41,6 +41,13 @@ use ms_pool::{Account, ChunkSource};
 use std::alloc::Global;
 use std::marker::Model;
 
+/// For how many free blocks room is made at least, where few blocks are to come: nothing touches it
+/// until blocks come.
+const FEW_BLOCKS: usize = 8;
+
+/// For how many where many are.
+const MANY_BLOCKS: usize = 64;
+
 /// The arena of one class loader in one space, which trusts whoever has its blocks. After HotSpot's
 /// metaspaceArena.hpp.
 #[derive(Drop)]
@@ -281,7 +288,7 @@ pub fn wanting_room(words: u64) -> Refusal
 
 /// Makes all room that a block of n words may need beside so many live ones: for its words, a top,
 /// and for free blocks, as many as live blocks and two more: its own when it is freed, and the rest
-/// of a chunk that retires.
+/// of a chunk that retires. Makes more where many blocks are to come.
 #[inline(always)]
 fn made_room(
     books: &mut Books,
@@ -303,7 +310,8 @@ fn made_room(
     let Some(blocks) = live.checked_add(2) else {
         return Err(Refusal::OutOfMemory);
     };
-    books.make_room(blocks)?;
+    let least = if many { MANY_BLOCKS } else { FEW_BLOCKS };
+    books.make_room(blocks.max(least))?;
     match words.reserve(alloc, n, many) {
         Ok(()) => Ok(()),
         Err(_) => Err(Refusal::OutOfMemory),

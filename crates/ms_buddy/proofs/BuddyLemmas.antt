@@ -8,9 +8,9 @@ use Rattle.std.proofs.lemmas.Nat.{div-mul-add}
 use Rattle.std.proofs.Math.Nat.{le_of_mul-le-mul_right, mod-lt}
 use Rattle.ms_base.specs.declared.span.Span.{Span}
 use Rattle.ms_base.specs.Level.{size_of, highest_level}
-use Rattle.ms_buddy.specs.declared.node.Node.{Node}
-use Rattle.ms_buddy.specs.declared.node.Node.TheVariants.{Free, Lent, Split'}
-use Rattle.ms_buddy.specs.Counts.{IsApart, buddy_of, count_of_number, holder_of, number_of, one_at}
+use Rattle.ms_buddy.specs.Tree.{Node}
+use Rattle.ms_buddy.specs.Tree.{Free, Lent, Split}
+use Rattle.ms_buddy.specs.Counts.{buddy_of, count_of_number, holder_of, number_of, one_at}
 use Rattle.ms_buddy.specs.Leaves.{span_at}
 use Rattle.ms_buddy.specs.Tree.{IsPlace, free_in, free_in_halves, is_free}
 use Rattle.ms_buddy.proofs.TreeHalvesLemmas.{lower_place, size_of-halves, size_of-some, upper_place}
@@ -93,91 +93,3 @@ lower_is_buddy level start at place low above below =
     (upper_place level start (start + size_of (level + 1)) place low refl) above
     (omega (arith, below, size_of-halves level low)) ∙ upper_number level start place low)
     ∙ buddy_of-odd (number_of (span_at start level)) ∙ sym (lower_number level start place low)
-
--- A node is not free which is none of the free leaves.
-not_there : {A : Type 0} (level start number : ℕ) (node : Node A) → number ≡ number_of (span_at start level)
-    → count_of_number number (free_in level start node) ≡ 0 → is_free node ≡ false
-not_there level start number Free e none =
-    absurd (omega (arith, none, number-one number (span_at start level), same (number_of (span_at start level)) number (sym e)))
-  where
-    same : (a b : ℕ) → a ≡ b → one_at a b ≡ 1
-    same a b e = grind (arith, nat_tests)
-not_there level start number (Lent owner front) e none = refl
-not_there level start number (Split' p lower upper) e none = refl
-
-pub upper_not_free : {A : Type 0} (part : Span) (level start half : ℕ) (lower upper : Node A) → IsPlace level start
-    → level < highest_level → half ≡ size_of (level + 1) → start ≤ part.start → part.start < start + half
-    → IsApart (level + 1) part (free_in_halves level start lower upper) → is_free upper ≡ false
-upper_not_free part level start half lower upper place low size from below apart =
-    not_there (level + 1) (start + size_of (level + 1)) (buddy_of (number_of (span_at part.start (level + 1)))) upper
-    (upper_is_buddy level start part.start place low from (omega (arith, size, below)))
-    (omega (
-      arith,
-      apart,
-      number-append (buddy_of (number_of (span_at part.start (level + 1)))) (free_in (level + 1) start lower)
-          (free_in (level + 1) (start + size_of (level + 1)) upper),
-    ))
-
-pub lower_not_free : {A : Type 0} (part : Span) (level start half : ℕ) (lower upper : Node A) → IsPlace level start
-    → level < highest_level → half ≡ size_of (level + 1) → start + half ≤ part.start
-    → part.start < start + size_of level
-    → IsApart (level + 1) part (free_in_halves level start lower upper) → is_free lower ≡ false
-lower_not_free part level start half lower upper place low size above below apart =
-    not_there (level + 1) start (buddy_of (number_of (span_at part.start (level + 1)))) lower
-    (lower_is_buddy level start part.start place low (omega (arith, size, above)) below)
-    (omega (
-      arith,
-      apart,
-      number-append (buddy_of (number_of (span_at part.start (level + 1)))) (free_in (level + 1) start lower)
-          (free_in (level + 1) (start + size_of (level + 1)) upper),
-    ))
-
--- What is none of the free leaves of two halves is none of those of each.
-pub lower_apart : {A : Type 0} (level start merge : ℕ) (part : Span) (lower upper : Node A)
-    → IsApart merge part (free_in_halves level start lower upper) → IsApart merge part (free_in (level + 1) start lower)
-lower_apart level start merge part lower upper apart =
-    omega (
-      arith,
-      apart,
-      number-append (buddy_of (number_of (span_at part.start merge))) (free_in (level + 1) start lower)
-          (free_in (level + 1) (start + size_of (level + 1)) upper),
-    )
-
-pub upper_apart : {A : Type 0} (level start half merge : ℕ) (part : Span) (lower upper : Node A)
-    → half ≡ size_of (level + 1) → IsApart merge part (free_in_halves level start lower upper)
-    → IsApart merge part (free_in (level + 1) (start + half) upper)
-upper_apart level start half merge part lower upper size apart =
-    subst (λ (n : ℕ). IsApart merge part (free_in (level + 1) (start + n) upper)) (sym size)
-    (omega (
-      arith,
-      apart,
-      number-append (buddy_of (number_of (span_at part.start merge))) (free_in (level + 1) start lower)
-          (free_in (level + 1) (start + size_of (level + 1)) upper),
-    ))
-
--- A half merges no further than to its own level, and not with its buddy.
-pub still_split : (level merge result : ℕ) (now beside : Bool) → level < merge → (level + 1 < merge → merge ≤ result)
-    → now ≡ (result == level + 1) → (merge ≡ level + 1 → beside ≡ false) → (now && beside) ≡ false
-still_split level merge result now beside above kept whole apart = elim (cases_lt (level + 1) merge) [
-  | inl deeper ↦ ap (λ b. b && beside) (whole ∙ larger result (level + 1) (omega (arith, deeper, kept deeper)))
-  | inr here ↦ ap (λ b. now && b) (apart (omega (arith, here, above))) ∙ none now
-]
-  where
-    larger : (a b : ℕ) → b < a → (a == b) ≡ false
-    larger a b h = grind (arith, nat_tests)
-
-    none : (b : Bool) → (b && false) ≡ false
-    none true = refl
-    none false = refl
-
-pub still_split_beside : (level merge result : ℕ) (now beside : Bool) → level < merge
-    → (level + 1 < merge → merge ≤ result) → now ≡ (result == level + 1) → (merge ≡ level + 1 → beside ≡ false)
-    → (beside && now) ≡ false
-still_split_beside level merge result now beside above kept whole apart =
-    turned beside now ∙ still_split level merge result now beside above kept whole apart
-  where
-    turned : (a b : Bool) → (a && b) ≡ (b && a)
-    turned true true = refl
-    turned true false = refl
-    turned false true = refl
-    turned false false = refl

@@ -7,19 +7,13 @@ use Rattle.std.specs.List.{AllByRecursion, list_any}
 use Rattle.std.proofs.lemmas.List.Folds.{list_any-append}
 use Rattle.std.proofs.lemmas.Bool.Decides.{nat_tests}
 use Rattle.ms_base.specs.declared.span.Span.{Span}
-use Rattle.ms_base.specs.declared.refusal.Refusal.{Refusal}
-use Rattle.ms_base.specs.declared.refusal.Refusal.TheVariants.{NoRoom, OutOfMemory}
 use Rattle.ms_base.specs.Interval.{meet, lies_in}
 use Rattle.ms_base.specs.Level.{size_of, highest_level}
 use Rattle.ms_base.specs.Part.{IsPart}
 use Rattle.ms_base.proofs.free.PartLemmas.{parts_are_nested_or_apart}
-use Rattle.ms_buddy.specs.declared.node.Node.{Node}
-use Rattle.ms_buddy.specs.declared.node.Node.TheVariants.{Free}
-use Rattle.ms_buddy.specs.declared.node.Lack.{Lack}
-use Rattle.ms_buddy.specs.declared.node.Lack.TheVariants.{Nothing, Room, Memory}
-use Rattle.ms_buddy.specs.Carving.{IfLent, IsPartedFor, told}
-use Rattle.ms_buddy.specs.Counts.{IsParted, holder_of}
-use Rattle.ms_buddy.specs.Leaves.{CarveAnswers, LentLeaf, IsCarveRefusal, is_same, fits_in, span_at, words_of, with_leaf}
+use Rattle.ms_buddy.specs.Counts.{holder_of}
+use Rattle.ms_buddy.specs.Leaves.{LentLeaf, is_same, fits_in, span_at, words_of, with_leaf}
+use Rattle.ms_buddy.specs.Tree.{Node}
 use Rattle.ms_buddy.specs.Tree.{IsInside, IsPlace, MayBeLent, IsTree, lent_in, free_in, lent_in_halves, free_in_halves}
 use Rattle.ms_buddy.proofs.TreeHalvesLemmas.{holder_is, size_of-some, size_of-halves, lower_place, upper_place}
 use Rattle.ms_buddy.proofs.WalkLemmas.{LiesIn, LeafIn, lent_lies_in, free_lies_in, all_weaker, any-none}
@@ -105,7 +99,7 @@ fits_not_below part other low middle h lies =
     apart : (c : Bool) (a b : ℕ) → b < a → (c && nat_le a b) ≡ false
     apart c a b h = grind (arith, nat_tests)
 
-none_fit_above : {A : Type 0} (part : Span) (level middle : ℕ) (upper : Node A) → IsTree level upper
+none_fit_above : (part : Span) (level middle : ℕ) (upper : Node) → IsTree level upper
     → part.start < middle → fits_in part (free_in level middle upper) ≡ false
 none_fit_above part level middle upper tree h =
     any-none (λ other. lies_in (words_of part) (words_of other)) (free_in level middle upper)
@@ -113,7 +107,7 @@ none_fit_above part level middle upper tree h =
     (λ other lies. fits_not_above part other middle (middle + size_of level) h lies) (free_in level middle upper)
     (free_lies_in level middle upper tree))
 
-none_fit_below : {A : Type 0} (part : Span) (level start : ℕ) (lower : Node A) → IsTree level lower
+none_fit_below : (part : Span) (level start : ℕ) (lower : Node) → IsTree level lower
     → start + size_of level < part.start + size_of part.level
     → fits_in part (free_in level start lower) ≡ false
 none_fit_below part level start lower tree h =
@@ -127,7 +121,7 @@ or_false true y e = refl
 or_false false y e = e
 
 -- The whole of two halves lies in no free leaf of theirs.
-pub whole_fits_not : {A : Type 0} (part : Span) (level start half : ℕ) (lower upper : Node A)
+pub whole_fits_not : (part : Span) (level start half : ℕ) (lower upper : Node)
     → AtHalves level start half lower upper → level < highest_level → IsInside level start part
     → part.level ≡ level → fits_in part (free_in_halves level start lower upper) ≡ false
 whole_fits_not part level start half lower upper s low inside e =
@@ -141,7 +135,7 @@ whole_fits_not part level start half lower upper s low inside e =
     ) refl
 
 -- What lies in a half fits in two halves where it fits in the half.
-pub lower_fits : {A : Type 0} (part : Span) (level start half : ℕ) (lower upper : Node A)
+pub lower_fits : (part : Span) (level start half : ℕ) (lower upper : Node)
     → AtHalves level start half lower upper → part.start < start + half
     → fits_in part (free_in_halves level start lower upper) ≡ fits_in part (free_in (level + 1) start lower)
 lower_fits part level start half lower upper s h =
@@ -151,7 +145,7 @@ lower_fits part level start half lower upper s h =
     (fits_in part (free_in (level + 1) (start + size_of (level + 1)) upper))
     (none_fit_above part (level + 1) (start + size_of (level + 1)) upper s.high_tree (omega (arith, s.size)))
 
-pub upper_fits : {A : Type 0} (part : Span) (level start half : ℕ) (lower upper : Node A)
+pub upper_fits : (part : Span) (level start half : ℕ) (lower upper : Node)
     → AtHalves level start half lower upper → start + half ≤ part.start
     → fits_in part (free_in_halves level start lower upper) ≡ fits_in part (free_in (level + 1) (start + half) upper)
 upper_fits part level start half lower upper s h =
@@ -161,7 +155,7 @@ upper_fits part level start half lower upper s h =
     (ap (λ (n : ℕ). fits_in part (free_in (level + 1) (start + n) upper)) (sym s.size))
 
 -- It is one of their free leaves where it is one of the half's.
-pub lower_is_free : {A : Type 0} (part : Span) (level start half : ℕ) (lower upper : Node A)
+pub lower_is_free : (part : Span) (level start half : ℕ) (lower upper : Node)
     → AtHalves level start half lower upper → part.start < start + half
     → list_any (is_same part) (free_in_halves level start lower upper)
     ≡ list_any (is_same part) (free_in (level + 1) start lower)
@@ -173,7 +167,7 @@ lower_is_free part level start half lower upper s h =
     (any-none (is_same part) (free_in (level + 1) (start + size_of (level + 1)) upper)
     (none_free_above part (level + 1) (start + size_of (level + 1)) upper s.high_tree (omega (arith, s.size))))
 
-pub upper_is_free : {A : Type 0} (part : Span) (level start half : ℕ) (lower upper : Node A)
+pub upper_is_free : (part : Span) (level start half : ℕ) (lower upper : Node)
     → AtHalves level start half lower upper → start + half ≤ part.start
     → list_any (is_same part) (free_in_halves level start lower upper)
     ≡ list_any (is_same part) (free_in (level + 1) (start + half) upper)
@@ -184,45 +178,11 @@ upper_is_free part level start half lower upper s h =
     (none_free_below part (level + 1) start lower s.low_tree (omega (arith, s.size))))
     (ap (λ (n : ℕ). list_any (is_same part) (free_in (level + 1) (start + n) upper)) (sym s.size))
 
--- Free leaves among which a part fits alike refuse it alike.
-same_refusal : (part : Span) (free other : List Span) → fits_in part other ≡ fits_in part free
-    → list_any (is_same part) other ≡ list_any (is_same part) free
-    → (refusal : Refusal) → IsCarveRefusal part free refusal → IsCarveRefusal part other refusal
-same_refusal part free other e f (NoRoom level) h = (h.0, e ∙ h.1)
-same_refusal part free other e f OutOfMemory h = (e ∙ h.0, f ∙ h.1)
-same_refusal part free other e f _ h = absurd h
-
--- So they answer alike what lending the part does.
-pub answers_alike : (part : Span) (free other : List Span) (lack : Lack)
-    → fits_in part other ≡ fits_in part free → list_any (is_same part) other ≡ list_any (is_same part) free
-    → CarveAnswers part free (told part.level lack) → CarveAnswers part other (told part.level lack)
-answers_alike part free other Nothing e f answers = record { room = e ∙ answers.room; refusal = tt }
-answers_alike part free other Room e f answers =
-    record { room = tt; refusal = same_refusal part free other e f (NoRoom part.level) answers.refusal }
-answers_alike part free other Memory e f answers =
-    record { room = tt; refusal = same_refusal part free other e f OutOfMemory answers.refusal }
-
--- What follows from what holds where the part was lent holds there.
-pub if_lent_weaker : {P Q : Type 0} (lack : Lack) → (P → Q) → IfLent lack P → IfLent lack Q
-if_lent_weaker Nothing f p = f p
-if_lent_weaker Room f p = tt
-if_lent_weaker Memory f p = tt
-
 -- A part that may be lent in a node starts in it.
-held_by_node : (part : Span) (level start front : ℕ) → MayBeLent level start part front
+pub held_by_node : (part : Span) (level start front : ℕ) → MayBeLent level start part front
     → holder_of level part ≡ span_at start level
 held_by_node part level start front may =
     holder_is level start part may.place may.inside.from (omega (arith, may.inside.to, size_of-some part.level))
-
--- A free leaf that was parted is the part of its level in which the part starts.
-pub leaf_was_parted : {A : Type 0} (part : Span) (level start owner front : ℕ) (before node : Node A)
-    (lack : Lack) → before ≡ Free → MayBeLent level start part front
-    → IfLent lack (IsPartedFor level start part owner front node)
-    → IfLent lack (IsParted (free_in level start before) (holder_of level part) part (free_in level start node))
-leaf_was_parted part level start owner front before node Nothing e may parted =
-    rw (e, held_by_node part level start front may) parted.parted
-leaf_was_parted part level start owner front before node Room e may parted = tt
-leaf_was_parted part level start owner front before node Memory e may parted = tt
 
 -- A leaf takes its place before all that start past it, and after all that start before it.
 leaf_before : (added : LentLeaf) (middle high : ℕ) (ys : List LentLeaf) → added.start < middle
@@ -256,7 +216,7 @@ leaf_in_upper added low middle (x ∷ xs) ys h all =
     below : (a b : ℕ) → a < b → nat_lt a b ≡ true
     below a b h = grind (arith, nat_tests)
 
-pub lower_added : {A : Type 0} (added : LentLeaf) (level start half : ℕ) (lower upper now : Node A)
+pub lower_added : (added : LentLeaf) (level start half : ℕ) (lower upper now : Node)
     → AtHalves level start half lower upper → added.start < start + half
     → lent_in (level + 1) start now ≡ with_leaf added (lent_in (level + 1) start lower)
     → lent_in_halves level start now upper ≡ with_leaf added (lent_in_halves level start lower upper)
@@ -267,7 +227,7 @@ lower_added added level start half lower upper now s h e =
     (lent_in (level + 1) (start + size_of (level + 1)) upper)
     (omega (arith, s.size)) (lent_lies_in (level + 1) (start + size_of (level + 1)) upper s.high_tree))
 
-pub upper_added : {A : Type 0} (added : LentLeaf) (level start half : ℕ) (lower upper now : Node A)
+pub upper_added : (added : LentLeaf) (level start half : ℕ) (lower upper now : Node)
     → AtHalves level start half lower upper → start + half ≤ added.start
     → lent_in (level + 1) (start + half) now ≡ with_leaf added (lent_in (level + 1) (start + half) upper)
     → lent_in_halves level start lower now ≡ with_leaf added (lent_in_halves level start lower upper)

@@ -7,8 +7,8 @@ use Rattle.std.proofs.lemmas.List.Sums.{sum_by-append}
 use Rattle.std.proofs.lemmas.Bool.Decides.{nat_tests}
 use Rattle.ms_base.specs.declared.span.Span.{Span}
 use Rattle.ms_base.specs.Level.{size_of, highest_level}
-use Rattle.ms_buddy.specs.declared.node.Node.{Node}
-use Rattle.ms_buddy.specs.declared.node.Node.TheVariants.{Free, Lent}
+use Rattle.ms_buddy.specs.Tree.{Node}
+use Rattle.ms_buddy.specs.Tree.{Free, Lent}
 use Rattle.ms_buddy.specs.Counts.{IsParted, beside, count_at_level, count_of_number, follower_of, halves_beside}
 use Rattle.ms_buddy.specs.Counts.{holder_of, number_of, one_at, one_between}
 use Rattle.ms_buddy.specs.Leaves.{is_lent, span_at}
@@ -114,14 +114,14 @@ upper_parted before after rest leaf part parted = record {
 }
 
 -- The same of the halves of a part.
-pub lower_parted_at : {A : Type 0} (level start : ℕ) (was is upper : Node A) (leaf part : Span)
+pub lower_parted_at : (level start : ℕ) (was is upper : Node) (leaf part : Span)
     → IsParted (free_in (level + 1) start was) leaf part (free_in (level + 1) start is)
     → IsParted (free_in_halves level start was upper) leaf part (free_in_halves level start is upper)
 lower_parted_at level start was is upper leaf part parted =
     lower_parted (free_in (level + 1) start was) (free_in (level + 1) start is)
     (free_in (level + 1) (start + size_of (level + 1)) upper) leaf part parted
 
-pub upper_parted_at : {A : Type 0} (level start half : ℕ) (lower was is : Node A) (leaf part : Span)
+pub upper_parted_at : (level start half : ℕ) (lower was is : Node) (leaf part : Span)
     → half ≡ size_of (level + 1)
     → IsParted (free_in (level + 1) (start + half) was) leaf part (free_in (level + 1) (start + half) is)
     → IsParted (free_in_halves level start lower was) leaf part (free_in_halves level start lower is)
@@ -156,11 +156,11 @@ whole_parted leaf part low e = record {
 }
 
 -- A lent leaf becomes free.
-pub leaf_parted : {A : Type 0} (part : Span) (level start owner front : ℕ) (node : Node A) → node ≡ Lent owner front
+pub leaf_parted : (part : Span) (level start owner front : ℕ) (node : Node) → node ≡ Lent owner front
     → IsPlace level start → IsTrue (is_lent (lent_in level start node) part)
     → IsParted (span_at start level ∷ []) (holder_of level part) part (free_in level start node)
 leaf_parted part level start owner front node e place lent =
-    subst (λ (x : Node _). IsParted (span_at start level ∷ []) (holder_of level part) part (free_in level start x)) (sym e)
+    subst (λ (x : Node). IsParted (span_at start level ∷ []) (holder_of level part) part (free_in level start x)) (sym e)
     (subst (λ (leaf : Span). IsParted (span_at start level ∷ []) leaf part []) (sym (held both.0))
     (whole_parted (span_at start level) part place.level_fits (sym both.1)))
   where
@@ -169,19 +169,19 @@ leaf_parted part level start owner front node e place lent =
 
     both : (start ≡ part.start) × (level ≡ part.level)
     both = same start part.start level part.level
-        (subst (λ (x : Node _). IsTrue (is_lent (lent_in level start x) part)) e lent)
+        (subst (λ (x : Node). IsTrue (is_lent (lent_in level start x) part)) e lent)
 
     held : start ≡ part.start → holder_of level part ≡ span_at start level
     held e = holder_is level start part place (omega (arith, e)) (omega (arith, e, size_of-some level))
 
 -- A leader becomes its parent, and the free upper half is gone.
-pub leader_parted : {A : Type 0} (part : Span) (level start owner front : ℕ) (lower upper : Node A)
+pub leader_parted : (part : Span) (level start owner front : ℕ) (lower upper : Node)
     → level < highest_level → lower ≡ Lent owner front → upper ≡ Free → part.level ≡ level + 1 → part.start ≡ start
     → IsParted (free_in_halves level start lower upper) (follower_of part) (follower_of part) []
 leader_parted part level start owner front lower upper low e f child here =
-    subst (λ (x : Node _). IsParted (free_in_halves level start x upper) (follower_of part) (follower_of part) [])
+    subst (λ (x : Node). IsParted (free_in_halves level start x upper) (follower_of part) (follower_of part) [])
     (sym e)
-    (subst (λ (y : Node _). IsParted (free_in_halves level start (Lent owner front) y) (follower_of part)
+    (subst (λ (y : Node). IsParted (free_in_halves level start (Lent owner front) y) (follower_of part)
     (follower_of part) []) (sym f)
     (subst (λ (free : Span). IsParted (free ∷ []) (follower_of part) (follower_of part) []) follower
     (whole_parted (follower_of part) (follower_of part) (omega (arith, low, child)) refl)))

@@ -9,8 +9,8 @@ use Rattle.std.proofs.lemmas.Bool.Decides.{nat_tests}
 use Rattle.ms_base.specs.declared.span.Span.{Span}
 use Rattle.ms_base.specs.Level.{size_of, highest_level}
 use Rattle.ms_base.specs.Part.{IsPart, is_leader, buddy_start}
-use Rattle.ms_buddy.specs.declared.node.Node.{Node}
-use Rattle.ms_buddy.specs.declared.node.Node.TheVariants.{Free, Lent, Split'}
+use Rattle.ms_buddy.specs.Tree.{Node}
+use Rattle.ms_buddy.specs.Tree.{Free, Lent, Split}
 use Rattle.ms_buddy.specs.Leaves.{LentLeaf, span_of, is_same, is_lent, can_enlarge}
 use Rattle.ms_buddy.specs.Tree.{IsPlace, is_free, lent_in, free_in, lent_in_halves, free_in_halves}
 use Rattle.ms_buddy.proofs.TreeHalvesLemmas.{size_of-some, size_of-halves, lower_place, mod-past}
@@ -51,7 +51,7 @@ alike part free other e = by_leader (nat_lt 0 part.level) (is_leader part.start 
     by_leader true false x y e = refl
     by_leader false b x y e = refl
 
-deep_lower_can : {A : Type 0} (part : Span) (level start half : ℕ) (lower upper : Node A)
+deep_lower_can : (part : Span) (level start half : ℕ) (lower upper : Node)
     → AtHalves level start half lower upper → IsPlace level start → level + 1 < part.level → part.level ≤ highest_level
     → start ≤ part.start → part.start < start + half
     → can_enlarge part (free_in_halves level start lower upper) ≡ can_enlarge part (free_in (level + 1) start lower)
@@ -83,7 +83,7 @@ deep_lower_can part level start half lower upper s place h k from below =
             back l h = omega arith
 
 -- A part that is lent in a node is of its level or of a greater one.
-lent_part_level : {A : Type 0} (part : Span) (level start : ℕ) (node : Node A)
+lent_part_level : (part : Span) (level start : ℕ) (node : Node)
     → IsTrue (is_lent (lent_in level start node) part) → level ≤ part.level
 lent_part_level part level start node e = of_list (lent_in level start node) (lent_levels level start node) e
   where
@@ -99,7 +99,7 @@ lent_part_level part level start node e = of_list (lent_in level start node) (le
           | false ↦ λ f e. of_list leaves all.1 e
         ] refl e
 
-pub lower_can : {A : Type 0} (part : Span) (level start half : ℕ) (lower upper : Node A)
+pub lower_can : (part : Span) (level start half : ℕ) (lower upper : Node)
     → AtHalves level start half lower upper → IsPlace level start
     → IsTrue (is_lent (lent_in_halves level start lower upper) part) → (part.level ≡ level + 1 → ⊥)
     → part.level ≤ highest_level
@@ -116,7 +116,7 @@ lower_can part level start half lower upper s place lent deeper k below =
     past : (a b : ℕ) → a ≤ b → (b ≡ a → ⊥) → a < b
     past a b h n = omega (arith, n)
 
-pub upper_can : {A : Type 0} (part : Span) (level start half : ℕ) (lower upper : Node A)
+pub upper_can : (part : Span) (level start half : ℕ) (lower upper : Node)
     → AtHalves level start half lower upper → start + half ≤ part.start
     → can_enlarge part (free_in_halves level start lower upper)
     ≡ can_enlarge part (free_in (level + 1) (start + half) upper)
@@ -137,12 +137,12 @@ deeper_differ part (other ∷ others) all =
     rw (differ (other.start == part.start) other.level part.level all.0) (deeper_differ part others all.1)
 
 -- A node that isn't free is none of its free leaves.
-not_free_whole : {A : Type 0} (level middle : ℕ) (node : Node A) → is_free node ≡ false
+pub not_free_whole : (level middle : ℕ) (node : Node) → is_free node ≡ false
     → list_any (is_same (record { start = middle; level = level })) (free_in level middle node) ≡ false
 not_free_whole level middle Free e = absurd (cc)
 not_free_whole level middle (Lent owner front) e = refl
-not_free_whole level middle (Split' p lower upper) e =
-    deeper_differ (record { start = middle; level = level }) (free_in level middle (Split' p lower upper))
+not_free_whole level middle (Split lower upper) e =
+    deeper_differ (record { start = middle; level = level }) (free_in level middle (Split lower upper))
     (all_joined (λ other. level < other.level) (free_in (level + 1) middle lower)
     (free_in (level + 1) (middle + size_of (level + 1)) upper)
     (all_weaker (λ other. level + 1 ≤ other.level) (λ other. level < other.level)
@@ -152,12 +152,12 @@ not_free_whole level middle (Split' p lower upper) e =
     (free_levels (level + 1) (middle + size_of (level + 1)) upper)))
 
 -- A leaf of a split's own level is none of its lent leaves.
-pub split_not_lent : {A : Type 0} (part : Span) (level start : ℕ) (node : Node A)
-    (p : _) (lower : Node A) (upper : Node A) → node ≡ Split' p lower upper → part.level ≡ level
+pub split_not_lent : (part : Span) (level start : ℕ) (node : Node)
+    (lower upper : Node) → node ≡ Split lower upper → part.level ≡ level
     → IsFalse (is_lent (lent_in level start node) part)
-split_not_lent part level start node p lower upper e f =
-    subst (λ (other : Node _). is_lent (lent_in level start other) part ≡ false) (sym e)
-    (deeper (lent_in level start (Split' p lower upper))
+split_not_lent part level start node lower upper e f =
+    subst (λ (other : Node). is_lent (lent_in level start other) part ≡ false) (sym e)
+    (deeper (lent_in level start (Split lower upper))
     (all_joined (λ leaf. part.level < leaf.level) (lent_in (level + 1) start lower)
     (lent_in (level + 1) (start + size_of (level + 1)) upper)
     (all_weaker (λ leaf. level + 1 ≤ leaf.level) (λ leaf. part.level < leaf.level)
@@ -173,7 +173,7 @@ split_not_lent part level start node p lower upper e f =
         rw (differ (leaf.start == part.start) leaf.level part.level all.0) (deeper leaves all.1)
 
 -- The upper half can't become its parent.
-pub follower_cannot : {A : Type 0} (part : Span) (level start half : ℕ) (lower upper : Node A) (free : List Span)
+pub follower_cannot : (part : Span) (level start half : ℕ) (lower upper : Node) (free : List Span)
     → AtHalves level start half lower upper → IsPlace level start → level < highest_level
     → IsTrue (is_lent (lent_in_halves level start lower upper) part) → part.level ≡ level + 1 → start < part.start
     → can_enlarge part free ≡ false
@@ -216,7 +216,7 @@ follower_cannot part level start half lower upper free s place low lent child ab
     not_leader x r y h = grind (arith, nat_tests)
 
 -- The lower half can't while the upper one isn't free.
-pub leader_cannot : {A : Type 0} (part : Span) (level start half : ℕ) (lower upper : Node A)
+pub leader_cannot : (part : Span) (level start half : ℕ) (lower upper : Node)
     → AtHalves level start half lower upper → part.level ≡ level + 1 → part.start ≡ start
     → is_free upper ≡ false → can_enlarge part (free_in_halves level start lower upper) ≡ false
 leader_cannot part level start half lower upper s child e f =
@@ -244,7 +244,7 @@ pub refused : (can : Bool) → can ≡ false → (false ≡ true → can ≡ tru
 refused can e = (λ h. absurd (cc), λ h. sym e ∙ h)
 
 -- A lent part of two halves that starts no later than they do starts where they do.
-pub starts_here : {A : Type 0} (part : Span) (level start half : ℕ) (lower upper : Node A)
+pub starts_here : (part : Span) (level start half : ℕ) (lower upper : Node)
     → AtHalves level start half lower upper
     → IsTrue (is_lent (lent_in_halves level start lower upper) part) → part.start ≤ start → part.start ≡ start
 starts_here part level start half lower upper s lent h =
@@ -255,14 +255,14 @@ starts_here part level start half lower upper s lent h =
     )
 
 -- A lent part of two halves with that start and a half's level is not in a split.
-pub split_not_leader : {A : Type 0} (part : Span) (level start half : ℕ) (lower upper : Node A)
-    (p : _) (low : Node A) (high : Node A) → AtHalves level start half lower upper
+pub split_not_leader : (part : Span) (level start half : ℕ) (lower upper : Node)
+    (low high : Node) → AtHalves level start half lower upper
     → IsTrue (is_lent (lent_in_halves level start lower upper) part) → part.start ≤ start → part.level ≡ level + 1
-    → lower ≡ Split' p low high → ⊥
-split_not_leader part level start half lower upper p low high s lent h child e =
+    → lower ≡ Split low high → ⊥
+split_not_leader part level start half lower upper low high s lent h child e =
     differ (is_lent (lent_in (level + 1) start lower) part)
     (lower_lent part level start half lower upper s (omega (arith, s.size, size_of-some (level + 1))) lent)
-    (split_not_lent part (level + 1) start lower p low high e child)
+    (split_not_lent part (level + 1) start lower low high e child)
   where
     differ : (b : Bool) → b ≡ true → b ≡ false → ⊥
     differ b e f = absurd (cc)

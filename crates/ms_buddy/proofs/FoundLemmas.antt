@@ -8,8 +8,8 @@ use Rattle.std.proofs.lemmas.Bool.Decides.{nat_tests}
 use Rattle.std.proofs.Math.Nat.{mul-le-mul_right}
 use Rattle.ms_base.specs.declared.span.Span.{Span}
 use Rattle.ms_base.specs.Level.{size_of, highest_level}
-use Rattle.ms_buddy.specs.declared.node.Node.{Node}
-use Rattle.ms_buddy.specs.declared.node.Node.TheVariants.{Free, Lent, Split'}
+use Rattle.ms_buddy.specs.Tree.{Node}
+use Rattle.ms_buddy.specs.Tree.{Free, Lent, Split}
 use Rattle.ms_buddy.specs.Counts.{count_of_number, number_of, one_at}
 use Rattle.ms_buddy.specs.FreeBits.{AreFreeBits, IsNextSet, bit_of}
 use Rattle.ms_buddy.specs.Leaves.{is_of, is_of_from}
@@ -22,7 +22,7 @@ use Rattle.ms_buddy.proofs.CountLemmas.{number-cons, number-none}
 use Rattle.ms_buddy.proofs.FreeNumberLemmas.{HasPart, IsSpanPlace, all_both, free_places, has_part, root_place}
 
 -- The parts stand in order of address.
-abbrev AreRising : List Span → Type 0
+abbrev pub AreRising : List Span → Type 0
 AreRising [] = Unit {0}
 AreRising (part ∷ parts) = AllByRecursion (λ later. part.start < later.start) parts × AreRising parts
 
@@ -36,10 +36,10 @@ rising_joined middle (x ∷ xs) ys below above a b = (
   rising_joined middle xs ys below.1 above a.1 b,
 )
 
-free_rising : {A : Type 0} (level start : ℕ) (node : Node A) → IsTree level node → AreRising (free_in level start node)
+pub free_rising : (level start : ℕ) (node : Node) → IsTree level node → AreRising (free_in level start node)
 free_rising level start Free tree = (tt, tt)
 free_rising level start (Lent owner front) tree = tt
-free_rising level start (Split' p lower upper) tree =
+free_rising level start (Split lower upper) tree =
     rising_joined (start + size_of (level + 1)) (free_in (level + 1) start lower)
     (free_in (level + 1) (start + size_of (level + 1)) upper)
     (all_weaker (LiesIn start (start + size_of (level + 1))) (λ part. part.start < start + size_of (level + 1))
@@ -123,7 +123,7 @@ of_from level from part e = split part.level level from part.start e
     split a b c d e = (grind (arith, nat_tests), grind (arith, nat_tests))
 
 -- The number of a free leaf that counts is not below the lowest bit's.
-numbered : {A : Type 0} (node : Node A) (words : List ℕ) → IsTree 0 node → AreFreeBits words (free_in 0 0 node)
+numbered : (node : Node) (words : List ℕ) → IsTree 0 node → AreFreeBits words (free_in 0 0 node)
     → AllByRecursion (λ part. IsSpanPlace part × (0 < bit_of words (number_of part))) (free_in 0 0 node)
 numbered node words tree are =
     all_both IsSpanPlace (λ part. 0 < bit_of words (number_of part)) (free_in 0 0 node)
@@ -183,7 +183,7 @@ not_lower words level from number part other place e is next numbered passes =
     ]
 
 -- The part of the lowest number of a level is the first free leaf that counts.
-pub found_lowest : {A : Type 0} (node : Node A) (words : List ℕ) (level from number : ℕ) (part : Span) → IsTree 0 node
+pub found_lowest : (node : Node) (words : List ℕ) (level from number : ℕ) (part : Span) → IsTree 0 node
     → AreFreeBits words (free_in 0 0 node) → level ≤ highest_level
     → IsNextSet words (first_from level from) (2 * 2 ^ level) number → part.level ≡ level
     → 524288 + part.start ≡ number * size_of level → Some part ≡ find (is_of_from level from) (free_in 0 0 node)
@@ -226,7 +226,7 @@ found_lowest node words level from number part tree are low next of_level starts
         test a b c d e h = grind (arith, nat_tests)
 
 -- Where no bit of the level is set from the first number that counts on, no free leaf counts.
-pub found_none : {A : Type 0} (node : Node A) (words : List ℕ) (level from : ℕ) → IsTree 0 node
+pub found_none : (node : Node) (words : List ℕ) (level from : ℕ) → IsTree 0 node
     → AreFreeBits words (free_in 0 0 node)
     → ((number : ℕ) → first_from level from ≤ number → number < 2 * 2 ^ level → bit_of words number ≡ 0)
     → None ≡ find (is_of_from level from) (free_in 0 0 node)
@@ -247,7 +247,7 @@ found_none node words level from tree are none =
     by_test part h false e = e
 
 -- No part of a root starts past it.
-pub found_past : {A : Type 0} (node : Node A) (level from : ℕ) → IsTree 0 node → 524288 ≤ from
+pub found_past : (node : Node) (level from : ℕ) → IsTree 0 node → 524288 ≤ from
     → None ≡ find (is_of_from level from) (free_in 0 0 node)
 found_past node level from tree h =
     sym (find-none (is_of_from level from) (free_in 0 0 node)

@@ -6,14 +6,15 @@ use Rattle.std.specs.List.{AllByRecursion, list_any}
 use Rattle.std.proofs.lemmas.Bool.{and_parts, cases_eq, false_from_ne_true}
 use Rattle.std.proofs.lemmas.Bool.Decides.{nat_tests}
 use Rattle.ms_base.specs.declared.span.Span.{Span}
-use Rattle.ms_buddy.specs.declared.node.Node.{Node}
+use Rattle.ms_buddy.specs.Tree.{Node}
 use Rattle.ms_buddy.specs.Counts.{count_of_number, number_of}
 use Rattle.ms_buddy.specs.FreeBits.{AreFreeBits, bit_of}
-use Rattle.ms_buddy.specs.Leaves.{is_same}
-use Rattle.ms_buddy.specs.Tree.{IsTree, free_in}
+use Rattle.ms_buddy.specs.Leaves.{is_same, root}
+use Rattle.ms_buddy.specs.Tree.{Free, Lent, Split, IsTree, free_in, is_free}
 use Rattle.ms_buddy.proofs.CountLemmas.{number-cons, number-none}
+use Rattle.ms_buddy.proofs.EnlargeLemmas.{not_free_whole}
 use Rattle.ms_buddy.proofs.FoundLemmas.{alike}
-use Rattle.ms_buddy.proofs.FreeNumberLemmas.{IsSpanPlace, few_of_number, free_places, root_place}
+use Rattle.ms_buddy.proofs.FreeNumberLemmas.{IsSpanPlace, few_of_number, free_places, root_number, root_place}
 use Rattle.ms_buddy.proofs.NumberLemmas.{same_number}
 
 -- Parts with one number are the same.
@@ -34,7 +35,7 @@ same_test part other place there = elim (cases_eq (number_of other) (number_of p
     both_true e f = rw (e, f) refl
 
 -- A part is listed where a part of the list has its number.
-listed : (part : Span) (parts : List Span) → IsSpanPlace part → AllByRecursion IsSpanPlace parts
+pub listed : (part : Span) (parts : List Span) → IsSpanPlace part → AllByRecursion IsSpanPlace parts
     → nat_lt 0 (count_of_number (number_of part) parts) ≡ list_any (is_same part) parts
 listed part [] place all = ap (nat_lt 0) (number-none (number_of part))
 listed part (other ∷ parts) place all =
@@ -48,7 +49,7 @@ listed part (other ∷ parts) place all =
     either false n = grind (arith, nat_tests)
 
 -- So it is by the bit of its number, since no two free leaves have one number.
-pub free_by_bit : {A : Type 0} (node : Node A) (words : List ℕ) (part : Span) → IsTree 0 node
+pub free_by_bit : (node : Node) (words : List ℕ) (part : Span) → IsTree 0 node
     → AreFreeBits words (free_in 0 0 node) → IsSpanPlace part
     → (bit_of words (number_of part) == 1) ≡ list_any (is_same part) (free_in 0 0 node)
 free_by_bit node words part tree are place =
@@ -58,3 +59,15 @@ free_by_bit node words part tree are place =
   where
     set : (bit count : ℕ) → bit ≡ count → count ≤ 1 → (bit == 1) ≡ nat_lt 0 count
     set bit count e few = grind (arith, nat_tests, e, few)
+
+-- The root is free exactly where its bit is set.
+pub whole_by_bit : (node : Node) (words : List ℕ) → IsTree 0 node → AreFreeBits words (free_in 0 0 node)
+    → (bit_of words 1 == 1) ≡ is_free node
+whole_by_bit node words tree are =
+    ap (λ (n : ℕ). bit_of words n == 1) (sym root_number) ∙ free_by_bit node words root tree are root_place
+    ∙ whole node
+  where
+    whole : (node : Node) → list_any (is_same root) (free_in 0 0 node) ≡ is_free node
+    whole Free = refl
+    whole (Lent owner front) = refl
+    whole (Split lower upper) = not_free_whole 0 0 (Split lower upper) refl

@@ -12,8 +12,9 @@ use Rattle.ms_base.specs.declared.span.Span.{Span}
 use Rattle.ms_base.specs.Interval.{meet}
 use Rattle.ms_base.specs.Level.{size_of, highest_level}
 use Rattle.ms_base.specs.FreeParts.{free_within}
-use Rattle.ms_buddy.specs.declared.node.Node.{Node}
-use Rattle.ms_buddy.specs.declared.node.Node.TheVariants.{Free, Lent, Split'}
+use Rattle.ms_buddy.specs.FreeBits.{IsKept}
+use Rattle.ms_buddy.specs.Tree.{Node}
+use Rattle.ms_buddy.specs.Tree.{Free, Lent, Split}
 use Rattle.ms_buddy.specs.Leaves.{LentLeaf, chunk_of, free_of, root}
 use Rattle.ms_buddy.specs.Tree.{is_free, IsTree, lent_in, free_in}
 use Rattle.ms_buddy.proofs.TreeHalvesLemmas.{size_of-some, size_of-halves}
@@ -91,7 +92,7 @@ none_met low high a n [] each all = refl
 none_met low high a n (leaf ∷ lent) each all = rw (each leaf all.0) (none_met low high a n lent each all.1)
 
 -- The leaves of the one half meet no run in the other.
-upper_agrees : {A : Type 0} (level start middle : ℕ) (xs : List LentLeaf) (upper : Node A) → IsTree level upper
+upper_agrees : (level start middle : ℕ) (xs : List LentLeaf) (upper : Node) → IsTree level upper
     → Agree (map chunk_of (xs ++ lent_in level middle upper)) (map chunk_of xs) start middle
 upper_agrees level start middle xs upper tree a n h k =
     ap (λ (held : List Chunk). meets_run held a n) (map-append chunk_of xs (lent_in level middle upper))
@@ -106,7 +107,7 @@ upper_agrees level start middle xs upper tree a n h k =
     or_false true y e = refl
     or_false false y e = e
 
-lower_agrees : {A : Type 0} (level start high : ℕ) (lower : Node A) (ys : List LentLeaf) → IsTree level lower
+lower_agrees : (level start high : ℕ) (lower : Node) (ys : List LentLeaf) → IsTree level lower
     → Agree (map chunk_of (lent_in level start lower ++ ys)) (map chunk_of ys) (start + size_of level) high
 lower_agrees level start high lower ys tree a n h k =
     ap (λ (held : List Chunk). meets_run held a n) (map-append chunk_of (lent_in level start lower) ys)
@@ -118,7 +119,7 @@ lower_agrees level start high lower ys tree a n h k =
     (lent_lies_in level start lower tree))
 
 -- A node that isn't free has a lent leaf, which meets each run around the node.
-node_meets : {A : Type 0} (level start : ℕ) (node : Node A) (a n : ℕ) → IsTree level node → is_free node ≡ false
+node_meets : (level start : ℕ) (node : Node) (a n : ℕ) → IsTree level node → is_free node ≡ false
     → a ≤ start → start + size_of level ≤ a + n
     → meets_run (map chunk_of (lent_in level start node)) a n ≡ true
 node_meets level start Free a n tree e h k = absurd (cc)
@@ -127,7 +128,7 @@ node_meets level start (Lent owner front) a n tree e h k =
   where
     meets : (b m a n : ℕ) → 0 < m → a ≤ b → b + m ≤ a + n → meet b m a n ≡ true
     meets b m a n some h k = grind (arith, nat_tests)
-node_meets level start (Split' p lower upper) a n tree e h k =
+node_meets level start (Split lower upper) a n tree e h k =
     ap (λ (held : List Chunk). meets_run held a n)
     (map-append chunk_of (lent_in (level + 1) start lower) (lent_in (level + 1) (start + size_of (level + 1)) upper))
     ∙ list_any-append (λ (chunk : Chunk). meet chunk.start (size_of chunk.level) a n)
@@ -151,7 +152,7 @@ node_meets level start (Split' p lower upper) a n tree e h k =
     one_of false g x y n h k = rw (h refl) refl
 
 -- One step of the walk: at a split with a lent leaf.
-split_walk : {A : Type 0} (below level start : ℕ) (lower upper : Node A) → below < highest_level
+split_walk : (below level start : ℕ) (lower upper : Node) → below < highest_level
     → level ≡ highest_level - below
     → IsTree level lower → IsTree level upper
     → meets_run (map chunk_of (lent_in level start lower ++ lent_in level (start + size_of level) upper)) start
@@ -185,7 +186,7 @@ split_walk below level start lower upper h e low_tree high_tree met low high =
     joined b x y u v z e f g = rw (e, f, g) refl
 
 -- The free leaves of a node are the free parts within it that its lent leaves leave over.
-free_walk : {A : Type 0} (below start : ℕ) (node : Node A) → below ≤ highest_level → IsTree (highest_level - below) node
+free_walk : (below start : ℕ) (node : Node) → below ≤ highest_level → IsTree (highest_level - below) node
     → free_within (map chunk_of (lent_in (highest_level - below) start node)) below start
     ≡ free_in (highest_level - below) start node
 free_walk zero start Free h tree = refl
@@ -193,11 +194,11 @@ free_walk (suc below) start Free h tree = refl
 free_walk below start (Lent owner front) h tree =
     covered (record { start = start; level = highest_level - below; front = front }) below start h
     (omega arith) (omega arith)
-free_walk zero start (Split' p lower upper) h tree = absurd (omega (arith, tree.0))
-free_walk (suc below) start (Split' p lower upper) h tree =
+free_walk zero start (Split lower upper) h tree = absurd (omega (arith, tree.0))
+free_walk (suc below) start (Split lower upper) h tree =
     split_walk below (highest_level - suc below + 1) start lower upper (omega arith)
     (next_level below (omega arith)) tree.2 tree.3
-    (node_meets (highest_level - suc below) start (Split' p lower upper) start
+    (node_meets (highest_level - suc below) start (Split lower upper) start
     (size_of (highest_level - suc below)) tree refl
     (omega arith) (omega arith))
     (subst (λ (x : ℕ). free_within (map chunk_of (lent_in x start lower)) below start ≡ free_in x start lower)
@@ -213,26 +214,26 @@ free_walk (suc below) start (Split' p lower upper) h tree =
     (subst (λ (x : ℕ). IsTree x upper) (next_level below (omega arith)) tree.3)))
 
 -- The free leaves of the whole tree are the free parts of the root.
-pub free_of-tree : {A : Type 0} (node : Node A) → IsTree 0 node → free_of (lent_in 0 0 node) ≡ free_in 0 0 node
+pub free_of-tree : (node : Node) → IsTree 0 node → free_of (lent_in 0 0 node) ≡ free_in 0 0 node
 unfolding free_of
 free_of-tree node tree = free_walk highest_level 0 node (omega arith) tree
 
 -- A tree with no lent leaf is one free leaf, and no other is.
-pub whole_tree : {A : Type 0} (node : Node A) → IsTree 0 node → lent_in 0 0 node ≡ [] → is_free node ≡ true
+pub whole_tree : (node : Node) → IsTree 0 node → lent_in 0 0 node ≡ [] → is_free node ≡ true
 whole_tree Free tree e = refl
 whole_tree (Lent owner front) tree e = absurd (cc)
-whole_tree (Split' p lower upper) tree e =
-    absurd (some (meets_run (map chunk_of (lent_in 0 0 (Split' p lower upper))) 0 (size_of 0))
-    (node_meets 0 0 (Split' p lower upper) 0 (size_of 0) tree refl (omega arith) (omega arith))
+whole_tree (Split lower upper) tree e =
+    absurd (some (meets_run (map chunk_of (lent_in 0 0 (Split lower upper))) 0 (size_of 0))
+    (node_meets 0 0 (Split lower upper) 0 (size_of 0) tree refl (omega arith) (omega arith))
     (ap (λ (xs : List LentLeaf). meets_run (map chunk_of xs) 0 (size_of 0)) e))
   where
     some : (b : Bool) → b ≡ true → b ≡ false → ⊥
     some b e f = absurd (cc)
 
-pub free_tree : {A : Type 0} (node : Node A) → is_free node ≡ true → lent_in 0 0 node ≡ []
+pub free_tree : (node : Node) → is_free node ≡ true → lent_in 0 0 node ≡ []
 free_tree Free e = refl
 free_tree (Lent owner front) e = absurd (cc)
-free_tree (Split' p lower upper) e = absurd (cc)
+free_tree (Split lower upper) e = absurd (cc)
 
 -- With no leaf lent the root is one free leaf.
 pub free_of-none : free_of [] ≡ root ∷ []
@@ -248,11 +249,16 @@ deeper_not_root (part ∷ parts) all e = omega (arith, all.0, ap first e)
     first [] = 0
     first (part ∷ parts) = part.level
 
-pub whole_tree_is_free : {A : Type 0} (node : Node A) → IsTree 0 node → free_in 0 0 node ≡ root ∷ []
+pub whole_tree_is_free : (node : Node) → IsTree 0 node → free_in 0 0 node ≡ root ∷ []
     → is_free node ≡ true
 whole_tree_is_free Free tree e = refl
 whole_tree_is_free (Lent owner front) tree e = absurd (cc)
-whole_tree_is_free (Split' p lower upper) tree e =
-    absurd (deeper_not_root (free_in 0 0 (Split' p lower upper))
+whole_tree_is_free (Split lower upper) tree e =
+    absurd (deeper_not_root (free_in 0 0 (Split lower upper))
     (all_joined (λ part. 1 ≤ part.level) (free_in 1 0 lower) (free_in 1 (size_of 1) upper) (free_levels 1 0 lower)
     (free_levels 1 (size_of 1) upper)) e)
+
+-- So are those of the node that is kept.
+pub free_of-kept : (lent : List LentLeaf) (places : ℕ) (counts words filled : List ℕ)
+    (kept : IsKept lent places counts words filled) → free_in 0 0 kept.node ≡ free_of lent
+free_of-kept lent places counts words filled kept = sym (free_of-tree kept.node kept.tree.tree) ∙ ap free_of kept.lent_is

@@ -9,8 +9,8 @@ use Rattle.std.proofs.lemmas.Bool.Decides.{nat_tests}
 use Rattle.std.proofs.lemmas.Nat.{pow-add}
 use Rattle.ms_base.specs.declared.span.Span.{Span}
 use Rattle.ms_base.specs.Level.{size_of, highest_level}
-use Rattle.ms_buddy.specs.declared.node.Node.{Node}
-use Rattle.ms_buddy.specs.declared.node.Node.TheVariants.{Free, Lent, Split'}
+use Rattle.ms_buddy.specs.Tree.{Node}
+use Rattle.ms_buddy.specs.Tree.{Free, Lent, Split}
 use Rattle.ms_buddy.specs.Counts.{IsParted, beside, count_of_number, holder_of, number_of, one_at}
 use Rattle.ms_buddy.specs.FreeBits.{AreFreeBits, IsMoved, MayJoin, MayPart, bit_of}
 use Rattle.ms_buddy.specs.Leaves.{is_lent, root}
@@ -26,11 +26,11 @@ use Rattle.ms_buddy.proofs.SplitLemmas.{lent_part_lies_in}
 abbrev pub IsSpanPlace : Span → Type 0
 IsSpanPlace part = IsPlace part.level part.start
 
-pub free_places : {A : Type 0} (level start : ℕ) (node : Node A) → IsTree level node → IsPlace level start
+pub free_places : (level start : ℕ) (node : Node) → IsTree level node → IsPlace level start
     → AllByRecursion IsSpanPlace (free_in level start node)
 free_places level start Free tree place = (place, tt)
 free_places level start (Lent owner front) tree place = tt
-free_places level start (Split' p lower upper) tree place =
+free_places level start (Split lower upper) tree place =
     all_joined IsSpanPlace (free_in (level + 1) start lower) (free_in (level + 1) (start + size_of (level + 1)) upper)
     (free_places (level + 1) start lower tree.2 (lower_place level start place tree.0))
     (free_places (level + 1) (start + size_of (level + 1)) upper tree.3
@@ -63,14 +63,14 @@ one_or_none a b = grind (arith, nat_tests)
 abbrev IsPlacedIn : ℕ → ℕ → Span → Type 0
 IsPlacedIn low high part = IsSpanPlace part × LiesIn low high part
 
-placed : {A : Type 0} (level start : ℕ) (node : Node A) → IsTree level node → IsPlace level start
+placed : (level start : ℕ) (node : Node) → IsTree level node → IsPlace level start
     → AllByRecursion (IsPlacedIn start (start + size_of level)) (free_in level start node)
 placed level start node tree place =
     all_both IsSpanPlace (LiesIn start (start + size_of level)) (free_in level start node)
     (free_places level start node tree place) (free_lies_in level start node tree)
 
 -- No two have one number.
-pub few_of_number : {A : Type 0} (level start number : ℕ) (node : Node A) → IsTree level node → IsPlace level start
+pub few_of_number : (level start number : ℕ) (node : Node) → IsTree level node → IsPlace level start
     → count_of_number number (free_in level start node) ≤ 1
 few_of_number level start number Free tree place =
     omega (
@@ -79,7 +79,7 @@ few_of_number level start number Free tree place =
       one_or_none (number_of (record { start = start; level = level })) number,
     )
 few_of_number level start number (Lent owner front) tree place = omega (arith, number-none number)
-few_of_number level start number (Split' p lower upper) tree place =
+few_of_number level start number (Split lower upper) tree place =
     let low = few_of_number (level + 1) start number lower tree.2 (lower_place level start place tree.0) in
     let high = few_of_number (level + 1) (start + size_of (level + 1)) number upper tree.3
     (upper_place level start (start + size_of (level + 1)) place tree.0 refl) in
@@ -110,7 +110,7 @@ few_of_number level start number (Split' p lower upper) tree place =
     )
 
 -- The number of a leaf that is parted is that of no half beside the way.
-leaf_apart : (leaf part : Span) (number : ℕ) → IsSpanPlace leaf → leaf.level ≤ part.level → part.level ≤ highest_level
+pub leaf_apart : (leaf part : Span) (number : ℕ) → IsSpanPlace leaf → leaf.level ≤ part.level → part.level ≤ highest_level
     → 0 < count_of_number number (leaf ∷ []) → count_of_number number (beside leaf part) ≡ 0
 leaf_apart leaf part number place order low some =
     none_is_whole (part.level - leaf.level) leaf.level leaf.start part.start number (omega (arith, order, low)) place
@@ -156,7 +156,7 @@ may_join words before after leaf part place are parted few = record {
 pub root_place : IsPlace 0 0
 root_place = record { level_fits = omega arith; aligned = refl; in_root = omega arith }
 
-pub tree_may_part : {A : Type 0} (words : List ℕ) (before after : Node A) (free : ℕ) (part : Span) → IsTree 0 after
+pub tree_may_part : (words : List ℕ) (before after : Node) (free : ℕ) (part : Span) → IsTree 0 after
     → AreFreeBits words (free_in 0 0 before) → part.start < 524288
     → IsParted (free_in 0 0 before) (holder_of free part) part (free_in 0 0 after)
     → MayPart words (holder_of free part) part
@@ -165,7 +165,7 @@ tree_may_part words before after free part tree are below parted =
     (holder_place free part (omega (arith, parted.order, parted.low)) below) are parted
     (λ number. few_of_number 0 0 number after tree root_place)
 
-pub tree_may_join : {A : Type 0} (words : List ℕ) (before after : Node A) (free : ℕ) (part : Span) → IsTree 0 after
+pub tree_may_join : (words : List ℕ) (before after : Node) (free : ℕ) (part : Span) → IsTree 0 after
     → AreFreeBits words (free_in 0 0 before) → part.start < 524288
     → IsParted (free_in 0 0 after) (holder_of free part) part (free_in 0 0 before)
     → MayJoin words (holder_of free part) part
@@ -175,7 +175,7 @@ tree_may_join words before after free part tree are below parted =
     (λ number. few_of_number 0 0 number after tree root_place)
 
 -- A part that is lent in a tree starts in the root.
-pub starts_in_root : {A : Type 0} (part : Span) (node : Node A) → IsTree 0 node
+pub starts_in_root : (part : Span) (node : Node) → IsTree 0 node
     → IsTrue (is_lent (lent_in 0 0 node) part) → part.start < 524288
 starts_in_root part node tree lent =
     let lies : LiesIn 0 (0 + size_of 0) part = lent_part_lies_in part 0 0 node tree lent in
@@ -203,7 +203,7 @@ enlarged_bits old new before after follower number e are parted cleared m =
     )
 
 -- The bits of a root that is one free leaf.
-root_number : number_of root ≡ 1
+pub root_number : number_of root ≡ 1
 unfolding number_of
 root_number = refl
 

@@ -4,7 +4,9 @@ pub mod FreeLeafLemmas
 pub mod SplitLemmas
 pub mod CarveLemmas
 pub mod EnlargeLemmas
-pub mod StackLemmas
+pub mod PlaceLemmas
+pub mod CoverLemmas
+pub mod FromLemmas
 pub mod KeptTreeLemmas
 pub mod LeafLevelLemmas
 pub mod BitLemmas
@@ -15,6 +17,13 @@ pub mod FoundLemmas
 pub mod FreeBitLemmas
 pub mod CountLemmas
 pub mod PartFreeLemmas
+pub mod CarvedLemmas
+pub mod ReleasedLemmas
+pub mod EnlargedLemmas
+pub mod FrontedLemmas
+pub mod TwinLemmas
+pub mod LeaderLemmas
+pub mod CallLemmas
 pub mod TreeCountLemmas
 pub mod StepLemmas
 pub mod MergeLemmas

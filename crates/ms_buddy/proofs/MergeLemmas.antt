@@ -5,8 +5,8 @@ use Rattle.std.specs.List.{find}
 use Rattle.std.proofs.lemmas.Bool.Decides.{nat_tests}
 use Rattle.ms_base.specs.declared.span.Span.{Span}
 use Rattle.ms_base.specs.Level.{size_of}
-use Rattle.ms_buddy.specs.declared.node.Node.{Node}
-use Rattle.ms_buddy.specs.declared.node.Node.TheVariants.{Free, Lent, Split'}
+use Rattle.ms_buddy.specs.Tree.{Node}
+use Rattle.ms_buddy.specs.Tree.{Free, Lent, Split}
 use Rattle.ms_buddy.specs.Counts.{IsParted, holder_of}
 use Rattle.ms_buddy.specs.Leaves.{covers, is_lent, span_at}
 use Rattle.ms_buddy.specs.Tree.{IsPlace, IsTree, free_in, is_free, lent_in}
@@ -16,14 +16,14 @@ use Rattle.ms_buddy.proofs.SplitLemmas.{AtSplit, lent_part_lies_in}
 use Rattle.ms_buddy.proofs.CountLemmas.{lower_half_parted, upper_half_parted}
 
 -- The part of a node's level in which a part starts that is lent in the node is the node's.
-holder_in : {A : Type 0} (part : Span) (level start : ℕ) (node : Node A) → IsTree level node → IsPlace level start
+holder_in : (part : Span) (level start : ℕ) (node : Node) → IsTree level node → IsPlace level start
     → IsTrue (is_lent (lent_in level start node) part) → holder_of level part ≡ span_at start level
 holder_in part level start node tree place lent =
     let lies : LiesIn start (start + size_of level) part = lent_part_lies_in part level start node tree lent in
     holder_is level start part place lies.from (omega (arith, lies.to, size_of-some part.level))
 
 -- A node that is merged whole is the free leaf that covers the part that was lent in it.
-pub whole_found : {A : Type 0} (part : Span) (level start : ℕ) (node : Node A) → IsTree level node → IsPlace level start
+pub whole_found : (part : Span) (level start : ℕ) (node : Node) → IsTree level node → IsPlace level start
     → IsTrue (is_lent (lent_in level start node) part)
     → find (covers part.start) (span_at start level ∷ []) ≡ Some (holder_of level part)
 whole_found part level start node tree place lent =
@@ -41,14 +41,14 @@ pub is_whole : (a b : ℕ) → a ≡ b → (a == b) ≡ true
 is_whole a b e = grind (arith, nat_tests)
 
 -- The free leaves of a half that is free.
-free_alone : {A : Type 0} (level start : ℕ) (node : Node A) → is_free node ≡ true
+free_alone : (level start : ℕ) (node : Node) → is_free node ≡ true
     → free_in level start node ≡ span_at start level ∷ []
 free_alone level start Free e = refl
 free_alone level start (Lent owner front) e = absurd (cc)
-free_alone level start (Split' p lower upper) e = absurd (cc)
+free_alone level start (Split lower upper) e = absurd (cc)
 
 -- What a merge makes of the free leaves, where the part was in the lower half, or in the upper one.
-pub lower_merged : {A : Type 0} (part : Span) (level start half free : ℕ) (node lower upper now : Node A)
+pub lower_merged : (part : Span) (level start half free : ℕ) (node lower upper now : Node)
     → AtSplit level start half node lower upper → IsTree level node → IsPlace level start
     → IsTrue (is_lent (lent_in level start node) part) → part.start < start + half → is_free upper ≡ true
     → is_free now ≡ (free == level + 1) → free ≡ level + 1
@@ -68,7 +68,7 @@ lower_merged part level start half free node lower upper now s tree place lent b
     held = holder_is (level + 1) start part (lower_place level start place s.low) lies.from
         (omega (arith, s.halves.size, below))
 
-pub upper_merged : {A : Type 0} (part : Span) (level start half free : ℕ) (node lower upper now : Node A)
+pub upper_merged : (part : Span) (level start half free : ℕ) (node lower upper now : Node)
     → AtSplit level start half node lower upper → IsTree level node → IsPlace level start
     → IsTrue (is_lent (lent_in level start node) part) → start + half ≤ part.start
     → part.start < start + half + size_of (level + 1) → is_free lower ≡ true

@@ -10,59 +10,45 @@ use Rattle.std.proofs.lemmas.List.Elements.{filter-append}
 use Rattle.std.proofs.lemmas.Bool.Decides.{nat_tests}
 use Rattle.ms_base.specs.declared.span.Span.{Span}
 use Rattle.ms_base.specs.Level.{size_of, highest_level}
-use Rattle.ms_buddy.specs.declared.node.Halves.{Halves}
-use Rattle.ms_buddy.specs.declared.node.Node.{Node}
-use Rattle.ms_buddy.specs.declared.node.Node.TheVariants.{Split'}
-use Rattle.ms_buddy.specs.declared.node.Leaf.{Leaf}
-use Rattle.ms_buddy.specs.declared.node.Leaf.TheVariants.{Free as FreeLeaf, Lent as LentTo}
+use Rattle.ms_buddy.specs.Tree.{Node}
+use Rattle.ms_buddy.specs.Tree.{Split}
+use Rattle.ms_buddy.specs.declared.places.Leaf.{Leaf}
+use Rattle.ms_buddy.specs.declared.places.Leaf.TheVariants.{Free as FreeLeaf, Lent as LentTo}
 use Rattle.ms_buddy.specs.Leaves.{LentLeaf, IsLeafAt, leaf_of, span_of, is_same, is_lent, covers, with_front}
 use Rattle.ms_buddy.specs.Leaves.{with_parent, without_leaf}
-use Rattle.ms_buddy.specs.Tree.{MayHaveFront, is_free, IsTree, lent_in, free_in, lent_in_halves}
+use Rattle.ms_buddy.specs.Tree.{is_free, IsTree, lent_in, free_in, lent_in_halves}
 use Rattle.ms_buddy.specs.Tree.{free_in_halves}
 use Rattle.ms_buddy.proofs.TreeHalvesLemmas.{lower_place, upper_place}
 use Rattle.ms_buddy.proofs.WalkLemmas.{NonePass, any-none, filter-none, map-none, find-none, none_above, none_below}
 use Rattle.ms_buddy.proofs.WalkLemmas.{none_covers_below, none_lent_covers_below, LiesIn, LeafIn, lent_lies_in}
 
 -- What is known of two halves of a part, which have that many words each.
-pub record AtHalves {A : Type 0} (level start half : ℕ) (lower upper : Node A) : Type 0 where
+pub record AtHalves (level start half : ℕ) (lower upper : Node) : Type 0 where
   pub low_tree : IsTree (level + 1) lower
   pub high_tree : IsTree (level + 1) upper
   pub size : half ≡ size_of (level + 1)
 
 -- What is known at a split.
-pub record AtSplit {A : Type 0} (level start half : ℕ) (node lower upper : Node A) : Type 0 where
+pub record AtSplit (level start half : ℕ) (node lower upper : Node) : Type 0 where
   pub low : level < highest_level
   pub one : IsFalse (is_free lower && is_free upper)
   pub halves : AtHalves level start half lower upper
   pub lent : lent_in level start node ≡ lent_in_halves level start lower upper
   pub free : free_in level start node ≡ free_in_halves level start lower upper
 
--- The halves that a function over both is told.
-pub trees_at : {A : Type 0} (level start : ℕ) (lower upper : Node A)
-    → IsTree (level + 1) lower × IsTree (level + 1) upper → AtHalves level start (size_of (level + 1)) lower upper
-trees_at level start lower upper trees = record { low_tree = trees.0; high_tree = trees.1; size = refl }
-
--- The halves are those in the split's box, or a borrow of them.
-pub at_split : {A : Type 0} (level start half : ℕ) (node : Node A) (p : _) (boxed halves : Halves A)
-    → node ≡ Split' p boxed.lower boxed.upper → halves ≡ boxed → IsTree level node → half ≡ size_of (level + 1)
-    → AtSplit level start half node halves.lower halves.upper
-at_split level start half node p boxed halves e same tree size =
-    subst (λ (other : Halves _). AtSplit level start half node other.lower other.upper) (sym same)
-    (subst (λ (other : Node _). AtSplit level start half other boxed.lower boxed.upper) (sym e)
-    (here (subst (λ (other : Node _). IsTree level other) e tree)))
-  where
-    here : IsTree level (Split' p boxed.lower boxed.upper)
-        → AtSplit level start half (Split' p boxed.lower boxed.upper) boxed.lower boxed.upper
-    here tree = record {
-      low = tree.0;
-      one = tree.1;
-      halves = record { low_tree = tree.2; high_tree = tree.3; size = size };
-      lent = refl;
-      free = refl;
-    }
+-- What is known at two halves of a node.
+pub at_split : (level start : ℕ) (lower upper : Node) → IsTree level (Split lower upper)
+    → AtSplit level start (size_of (level + 1)) (Split lower upper) lower upper
+at_split level start lower upper tree = record {
+  low = tree.0;
+  one = tree.1;
+  halves = record { low_tree = tree.2; high_tree = tree.3; size = refl };
+  lent = refl;
+  free = refl;
+}
 
 -- A part that is lent in a node lies in it.
-pub lent_part_lies_in : {A : Type 0} (part : Span) (level start : ℕ) (node : Node A) → IsTree level node
+pub lent_part_lies_in : (part : Span) (level start : ℕ) (node : Node) → IsTree level node
     → IsTrue (is_lent (lent_in level start node) part)
     → LiesIn start (start + size_of level) part
 lent_part_lies_in part level start node tree e =
@@ -88,7 +74,7 @@ lent_part_lies_in part level start node tree e =
         ] refl e
 
 -- A part that is lent in two halves is lent in the half where it starts.
-pub lower_lent : {A : Type 0} (part : Span) (level start half : ℕ) (lower upper : Node A)
+pub lower_lent : (part : Span) (level start half : ℕ) (lower upper : Node)
     → AtHalves level start half lower upper → part.start < start + half
     → IsTrue (is_lent (lent_in_halves level start lower upper) part)
     → IsTrue (is_lent (lent_in (level + 1) start lower) part)
@@ -104,7 +90,7 @@ lower_lent part level start half lower upper s h e =
     or_left true y e f = refl
     or_left false y e f = absurd (cc)
 
-pub upper_lent : {A : Type 0} (part : Span) (level start half : ℕ) (lower upper : Node A)
+pub upper_lent : (part : Span) (level start half : ℕ) (lower upper : Node)
     → AtHalves level start half lower upper → start + half ≤ part.start
     → IsTrue (is_lent (lent_in_halves level start lower upper) part)
     → IsTrue (is_lent (lent_in (level + 1) (start + half) upper) part)
@@ -120,29 +106,6 @@ upper_lent part level start half lower upper s h e =
     or_right : (x y : Bool) → x ≡ false → (x || y) ≡ true → y ≡ true
     or_right true y e f = absurd (cc)
     or_right false y e f = f
-
--- A leaf that may have a front may have it in the half where it is.
-pub lower_front : {A : Type 0} (part : Span) (level start half front most : ℕ) (lower upper : Node A)
-    → AtHalves level start half lower upper → level < highest_level → part.start < start + half
-    → MayHaveFront level start (lent_in_halves level start lower upper) part front most
-    → MayHaveFront (level + 1) start (lent_in (level + 1) start lower) part front most
-lower_front part level start half front most lower upper s low h may = record {
-  place = lower_place level start may.place low;
-  lent = lower_lent part level start half lower upper s h may.lent;
-  some = may.some;
-  within = may.within;
-}
-
-pub upper_front : {A : Type 0} (part : Span) (level start half front most : ℕ) (lower upper : Node A)
-    → AtHalves level start half lower upper → level < highest_level → start + half ≤ part.start
-    → MayHaveFront level start (lent_in_halves level start lower upper) part front most
-    → MayHaveFront (level + 1) (start + half) (lent_in (level + 1) (start + half) upper) part front most
-upper_front part level start half front most lower upper s low h may = record {
-  place = upper_place level start (start + half) may.place low (omega (arith, s.size));
-  lent = upper_lent part level start half lower upper s h may.lent;
-  some = may.some;
-  within = may.within;
-}
 
 -- A change of one leaf: it acts on each part of a list apart, and leaves those without the leaf.
 pub record ActsAt (part : Span) (change : List LentLeaf → List LentLeaf) : Type 0 where
@@ -172,7 +135,7 @@ without_acts part = record {
 }
 
 -- What changes the half where the leaf is changes the two halves.
-pub lower_changed : {A : Type 0} (level start half : ℕ) (lower upper now : Node A) (part : Span)
+pub lower_changed : (level start half : ℕ) (lower upper now : Node) (part : Span)
     (change : List LentLeaf → List LentLeaf) → ActsAt part change
     → AtHalves level start half lower upper → part.start < start + half
     → lent_in (level + 1) start now ≡ change (lent_in (level + 1) start lower)
@@ -184,7 +147,7 @@ lower_changed level start half lower upper now part change acts s h e = sym
     (none_above part (level + 1) (start + size_of (level + 1)) upper s.high_tree (omega (arith, s.size))))
     ∙ ap (λ (xs : List LentLeaf). xs ++ lent_in (level + 1) (start + size_of (level + 1)) upper) (sym e))
 
-pub upper_changed : {A : Type 0} (level start half : ℕ) (lower upper now : Node A) (part : Span)
+pub upper_changed : (level start half : ℕ) (lower upper now : Node) (part : Span)
     (change : List LentLeaf → List LentLeaf) → ActsAt part change
     → AtHalves level start half lower upper → start + half ≤ part.start
     → lent_in (level + 1) (start + half) now ≡ change (lent_in (level + 1) (start + half) upper)
@@ -199,14 +162,14 @@ upper_changed level start half lower upper now part change acts s h e = sym
     e)))
 
 -- A free leaf that covers an offset in a half is found in the two halves.
-pub lower_found : {A : Type 0} (offset level start : ℕ) (lower upper : Node A) (part : Span)
+pub lower_found : (offset level start : ℕ) (lower upper : Node) (part : Span)
     → find (covers offset) (free_in (level + 1) start lower) ≡ Some part
     → find (covers offset) (free_in_halves level start lower upper) ≡ Some part
 lower_found offset level start lower upper part e =
     find-append (covers offset) (free_in (level + 1) start lower)
     (free_in (level + 1) (start + size_of (level + 1)) upper) ∙ rw e refl
 
-pub upper_found : {A : Type 0} (offset level start half : ℕ) (lower upper : Node A) (part : Span)
+pub upper_found : (offset level start half : ℕ) (lower upper : Node) (part : Span)
     → IsTree (level + 1) lower → half ≡ size_of (level + 1)
     → start + half ≤ offset → find (covers offset) (free_in (level + 1) (start + half) upper) ≡ Some part
     → find (covers offset) (free_in_halves level start lower upper) ≡ Some part
@@ -217,29 +180,4 @@ upper_found offset level start half lower upper part tree size h e =
       find-none (covers offset) (free_in (level + 1) start lower)
           (none_covers_below offset (level + 1) start lower tree (omega (arith, size))),
       subst (λ (n : ℕ). find (covers offset) (free_in (level + 1) (start + n) upper) ≡ Some part) size e,
-    ) refl
-
--- The leaf that covers an offset is the leaf of the half where the offset is.
-pub lower_leaf : {A : Type 0} (offset level start : ℕ) (lower upper : Node A) (part : Span) (leaf : Leaf)
-    → IsLeafAt offset part leaf (lent_in (level + 1) start lower) (free_in (level + 1) start lower)
-    → IsLeafAt offset part leaf (lent_in_halves level start lower upper) (free_in_halves level start lower upper)
-lower_leaf offset level start lower upper part FreeLeaf e = lower_found offset level start lower upper part e
-lower_leaf offset level start lower upper part (LentTo owner front) e =
-    find-append (λ (leaf : LentLeaf). covers offset (span_of leaf))
-    (lent_in (level + 1) start lower) (lent_in (level + 1) (start + size_of (level + 1)) upper) ∙ rw e refl
-
-pub upper_leaf : {A : Type 0} (offset level start half : ℕ) (lower upper : Node A) (part : Span) (leaf : Leaf)
-    → IsTree (level + 1) lower → half ≡ size_of (level + 1) → start + half ≤ offset
-    → IsLeafAt offset part leaf (lent_in (level + 1) (start + half) upper) (free_in (level + 1) (start + half) upper)
-    → IsLeafAt offset part leaf (lent_in_halves level start lower upper) (free_in_halves level start lower upper)
-upper_leaf offset level start half lower upper part FreeLeaf tree size h e =
-    upper_found offset level start half lower upper part tree size h e
-upper_leaf offset level start half lower upper part (LentTo owner front) tree size h e =
-    find-append (λ (leaf : LentLeaf). covers offset (span_of leaf)) (lent_in (level + 1) start lower)
-    (lent_in (level + 1) (start + size_of (level + 1)) upper)
-    ∙ rw (
-      find-none (λ leaf. covers offset (span_of leaf)) (lent_in (level + 1) start lower)
-          (none_lent_covers_below offset (level + 1) start lower tree (omega (arith, size))),
-      subst (λ (n : ℕ). find (λ leaf. covers offset (span_of leaf)) (lent_in (level + 1) (start + n) upper)
-          ≡ Some (leaf_of part owner front)) size e,
     ) refl

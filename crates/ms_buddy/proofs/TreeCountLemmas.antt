@@ -11,8 +11,8 @@ use Rattle.std.proofs.lemmas.Bool.Decides.{nat_tests}
 use Rattle.ms_base.specs.declared.span.Span.{Span}
 use Rattle.ms_base.specs.Level.{size_of, highest_level, level_count}
 use Rattle.ms_base.proofs.free.HalvesLemmas.{size_falls}
-use Rattle.ms_buddy.specs.declared.node.Node.{Node}
-use Rattle.ms_buddy.specs.declared.node.Node.TheVariants.{Free, Lent, Split'}
+use Rattle.ms_buddy.specs.Tree.{Node}
+use Rattle.ms_buddy.specs.Tree.{Free, Lent, Split}
 use Rattle.ms_buddy.specs.Counts.{AreCounts, AreShifted, IsParted, count_at_level, one_at, one_between}
 use Rattle.ms_buddy.specs.Leaves.{has_level, is_of}
 use Rattle.ms_buddy.specs.Tree.{IsTree, free_in}
@@ -22,11 +22,11 @@ use Rattle.ms_buddy.proofs.CountLemmas.{count-append, count-none, count-one}
 use Rattle.ms_buddy.proofs.FreeNumberLemmas.{IsSpanPlace, free_places, root_place}
 
 -- A tree has at most 4096 free leaves, since each has 128 words or more.
-few_free : {A : Type 0} (level start : ℕ) (node : Node A) → level ≤ highest_level → IsTree level node
+few_free : (level start : ℕ) (node : Node) → level ≤ highest_level → IsTree level node
     → length (free_in level start node) * 128 ≤ size_of level
 few_free level start Free h tree = omega (arith, size_falls level highest_level h (omega arith))
 few_free level start (Lent owner front) h tree = omega arith
-few_free level start (Split' p lower upper) h tree =
+few_free level start (Split lower upper) h tree =
     omega (
       arith,
       few_free (level + 1) start lower (omega (arith, tree.0)) tree.2,
@@ -35,7 +35,7 @@ few_free level start (Split' p lower upper) h tree =
       length-append (free_in (level + 1) start lower) (free_in (level + 1) (start + size_of (level + 1)) upper),
     )
 
-few_of : {A : Type 0} (node : Node A) (level : ℕ) → IsTree 0 node → count_at_level level (free_in 0 0 node) ≤ 4096
+few_of : (node : Node) (level : ℕ) → IsTree 0 node → count_at_level level (free_in 0 0 node) ≤ 4096
 unfolding count_at_level
 few_of node level tree =
     omega (
@@ -45,7 +45,7 @@ few_of node level tree =
     )
 
 -- There is room in the counts for a part, and for a merge.
-pub room_to_part : {A : Type 0} (counts : List ℕ) (node : Node A) → IsTree 0 node → AreCounts counts (free_in 0 0 node)
+pub room_to_part : (counts : List ℕ) (node : Node) → IsTree 0 node → AreCounts counts (free_in 0 0 node)
     → (level : ℕ) → level < level_count → get_or counts level 0 + 1 < 2 ^ 16
 room_to_part counts node tree are level h = omega (arith, are.same level h, few_of node level tree)
 
@@ -66,7 +66,7 @@ some_to_part counts before after leaf part are parted =
     own_is_outside : (free lent : ℕ) → one_between free (lent + 1) free ≡ 0
     own_is_outside free lent = grind (arith, nat_tests)
 
-pub room_to_join : {A : Type 0} (counts : List ℕ) (before : List Span) (node : Node A) (leaf part : Span) → IsTree 0 node
+pub room_to_join : (counts : List ℕ) (before : List Span) (node : Node) (leaf part : Span) → IsTree 0 node
     → AreCounts counts before → IsParted (free_in 0 0 node) leaf part before → get_or counts leaf.level 0 + 1 < 2 ^ 16
 room_to_join counts before node leaf part tree are parted =
     omega (
@@ -145,7 +145,7 @@ any_counted level (part ∷ parts) =
     either false n = ap (nat_lt 0) (omega arith)
 
 -- The levels that are counted are those of the free leaves.
-pub levels_told : {A : Type 0} (node : Node A) (counts : List ℕ) (levels level : ℕ) → IsTree 0 node
+pub levels_told : (node : Node) (counts : List ℕ) (levels level : ℕ) → IsTree 0 node
     → AreCounts counts (free_in 0 0 node)
     → has_level levels level ≡ (nat_lt level 13 && nat_lt 0 (get_or counts level 0))
     → has_level levels level ≡ list_any (is_of level) (free_in 0 0 node)

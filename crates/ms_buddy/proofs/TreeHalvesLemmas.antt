@@ -23,16 +23,6 @@ size_of-halves level h =
     twice : (n : ℕ) → 2 ^ 1 * n ≡ n + n
     twice n = omega arith
 
--- The words of a root, shifted by a level, are those of the level.
-pub root_shifted : (level : ℕ) → level < highest_level → 524288 / 2 ^ (level + 1) ≡ size_of (level + 1)
-root_shifted level h = ap (λ (n : ℕ). n / 2 ^ (level + 1)) whole ∙ shl-shr (2 ^ (19 - (level + 1))) (level + 1)
-  where
-    parts : 19 ≡ (19 - (level + 1)) + (level + 1)
-    parts = omega arith
-
-    whole : 524288 ≡ 2 ^ (19 - (level + 1)) * 2 ^ (level + 1)
-    whole = ap (λ (n : ℕ). 2 ^ n) parts ∙ pow-add 2 (19 - (level + 1)) (level + 1)
-
 -- A multiple of twice a number is one of the number.
 pub halves_divide : (a h : ℕ) → a % (h + h) ≡ 0 → a % h ≡ 0
 halves_divide a h e =

@@ -6,8 +6,8 @@ use Rattle.std.specs.List.{AllByRecursion, list_any, filter, find}
 use Rattle.std.proofs.lemmas.Bool.Decides.{nat_tests}
 use Rattle.ms_base.specs.declared.span.Span.{Span}
 use Rattle.ms_base.specs.Level.{size_of}
-use Rattle.ms_buddy.specs.declared.node.Node.{Node}
-use Rattle.ms_buddy.specs.declared.node.Node.TheVariants.{Free, Lent, Split'}
+use Rattle.ms_buddy.specs.Tree.{Node}
+use Rattle.ms_buddy.specs.Tree.{Free, Lent, Split}
 use Rattle.ms_buddy.specs.Leaves.{LentLeaf, span_of, is_same, covers}
 use Rattle.ms_buddy.specs.Tree.{IsTree, lent_in, free_in}
 use Rattle.ms_buddy.proofs.TreeHalvesLemmas.{size_of-some, size_of-halves}
@@ -35,11 +35,11 @@ wider : (low high least most : ℕ) (part : Span) → least ≤ low → high ≤
 wider low high least most part h k lies = record { from = omega (arith, lies.from); to = omega (arith, lies.to) }
 
 -- The lent leaves of a node lie in it.
-pub lent_lies_in : {A : Type 0} (level start : ℕ) (node : Node A) → IsTree level node
+pub lent_lies_in : (level start : ℕ) (node : Node) → IsTree level node
     → AllByRecursion (LeafIn start (start + size_of level)) (lent_in level start node)
 lent_lies_in level start Free tree = tt
 lent_lies_in level start (Lent owner front) tree = (record { from = omega arith; to = omega arith }, tt)
-lent_lies_in level start (Split' p lower upper) tree =
+lent_lies_in level start (Split lower upper) tree =
     all_joined (LeafIn start (start + size_of level)) (lent_in (level + 1) start lower)
     (lent_in (level + 1) (start + size_of (level + 1)) upper)
     (all_weaker (LeafIn start (start + size_of (level + 1))) (LeafIn start (start + size_of level))
@@ -54,11 +54,11 @@ lent_lies_in level start (Split' p lower upper) tree =
     (lent_lies_in (level + 1) (start + size_of (level + 1)) upper tree.3))
 
 -- So do its free leaves.
-pub free_lies_in : {A : Type 0} (level start : ℕ) (node : Node A) → IsTree level node
+pub free_lies_in : (level start : ℕ) (node : Node) → IsTree level node
     → AllByRecursion (LiesIn start (start + size_of level)) (free_in level start node)
 free_lies_in level start Free tree = (record { from = omega arith; to = omega arith }, tt)
 free_lies_in level start (Lent owner front) tree = tt
-free_lies_in level start (Split' p lower upper) tree =
+free_lies_in level start (Split lower upper) tree =
     all_joined (LiesIn start (start + size_of level)) (free_in (level + 1) start lower)
     (free_in (level + 1) (start + size_of (level + 1)) upper)
     (all_weaker (LiesIn start (start + size_of (level + 1))) (LiesIn start (start + size_of level))
@@ -120,7 +120,7 @@ covers_below offset part low middle h lies =
     apart c a b h = grind (arith, nat_tests)
 
 -- The leaf of a part is none of those of another node, which starts past it or ends before it.
-pub none_above : {A : Type 0} (part : Span) (level middle : ℕ) (upper : Node A) → IsTree level upper
+pub none_above : (part : Span) (level middle : ℕ) (upper : Node) → IsTree level upper
     → part.start < middle
     → NonePass (λ leaf. is_same part (span_of leaf)) (lent_in level middle upper)
 none_above part level middle upper tree h =
@@ -128,7 +128,7 @@ none_above part level middle upper tree h =
     (λ leaf lies. same_above part (span_of leaf) middle (middle + size_of level) h lies) (lent_in level middle upper)
     (lent_lies_in level middle upper tree)
 
-pub none_below : {A : Type 0} (part : Span) (level start : ℕ) (lower : Node A) → IsTree level lower
+pub none_below : (part : Span) (level start : ℕ) (lower : Node) → IsTree level lower
     → start + size_of level ≤ part.start
     → NonePass (λ leaf. is_same part (span_of leaf)) (lent_in level start lower)
 none_below part level start lower tree h =
@@ -137,7 +137,7 @@ none_below part level start lower tree h =
     (lent_lies_in level start lower tree)
 
 -- No free leaf of a node covers an offset past it.
-pub none_covers_below : {A : Type 0} (offset level start : ℕ) (lower : Node A) → IsTree level lower
+pub none_covers_below : (offset level start : ℕ) (lower : Node) → IsTree level lower
     → start + size_of level ≤ offset → NonePass (covers offset) (free_in level start lower)
 none_covers_below offset level start lower tree h =
     all_weaker (LiesIn start (start + size_of level)) (λ part. covers offset part ≡ false)
@@ -145,7 +145,7 @@ none_covers_below offset level start lower tree h =
     (free_lies_in level start lower tree)
 
 -- No lent leaf of a node covers an offset past it.
-pub none_lent_covers_below : {A : Type 0} (offset level start : ℕ) (lower : Node A) → IsTree level lower
+pub none_lent_covers_below : (offset level start : ℕ) (lower : Node) → IsTree level lower
     → start + size_of level ≤ offset
     → NonePass (λ leaf. covers offset (span_of leaf)) (lent_in level start lower)
 none_lent_covers_below offset level start lower tree h =
@@ -154,14 +154,14 @@ none_lent_covers_below offset level start lower tree h =
     (lent_lies_in level start lower tree)
 
 -- A part is none of the free leaves of a node past its start or below it.
-pub none_free_above : {A : Type 0} (part : Span) (level middle : ℕ) (upper : Node A) → IsTree level upper
+pub none_free_above : (part : Span) (level middle : ℕ) (upper : Node) → IsTree level upper
     → part.start < middle → NonePass (is_same part) (free_in level middle upper)
 none_free_above part level middle upper tree h =
     all_weaker (LiesIn middle (middle + size_of level)) (λ other. is_same part other ≡ false)
     (λ other lies. same_above part other middle (middle + size_of level) h lies) (free_in level middle upper)
     (free_lies_in level middle upper tree)
 
-pub none_free_below : {A : Type 0} (part : Span) (level start : ℕ) (lower : Node A) → IsTree level lower
+pub none_free_below : (part : Span) (level start : ℕ) (lower : Node) → IsTree level lower
     → start + size_of level ≤ part.start → NonePass (is_same part) (free_in level start lower)
 none_free_below part level start lower tree h =
     all_weaker (LiesIn start (start + size_of level)) (λ other. is_same part other ≡ false)
@@ -169,11 +169,11 @@ none_free_below part level start lower tree h =
     (free_lies_in level start lower tree)
 
 -- A leaf of a node is of the node's level or of a greater one.
-pub lent_levels : {A : Type 0} (level start : ℕ) (node : Node A)
+pub lent_levels : (level start : ℕ) (node : Node)
     → AllByRecursion (λ leaf. level ≤ leaf.level) (lent_in level start node)
 lent_levels level start Free = tt
 lent_levels level start (Lent owner front) = (omega arith, tt)
-lent_levels level start (Split' p lower upper) =
+lent_levels level start (Split lower upper) =
     all_joined (λ leaf. level ≤ leaf.level) (lent_in (level + 1) start lower)
     (lent_in (level + 1) (start + size_of (level + 1)) upper)
     (all_weaker (λ leaf. level + 1 ≤ leaf.level) (λ leaf. level ≤ leaf.level) (λ leaf h. omega arith)
@@ -182,11 +182,11 @@ lent_levels level start (Split' p lower upper) =
     (lent_in (level + 1) (start + size_of (level + 1)) upper)
     (lent_levels (level + 1) (start + size_of (level + 1)) upper))
 
-pub free_levels : {A : Type 0} (level start : ℕ) (node : Node A)
+pub free_levels : (level start : ℕ) (node : Node)
     → AllByRecursion (λ part. level ≤ part.level) (free_in level start node)
 free_levels level start Free = (omega arith, tt)
 free_levels level start (Lent owner front) = tt
-free_levels level start (Split' p lower upper) =
+free_levels level start (Split lower upper) =
     all_joined (λ part. level ≤ part.level) (free_in (level + 1) start lower)
     (free_in (level + 1) (start + size_of (level + 1)) upper)
     (all_weaker (λ part. level + 1 ≤ part.level) (λ part. level ≤ part.level) (λ part h. omega arith)

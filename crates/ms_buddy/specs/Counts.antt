@@ -42,11 +42,6 @@ follower_of part = record { start = part.start + size_of part.level; level = par
 abbrev pub buddy_of : ℕ → ℕ
 buddy_of number = cond (number % 2 == 0) (number + 1) (number - 1)
 
--- Of the part of a level in which a part starts the buddy is none of the free leaves.
-abbrev pub IsApart : ℕ → Span → List Span → Type 0
-IsApart level part free =
-    count_of_number (buddy_of (number_of (record { start = part.start; level = level }))) free ≡ 0
-
 -- The halves that stay free as a leaf is split for a part in it.
 abbrev pub beside : Span → Span → List Span
 beside leaf part = halves_beside (part.level - leaf.level) leaf.level leaf.start part.start

@@ -2,9 +2,9 @@
 use Rattle.std.specs.Prelude.{◌≡◌, ℕ, ◌+◌, [], ◌∷◌, ◌/◌, ◌%◌, ◌<◌, ◌≤◌, List, get_or, ◌==◌, cond, nat_lt}
 use Rattle.std.specs.Int.{bit_at}
 use Rattle.ms_base.specs.declared.span.Span.{Span}
-use Rattle.ms_buddy.specs.declared.node.Node.{Node}
 use Rattle.ms_buddy.specs.Counts.{AreCounts, beside, count_of_number}
-use Rattle.ms_buddy.specs.Tree.{IsTree, free_in}
+use Rattle.ms_buddy.specs.Leaves.{LentLeaf}
+use Rattle.ms_buddy.specs.Tree.{Node, IsSplit, IsTree, free_in, lent_in}
 
 -- The bit of a number: the one at the place number % 64 of the word number / 64.
 abbrev pub bit_of : List ℕ → ℕ → ℕ
@@ -18,8 +18,8 @@ AreFreeBits words free = (number : ℕ) → bit_of words number ≡ count_of_num
 abbrev pub IsFilled : List ℕ → List ℕ → Type 0
 IsFilled words filled = (row : ℕ) → bit_of filled row ≡ cond (get_or words row 0 == 0) 0 1
 
--- What is kept true of a tree: its node's, how many free leaves it has of each level, and the bits of these.
-pub record IsKeptTree {A : Type 0} (node : Node A) (counts words filled : List ℕ) : Type 0 where
+-- What is kept true of a node of the root: how many free leaves it has of each level, and the bits of these.
+pub record IsKeptTree (node : Node) (counts words filled : List ℕ) : Type 0 where
   pub tree : IsTree 0 node
   pub counted : AreCounts counts (free_in 0 0 node)
   pub marked : AreFreeBits words (free_in 0 0 node)
@@ -60,3 +60,11 @@ pub record MayJoin (words : List ℕ) (leaf part : Span) : Type 0 where
   pub gone : (number : ℕ) → count_of_number number (beside leaf part) ≤ bit_of words number
   pub come : (number : ℕ) → bit_of words number + count_of_number number (leaf ∷ [])
       ≤ 1 + count_of_number number (beside leaf part)
+
+-- The root is split in such a way that these leaves are lent; where it is split at all there is a place for each.
+pub record IsKept (lent : List LentLeaf) (places : ℕ) (counts words filled : List ℕ) : Type 0 where
+  pub node : Node
+  pub tree : IsKeptTree node counts words filled
+  pub lent_is : lent_in 0 0 node ≡ lent
+  pub some : 1 ≤ places
+  pub room : IsSplit node → places ≡ 4096

@@ -1,7 +1,7 @@
 -- The lent leaves of a root chunk, in order of address, and what each call does to them. Free
 -- leaves are not kept: they are the free parts of the root that the lent leaves leave over.
 use Rattle.std.specs.Prelude.{◌≡◌, ℕ, ◌+◌, ◌-◌, ◌<◌, ◌≤◌, Bool, not, cond, ◌&&◌, ◌==◌, nat_le, nat_lt, List, [], ◌∷◌}
-use Rattle.std.specs.Prelude.{map, Some, IsTrue, IsFalse}
+use Rattle.std.specs.Prelude.{map, Option, Some, None, IsTrue, IsFalse}
 use Rattle.std.specs.Prelude.{Result, OnOk, IfErr}
 use Rattle.std.specs.Int.{bit_at}
 use Rattle.std.specs.List.{AllByRecursion, list_any, filter, find}
@@ -9,8 +9,8 @@ use Rattle.ms_base.specs.declared.span.Chunk.{Chunk}
 use Rattle.ms_base.specs.declared.span.Span.{Span}
 use Rattle.ms_base.specs.declared.refusal.Refusal.{Refusal}
 use Rattle.ms_base.specs.declared.refusal.Refusal.TheVariants.{NoRoom, OutOfMemory}
-use Rattle.ms_buddy.specs.declared.node.Leaf.{Leaf}
-use Rattle.ms_buddy.specs.declared.node.Leaf.TheVariants.{Free, Lent}
+use Rattle.ms_buddy.specs.declared.places.Leaf.{Leaf}
+use Rattle.ms_buddy.specs.declared.places.Leaf.TheVariants.{Free, Lent}
 use Rattle.ms_base.specs.Interval.{lies_in}
 use Rattle.ms_base.specs.Level.{root_words, size_of, highest_level}
 use Rattle.ms_base.specs.Part.{IsPart, is_leader, buddy_start}
@@ -57,6 +57,16 @@ is_of level part = part.level == level
 
 abbrev pub is_of_from : ℕ → ℕ → Span → Bool
 is_of_from level from part = is_of level part && nat_le from part.start
+
+-- The parts that start at an offset or past it.
+abbrev pub from_on : ℕ → List Span → List Span
+from_on at parts = filter (λ part. nat_le at part.start) parts
+
+-- The lower of two parts, where there are any.
+abbrev pub lower_of : Option Span → Option Span → Option Span
+lower_of None other = other
+lower_of (Some part) None = Some part
+lower_of (Some part) (Some other) = cond (nat_lt other.start part.start) (Some other) (Some part)
 
 -- The bit of a level is set.
 abbrev pub has_level : ℕ → ℕ → Bool
@@ -124,6 +134,13 @@ abbrev pub IsLeafAt : ℕ → Span → Leaf → List LentLeaf → List Span → 
 IsLeafAt offset part Free lent free = find (covers offset) free ≡ Some part
 IsLeafAt offset part (Lent owner front) lent free =
     find (λ leaf. covers offset (span_of leaf)) lent ≡ Some (leaf_of part owner front)
+
+-- The leaf of that level which starts there is lent, and is that.
+abbrev pub LendsAt : List LentLeaf → ℕ → ℕ → Leaf → Type 0
+LendsAt lent level start Free = ⊥
+LendsAt lent level start (Lent owner front) =
+    IsTrue (is_lent lent (span_at start level)) × ((offset : ℕ) → IsTrue (covers offset (span_at start level))
+    → find (λ leaf. covers offset (span_of leaf)) lent ≡ Some (leaf_of (span_at start level) owner front))
 
 -- A leaf ends before each later one starts.
 abbrev pub AreInOrder : List LentLeaf → Type 0

@@ -1,7 +1,6 @@
 pub mod Leaves
 pub mod Tree
-pub mod Walk
+pub mod Places
 pub mod Laws
-pub mod Carving
 pub mod Counts
 pub mod FreeBits

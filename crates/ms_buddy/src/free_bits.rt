@@ -116,14 +116,34 @@ impl FreeBits {
         self.put(number(free, at), true);
     }
 
-    /// Tells the level to which a part of a level merges that starts at an offset: there it is the
-    /// root, or its buddy isn't free.
+    /// Tells the level of the free leaf that holds the part of a level at an offset, where one does.
+    pub(crate) fn holder(&self, level: u8, at: u64) -> Option<u8>
+        requires low { level ≤ 12 }
+        requires in_root { at < ROOT_WORDS }
+        ensures low { IfSome result (λ holder. holder ≤ level) }
+        ensures set { IfSome result (λ holder. bit_of self.now.words (number_of (span_at at holder)) ≡ 1) }
+        ensures none { IfNone result ((holder : ℕ) → holder ≤ level
+            → bit_of self.now.words (number_of (span_at at holder)) ≡ 0) }
+    {
+        if self.has(number(level, at)) {
+            return Some(level);
+        }
+        if level == 0 {
+            return None;
+        }
+        self.holder(level - 1, at)
+    }
+
+    /// Tells the level to which a part of a level merges that starts at an offset: below it each
+    /// buddy is free, and there it is the root, or its buddy isn't free.
     pub(crate) fn merge_level(&self, level: u8, at: u64) -> u8
         requires low { level ≤ 12 }
         requires in_root { at < ROOT_WORDS }
         ensures low { result ≤ level }
         ensures apart { 0 < result → bit_of self.now.words
-            (buddy_of (number_of (record { start = at; level = result }))) ≡ 0 }
+            (buddy_of (number_of (span_at at result))) ≡ 0 }
+        ensures merged { (below : ℕ) → result < below → below ≤ level → bit_of self.now.words
+            (buddy_of (number_of (span_at at below))) ≡ 1 }
     {
         if level == 0 {
             return 0;

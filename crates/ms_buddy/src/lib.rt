@@ -4,17 +4,16 @@
 //! Apart because it needs nothing of the pool that keeps one tree for each root: no limit, no
 //! granule, and any allocator. Contracts see a tree as the list of its lent leaves in order of
 //! address, `specs/Leaves.antt`; the free leaves are a function of that list. The lowest free leaf
-//! of a level is found by its bit. Stands on `ms_base`, and on `arrayvec` for the stack of a
-//! walk. Only `carve` takes memory.
+//! of a level is found by its bit. Stands on `ms_base`. Only `carve` takes memory.
 #![tactic(auto)]
 
 mod free_bits;
 pub mod laws;
 mod leaves;
 mod levels;
-mod node;
+mod places;
 mod tree;
 
 pub use leaves::FreeLeaves;
-pub use node::Leaf;
+pub use places::Leaf;
 pub use tree::SplitTree;

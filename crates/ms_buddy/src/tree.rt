@@ -16,27 +16,27 @@
 //!          |                  free, 8                  |        free, 8        | ...
 //!          |                             free, 0                                   |
 //!
-//! Beside the nodes a bit for each part of the root tells whether it is a free leaf, and so where
-//! the lowest one of a level is, and how far a leaf merges that is released. `free_leaves` goes
-//! through the nodes; each other call goes down one path of 13 at most, or looks at the bits and
-//! counts alone. Only `carve` takes memory, one box for each level that it splits: those of
-//! halves that merged first, which `release` and `enlarge` keep, for one carve at most. All others
-//! they give back; the last go back with the tree. After RootChunkArea in HotSpot's
-//! rootChunkArea.hpp, which has a list in place of the tree.
-ghost use Rattle.std.specs.Prelude.{◌≡◌, ℕ, ◌+◌, ◌*◌, ◌%◌, ◌<◌, ◌≤◌, ◌≢◌, ◌↔◌, [], ◌∷◌, Some, Err, IsTrue, IsFalse};
-ghost use Rattle.std.specs.Prelude.{IsOk, IfOk, OnOk, IfErr, OnErr};
+//! No split stands in memory: a bit for each part of the root tells whether it is a free leaf
+//! (`free_bits`), and so where the lowest one of a level is, and how far a leaf merges that is
+//! released; and each lent leaf stands at the place of its first word (`places`). So each call but
+//! `free_leaves` looks at 13 bits and one place at most. Only `carve` takes memory, once, where the
+//! root is split for the first time; it goes back with the tree. After RootChunkArea in HotSpot's
+//! rootChunkArea.hpp, which has a list in place of the bits.
+ghost use Rattle.std.specs.Prelude.{◌≡◌, ℕ, ◌+◌, ◌*◌, ◌/◌, ◌%◌, ◌<◌, ◌≤◌, ◌≢◌, ◌↔◌, [], ◌∷◌, Some, Err, IsTrue, IsFalse};
+ghost use Rattle.std.specs.Prelude.{IsOk, IfOk, OnOk, IfErr, OnErr, IfSome, IfNone};
 ghost use Rattle.std.specs.List.{find, list_any};
 ghost use Rattle.ms_base.specs.declared.sizes.TheConstants.{ROOT_WORDS};
 ghost use Rattle.ms_base.specs.Level.{size_of};
 ghost use Rattle.ms_buddy.specs.Counts.{count_at_level};
 ghost use Rattle.ms_buddy.specs.Leaves.{AreLeaves, IsCarveRefusal, IsLeafAt, can_enlarge, covers, fits_in, free_of};
-ghost use Rattle.ms_buddy.specs.Leaves.{has_level, is_lent, is_of, is_of_from, is_same, leaf_of, parent_of, root};
+ghost use Rattle.ms_buddy.specs.Leaves.{LendsAt, from_on, has_level, is_lent, is_of, is_of_from, leaf_of};
+ghost use Rattle.ms_buddy.specs.Leaves.{lower_of, parent_of, root};
 ghost use Rattle.ms_buddy.specs.Leaves.{span_at, with_front, with_leaf, with_parent, without_leaf};
 
 use crate::free_bits::{FreeBits, first_from, number, start_of, start_of_holder, words_of};
 use crate::leaves::FreeLeaves;
 use crate::levels::{LEVELS, join_counts, levels_of, part_counts};
-use crate::node::{Lack, Leaf, Lending, Node, Spare, part};
+use crate::places::{Leaf, Lending, PLACE, Places};
 use ms_base::{Level, ROOT_WORDS, Refusal, Span};
 use std::alloc::Allocator;
 use std::marker::Model;
@@ -45,10 +45,8 @@ use std::marker::Model;
 /// list of its lent leaves, in order of address. After JEP 387.
 #[derive(Drop)]
 pub struct SplitTree<A: Allocator> {
-    /// The root's node: level 0, from word 0 on.
-    node: Node<A>,
-    /// Boxes of halves that merged, for the next carve: 12 at most.
-    spare: Spare<A>,
+    /// What is lent from each place on.
+    places: Places<A>,
     /// How many free leaves there are of each level.
     counts: [u16; LEVELS],
     /// Which parts of the root are free leaves.
@@ -58,14 +56,15 @@ pub struct SplitTree<A: Allocator> {
 impl<A: Allocator> Model for SplitTree<A> {
     ghost use Rattle.std.specs.Prelude.{List};
     ghost use Rattle.ms_buddy.specs.Leaves.{LentLeaf};
-    ghost use Rattle.ms_buddy.specs.FreeBits.{IsKeptTree};
-    ghost use Rattle.ms_buddy.specs.Tree.{lent_in};
+    ghost use Rattle.std.specs.Prelude.{length};
+    ghost use Rattle.ms_buddy.specs.FreeBits.{IsKept};
+    ghost use Rattle.ms_buddy.specs.Places.{lent_from};
 
     ghost Value = { List LentLeaf };
 
-    ghost view = { λ t. lent_in 0 0 t.node };
+    ghost view = { λ t. lent_from 0 t.places };
 
-    ghost invariant = { λ t. IsKeptTree t.node t.counts t.free.words t.free.filled };
+    ghost invariant = { λ t. IsKept (lent_from 0 t.places) (length t.places) t.counts t.free.words t.free.filled };
 }
 
 impl<A: Allocator> SplitTree<A> {
@@ -74,11 +73,7 @@ impl<A: Allocator> SplitTree<A> {
         ensures { result ≡ [] }
     {
         SplitTree {
-            node: Node::Free,
-            spare: Spare {
-                chain: Node::Free,
-                boxes: 0,
-            },
+            places: Places::new(),
             counts: [1, 0, 0, 0, 0, 0, 0, 0, 0, 0, 0, 0, 0],
             free: FreeBits::whole(),
         }
@@ -91,7 +86,7 @@ impl<A: Allocator> SplitTree<A> {
         ensures none_lent { IsTrue result ↔ (self.now ≡ []) }
         ensures leaves { AreLeaves self.now }
     {
-        self.node.is_free()
+        self.free.has(1)
     }
 
     /// Answers the leaf that covers an offset in words, 0 to 524287, and where it is. This is the
@@ -102,7 +97,16 @@ impl<A: Allocator> SplitTree<A> {
         ensures leaf { IsLeafAt offset result.0 result.1 self.now (free_of self.now) }
         ensures lent { result.1 ≢ Leaf.Free → IsTrue (is_lent self.now result.0) }
     {
-        self.node.leaf_at(0, 0, offset)
+        for level in 0..13 {
+            let start = start_of_holder(level, offset);
+            if self.free.has(number(level, offset)) {
+                return (part(start, level), Leaf::Free);
+            }
+            if let Some(leaf) = self.lent_at(level, start) {
+                return (part(start, level), leaf);
+            }
+        }
+        unreachable!()
     }
 
     /// Goes through the free leaves in order of address, each as large as it can be. Takes no
@@ -110,7 +114,7 @@ impl<A: Allocator> SplitTree<A> {
     pub fn free_leaves(&self) -> FreeLeaves<'_, A>
         ensures { result ≡ free_of self.now }
     {
-        FreeLeaves::new(&self.node)
+        FreeLeaves::new(self, 0)
     }
 
     /// Tells the levels of the free leaves as bits, that of level 0 the lowest. Takes no memory.
@@ -129,14 +133,20 @@ impl<A: Allocator> SplitTree<A> {
         self.counts[level.number() as usize]
     }
 
-    /// Tells whether the part of a level at an offset in words, 0 to 524287, is a free leaf itself,
-    /// by its bit alone. Takes no memory. This project's choice.
-    pub fn is_free(&self, level: Level, at: u64) -> bool
-        requires in_root { at < ROOT_WORDS }
-        requires aligned { at % size_of level ≡ 0 }
-        ensures { result ≡ list_any (is_same (span_at at level)) (free_of self.now) }
+    /// Tells whether a lent leaf can become its parent, as `enlarge` asks: it is no root, the leader,
+    /// and its buddy is one free leaf. Looks at one bit. Takes no memory. After HotSpot,
+    /// rootChunkArea.cpp.
+    pub fn can_enlarge(&self, span: Span) -> bool
+        requires { IsTrue (is_lent self.now span) }
+        ensures { result ≡ can_enlarge span (free_of self.now) }
     {
-        self.free.has(number(level.number(), at))
+        let free = &self.free;
+        let level = span.level.number();
+        let words = words_of(level);
+        if level == 0 || span.start % (2 * words) != 0 {
+            return false;
+        }
+        free.has(number(level, span.start + words))
     }
 
     /// Finds the lowest free leaf of a level, by the bits of the free leaves alone. Takes no
@@ -163,6 +173,41 @@ impl<A: Allocator> SplitTree<A> {
         }
     }
 
+    /// Finds the lowest free leaf that starts at an offset or past it, and tells that those from
+    /// there on are it and those past it.
+    pub(crate) fn lowest_from(&self, at: u64) -> Option<Span>
+        ensures some { IfSome result (λ part. from_on at (free_of self.now)
+            ≡ part ∷ from_on (part.start + 1) (free_of self.now)) }
+        ensures small { IfSome result (λ part. part.start < ROOT_WORDS) }
+        ensures none { IfNone result (from_on at (free_of self.now) ≡ []) }
+    {
+        // What is true of the free leaves of every tree is learnt here.
+        let _ = &self.free;
+        let mut lowest: Option<Span> = None;
+        for number in 0..13 {
+            let found = self.next_free(Level::new(number), at);
+            lowest = lower(lowest, found);
+        }
+        lowest
+    }
+
+    /// Tells the lent leaf of a level that starts there, where there is one.
+    fn lent_at(&self, level: u8, start: u64) -> Option<Leaf>
+        requires in_root { start < ROOT_WORDS }
+        requires whole { 128 * (start / 128) ≡ start }
+        ensures lent { IfSome result (λ leaf. LendsAt self.now level start leaf) }
+        ensures none { IfNone result (IsFalse (is_lent self.now (span_at start level))) }
+    {
+        let lending = self.places.get((start / PLACE) as usize)?;
+        if lending.level.number() != level {
+            return None;
+        }
+        Some(Leaf::Lent {
+            owner: lending.owner,
+            front: u64::from(lending.front),
+        })
+    }
+
     /// Changes the front of a lent leaf, in words from 1 to its size; the other leaves stay. Takes
     /// no memory.
     pub fn set_front(&mut self, span: Span, front: u64)
@@ -171,7 +216,8 @@ impl<A: Allocator> SplitTree<A> {
         requires within { front ≤ size_of span.level }
         ensures { self.new ≡ with_front span front self.old }
     {
-        self.node.set_front(0, 0, span, front);
+        self.places
+            .change((span.start / PLACE) as usize, span.level, front as u32);
     }
 
     /// Takes a lent leaf out and answers the free leaf that results: it merges with its buddy for
@@ -184,8 +230,8 @@ impl<A: Allocator> SplitTree<A> {
     {
         let start = span.start;
         let lent = span.level.number();
-        let merge = self.free.merge_level(lent, start);
-        let free = self.node.release(&mut self.spare, 0, 0, span, merge);
+        let free = self.free.merge_level(lent, start);
+        self.places.put((start / PLACE) as usize, None);
         join_counts(&mut self.counts, free, lent);
         self.free.join(free, start, lent);
         part(start_of_holder(free, start), free)
@@ -208,21 +254,27 @@ impl<A: Allocator> SplitTree<A> {
         let no_room = Err(Refusal::NoRoom { level: span.level });
         let start = span.start;
         let level = span.level.number();
-        if !self.node.enlarge(&mut self.spare, 0, 0, span, front) {
+        if !self.can_enlarge(span) {
             return no_room;
         }
+        let follower = number(level, start + words_of(level));
+        self.places.change(
+            (start / PLACE) as usize,
+            Level::new(level - 1),
+            front as u32,
+        );
         part_counts(&mut self.counts, level, level);
-        self.free.put(number(level, start + words_of(level)), false);
+        self.free.put(follower, false);
         Ok(part(start, level - 1))
     }
 }
 
-impl<A: Allocator + Clone> SplitTree<A> {
+impl<A: Allocator> SplitTree<A> {
     /// Lends the part of that level at an offset in words, 0 to 524287, to an owner, with a front
     /// in words from 1 to the part's size. The other lent leaves stay. Refuses with `NoRoom` and
-    /// the level where the part does not lie in one free leaf, and with `OutOfMemory` where the
-    /// allocator refuses a box, which a part that is a free leaf itself does not need. A refusal
-    /// changes nothing: boxes that were made before it go back. After HotSpot, rootChunkArea.cpp.
+    /// the level where the part does not lie in one free leaf, and with `OutOfMemory` where
+    /// the allocator refuses the table of places, which a root has from the first time on that it is
+    /// split. A refusal changes nothing. After HotSpot, rootChunkArea.cpp.
     pub fn carve(
         &mut self,
         alloc: A,
@@ -245,23 +297,50 @@ impl<A: Allocator + Clone> SplitTree<A> {
     {
         // Learnt here: the level is at most 12, so its words are those of a part.
         let lent = level.number();
-        let lending = Lending {
-            span: Span { start: at, level },
-            owner,
-            front,
+        let Some(free) = self.free.holder(lent, at) else {
+            return Err(Refusal::NoRoom { level });
         };
-        let mut free = 0;
-        match self
-            .node
-            .carve(&mut self.spare, &alloc, 0, 0, &lending, &mut free)
-        {
-            Lack::Nothing => {
-                part_counts(&mut self.counts, free, lent);
-                self.free.part(free, at, lent);
-                Ok(())
-            }
-            Lack::Room => Err(Refusal::NoRoom { level }),
-            Lack::Memory => Err(Refusal::OutOfMemory),
+        if self.places.make(alloc, free < lent).is_err() {
+            return Err(Refusal::OutOfMemory);
         }
+        let front = front as u32;
+        self.places.put(
+            (at / PLACE) as usize,
+            Some(Lending {
+                level,
+                owner,
+                front,
+            }),
+        );
+        part_counts(&mut self.counts, free, lent);
+        self.free.part(free, at, lent);
+        Ok(())
+    }
+}
+
+/// The lower of two parts, where there are any.
+fn lower(part: Option<Span>, other: Option<Span>) -> Option<Span>
+    ensures { result ≡ lower_of part other }
+{
+    match (part, other) {
+        (Some(first), Some(second)) => Some(if second.start < first.start {
+            second
+        } else {
+            first
+        }),
+        (Some(first), None) => Some(first),
+        (None, second) => second,
+    }
+}
+
+/// Makes a span of a level's number.
+pub(crate) fn part(start: u64, level: u8) -> Span
+    requires { level ≤ 12 }
+    ensures start { result.start ≡ start }
+    ensures level { result.level ≡ level }
+{
+    Span {
+        start,
+        level: Level::new(level),
     }
 }

@@ -1,6 +1,5 @@
 -- A chunk that grows: in its place, or into its parent.
 pub mod RaisedTreeLemmas
-pub mod BuddyLemmas
 pub mod ParentLemmas
 pub mod ReachLemmas
 pub mod RaisedPartLemmas

@@ -5,7 +5,6 @@ ghost use Rattle.std.specs.Prelude.{OnErr, Some, ◌-◌, ◌*◌, ◌/◌, ◌%
 ghost use Rattle.ms_base.specs.declared.kind.Space.TheVariants.{NonClass, Class};
 ghost use Rattle.ms_base.specs.Part.{is_reserved, slot_of};
 ghost use Rattle.ms_base.specs.Level.{root_words, size_of};
-ghost use Rattle.ms_buddy.specs.Leaves.{free_of, can_enlarge, is_lent, span_at};
 ghost use Rattle.ms_pool.specs.Growing.{has_room, reached};
 ghost use Rattle.ms_pool.specs.Releasing.{is_lent_in, with_released};
 ghost use Rattle.ms_base.specs.Spaces.{by_space, first_class_slot};
@@ -27,7 +26,6 @@ use crate::lender::Lender;
 use crate::search::{granules_meeting, missing_among};
 use crate::trees::{carve, put_back, raise};
 use ms_base::{Chunk, Level, NODE_WORDS, Policy, ROOT_WORDS, Refusal, SLOTS, Space, Span, granule};
-use ms_buddy::SplitTree;
 use ms_commit::Nodes;
 use std::alloc::Global;
 
@@ -269,8 +267,10 @@ impl Lender {
         ensures no_root { IsTrue result → 0 < chunk.now.level }
     {
         let root = (chunk.start / ROOT_WORDS) as usize;
-        let start = chunk.start % ROOT_WORDS;
-        can_become_parent(self.trees.tree(root), start, chunk.level)
+        self.trees.tree(root).can_enlarge(Span {
+            start: chunk.start % ROOT_WORDS,
+            level: chunk.level,
+        })
     }
 
     /// Puts the grown chunk in the place of the chunk, and commits what its front needs.
@@ -404,20 +404,6 @@ fn lowest_missing(nodes: &Nodes) -> Option<u32>
         }
     }
     None
-}
-
-/// Tells whether the leaf that is lent there is no root, the leader, and its buddy one free leaf.
-fn can_become_parent(tree: &SplitTree<Global>, start: u64, level: Level) -> bool
-    requires { IsTrue (is_lent tree.now (span_at start level)) }
-    ensures { result ≡ can_enlarge (span_at start level) (free_of tree.now) }
-{
-    // What holds of the leaves of every tree is learnt here.
-    let _ = tree.is_whole();
-    let size = level.words();
-    if level.number() == 0 || start % (2 * size) != 0 {
-        return false;
-    }
-    tree.is_free(level, start + size)
 }
 
 /// Reserves a slot where it isn't reserved; then it is the lowest, and one more may be.

@@ -71,6 +71,14 @@ fn set_front(tree: &mut SplitTree<Global>, offset: u64) -> Option<u64>
     Some(words)
 }
 
+/// Tells whether the leaf there can become its parent.
+fn can_enlarge(tree: &SplitTree<Global>, offset: u64) -> Option<bool>
+    requires { offset < ROOT_WORDS }
+{
+    let span = lent_at(tree, offset)?;
+    Some(tree.can_enlarge(span))
+}
+
 /// Makes the leaf there its parent.
 fn enlarge(tree: &mut SplitTree<Global>, offset: u64) -> Option<Result<Span, Refusal>>
     requires { offset < ROOT_WORDS }
@@ -95,11 +103,10 @@ fn tell_tree(rt: &HostRuntime, tree: &SplitTree<Global>) {
     }
     let level = Level::new(10);
     line(rt, "tree is whole", &(tree.is_whole(), tree.free_levels()));
-    let below = Level::new(11);
     line(
         rt,
-        "tree has",
-        &(tree.is_free(below, 256), tree.is_free(level, 512)),
+        "tree can",
+        &(can_enlarge(tree, 0), can_enlarge(tree, 512)),
     );
     line(
         rt,

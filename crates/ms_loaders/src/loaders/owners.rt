@@ -55,8 +55,8 @@ impl Owners {
     }
 
     /// Makes room for the note of an owner number. Where the list is full, notes of loaders that
-    /// stand at their names no more are swept out first, and it is lengthened where few were. Takes
-    /// memory.
+    /// stand at their names no more are swept out first, and it is lengthened where not most of them
+    /// were: so each note is looked at once in three that come. Takes memory.
     #[inline(always)]
     pub(super) fn reserve(&mut self, owner: u32, places: &Places) -> Result<(), AllocError> {
         if !self.rises(owner) {
@@ -66,7 +66,8 @@ impl Owners {
             return Ok(());
         }
         self.sweep(places);
-        self.rising.reserve(self.rising.len().max(1))
+        self.rising
+            .reserve(self.rising.len().saturating_mul(3).max(1))
     }
 
     /// Notes the name of an owner number, in place of another.

@@ -1,60 +1,98 @@
--- The free leaves of the tree are the free parts that its lent leaves leave over.
-use Rattle.std.proofs.Common.{◌-◌, ◌^◌, refl, arith, sym, ap, ◌∙◌}
+-- The follower's bit is cleared, and a larger part stands at the leader's place.
+use Rattle.std.proofs.Common.{◌-◌, ◌/◌, ℕ, List, IsTrue, refl, sym, ap, subst, ◌∙◌, arith}
+use Rattle.ms_base.specs.Level.{size_of}
 use Rattle.ms_buddy.specs.Counts.{follower_of}
-use Rattle.ms_buddy.specs.Leaves.{free_of}
-use Rattle.ms_buddy.proofs.EnlargeLemmas.{refused}
-use Rattle.ms_buddy.proofs.FreeLeafLemmas.{free_of-tree}
+use Rattle.ms_buddy.specs.Leaves.{LentLeaf, can_enlarge, free_of, is_lent, with_parent}
+use Rattle.ms_buddy.proofs.CallLemmas.{follower_in_root, is_lent_in, may_become, parent_put, same_length}
+use Rattle.ms_buddy.proofs.EnlargedLemmas.{enlarged}
+use Rattle.ms_buddy.proofs.FreeLeafLemmas.{free_of-kept}
 use Rattle.ms_buddy.proofs.FreeNumberLemmas.{enlarged_bits}
-use Rattle.ms_buddy.proofs.TreeHalvesLemmas.{size_of-some}
 use Rattle.ms_buddy.proofs.TreeCountLemmas.{parted_counts, room_to_part, some_to_part}
 use Rattle.ms_buddy.proofs.tree.SplitTree.enlarge.Goals as goal
 
-pub returns-clause-room : goal.returns-clause-room
-returns-clause-room g c =
-    let e = sym (ap free_of c.self.view_is) ∙ free_of-tree c.self.inside.node c.self.invariant.tree in
-    rw e (λ done. sym c.enlarge.ensures.can ∙ c.if-not-enlarge.false, λ can. refl)
+pub overflow_add-start : goal.overflow_add-start
+overflow_add-start g c =
+    let is = is_lent_in _ _ _ _ _ c.self.inside.places c.args.span c.self.invariant refl
+    (subst (λ (lent : List LentLeaf). IsTrue (is_lent lent c.args.span)) (sym c.self.view_is) c.requires.lent) in
+    let may = may_become _ _ _ _ _ c.self.inside.places c.args.span c.args.front is c.requires.some c.requires.within
+    (ap (can_enlarge c.args.span) (free_of-kept _ _ _ _ _ is.kept ∙ ap free_of c.self.view_is) ∙ sym c.if-not-can_enlarge.ensures) in
+    let level = c.number-level.ensures.same in
+    omega (arith, follower_in_root _ _ _ _ _ c.self.inside.places c.args.span is may.can, c.words_of.ensures.size, ap size_of level)
 
-pub returns-then-not-enlarge-clause-room : goal.returns-then-not-enlarge-clause-room
-returns-then-not-enlarge-clause-room g c =
-    let e = sym (ap free_of c.self.view_is) ∙ free_of-tree c.self.inside.node c.self.invariant.tree in
-    rw e (refused _ (sym c.enlarge.ensures.can ∙ c.if-not-enlarge.true))
+pub number-follower-requires-clause-in_root : goal.number-follower-requires-clause-in_root
+number-follower-requires-clause-in_root g c =
+    let is = is_lent_in _ _ _ _ _ c.self.inside.places c.args.span c.self.invariant refl
+    (subst (λ (lent : List LentLeaf). IsTrue (is_lent lent c.args.span)) (sym c.self.view_is) c.requires.lent) in
+    let may = may_become _ _ _ _ _ c.self.inside.places c.args.span c.args.front is c.requires.some c.requires.within
+    (ap (can_enlarge c.args.span) (free_of-kept _ _ _ _ _ is.kept ∙ ap free_of c.self.view_is) ∙ sym c.if-not-can_enlarge.ensures) in
+    let level = c.number-level.ensures.same in
+    omega (arith, follower_in_root _ _ _ _ _ c.self.inside.places c.args.span is may.can, c.words_of.ensures.size, ap size_of level)
+
+pub change-requires-clause-within : goal.change-requires-clause-within
+change-requires-clause-within g c =
+    let is = is_lent_in _ _ _ _ _ c.self.inside.places c.args.span c.self.invariant refl
+    (subst (λ (lent : List LentLeaf). IsTrue (is_lent lent c.args.span)) (sym c.self.view_is) c.requires.lent) in
+    let may = may_become _ _ _ _ _ c.self.inside.places c.args.span c.args.front is c.requires.some c.requires.within
+    (ap (can_enlarge c.args.span) (free_of-kept _ _ _ _ _ is.kept ∙ ap free_of c.self.view_is) ∙ sym c.if-not-can_enlarge.ensures) in
+    let level = c.number-level.ensures.same in
+    is.at.within
+
+pub change-requires-clause-few : goal.change-requires-clause-few
+change-requires-clause-few g c =
+    let is = is_lent_in _ _ _ _ _ c.self.inside.places c.args.span c.self.invariant refl
+    (subst (λ (lent : List LentLeaf). IsTrue (is_lent lent c.args.span)) (sym c.self.view_is) c.requires.lent) in
+    let may = may_become _ _ _ _ _ c.self.inside.places c.args.span c.args.front is c.requires.some c.requires.within
+    (ap (can_enlarge c.args.span) (free_of-kept _ _ _ _ _ is.kept ∙ ap free_of c.self.view_is) ∙ sym c.if-not-can_enlarge.ensures) in
+    let level = c.number-level.ensures.same in
+    omega (arith, is.root.in_root)
 
 pub part_counts-requires-clause-some : goal.part_counts-requires-clause-some
 part_counts-requires-clause-some g c =
-    rw c.number-level.ensures.same
-    (some_to_part _ _ _ (follower_of c.args.span) (follower_of c.args.span) c.self.invariant.counted
-    (c.enlarge.ensures.parted c.if-not-enlarge.false))
+    let is = is_lent_in _ _ _ _ _ c.self.inside.places c.args.span c.self.invariant refl
+    (subst (λ (lent : List LentLeaf). IsTrue (is_lent lent c.args.span)) (sym c.self.view_is) c.requires.lent) in
+    let may = may_become _ _ _ _ _ c.self.inside.places c.args.span c.args.front is c.requires.some c.requires.within
+    (ap (can_enlarge c.args.span) (free_of-kept _ _ _ _ _ is.kept ∙ ap free_of c.self.view_is) ∙ sym c.if-not-can_enlarge.ensures) in
+    let level = c.number-level.ensures.same in
+    let done = enlarged 0 0 is.kept.node c.args.span c.args.front may in
+    rw level
+    (some_to_part _ _ _ (follower_of c.args.span) (follower_of c.args.span) is.kept.tree.counted done.parted)
 
 pub part_counts-requires-clause-room : goal.part_counts-requires-clause-room
 part_counts-requires-clause-room g c =
-    room_to_part _ c.self.inside.node c.self.invariant.tree c.self.invariant.counted
+    room_to_part _ c.self.invariant.node c.self.invariant.tree.tree c.self.invariant.tree.counted
 
-pub overflow_add-start : goal.overflow_add-start
-overflow_add-start g c =
-    omega (
-      arith,
-      c.enlarge.ensures.inside c.if-not-enlarge.false,
-      c.words_of.ensures.size,
-      ap (λ n. 2 ^ (19 - n)) c.number-level.ensures.same,
-    )
+pub invariant_of-self : goal.invariant_of-self
+invariant_of-self g c =
+    let is = is_lent_in _ _ _ _ _ c.self.inside.places c.args.span c.self.invariant refl
+    (subst (λ (lent : List LentLeaf). IsTrue (is_lent lent c.args.span)) (sym c.self.view_is) c.requires.lent) in
+    let may = may_become _ _ _ _ _ c.self.inside.places c.args.span c.args.front is c.requires.some c.requires.within
+    (ap (can_enlarge c.args.span) (free_of-kept _ _ _ _ _ is.kept ∙ ap free_of c.self.view_is) ∙ sym c.if-not-can_enlarge.ensures) in
+    let level = c.number-level.ensures.same in
+    let done = enlarged 0 0 is.kept.node c.args.span c.args.front may in
+    rw (c.change.ensures is.at.lending is.at.there) (record {
+      node = done.after;
+      tree = record {
+        tree = done.tree;
+        counted = parted_counts _ _ _ _ (follower_of c.args.span) (follower_of c.args.span) is.kept.tree.counted done.parted
+            (rw level at c.part_counts.ensures);
+        marked = enlarged_bits _ _ _ _ (follower_of c.args.span) _
+            (rw (c.words_of.ensures.size, level) at c.number-follower.ensures.same)
+            is.kept.tree.marked done.parted c.put.ensures.bits;
+        told = c.put.ensures.filled is.kept.tree.told;
+      };
+      lent_is = done.lent ∙ ap (with_parent c.args.span c.args.front) is.kept.lent_is
+          ∙ sym (parent_put c.self.inside.places c.args.span c.args.front _ is.at
+          (c.new.ensures ∙ ap (λ (n : ℕ). n - 1) level));
+      some = rw (same_length c.self.inside.places (c.args.span.start / 128) _) is.kept.some;
+      room = λ split. same_length c.self.inside.places (c.args.span.start / 128) _ ∙ is.kept.room (done.was split);
+    })
 
-pub number-requires-clause-in_root : goal.number-requires-clause-in_root
-number-requires-clause-in_root g c =
-    omega (
-      arith,
-      c.enlarge.ensures.inside c.if-not-enlarge.false,
-      c.words_of.ensures.size,
-      ap (λ n. 2 ^ (19 - n)) c.number-level.ensures.same,
-      size_of-some c.args.span.level,
-    )
-
-pub invariant_of-self-2 : goal.invariant_of-self-2
-invariant_of-self-2 g c = record {
-  tree = c.enlarge.ensures.tree;
-  counted = parted_counts _ _ _ _ (follower_of c.args.span) (follower_of c.args.span) c.self.invariant.counted
-      (c.enlarge.ensures.parted c.if-not-enlarge.false) (rw c.number-level.ensures.same at c.part_counts.ensures);
-  marked = enlarged_bits _ _ _ _ (follower_of c.args.span) _
-      (rw (c.words_of.ensures.size, c.number-level.ensures.same) at c.number.ensures.same)
-      c.self.invariant.marked (c.enlarge.ensures.parted c.if-not-enlarge.false) c.put.ensures.bits;
-  told = c.put.ensures.filled c.self.invariant.told;
-}
+pub returns-clause-lent : goal.returns-clause-lent
+returns-clause-lent g c =
+    let is = is_lent_in _ _ _ _ _ c.self.inside.places c.args.span c.self.invariant refl
+    (subst (λ (lent : List LentLeaf). IsTrue (is_lent lent c.args.span)) (sym c.self.view_is) c.requires.lent) in
+    let may = may_become _ _ _ _ _ c.self.inside.places c.args.span c.args.front is c.requires.some c.requires.within
+    (ap (can_enlarge c.args.span) (free_of-kept _ _ _ _ _ is.kept ∙ ap free_of c.self.view_is) ∙ sym c.if-not-can_enlarge.ensures) in
+    let level = c.number-level.ensures.same in
+    rw (c.change.ensures is.at.lending is.at.there) (parent_put c.self.inside.places c.args.span c.args.front _ is.at
+    (c.new.ensures ∙ ap (λ (n : ℕ). n - 1) level) ∙ ap (with_parent c.args.span c.args.front) c.self.view_is)

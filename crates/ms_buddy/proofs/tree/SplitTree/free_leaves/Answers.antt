@@ -1,8 +1,7 @@
--- The free leaves of the tree are the free parts that its lent leaves leave over.
-use Rattle.std.proofs.Common.{sym, ap, ◌∙◌}
-use Rattle.ms_buddy.specs.Leaves.{free_of}
-use Rattle.ms_buddy.proofs.FreeLeafLemmas.{free_of-tree}
+-- Each free leaf starts at the first word or past it.
+use Rattle.std.proofs.Common.{◌∙◌}
+use Rattle.ms_buddy.proofs.FromLemmas.{from_start}
 use Rattle.ms_buddy.proofs.tree.SplitTree.free_leaves.Goals as goal
 
 pub returns : goal.returns
-returns g c = c.new.ensures ∙ sym (free_of-tree c.self.inside.node c.self.invariant.tree) ∙ ap free_of c.self.view_is
+returns g c = c.new.ensures ∙ from_start _

@@ -1,8 +1,8 @@
 -- The free leaves of the tree are the free parts that its lent leaves leave over.
-use Rattle.std.proofs.Common.{arith, sym, ap, ◌∙◌}
+use Rattle.std.proofs.Common.{arith, ap, ◌∙◌}
 use Rattle.std.specs.List.{find}
 use Rattle.ms_buddy.specs.Leaves.{free_of, is_of_from}
-use Rattle.ms_buddy.proofs.FreeLeafLemmas.{free_of-tree}
+use Rattle.ms_buddy.proofs.FreeLeafLemmas.{free_of-kept}
 use Rattle.ms_buddy.proofs.FoundLemmas.{found_lowest, found_none, found_past}
 use Rattle.ms_buddy.proofs.NumberLemmas.{first_in_row, row_end, row_end_fits}
 use Rattle.ms_buddy.proofs.tree.SplitTree.next_free.Goals as goal
@@ -26,25 +26,25 @@ start_of-requires-clause-from g c =
 
 pub returns-then-from-ge-ROOT_WORDS : goal.returns-then-from-ge-ROOT_WORDS
 returns-then-from-ge-ROOT_WORDS g c =
-    found_past c.self.inside.node c.args.level c.args.from c.self.invariant.tree c.if-from-ge-ROOT_WORDS.true
+    found_past c.self.invariant.node c.args.level c.args.from c.self.invariant.tree.tree c.if-from-ge-ROOT_WORDS.true
     ∙ ap (find (is_of_from c.args.level c.args.from))
-    (sym (free_of-tree c.self.inside.node c.self.invariant.tree) ∙ ap free_of c.self.view_is)
+    (free_of-kept _ _ _ _ _ c.self.invariant ∙ ap free_of c.self.view_is)
 
 pub returns-in-None : goal.returns-in-None
 returns-in-None g c =
-    found_none c.self.inside.node _ c.args.level c.args.from c.self.invariant.tree c.self.invariant.marked
+    found_none c.self.invariant.node _ c.args.level c.args.from c.self.invariant.tree.tree c.self.invariant.tree.marked
     (rw (row_end_fits c.number-number.result c.number-number.ensures.below, c.first_from.ensures, c.number-number.ensures.same)
     at c.in-None.ensures.none)
     ∙ ap (find (is_of_from c.args.level c.args.from))
-    (sym (free_of-tree c.self.inside.node c.self.invariant.tree) ∙ ap free_of c.self.view_is)
+    (free_of-kept _ _ _ _ _ c.self.invariant ∙ ap free_of c.self.view_is)
 
 pub returns-in-Some : goal.returns-in-Some
 returns-in-Some g c =
-    found_lowest c.self.inside.node _ c.args.level c.args.from c.in-Some.found c.part.result c.self.invariant.tree
-    c.self.invariant.marked (omega (arith, c.number-number.ensures.below, c.number-number.ensures.same))
+    found_lowest c.self.invariant.node _ c.args.level c.args.from c.in-Some.found c.part.result c.self.invariant.tree.tree
+    c.self.invariant.tree.marked (omega (arith, c.number-number.ensures.below, c.number-number.ensures.same))
     (rw (row_end_fits c.number-number.result c.number-number.ensures.below, c.first_from.ensures, c.number-number.ensures.same)
     at c.in-Some.ensures.found)
     (c.part.ensures.level ∙ c.number-number.ensures.same)
     (rw c.number-number.ensures.same at (rw (← c.part.ensures.start) at c.start_of.ensures))
     ∙ ap (find (is_of_from c.args.level c.args.from))
-    (sym (free_of-tree c.self.inside.node c.self.invariant.tree) ∙ ap free_of c.self.view_is)
+    (free_of-kept _ _ _ _ _ c.self.invariant ∙ ap free_of c.self.view_is)

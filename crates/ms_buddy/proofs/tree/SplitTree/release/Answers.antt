@@ -1,65 +1,118 @@
--- The free leaves of the tree are the free parts that its lent leaves leave over.
-use Rattle.std.proofs.Common.{◌<◌, List, Some, IsTrue, sym, ap, subst, ◌∙◌}
+-- The bits tell how far the part merges, and its place is empty then.
+use Rattle.std.proofs.Common.{◌/◌, List, Some, IsTrue, refl, sym, ap, subst, ◌∙◌, arith}
 use Rattle.ms_buddy.specs.Counts.{holder_of}
-use Rattle.ms_buddy.specs.Leaves.{LentLeaf, is_lent}
+use Rattle.ms_buddy.specs.Leaves.{LentLeaf, is_lent, without_leaf}
+use Rattle.ms_buddy.proofs.CallLemmas.{is_lent_in, release_put, returned, same_length}
 use Rattle.ms_buddy.proofs.FoundLemmas.{alike}
 use Rattle.ms_buddy.proofs.FreeLeafLemmas.{free_of-tree}
-use Rattle.ms_buddy.proofs.FreeNumberLemmas.{joined_bits, starts_in_root, tree_may_join}
+use Rattle.ms_buddy.proofs.FreeNumberLemmas.{joined_bits, tree_may_join}
 use Rattle.ms_buddy.proofs.TreeCountLemmas.{joined_counts, room_to_join, some_to_join}
 use Rattle.ms_buddy.proofs.tree.SplitTree.release.Goals as goal
 
-pub returns-clause-free : goal.returns-clause-free
-returns-clause-free g c =
-    rw (free_of-tree c.release-free.new.self c.release-free.ensures.tree)
-    (c.release-free.ensures.free
-    ∙ ap Some (sym (alike c.part.result (holder_of c.release-free.result c.args.span)
-    (c.part.ensures.start ∙ c.start_of_holder.ensures.start) c.part.ensures.level)))
+pub merge_level-free-requires-clause-in_root : goal.merge_level-free-requires-clause-in_root
+merge_level-free-requires-clause-in_root g c =
+    let is = is_lent_in _ _ _ _ _ c.self.inside.places c.args.span c.self.invariant refl
+    (subst (λ (lent : List LentLeaf). IsTrue (is_lent lent c.args.span)) (sym c.self.view_is) c.requires) in
+    is.root.in_root
 
-pub merge_level-merge-requires-clause-in_root : goal.merge_level-merge-requires-clause-in_root
-merge_level-merge-requires-clause-in_root g c =
-    starts_in_root c.args.span c.self.inside.node c.self.invariant.tree
-    (subst (λ (lent : List LentLeaf). IsTrue (is_lent lent c.args.span)) (sym c.self.view_is) c.requires)
+pub put-requires-clause-within : goal.put-requires-clause-within
+put-requires-clause-within g c =
+    let is = is_lent_in _ _ _ _ _ c.self.inside.places c.args.span c.self.invariant refl
+    (subst (λ (lent : List LentLeaf). IsTrue (is_lent lent c.args.span)) (sym c.self.view_is) c.requires) in
+    is.at.within
 
-pub release-free-requires-clause-apart : goal.release-free-requires-clause-apart
-release-free-requires-clause-apart g c above =
-    sym (c.self.invariant.marked _) ∙ c.merge_level-merge.ensures.apart above
+pub put-requires-clause-few : goal.put-requires-clause-few
+put-requires-clause-few g c =
+    let is = is_lent_in _ _ _ _ _ c.self.inside.places c.args.span c.self.invariant refl
+    (subst (λ (lent : List LentLeaf). IsTrue (is_lent lent c.args.span)) (sym c.self.view_is) c.requires) in
+    omega (arith, is.root.in_root)
 
 pub join_counts-requires-clause-some : goal.join_counts-requires-clause-some
 join_counts-requires-clause-some g c =
+    let is = is_lent_in _ _ _ _ _ c.self.inside.places c.args.span c.self.invariant refl
+    (subst (λ (lent : List LentLeaf). IsTrue (is_lent lent c.args.span)) (sym c.self.view_is) c.requires) in
+    let done = returned is.kept.node _ c.args.span c.merge_level-free.result is.root is.there
+    (omega (arith, c.merge_level-free.ensures.low, c.number-lent.ensures.same)) c.merge_level-free.ensures.apart
+    (λ below h k. c.merge_level-free.ensures.merged below h (omega (arith, k, c.number-lent.ensures.same))) in
     rw c.number-lent.ensures.same
-    (λ level h k. some_to_join _ _ _ (holder_of c.release-free.result c.args.span) c.args.span
-    c.self.invariant.counted c.release-free.ensures.merged level h k)
+    (λ level h k. some_to_join _ _ _ (holder_of c.merge_level-free.result c.args.span) c.args.span
+    is.kept.tree.counted done.parted level h k)
 
 pub join_counts-requires-clause-room : goal.join_counts-requires-clause-room
 join_counts-requires-clause-room g c =
-    room_to_join _ _ c.release-free.new.self (holder_of c.release-free.result c.args.span) c.args.span
-    c.release-free.ensures.tree c.self.invariant.counted c.release-free.ensures.merged
+    let is = is_lent_in _ _ _ _ _ c.self.inside.places c.args.span c.self.invariant refl
+    (subst (λ (lent : List LentLeaf). IsTrue (is_lent lent c.args.span)) (sym c.self.view_is) c.requires) in
+    let done = returned is.kept.node _ c.args.span c.merge_level-free.result is.root is.there
+    (omega (arith, c.merge_level-free.ensures.low, c.number-lent.ensures.same)) c.merge_level-free.ensures.apart
+    (λ below h k. c.merge_level-free.ensures.merged below h (omega (arith, k, c.number-lent.ensures.same))) in
+    room_to_join _ _ done.after (holder_of c.merge_level-free.result c.args.span) c.args.span done.tree is.kept.tree.counted
+    done.parted
 
 pub join-requires-clause-in_root : goal.join-requires-clause-in_root
 join-requires-clause-in_root g c =
-    starts_in_root c.args.span c.self.inside.node c.self.invariant.tree
-    (subst (λ (lent : List LentLeaf). IsTrue (is_lent lent c.args.span)) (sym c.self.view_is) c.requires)
-
-pub start_of_holder-requires-clause-in_root : goal.start_of_holder-requires-clause-in_root
-start_of_holder-requires-clause-in_root g c =
-    starts_in_root c.args.span c.self.inside.node c.self.invariant.tree
-    (subst (λ (lent : List LentLeaf). IsTrue (is_lent lent c.args.span)) (sym c.self.view_is) c.requires)
+    let is = is_lent_in _ _ _ _ _ c.self.inside.places c.args.span c.self.invariant refl
+    (subst (λ (lent : List LentLeaf). IsTrue (is_lent lent c.args.span)) (sym c.self.view_is) c.requires) in
+    is.root.in_root
 
 pub join-requires-clause-bits : goal.join-requires-clause-bits
 join-requires-clause-bits g c =
-    let below : c.args.span.start < 524288 =
-    starts_in_root c.args.span c.self.inside.node c.self.invariant.tree
+    let is = is_lent_in _ _ _ _ _ c.self.inside.places c.args.span c.self.invariant refl
     (subst (λ (lent : List LentLeaf). IsTrue (is_lent lent c.args.span)) (sym c.self.view_is) c.requires) in
+    let done = returned is.kept.node _ c.args.span c.merge_level-free.result is.root is.there
+    (omega (arith, c.merge_level-free.ensures.low, c.number-lent.ensures.same)) c.merge_level-free.ensures.apart
+    (λ below h k. c.merge_level-free.ensures.merged below h (omega (arith, k, c.number-lent.ensures.same))) in
     rw c.number-lent.ensures.same
-    (tree_may_join _ c.self.inside.node c.release-free.new.self _ c.args.span c.release-free.ensures.tree
-    c.self.invariant.marked below c.release-free.ensures.merged)
+    (tree_may_join _ is.kept.node done.after _ c.args.span done.tree is.kept.tree.marked is.root.in_root done.parted)
+
+pub start_of_holder-requires-clause-in_root : goal.start_of_holder-requires-clause-in_root
+start_of_holder-requires-clause-in_root g c =
+    let is = is_lent_in _ _ _ _ _ c.self.inside.places c.args.span c.self.invariant refl
+    (subst (λ (lent : List LentLeaf). IsTrue (is_lent lent c.args.span)) (sym c.self.view_is) c.requires) in
+    is.root.in_root
 
 pub invariant_of-self : goal.invariant_of-self
-invariant_of-self g c = record {
-  tree = c.release-free.ensures.tree;
-  counted = joined_counts _ _ _ _ (holder_of c.release-free.result c.args.span) c.args.span c.self.invariant.counted
-      c.release-free.ensures.merged (rw c.number-lent.ensures.same at c.join_counts.ensures);
-  marked = joined_bits _ _ _ _ (holder_of c.release-free.result c.args.span) c.args.span c.self.invariant.marked
-      c.release-free.ensures.merged (rw c.number-lent.ensures.same at c.join.ensures.bits);
-  told = c.join.ensures.filled c.self.invariant.told;
-}
+invariant_of-self g c =
+    let is = is_lent_in _ _ _ _ _ c.self.inside.places c.args.span c.self.invariant refl
+    (subst (λ (lent : List LentLeaf). IsTrue (is_lent lent c.args.span)) (sym c.self.view_is) c.requires) in
+    let done = returned is.kept.node _ c.args.span c.merge_level-free.result is.root is.there
+    (omega (arith, c.merge_level-free.ensures.low, c.number-lent.ensures.same)) c.merge_level-free.ensures.apart
+    (λ below h k. c.merge_level-free.ensures.merged below h (omega (arith, k, c.number-lent.ensures.same))) in
+    rw c.put.ensures (record {
+      node = done.after;
+      tree = record {
+        tree = done.tree;
+        counted = joined_counts _ _ _ _ (holder_of c.merge_level-free.result c.args.span) c.args.span is.kept.tree.counted
+            done.parted (rw c.number-lent.ensures.same at c.join_counts.ensures);
+        marked = joined_bits _ _ _ _ (holder_of c.merge_level-free.result c.args.span) c.args.span is.kept.tree.marked
+            done.parted (rw c.number-lent.ensures.same at c.join.ensures.bits);
+        told = c.join.ensures.filled is.kept.tree.told;
+      };
+      lent_is = done.lent ∙ ap (without_leaf c.args.span) is.kept.lent_is
+          ∙ sym (release_put c.self.inside.places c.args.span is.at);
+      some = rw (same_length c.self.inside.places (c.args.span.start / 128) _) is.kept.some;
+      room = λ split. same_length c.self.inside.places (c.args.span.start / 128) _ ∙ is.kept.room (done.was split);
+    })
+
+pub returns-clause-lent : goal.returns-clause-lent
+returns-clause-lent g c =
+    let is = is_lent_in _ _ _ _ _ c.self.inside.places c.args.span c.self.invariant refl
+    (subst (λ (lent : List LentLeaf). IsTrue (is_lent lent c.args.span)) (sym c.self.view_is) c.requires) in
+    rw c.put.ensures (release_put c.self.inside.places c.args.span is.at ∙ ap (without_leaf c.args.span) c.self.view_is)
+
+pub returns-clause-free : goal.returns-clause-free
+returns-clause-free g c =
+    let is = is_lent_in _ _ _ _ _ c.self.inside.places c.args.span c.self.invariant refl
+    (subst (λ (lent : List LentLeaf). IsTrue (is_lent lent c.args.span)) (sym c.self.view_is) c.requires) in
+    let done = returned is.kept.node _ c.args.span c.merge_level-free.result is.root is.there
+    (omega (arith, c.merge_level-free.ensures.low, c.number-lent.ensures.same)) c.merge_level-free.ensures.apart
+    (λ below h k. c.merge_level-free.ensures.merged below h (omega (arith, k, c.number-lent.ensures.same))) in
+    rw (
+      c.put.ensures,
+      release_put c.self.inside.places c.args.span is.at,
+      ← is.kept.lent_is,
+      ← done.lent,
+      free_of-tree done.after done.tree,
+    )
+    (done.found
+    ∙ ap Some (sym (alike c.part.result (holder_of c.merge_level-free.result c.args.span)
+    (c.part.ensures.start ∙ c.start_of_holder.ensures.start) c.part.ensures.level)))

@@ -1,7 +1,0 @@
--- Each step goes down a level.
-use Rattle.ms_base.specs.Level.{level_count}
-use Rattle.std.proofs.Common.{◌-◌}
-use Rattle.ms_buddy.proofs.node.Node.+leaf_at.Given as goal
-
-abbrev pub decreases-leaf_at : goal.decreases-leaf_at
-decreases-leaf_at g l = level_count - l.level

@@ -1,7 +1,0 @@
--- Each step goes down a level.
-use Rattle.ms_base.specs.Level.{level_count}
-use Rattle.std.proofs.Common.{◌-◌}
-use Rattle.ms_buddy.proofs.node.Node.+set_front.Given as goal
-
-abbrev pub decreases-set_front : goal.decreases-set_front
-decreases-set_front g l = level_count - l.level
