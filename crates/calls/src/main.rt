@@ -110,7 +110,7 @@ fn tell_named<R: Wait>(rt: &HostRuntime, waits: &R, name: &str) -> io::Result<()
     match name {
         "sizes" => sizes::tell_all(rt),
         "nodes" => nodes::tell_all(rt),
-        "carve" => tell_row(rt, "carve", Carving::prepared(rt.alloc())),
+        "carve" => tell_row(rt, "carve", Ok(Carving::prepared(rt.alloc()))),
         "tree" => tree::tell_all(rt),
         "reserve" => tell_probed_row(rt, "reserve", Reserving::prepared(rt.alloc())),
         "blocks" => blocks::tell_all(rt),

@@ -130,13 +130,10 @@ pub(crate) struct Carving {
 }
 
 impl Carving {
-    /// Prepares a tree that has lent a part.
-    pub(crate) fn prepared(alloc: Global) -> io::Result<Carving> {
-        let mut tree = SplitTree::new();
-        match tree.carve(alloc, Level::new(10), 512, 1, 100) {
-            Ok(()) => Ok(Carving { alloc, tree }),
-            Err(_) => Err(unprepared()),
-        }
+    /// Prepares a tree that has lent nothing: it takes memory as it is split for the first time.
+    pub(crate) fn prepared(alloc: Global) -> Carving {
+        let tree = SplitTree::new();
+        Carving { alloc, tree }
     }
 }
 

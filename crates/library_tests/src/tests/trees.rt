@@ -89,7 +89,7 @@ fn no_room(level: u8) -> Refusal
 
 #[test]
 fn a_tree_lends_and_merges_and_gives_its_memory_back(rt: HostRuntime) {
-    let heap = LocalHeap::new(rt.alloc(), 65536).expect(&rt, "memory is ample");
+    let heap = LocalHeap::new(rt.alloc(), 131072).expect(&rt, "memory is ample");
     let free = [
         Some(span(512, 11)),
         Some(span(1024, 9)),

@@ -25,7 +25,6 @@ use Rattle.ms_loaders.below.ms_blocks.proofs.tree.Tree.TheLaws.TheKnot.{send-Tre
 use Rattle.ms_loaders.below.ms_arena.proofs.words.Words.TheSendSync as words
 use Rattle.ms_loaders.proofs.naming.Names.TheSendSync as names
 use Rattle.ms_loaders.proofs.loaders.owners.Owners.TheSendSync as owners
-use Rattle.ms_loaders.below.ms_buddy.proofs.node.Node.TheLaws.TheKnot as node
 use Rattle.ms_loaders.below.ms_commit.proofs.mask.Mask.TheSendSync as mask
 use Rattle.ms_loaders.below.ms_commit.proofs.nodes.Nodes.TheSendSync as nodes
 use Rattle.ms_shared.below.atomic_table.proofs.shared.Shared.TheSendSync as table
@@ -59,7 +58,7 @@ loaders_send = search (page_send, owners.the_send, spares_send, sendable, crosse
 
 seat_send : IsSend seat.the_row
 seat_send =
-    search (sendable, crosses, option.the_send, table_seat.the_send, node.send-Node, mask.the_send, nodes.the_send)
+    search (sendable, crosses, option.the_send, table_seat.the_send, mask.the_send, nodes.the_send)
     depth 60 fits 30000
 
 meter_seat_send : IsSend meter_seat.the_row
@@ -70,7 +69,7 @@ share_send =
     search (loaders_send, seat_send, meter_seat_send, sendable, crosses, task.the_send, reply.the_send) depth 20
 
 pool_send : IsSend pool.the_row
-pool_send = search (sendable, crosses, node.send-Node, mask.the_send, nodes.the_send) depth 60 fits 30000
+pool_send = search (sendable, crosses, mask.the_send, nodes.the_send) depth 60 fits 30000
 
 pub shared_sync : IsSync shared.the_row
 shared_sync =

@@ -18,7 +18,6 @@ use Rattle.ms_arena.proofs.words.Words.TheSendSync as words
 use Rattle.ms_loaders.proofs.naming.Names.TheSendSync as names
 use Rattle.ms_loaders.proofs.loaders.owners.Owners.TheSendSync as owners
 use Rattle.ms_loaders.below.ms_blocks.proofs.tree.Tree.TheLaws.TheKnot.{send-Tree, send-Fork}
-use Rattle.ms_loaders.below.ms_buddy.proofs.node.Node.TheLaws.TheKnot as node
 use Rattle.ms_loaders.below.ms_commit.proofs.mask.Mask.TheSendSync as mask
 use Rattle.ms_loaders.below.ms_commit.proofs.nodes.Nodes.TheSendSync as nodes
 use Rattle.ms_pool.specs.contracts.pool.Pool as pool
@@ -45,7 +44,7 @@ loaders_send : IsSend loaders.the_row
 loaders_send = search (page_send, owners.the_send, spares_send, sendable, crosses, handle.the_send) depth 20
 
 pool_send : IsSend pool.the_row
-pool_send = search (sendable, crosses, node.send-Node, mask.the_send, nodes.the_send) depth 60 fits 30000
+pool_send = search (sendable, crosses, mask.the_send, nodes.the_send) depth 60 fits 30000
 
 system_send : IsSend system.the_row
 system_send = search (loaders_send, pool_send, sendable, crosses) depth 20
