@@ -1,21 +1,17 @@
 -- A part whose buddy's bit is clear doesn't merge with it. For the way down to the leaf that is released.
-use Rattle.std.proofs.Common.{◌≡◌, ◌<◌, ◌≤◌, ℕ, ◌+◌, ◌-◌, ◌*◌, ◌/◌, ◌%◌, Bool, true, false, ◌&&◌, refl}
-use Rattle.std.proofs.Common.{sym, ap, subst, ◌∙◌, inl, inr, arith}
+use Rattle.std.proofs.Common.{◌≡◌, ◌<◌, ◌≤◌, ℕ, ◌+◌, ◌-◌, ◌*◌, ◌/◌, ◌%◌, true, false, refl}
+use Rattle.std.proofs.Common.{sym, ap, ◌∙◌, arith}
 use Rattle.std.specs.Prelude.{◌==◌}
-use Rattle.std.proofs.lemmas.Bool.{cases_lt}
 use Rattle.std.proofs.lemmas.Bool.Decides.{nat_tests}
 use Rattle.std.proofs.lemmas.Nat.{div-mul-add}
 use Rattle.std.proofs.Math.Nat.{le_of_mul-le-mul_right, mod-lt}
 use Rattle.ms_base.specs.declared.span.Span.{Span}
 use Rattle.ms_base.specs.Level.{size_of, highest_level}
-use Rattle.ms_buddy.specs.Tree.{Node}
-use Rattle.ms_buddy.specs.Tree.{Free, Lent, Split}
-use Rattle.ms_buddy.specs.Counts.{buddy_of, count_of_number, holder_of, number_of, one_at}
+use Rattle.ms_buddy.specs.Counts.{buddy_of, holder_of, number_of}
 use Rattle.ms_buddy.specs.Leaves.{span_at}
-use Rattle.ms_buddy.specs.Tree.{IsPlace, free_in, free_in_halves, is_free}
+use Rattle.ms_buddy.specs.Tree.{IsPlace}
 use Rattle.ms_buddy.proofs.TreeHalvesLemmas.{lower_place, size_of-halves, size_of-some, upper_place}
 use Rattle.ms_buddy.proofs.NumberLemmas.{holder_place, number_words}
-use Rattle.ms_buddy.proofs.CountLemmas.{number-append, number-one}
 
 -- An offset lies past the last multiple of a size by less than the size.
 pub past : (a w : ℕ) → 0 < w → a < a - a % w + w

@@ -1,7 +1,7 @@
 -- What the calls of a tree do to what is kept true of it: the bits tell which leaf is meant, and the places follow.
 use Rattle.std.proofs.Common.{◌≡◌, ◌<◌, ◌≤◌, ℕ, zero, suc, ◌+◌, ◌*◌, ◌-◌, ◌/◌, ◌%◌, ◌^◌, Bool, true, false, List, [], ◌∷◌, Option}
 use Rattle.std.proofs.Common.{Some, None, length, refl, sym, ap, subst, ◌∙◌, inl, inr, arith}
-use Rattle.std.specs.Prelude.{Result, Ok, Err, OnOk, OnErr, ◌⊎◌, ◌==◌, ◌&&◌, ◌||◌, nat_le, nat_lt, slice_set, IsTrue, IsFalse}
+use Rattle.std.specs.Prelude.{Result, Ok, Err, OnOk, OnErr, ◌==◌, ◌&&◌, ◌||◌, nat_le, nat_lt, slice_set, IsTrue}
 use Rattle.std.specs.List.{list_any, find}
 use Rattle.std.specs.Result.{is_err}
 use Rattle.std.proofs.lemmas.Bool.{cases_lt, false_from_ne_true}
@@ -11,16 +11,15 @@ use Rattle.std.proofs.Math.Nat.{mul-mod_left}
 use Rattle.ms_base.specs.declared.span.Span.{Span}
 use Rattle.ms_base.specs.Interval.{lies_in}
 use Rattle.ms_base.specs.Level.{size_of, highest_level}
-use Rattle.ms_base.specs.Part.{IsPart}
 use Rattle.ms_buddy.specs.declared.places.Lending.{Lending}
-use Rattle.ms_buddy.specs.Counts.{AreShifted, IsParted, beside, buddy_of, count_of_number, holder_of, number_of, one_at}
+use Rattle.ms_buddy.specs.Counts.{AreShifted, IsParted, beside, buddy_of, holder_of, number_of, one_at}
 use Rattle.ms_buddy.specs.FreeBits.{AreFreeBits, IsFilled, IsKept, IsMoved, bit_of}
 use Rattle.ms_buddy.specs.declared.places.Leaf.{Leaf}
 use Rattle.ms_buddy.specs.declared.places.Leaf.TheVariants.{Free as FreeLeaf, Lent as LentTo}
 use Rattle.ms_buddy.specs.Leaves.{AreInOrder, IsLeafAt, LendsAt, LentLeaf, can_enlarge, covers, fits_in, is_lent, is_same, leaf_of, span_at, span_of, with_front, with_leaf}
 use Rattle.ms_buddy.specs.Leaves.{with_parent, without_leaf, words_of}
 use Rattle.ms_buddy.specs.Places.{leaf_from, lending_at, lent_from}
-use Rattle.ms_buddy.specs.Tree.{Node, Free, Lent, Split, IsInside, IsPlace, IsSplit, IsTree, MayBeLent, free_in, lent_in}
+use Rattle.ms_buddy.specs.Tree.{Node, Free, Lent, Split, IsPlace, IsSplit, IsTree, MayBeLent, free_in, lent_in}
 use Rattle.ms_buddy.proofs.TreeHalvesLemmas.{holder_is, size_of-some}
 use Rattle.ms_buddy.proofs.BuddyLemmas.{number_of-holder, past}
 use Rattle.ms_buddy.proofs.CarveLemmas.{ends_in}
@@ -35,7 +34,7 @@ use Rattle.ms_buddy.proofs.LeaderLemmas.{buddy_within, leads_of, lent_place, no_
 use Rattle.ms_buddy.proofs.EnlargedLemmas.{MayBecome}
 use Rattle.ms_buddy.proofs.ReleasedLemmas.{released}
 use Rattle.ms_buddy.proofs.NumberLemmas.{holder_fits, holder_place, number_below}
-use Rattle.ms_buddy.proofs.PlaceLemmas.{Stands, added, changed, found_there, is_there, stands}
+use Rattle.ms_buddy.proofs.PlaceLemmas.{added, changed, found_there, is_there, stands}
 use Rattle.ms_buddy.proofs.SplitLemmas.{ActsAt, front_acts, parent_acts, without_acts}
 use Rattle.ms_buddy.proofs.TreeCountLemmas.{parted_counts}
 use Rattle.ms_buddy.proofs.TwinLemmas.{merge_is, none_beside_it}
@@ -443,6 +442,11 @@ pub record IsLentIn (lent : List LentLeaf) (places : ℕ) (counts words filled :
   pub root : InRoot kept.node words part
   pub there : IsTrue (is_lent (lent_in 0 0 kept.node) part)
   pub low : part.level ≤ highest_level
+
+-- The same of a tree's own places.
+abbrev pub IsLentHere : List (Option Lending) → List ℕ → List ℕ → List ℕ → Span → Type 0
+IsLentHere entries counts words filled part =
+    IsLentIn (lent_from 0 entries) (length entries) counts words filled entries part
 
 pub is_lent_in : (lent : List LentLeaf) (places : ℕ) (counts words filled : List ℕ) (entries : List (Option Lending))
     (part : Span) (kept : IsKept lent places counts words filled) → lent_from 0 entries ≡ lent → IsTrue (is_lent lent part)

@@ -4,7 +4,7 @@ use Rattle.std.specs.Prelude.{◌⊎◌, ◌==◌, ◌&&◌, ◌||◌}
 use Rattle.std.proofs.lemmas.Bool.{cases_lt}
 use Rattle.std.proofs.lemmas.Bool.Decides.{nat_tests}
 use Rattle.ms_base.specs.declared.span.Span.{Span}
-use Rattle.ms_base.specs.Level.{size_of, highest_level}
+use Rattle.ms_base.specs.Level.{size_of}
 use Rattle.ms_buddy.specs.Counts.{IsParted, holder_of}
 use Rattle.ms_buddy.specs.Leaves.{fits_in, is_lent, leaf_of, span_at, with_leaf}
 use Rattle.ms_buddy.specs.Tree.{Node, Free, Lent, Split, IsSplit, IsTree, MayBeLent, free_in, is_free, lent_in}

@@ -1,6 +1,6 @@
 -- A leader whose buddy is free becomes its parent: the node that results. For enlarging.
-use Rattle.std.proofs.Common.{◌≡◌, ◌<◌, ◌≤◌, ℕ, ◌+◌, ◌*◌, ◌-◌, Bool, true, false, [], ◌∷◌, refl, sym, ap, ◌∙◌, inl, inr, arith}
-use Rattle.std.specs.Prelude.{◌==◌, ◌&&◌, ◌||◌, nat_lt, IsTrue}
+use Rattle.std.proofs.Common.{◌≡◌, ◌<◌, ◌≤◌, ℕ, ◌+◌, ◌*◌, Bool, true, false, [], ◌∷◌, refl, sym, ap, ◌∙◌, inl, inr, arith}
+use Rattle.std.specs.Prelude.{◌==◌, ◌&&◌, nat_lt, IsTrue}
 use Rattle.std.proofs.lemmas.Bool.{cases_eq, cases_lt}
 use Rattle.std.proofs.lemmas.Bool.Decides.{nat_tests}
 use Rattle.ms_base.specs.declared.span.Span.{Span}
@@ -8,7 +8,7 @@ use Rattle.ms_base.specs.Level.{size_of, highest_level}
 use Rattle.ms_base.specs.Part.{is_leader}
 use Rattle.ms_buddy.specs.Counts.{IsParted, follower_of}
 use Rattle.ms_buddy.specs.Leaves.{can_enlarge, is_lent, with_parent}
-use Rattle.ms_buddy.specs.Tree.{Node, Free, Lent, Split, IsPlace, IsSplit, IsTree, free_in, free_in_halves, is_free, lent_in, lent_in_halves}
+use Rattle.ms_buddy.specs.Tree.{Node, Free, Lent, Split, IsPlace, IsSplit, IsTree, free_in, is_free, lent_in}
 use Rattle.ms_buddy.proofs.TreeHalvesLemmas.{lower_place, size_of-halves, upper_place}
 use Rattle.ms_buddy.proofs.SplitLemmas.{at_split, lower_changed, lower_lent, parent_acts, upper_changed, upper_lent}
 use Rattle.ms_buddy.proofs.EnlargeLemmas.{follower_cannot, leader_cannot, lower_can, split_not_leader, starts_here, upper_can}

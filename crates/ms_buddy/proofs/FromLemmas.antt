@@ -7,7 +7,7 @@ use Rattle.std.proofs.lemmas.Bool.{cases_lt}
 use Rattle.std.proofs.lemmas.Bool.Decides.{nat_tests}
 use Rattle.ms_base.specs.declared.span.Span.{Span}
 use Rattle.ms_base.specs.Level.{highest_level}
-use Rattle.ms_buddy.specs.Leaves.{from_on, is_of, is_of_from, is_same, lower_of}
+use Rattle.ms_buddy.specs.Leaves.{from_on, is_of_from, is_same, lower_of}
 use Rattle.ms_buddy.proofs.CoverLemmas.{found_listed, same}
 use Rattle.ms_buddy.proofs.FoundLemmas.{AreRising}
 use Rattle.ms_buddy.proofs.CarvedLemmas.{clash}

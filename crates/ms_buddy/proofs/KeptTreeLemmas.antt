@@ -1,20 +1,12 @@
 -- What is true of the lent leaves of each tree, and what the callers of a split tree learn of it.
-use Rattle.std.proofs.Common.{◌≡◌, ◌<◌, ◌≤◌, ℕ, ◌+◌, Bool, true, false, ◌&&◌, ◌||◌, cond, List, [], ◌∷◌, ◌++◌, Some}
-use Rattle.std.proofs.Common.{refl, ap, subst, arith}
-use Rattle.std.specs.Prelude.{◌==◌, ◌≢◌, ◌↔◌, IsTrue, IsFalse, Result, Ok, Err}
-use Rattle.std.specs.List.{AllByRecursion, find}
-use Rattle.std.proofs.lemmas.Bool.Decides.{nat_tests}
-use Rattle.ms_base.specs.declared.span.Span.{Span}
-use Rattle.ms_base.specs.declared.refusal.Refusal.{Refusal}
-use Rattle.ms_base.specs.declared.refusal.Refusal.TheVariants.{NoRoom, OutOfMemory}
+use Rattle.std.proofs.Common.{◌<◌, ◌≤◌, ℕ, ◌+◌, List, [], ◌∷◌, ◌++◌}
+use Rattle.std.proofs.Common.{refl, arith}
+use Rattle.std.specs.List.{AllByRecursion}
 use Rattle.ms_base.specs.Level.{root_words, size_of}
 use Rattle.ms_base.specs.Part.{IsPart}
 use Rattle.ms_buddy.specs.Tree.{Node}
 use Rattle.ms_buddy.specs.Tree.{Free, Lent, Split}
-use Rattle.ms_buddy.specs.declared.places.Leaf.{Leaf}
-use Rattle.ms_buddy.specs.declared.places.Leaf.TheVariants.{Free as FreeLeaf, Lent as LentTo}
-use Rattle.ms_buddy.specs.Leaves.{LentLeaf, AreInOrder, AreLeaves, CarveAnswers, IsCarveRefusal, IsLeafAt, fits_in}
-use Rattle.ms_buddy.specs.Leaves.{is_lent, is_same, leaf_of, span_of}
+use Rattle.ms_buddy.specs.Leaves.{LentLeaf, AreInOrder, AreLeaves}
 use Rattle.ms_buddy.specs.Tree.{IsPlace, IsTree, lent_in}
 use Rattle.ms_buddy.proofs.TreeHalvesLemmas.{lower_place, upper_place}
 use Rattle.ms_buddy.proofs.WalkLemmas.{LeafIn, all_joined, all_weaker, lent_lies_in}

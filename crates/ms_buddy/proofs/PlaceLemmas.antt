@@ -1,6 +1,6 @@
 -- What is lent from places on: what stands at one is a leaf, and what is put there changes that leaf alone.
-use Rattle.std.proofs.Common.{◌≡◌, ◌<◌, ◌≤◌, ℕ, zero, suc, ◌+◌, ◌*◌, Bool, true, false, cond, List, [], ◌∷◌, ◌++◌}
-use Rattle.std.proofs.Common.{Option, Some, None, length, replicate, refl, sym, ap, subst, ◌∙◌, arith}
+use Rattle.std.proofs.Common.{◌≡◌, ◌<◌, ◌≤◌, ℕ, zero, suc, ◌+◌, ◌*◌, Bool, true, false, List, [], ◌∷◌, ◌++◌}
+use Rattle.std.proofs.Common.{Option, Some, None, length, refl, sym, ap, subst, ◌∙◌, arith}
 use Rattle.std.specs.Prelude.{◌==◌, ◌&&◌, ◌||◌, nat_le, nat_lt, slice_set, IsTrue}
 use Rattle.std.specs.List.{AllByRecursion, find}
 use Rattle.std.proofs.lemmas.Bool.Decides.{nat_tests}
@@ -10,7 +10,7 @@ use Rattle.ms_buddy.specs.declared.places.Lending.{Lending}
 use Rattle.ms_buddy.specs.Leaves.{AreInOrder, LentLeaf, covers, is_lent, is_same, span_of, with_leaf}
 use Rattle.ms_buddy.specs.Places.{leaf_from, lending_at, lent_from}
 use Rattle.ms_buddy.proofs.CoverLemmas.{from_covers}
-use Rattle.ms_buddy.proofs.WalkLemmas.{NonePass, all_weaker}
+use Rattle.ms_buddy.proofs.WalkLemmas.{all_weaker}
 use Rattle.ms_buddy.proofs.SplitLemmas.{ActsAt}
 
 -- Each leaf starts at the first of the places or past it.

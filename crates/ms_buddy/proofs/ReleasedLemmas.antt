@@ -1,5 +1,5 @@
 -- A lent part is released, and free halves merge: the node that results. For releasing.
-use Rattle.std.proofs.Common.{◌≡◌, ◌<◌, ◌≤◌, ℕ, ◌+◌, Bool, true, false, [], ◌∷◌, ◌++◌, Some, refl, sym, ap, ◌∙◌, inl, inr, arith}
+use Rattle.std.proofs.Common.{◌≡◌, ◌<◌, ◌≤◌, ℕ, ◌+◌, Bool, true, false, [], ◌++◌, Some, refl, sym, ap, ◌∙◌, inl, inr, arith}
 use Rattle.std.specs.Prelude.{◌==◌, ◌&&◌, ◌||◌, IsTrue}
 use Rattle.std.specs.List.{find}
 use Rattle.std.proofs.lemmas.Bool.{cases_eq, cases_lt}
@@ -8,7 +8,7 @@ use Rattle.ms_base.specs.declared.span.Span.{Span}
 use Rattle.ms_base.specs.Level.{size_of}
 use Rattle.ms_buddy.specs.Counts.{IsParted, holder_of}
 use Rattle.ms_buddy.specs.Leaves.{covers, is_lent, is_same, span_at, without_leaf}
-use Rattle.ms_buddy.specs.Tree.{Node, Free, Lent, Split, IsPlace, IsSplit, IsTree, free_in, is_free, lent_in, lent_in_halves}
+use Rattle.ms_buddy.specs.Tree.{Node, Free, Lent, Split, IsPlace, IsSplit, IsTree, free_in, is_free, lent_in}
 use Rattle.ms_buddy.proofs.TreeHalvesLemmas.{lower_place, size_of-halves, size_of-some, upper_place}
 use Rattle.ms_buddy.proofs.SplitLemmas.{at_split, lent_part_lies_in, lower_changed, lower_found, lower_lent, upper_changed}
 use Rattle.ms_buddy.proofs.SplitLemmas.{upper_found, upper_lent, without_acts}

@@ -12,15 +12,12 @@ use Rattle.ms_base.specs.declared.span.Span.{Span}
 use Rattle.ms_base.specs.Level.{size_of, highest_level}
 use Rattle.ms_buddy.specs.Tree.{Node}
 use Rattle.ms_buddy.specs.Tree.{Split}
-use Rattle.ms_buddy.specs.declared.places.Leaf.{Leaf}
-use Rattle.ms_buddy.specs.declared.places.Leaf.TheVariants.{Free as FreeLeaf, Lent as LentTo}
-use Rattle.ms_buddy.specs.Leaves.{LentLeaf, IsLeafAt, leaf_of, span_of, is_same, is_lent, covers, with_front}
+use Rattle.ms_buddy.specs.Leaves.{LentLeaf, span_of, is_same, is_lent, covers, with_front}
 use Rattle.ms_buddy.specs.Leaves.{with_parent, without_leaf}
 use Rattle.ms_buddy.specs.Tree.{is_free, IsTree, lent_in, free_in, lent_in_halves}
 use Rattle.ms_buddy.specs.Tree.{free_in_halves}
-use Rattle.ms_buddy.proofs.TreeHalvesLemmas.{lower_place, upper_place}
 use Rattle.ms_buddy.proofs.WalkLemmas.{NonePass, any-none, filter-none, map-none, find-none, none_above, none_below}
-use Rattle.ms_buddy.proofs.WalkLemmas.{none_covers_below, none_lent_covers_below, LiesIn, LeafIn, lent_lies_in}
+use Rattle.ms_buddy.proofs.WalkLemmas.{none_covers_below, LiesIn, LeafIn, lent_lies_in}
 
 -- What is known of two halves of a part, which have that many words each.
 pub record AtHalves (level start half : ℕ) (lower upper : Node) : Type 0 where

@@ -1,6 +1,6 @@
 -- Halves of a part: their sizes and places. For the walks down a node.
 use Rattle.std.proofs.Common.{◌≡◌, ◌<◌, ◌≤◌, ℕ, ◌+◌, ◌-◌, ◌*◌, ◌/◌, ◌%◌, ◌^◌, sym, ap, subst, ◌∙◌, arith}
-use Rattle.std.proofs.lemmas.Nat.{pow-add, div-add-mod', mod-mul-add, pow_pos, shl-shr}
+use Rattle.std.proofs.lemmas.Nat.{pow-add, div-add-mod', mod-mul-add, pow_pos}
 use Rattle.std.proofs.Math.Nat.{mul-mod_left, add-mod_right}
 use Rattle.ms_base.specs.Level.{size_of, highest_level}
 use Rattle.ms_base.specs.declared.span.Span.{Span}

@@ -1,6 +1,6 @@
 -- To which level a part merges: its buddies are free below it, and there the buddy isn't. For releasing.
 use Rattle.std.proofs.Common.{◌≡◌, ◌<◌, ◌≤◌, ℕ, zero, suc, ◌+◌, ◌*◌, ◌-◌, ◌%◌, ◌^◌, Bool, true, false, List, [], ◌∷◌, refl, sym, ap, subst, ◌∙◌}
-use Rattle.std.proofs.Common.{Some, inl, inr, arith}
+use Rattle.std.proofs.Common.{inl, inr, arith}
 use Rattle.std.specs.Prelude.{◌==◌, ◌&&◌, ◌||◌, nat_lt}
 use Rattle.std.specs.List.{list_any}
 use Rattle.std.proofs.lemmas.Bool.{cases_eq, cases_lt}
@@ -19,7 +19,6 @@ use Rattle.ms_buddy.proofs.EnlargeLemmas.{not_free_whole}
 use Rattle.ms_buddy.proofs.CarvedLemmas.{clash}
 use Rattle.ms_buddy.proofs.BesideLemmas.{next_beside, none_is_whole}
 use Rattle.ms_buddy.proofs.BuddyLemmas.{lower_is_buddy, past, upper_is_buddy}
-use Rattle.ms_buddy.proofs.CountLemmas.{number-one}
 use Rattle.ms_buddy.proofs.FreeBitLemmas.{listed}
 use Rattle.ms_buddy.proofs.FreeNumberLemmas.{IsSpanPlace, free_places, leaf_apart, root_place}
 use Rattle.ms_buddy.proofs.NumberLemmas.{holder_place, number_below}

@@ -1,10 +1,10 @@
 -- A root as it is split, and what a part of it stands for, given its level and where it starts.
 use Rattle.std.specs.Prelude.{◌≡◌, ℕ, ◌+◌, ◌<◌, ◌≤◌, ◌%◌, Bool, true, false, ◌&&◌}
-use Rattle.std.specs.Prelude.{List, [], ◌∷◌, ◌++◌, IsTrue, IsFalse}
+use Rattle.std.specs.Prelude.{List, [], ◌∷◌, ◌++◌, IsFalse}
 use Rattle.ms_base.specs.declared.span.Span.{Span}
 use Rattle.ms_base.specs.Level.{root_words, size_of, highest_level}
 use Rattle.ms_base.specs.Part.{IsPart}
-use Rattle.ms_buddy.specs.Leaves.{LentLeaf, is_lent}
+use Rattle.ms_buddy.specs.Leaves.{LentLeaf}
 
 -- A part of a root: a free leaf, a leaf that is lent to an owner with a front, or split in its halves. No code
 -- has it: it is there for each root, and says how the lent leaves and the free ones lie together.

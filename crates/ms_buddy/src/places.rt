@@ -8,9 +8,9 @@
 //! A lent part stands at the place of its first word. The first place stands apart from the others,
 //! so that a root that is lent whole takes no memory. Only `make` takes it, for all the others at
 //! once. After HotSpot, where each chunk has a header; a table is this project's choice.
-ghost use Rattle.std.specs.Prelude.{◌≡◌, ℕ, ◌<◌, ◌≤◌, IsTrue, [], ◌∷◌, Some, None, OnOk, OnErr, length, slice_set};
+ghost use Rattle.std.specs.Prelude.{◌≡◌, ℕ, ◌^◌, ◌<◌, ◌≤◌, IsTrue, [], ◌∷◌, Some, None, OnOk, OnErr, IfSome, length, slice_set};
 ghost use Rattle.ms_buddy.specs.declared.places.Lending.{Lending};
-ghost use Rattle.ms_buddy.specs.Places.{lending_at, lent_from};
+ghost use Rattle.ms_buddy.specs.Places.{IsFront, lending_at, lent_from};
 
 use ms_base::Level;
 use std::alloc::{AllocError, Allocator};
@@ -30,6 +30,12 @@ pub(crate) const PLACE: u64 = 128;
 /// How many places there are beside the first.
 const OTHERS: usize = 4095;
 
+/// Nothing that is lent.
+pub(crate) const NONE: Place = Place {
+    owner: 0,
+    packed: 0,
+};
+
 /// What is lent from a place on: a part of that level, to whom, and with which front.
 #[derive(Clone, Copy, Drop)]
 pub(crate) struct Lending {
@@ -38,22 +44,78 @@ pub(crate) struct Lending {
     pub(crate) front: u32,
 }
 
+/// What is lent from a place on, if anything is, in half of the room.
+#[derive(Clone, Copy, Drop)]
+pub(crate) struct Place {
+    owner: u32,
+    /// The level, and 16 times the front; 0 where nothing is lent.
+    packed: u32,
+}
+
+impl Model for Place {
+    ghost use Rattle.std.specs.Prelude.{Option};
+    ghost use Rattle.ms_buddy.specs.declared.places.Lending.{Lending};
+    ghost use Rattle.ms_buddy.specs.Places.{IsPacked, lending_in, owner_again, owner_in, packed_again, packed_of};
+
+    ghost Value = { Option Lending };
+
+    ghost view = { λ p. lending_in p.owner p.packed };
+
+    ghost invariant = { λ p. IsPacked p.owner p.packed };
+
+    ghost inverse = { λ lending. record { owner = owner_in lending; packed = packed_of lending } };
+
+    ghost inverse_ok = { λ p h i. record {
+      owner = owner_again p.owner p.packed h i;
+      packed = packed_again p.owner p.packed i;
+    } };
+}
+
+impl Place {
+    /// Keeps what is lent.
+    pub(crate) fn new(lending: Lending) -> Place
+        requires { IsFront lending.front }
+        ensures { result ≡ Some lending }
+    {
+        Place {
+            owner: lending.owner,
+            packed: 16 * lending.front + u32::from(lending.level.number()),
+        }
+    }
+
+    /// Tells what is lent, if anything is.
+    pub(crate) fn lending(self) -> Option<Lending>
+        ensures { result ≡ self }
+    {
+        if self.packed == 0 {
+            return None;
+        }
+        Some(Lending {
+            level: Level::new((self.packed % 16) as u8),
+            owner: self.owner,
+            front: self.packed / 16,
+        })
+    }
+}
+
 /// What is lent from each place on.
 #[derive(Drop)]
 pub(crate) struct Places<A: Allocator> {
-    first: Option<Lending>,
+    first: Place,
     /// The others, once there is memory for them.
-    others: Option<Box<[Option<Lending>; OTHERS], A>>,
+    others: Option<Box<[Place; OTHERS], A>>,
 }
 
 impl<A: Allocator> Model for Places<A> {
     ghost use Rattle.std.specs.Prelude.{List, Option};
     ghost use Rattle.ms_buddy.specs.declared.places.Lending.{Lending};
-    ghost use Rattle.ms_buddy.specs.Places.{places_of};
+    ghost use Rattle.ms_buddy.specs.Places.{AreOthers, places_of};
 
     ghost Value = { List (Option Lending) };
 
     ghost view = { λ p. places_of p.first p.others };
+
+    ghost invariant = { λ p. AreOthers p.others };
 }
 
 impl<A: Allocator> Places<A> {
@@ -62,7 +124,7 @@ impl<A: Allocator> Places<A> {
         ensures { result ≡ None ∷ [] }
     {
         Places {
-            first: None,
+            first: NONE,
             others: None,
         }
     }
@@ -76,20 +138,10 @@ impl<A: Allocator> Places<A> {
         ensures refused { OnErr result (IsTrue needed) }
         ensures unchanged { OnErr result (self.new ≡ self.old) }
     {
-        if !needed {
-            return Ok(());
+        if needed && self.others.is_none() {
+            self.others = Some(Box::new(alloc, [NONE; OTHERS])?);
         }
-        match &self.others {
-            Some(others) => {
-                // How many there are is learnt here.
-                learn(others);
-                Ok(())
-            }
-            None => {
-                self.others = Some(Box::new(alloc, [None; OTHERS])?);
-                Ok(())
-            }
-        }
+        Ok(())
     }
 
     /// Tells what is lent from a place on.
@@ -98,16 +150,16 @@ impl<A: Allocator> Places<A> {
         ensures { result ≡ lending_at self.now place }
     {
         if place == 0 {
-            return self.first;
+            return self.first.lending();
         }
         match &self.others {
-            Some(others) => others[place - 1],
+            Some(others) => others[place - 1].lending(),
             None => None,
         }
     }
 
     /// Puts what is lent from a place on.
-    pub(crate) fn put(&mut self, place: usize, lending: Option<Lending>)
+    pub(crate) fn put(&mut self, place: usize, lending: Place)
         requires within { place < length self.old }
         requires few { place < 4096 }
         ensures { self.new ≡ slice_set self.old place lending }
@@ -118,29 +170,23 @@ impl<A: Allocator> Places<A> {
             others[place - 1] = lending;
         }
     }
+
     /// Gives what is lent from a place on another level and another front.
     pub(crate) fn change(&mut self, place: usize, level: Level, front: u32)
         requires within { place < length self.old }
         requires few { place < 4096 }
+        requires front { IsFront front }
         ensures { (lending : Lending) → lending_at self.old place ≡ Some lending
             → self.new ≡ slice_set self.old place
             (Some (record { level = level; owner = lending.owner; front = front })) }
     {
         if let Some(Lending { owner, .. }) = self.get(place) {
-            self.put(
-                place,
-                Some(Lending {
-                    level,
-                    owner,
-                    front,
-                }),
-            );
+            let lending = Lending {
+                level,
+                owner,
+                front,
+            };
+            self.put(place, Place::new(lending));
         }
     }
 }
-
-/// Says how many places there are beside the first.
-#[inline(always)]
-fn learn(others: &[Option<Lending>; OTHERS])
-    ensures { length others.now ≡ 4095 }
-{}

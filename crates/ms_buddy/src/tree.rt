@@ -36,7 +36,7 @@ ghost use Rattle.ms_buddy.specs.Leaves.{span_at, with_front, with_leaf, with_par
 use crate::free_bits::{FreeBits, first_from, number, start_of, start_of_holder, words_of};
 use crate::leaves::FreeLeaves;
 use crate::levels::{LEVELS, join_counts, levels_of, part_counts};
-use crate::places::{Leaf, Lending, PLACE, Places};
+use crate::places::{Leaf, Lending, NONE, PLACE, Place, Places};
 use ms_base::{Level, ROOT_WORDS, Refusal, Span};
 use std::alloc::Allocator;
 use std::marker::Model;
@@ -231,7 +231,7 @@ impl<A: Allocator> SplitTree<A> {
         let start = span.start;
         let lent = span.level.number();
         let free = self.free.merge_level(lent, start);
-        self.places.put((start / PLACE) as usize, None);
+        self.places.put((start / PLACE) as usize, NONE);
         join_counts(&mut self.counts, free, lent);
         self.free.join(free, start, lent);
         part(start_of_holder(free, start), free)
@@ -267,9 +267,7 @@ impl<A: Allocator> SplitTree<A> {
         self.free.put(follower, false);
         Ok(part(start, level - 1))
     }
-}
 
-impl<A: Allocator> SplitTree<A> {
     /// Lends the part of that level at an offset in words, 0 to 524287, to an owner, with a front
     /// in words from 1 to the part's size. The other lent leaves stay. Refuses with `NoRoom` and
     /// the level where the part does not lie in one free leaf, and with `OutOfMemory` where
@@ -303,15 +301,12 @@ impl<A: Allocator> SplitTree<A> {
         if self.places.make(alloc, free < lent).is_err() {
             return Err(Refusal::OutOfMemory);
         }
-        let front = front as u32;
-        self.places.put(
-            (at / PLACE) as usize,
-            Some(Lending {
-                level,
-                owner,
-                front,
-            }),
-        );
+        let lending = Lending {
+            level,
+            owner,
+            front: front as u32,
+        };
+        self.places.put((at / PLACE) as usize, Place::new(lending));
         part_counts(&mut self.counts, free, lent);
         self.free.part(free, at, lent);
         Ok(())

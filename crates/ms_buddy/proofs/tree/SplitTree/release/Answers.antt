@@ -2,81 +2,81 @@
 use Rattle.std.proofs.Common.{◌/◌, List, Some, IsTrue, refl, sym, ap, subst, ◌∙◌, arith}
 use Rattle.ms_buddy.specs.Counts.{holder_of}
 use Rattle.ms_buddy.specs.Leaves.{LentLeaf, is_lent, without_leaf}
-use Rattle.ms_buddy.proofs.CallLemmas.{is_lent_in, release_put, returned, same_length}
+use Rattle.ms_buddy.proofs.CallLemmas.{IsLentHere, Returns, is_lent_in, release_put, returned, same_length}
 use Rattle.ms_buddy.proofs.FoundLemmas.{alike}
 use Rattle.ms_buddy.proofs.FreeLeafLemmas.{free_of-tree}
 use Rattle.ms_buddy.proofs.FreeNumberLemmas.{joined_bits, tree_may_join}
 use Rattle.ms_buddy.proofs.TreeCountLemmas.{joined_counts, room_to_join, some_to_join}
+use Rattle.ms_buddy.proofs.tree.SplitTree.release.Given.{Over}
 use Rattle.ms_buddy.proofs.tree.SplitTree.release.Goals as goal
+use Rattle.ms_buddy.proofs.tree.SplitTree.release.Goals.{After-self, After-merge_level-free}
+
+-- What is known of the part, and what its release leaves.
+there : (g : Over) (c : After-self g)
+    → IsLentHere c.self.inside.places c.self.inside.counts c.self.inside.free.words c.self.inside.free.filled c.args.span
+there g c =
+    is_lent_in _ _ _ _ _ c.self.inside.places c.args.span c.self.invariant refl
+    (subst (λ (lent : List LentLeaf). IsTrue (is_lent lent c.args.span)) (sym c.self.view_is) c.requires)
+
+left : (g : Over) (c : After-merge_level-free g)
+    → (is : IsLentHere c.self.inside.places c.self.inside.counts c.self.inside.free.words c.self.inside.free.filled c.args.span)
+    → Returns c.self.inside.free.words c.args.span c.merge_level-free.result is.kept.node
+left g c is =
+    returned is.kept.node _ c.args.span c.merge_level-free.result is.root is.there
+    (omega (arith, c.merge_level-free.ensures.low, c.number-lent.ensures.same)) c.merge_level-free.ensures.apart
+    (λ below h k. c.merge_level-free.ensures.merged below h (omega (arith, k, c.number-lent.ensures.same)))
 
 pub merge_level-free-requires-clause-in_root : goal.merge_level-free-requires-clause-in_root
 merge_level-free-requires-clause-in_root g c =
-    let is = is_lent_in _ _ _ _ _ c.self.inside.places c.args.span c.self.invariant refl
-    (subst (λ (lent : List LentLeaf). IsTrue (is_lent lent c.args.span)) (sym c.self.view_is) c.requires) in
+    let is = there g (goal.at.merge_level-free-requires-clause-in_root g c).After-self in
     is.root.in_root
 
 pub put-requires-clause-within : goal.put-requires-clause-within
 put-requires-clause-within g c =
-    let is = is_lent_in _ _ _ _ _ c.self.inside.places c.args.span c.self.invariant refl
-    (subst (λ (lent : List LentLeaf). IsTrue (is_lent lent c.args.span)) (sym c.self.view_is) c.requires) in
+    let is = there g (goal.at.put-requires-clause-within g c).After-self in
     is.at.within
 
 pub put-requires-clause-few : goal.put-requires-clause-few
 put-requires-clause-few g c =
-    let is = is_lent_in _ _ _ _ _ c.self.inside.places c.args.span c.self.invariant refl
-    (subst (λ (lent : List LentLeaf). IsTrue (is_lent lent c.args.span)) (sym c.self.view_is) c.requires) in
+    let is = there g (goal.at.put-requires-clause-few g c).After-self in
     omega (arith, is.root.in_root)
 
 pub join_counts-requires-clause-some : goal.join_counts-requires-clause-some
 join_counts-requires-clause-some g c =
-    let is = is_lent_in _ _ _ _ _ c.self.inside.places c.args.span c.self.invariant refl
-    (subst (λ (lent : List LentLeaf). IsTrue (is_lent lent c.args.span)) (sym c.self.view_is) c.requires) in
-    let done = returned is.kept.node _ c.args.span c.merge_level-free.result is.root is.there
-    (omega (arith, c.merge_level-free.ensures.low, c.number-lent.ensures.same)) c.merge_level-free.ensures.apart
-    (λ below h k. c.merge_level-free.ensures.merged below h (omega (arith, k, c.number-lent.ensures.same))) in
+    let is = there g (goal.at.join_counts-requires-clause-some g c).After-self in
+    let done = left g (goal.at.join_counts-requires-clause-some g c).After-merge_level-free is in
     rw c.number-lent.ensures.same
     (λ level h k. some_to_join _ _ _ (holder_of c.merge_level-free.result c.args.span) c.args.span
     is.kept.tree.counted done.parted level h k)
 
 pub join_counts-requires-clause-room : goal.join_counts-requires-clause-room
 join_counts-requires-clause-room g c =
-    let is = is_lent_in _ _ _ _ _ c.self.inside.places c.args.span c.self.invariant refl
-    (subst (λ (lent : List LentLeaf). IsTrue (is_lent lent c.args.span)) (sym c.self.view_is) c.requires) in
-    let done = returned is.kept.node _ c.args.span c.merge_level-free.result is.root is.there
-    (omega (arith, c.merge_level-free.ensures.low, c.number-lent.ensures.same)) c.merge_level-free.ensures.apart
-    (λ below h k. c.merge_level-free.ensures.merged below h (omega (arith, k, c.number-lent.ensures.same))) in
+    let is = there g (goal.at.join_counts-requires-clause-room g c).After-self in
+    let done = left g (goal.at.join_counts-requires-clause-room g c).After-merge_level-free is in
     room_to_join _ _ done.after (holder_of c.merge_level-free.result c.args.span) c.args.span done.tree is.kept.tree.counted
     done.parted
 
 pub join-requires-clause-in_root : goal.join-requires-clause-in_root
 join-requires-clause-in_root g c =
-    let is = is_lent_in _ _ _ _ _ c.self.inside.places c.args.span c.self.invariant refl
-    (subst (λ (lent : List LentLeaf). IsTrue (is_lent lent c.args.span)) (sym c.self.view_is) c.requires) in
+    let is = there g (goal.at.join-requires-clause-in_root g c).After-self in
     is.root.in_root
 
 pub join-requires-clause-bits : goal.join-requires-clause-bits
 join-requires-clause-bits g c =
-    let is = is_lent_in _ _ _ _ _ c.self.inside.places c.args.span c.self.invariant refl
-    (subst (λ (lent : List LentLeaf). IsTrue (is_lent lent c.args.span)) (sym c.self.view_is) c.requires) in
-    let done = returned is.kept.node _ c.args.span c.merge_level-free.result is.root is.there
-    (omega (arith, c.merge_level-free.ensures.low, c.number-lent.ensures.same)) c.merge_level-free.ensures.apart
-    (λ below h k. c.merge_level-free.ensures.merged below h (omega (arith, k, c.number-lent.ensures.same))) in
+    let is = there g (goal.at.join-requires-clause-bits g c).After-self in
+    let done = left g (goal.at.join-requires-clause-bits g c).After-merge_level-free is in
     rw c.number-lent.ensures.same
     (tree_may_join _ is.kept.node done.after _ c.args.span done.tree is.kept.tree.marked is.root.in_root done.parted)
 
 pub start_of_holder-requires-clause-in_root : goal.start_of_holder-requires-clause-in_root
 start_of_holder-requires-clause-in_root g c =
-    let is = is_lent_in _ _ _ _ _ c.self.inside.places c.args.span c.self.invariant refl
-    (subst (λ (lent : List LentLeaf). IsTrue (is_lent lent c.args.span)) (sym c.self.view_is) c.requires) in
+    let is = there g (goal.at.start_of_holder-requires-clause-in_root g c).After-self in
     is.root.in_root
 
 pub invariant_of-self : goal.invariant_of-self
 invariant_of-self g c =
-    let is = is_lent_in _ _ _ _ _ c.self.inside.places c.args.span c.self.invariant refl
-    (subst (λ (lent : List LentLeaf). IsTrue (is_lent lent c.args.span)) (sym c.self.view_is) c.requires) in
-    let done = returned is.kept.node _ c.args.span c.merge_level-free.result is.root is.there
-    (omega (arith, c.merge_level-free.ensures.low, c.number-lent.ensures.same)) c.merge_level-free.ensures.apart
-    (λ below h k. c.merge_level-free.ensures.merged below h (omega (arith, k, c.number-lent.ensures.same))) in
+    let is = there g (goal.at.invariant_of-self g c).After-self in
+    let done = left g (goal.at.invariant_of-self g c).After-merge_level-free is in
     rw c.put.ensures (record {
       node = done.after;
       tree = record {
@@ -95,17 +95,13 @@ invariant_of-self g c =
 
 pub returns-clause-lent : goal.returns-clause-lent
 returns-clause-lent g c =
-    let is = is_lent_in _ _ _ _ _ c.self.inside.places c.args.span c.self.invariant refl
-    (subst (λ (lent : List LentLeaf). IsTrue (is_lent lent c.args.span)) (sym c.self.view_is) c.requires) in
+    let is = there g (goal.at.returns-clause-lent g c).After-self in
     rw c.put.ensures (release_put c.self.inside.places c.args.span is.at ∙ ap (without_leaf c.args.span) c.self.view_is)
 
 pub returns-clause-free : goal.returns-clause-free
 returns-clause-free g c =
-    let is = is_lent_in _ _ _ _ _ c.self.inside.places c.args.span c.self.invariant refl
-    (subst (λ (lent : List LentLeaf). IsTrue (is_lent lent c.args.span)) (sym c.self.view_is) c.requires) in
-    let done = returned is.kept.node _ c.args.span c.merge_level-free.result is.root is.there
-    (omega (arith, c.merge_level-free.ensures.low, c.number-lent.ensures.same)) c.merge_level-free.ensures.apart
-    (λ below h k. c.merge_level-free.ensures.merged below h (omega (arith, k, c.number-lent.ensures.same))) in
+    let is = there g (goal.at.returns-clause-free g c).After-self in
+    let done = left g (goal.at.returns-clause-free g c).After-merge_level-free is in
     rw (
       c.put.ensures,
       release_put c.self.inside.places c.args.span is.at,

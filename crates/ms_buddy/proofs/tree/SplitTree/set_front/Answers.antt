@@ -1,53 +1,54 @@
 -- The front at the leaf's place changes, and the root is split as it was.
-use Rattle.std.proofs.Common.{◌/◌, List, IsTrue, sym, ap, subst, ◌∙◌, arith}
+use Rattle.std.proofs.Common.{◌/◌, List, IsTrue, refl, sym, ap, subst, ◌∙◌, arith}
 use Rattle.ms_base.specs.declared.span.Span.{Span}
+use Rattle.ms_base.proofs.free.HalvesLemmas.{size_falls}
 use Rattle.ms_buddy.specs.Counts.{AreCounts}
 use Rattle.ms_buddy.specs.FreeBits.{AreFreeBits}
 use Rattle.ms_buddy.specs.Leaves.{LentLeaf, is_lent, with_front}
-use Rattle.ms_buddy.proofs.CallLemmas.{at_its_place, front_put, same_length}
-use Rattle.ms_buddy.proofs.FreeNumberLemmas.{starts_in_root}
+use Rattle.ms_buddy.proofs.CallLemmas.{IsLentHere, front_put, is_lent_in, same_length}
 use Rattle.ms_buddy.proofs.FrontedLemmas.{fronted}
+use Rattle.ms_buddy.proofs.tree.SplitTree.set_front.Given.{Over}
 use Rattle.ms_buddy.proofs.tree.SplitTree.set_front.Goals as goal
+use Rattle.ms_buddy.proofs.tree.SplitTree.set_front.Goals.{After-self}
+
+there : (g : Over) (c : After-self g)
+    → IsLentHere c.self.inside.places c.self.inside.counts c.self.inside.free.words c.self.inside.free.filled c.args.span
+there g c =
+    is_lent_in _ _ _ _ _ c.self.inside.places c.args.span c.self.invariant refl
+    (subst (λ (lent : List LentLeaf). IsTrue (is_lent lent c.args.span)) (sym c.self.view_is) c.requires.lent)
 
 pub change-requires-clause-within : goal.change-requires-clause-within
-change-requires-clause-within g c =
-    (at_its_place c.self.inside.places c.args.span
-    (subst (λ (lent : List LentLeaf). IsTrue (is_lent lent c.args.span)) (sym c.self.view_is) c.requires.lent)).within
+change-requires-clause-within g c = (there g (goal.at.change-requires-clause-within g c).After-self).at.within
 
 pub change-requires-clause-few : goal.change-requires-clause-few
 change-requires-clause-few g c =
-    let kept = c.self.invariant in
-    omega (
-      arith,
-      starts_in_root c.args.span kept.node kept.tree.tree
-          (subst (λ (lent : List LentLeaf). IsTrue (is_lent lent c.args.span)) (sym (kept.lent_is ∙ c.self.view_is)) c.requires.lent),
-    )
+    omega (arith, (there g (goal.at.change-requires-clause-few g c).After-self).root.in_root)
+
+pub change-requires-clause-front : goal.change-requires-clause-front
+change-requires-clause-front g c =
+    let is = there g (goal.at.change-requires-clause-front g c).After-self in
+    (c.requires.some, omega (arith, c.requires.within, size_falls 0 c.args.span.level (omega (arith)) is.low))
 
 pub invariant_of-self : goal.invariant_of-self
 invariant_of-self g c =
-    let kept = c.self.invariant in
-    let at = at_its_place c.self.inside.places c.args.span
-    (subst (λ (lent : List LentLeaf). IsTrue (is_lent lent c.args.span)) (sym c.self.view_is) c.requires.lent) in
-    let done = fronted 0 0 kept.node c.args.span c.args.front kept.tree.tree
-    (subst (λ (lent : List LentLeaf). IsTrue (is_lent lent c.args.span)) (sym (kept.lent_is ∙ c.self.view_is)) c.requires.lent)
-    c.requires.some c.requires.within in
-    rw (c.change.ensures at.lending at.there) (record {
+    let is = there g (goal.at.invariant_of-self g c).After-self in
+    let done = fronted 0 0 is.kept.node c.args.span c.args.front is.kept.tree.tree is.there c.requires.some c.requires.within in
+    rw (c.change.ensures is.at.lending is.at.there) (record {
       node = done.after;
       tree = record {
         tree = done.tree;
-        counted = subst (λ (parts : List Span). AreCounts c.self.inside.counts parts) (sym done.parts) kept.tree.counted;
-        marked = subst (λ (parts : List Span). AreFreeBits c.self.inside.free.words parts) (sym done.parts) kept.tree.marked;
-        told = kept.tree.told;
+        counted = subst (λ (parts : List Span). AreCounts c.self.inside.counts parts) (sym done.parts) is.kept.tree.counted;
+        marked = subst (λ (parts : List Span). AreFreeBits c.self.inside.free.words parts) (sym done.parts) is.kept.tree.marked;
+        told = is.kept.tree.told;
       };
-      lent_is = done.lent ∙ ap (with_front c.args.span c.args.front) kept.lent_is
-          ∙ sym (front_put c.self.inside.places c.args.span c.args.front at);
-      some = rw (same_length c.self.inside.places (c.args.span.start / 128) _) kept.some;
-      room = λ split. same_length c.self.inside.places (c.args.span.start / 128) _ ∙ kept.room (done.was split);
+      lent_is = done.lent ∙ ap (with_front c.args.span c.args.front) is.kept.lent_is
+          ∙ sym (front_put c.self.inside.places c.args.span c.args.front is.at);
+      some = rw (same_length c.self.inside.places (c.args.span.start / 128) _) is.kept.some;
+      room = λ split. same_length c.self.inside.places (c.args.span.start / 128) _ ∙ is.kept.room (done.was split);
     })
 
 pub returns : goal.returns
 returns g c =
-    let at = at_its_place c.self.inside.places c.args.span
-    (subst (λ (lent : List LentLeaf). IsTrue (is_lent lent c.args.span)) (sym c.self.view_is) c.requires.lent) in
-    rw (c.change.ensures at.lending at.there) (front_put c.self.inside.places c.args.span c.args.front at
+    let is = there g (goal.at.returns g c).After-self in
+    rw (c.change.ensures is.at.lending is.at.there) (front_put c.self.inside.places c.args.span c.args.front is.at
     ∙ ap (with_front c.args.span c.args.front) c.self.view_is)
