@@ -14,7 +14,7 @@ use Rattle.ms_base.specs.declared.policy.Policy.{Policy}
 use Rattle.ms_base.specs.declared.span.Chunk.{Chunk}
 use Rattle.ms_base.specs.declared.span.Span.{Span}
 use Rattle.ms_base.specs.Level.{size_of}
-use Rattle.ms_base.specs.Names.{with_new}
+use Rattle.ms_base.specs.Names.{named, with_new}
 use Rattle.ms_base.specs.State.{ArenaState}
 use Rattle.ms_base.specs.Good.{IsSound, is_in_use}
 use Rattle.ms_base.specs.Interval.{lies_in}
@@ -71,6 +71,11 @@ may_be_kept space state counted run books awaits = record {
   apart = awaits.clear;
 }
 
+pub awaited_below : (space : Space) (state : ArenaState) (counted : ℕ) (run : ℕ × ℕ) → AreBooks space state counted
+    → Awaits state [] run → run.0 + run.1 < 2 ^ 32
+awaited_below space state counted run books awaits =
+    omega (arith, in_use_below space state [] run books.chunks books.sound awaits.used)
+
 pub books_with_kept : (space : Space) (state : ArenaState) (counted : ℕ) (run : ℕ × ℕ) (kept : List (ℕ × ℕ))
     → AreBooks space state counted
     → Awaits state [] run → kept ≡ with_new state.kept run.0 run.1
@@ -90,6 +95,13 @@ pub free_awaits : (space : Space) (state : ArenaState) (counted n start : ℕ) (
 free_awaits space state counted n start kept books places long = λ live sound.
     subst (λ (l : List (ℕ × ℕ)). Awaits (record state { kept = l }) live (start, n)) (sym places.after)
     (awaits_in_free state live (start, places.words) n places.has long places.enough sound)
+
+-- A free block's words end as low as those of a block that is placed in it.
+pub kept_below : (space : Space) (state : ArenaState) (counted n : ℕ) → AreBooks space state counted → 2 ≤ n
+    → (start words : ℕ) → named state.kept start ≡ Some words → n ≤ words → start + words < 2 ^ 32
+kept_below space state counted n books long start words has enough =
+    let whole = awaits_in_free state [] (start, words) words has (omega (arith, long, enough)) (omega (arith)) books.sound in
+    omega (arith, in_use_below space _ [] (start, words) books.chunks whole.sound whole.used)
 
 pub books_placed_free : (space : Space) (state : ArenaState) (counted n start : ℕ) (kept : List (ℕ × ℕ))
     → AreBooks space state counted

@@ -1,26 +1,24 @@
--- Blocks that come to runs one after the other. The functions of `kept` use these.
+-- Runs that come to runs one after the other. The functions of `kept` use these.
 use Rattle.std.proofs.Common.{◌≡◌, ◌≤◌, ◌+◌, ℕ, false, List, [], ◌∷◌, ◌++◌, refl, arith, None}
 use Rattle.std.proofs.lemmas.Bool.Decides.{nat_tests}
 use Rattle.std.proofs.lemmas.List.Sums.{sum_by-cons}
 use Rattle.std.specs.List.{AllByRecursion}
-use Rattle.ms_base.specs.declared.span.Block.{Block}
 use Rattle.ms_base.specs.Interval.{meets_any}
 use Rattle.ms_base.specs.Names.{named, with_new}
-use Rattle.ms_blocks.specs.FreeBlocks.{MayBeKept, run_of, words_in}
+use Rattle.ms_blocks.specs.FreeBlocks.{MayBeKept, words_in}
 use Rattle.ms_blocks.proofs.KeptEntryLemmas.{all-with_new, sum-with_new}
-use Rattle.ms_arena.specs.Kept.{MayAllBeKept, with_all, words_of}
+use Rattle.ms_arena.specs.Kept.{MayAllBeKept, with_all}
 
 -- One more comes last.
-pub with_all-push : (kept : List (ℕ × ℕ)) (blocks : List Block) (block : Block)
-    → with_all kept (blocks ++ block ∷ []) ≡ with_new (with_all kept blocks) block.start block.words
-with_all-push kept [] block = refl
-with_all-push kept (one ∷ blocks) block = with_all-push (with_new kept one.start one.words) blocks block
+pub with_all-push : (kept runs : List (ℕ × ℕ)) (run : ℕ × ℕ)
+    → with_all kept (runs ++ run ∷ []) ≡ with_new (with_all kept runs) run.0 run.1
+with_all-push kept [] run = refl
+with_all-push kept (one ∷ runs) run = with_all-push (with_new kept one.0 one.1) runs run
 
-pub may_push : (kept : List (ℕ × ℕ)) (blocks : List Block) (block : Block) → MayAllBeKept kept blocks
-    → MayBeKept (with_all kept blocks) (run_of block) → MayAllBeKept kept (blocks ++ block ∷ [])
-may_push kept [] block may more = (more, tt)
-may_push kept (one ∷ blocks) block may more =
-    (may.0, may_push (with_new kept one.start one.words) blocks block may.1 more)
+pub may_push : (kept runs : List (ℕ × ℕ)) (run : ℕ × ℕ) → MayAllBeKept kept runs → MayBeKept (with_all kept runs) run
+    → MayAllBeKept kept (runs ++ run ∷ [])
+may_push kept [] run may more = (more, tt)
+may_push kept (one ∷ runs) run may more = (may.0, may_push (with_new kept one.0 one.1) runs run may.1 more)
 
 -- A run that meets none of two words or more starts where none does.
 starts_alone : (start words : ℕ) (runs : List (ℕ × ℕ)) → 2 ≤ words → AllByRecursion (λ (run : ℕ × ℕ). 2 ≤ run.1) runs
@@ -35,16 +33,15 @@ starts_alone start words (run ∷ runs) some all apart =
     step start words run runs some two ih apart = grind (arith, nat_tests)
 
 -- The words of all.
-pub words_in-with_all : (kept : List (ℕ × ℕ)) (blocks : List Block)
-    → AllByRecursion (λ (run : ℕ × ℕ). 2 ≤ run.1) kept → MayAllBeKept kept blocks
-    → words_in (with_all kept blocks) ≡ words_in kept + words_of blocks
+pub words_in-with_all : (kept runs : List (ℕ × ℕ)) → AllByRecursion (λ (run : ℕ × ℕ). 2 ≤ run.1) kept
+    → MayAllBeKept kept runs → words_in (with_all kept runs) ≡ words_in kept + words_in runs
 words_in-with_all kept [] all may = omega arith
-words_in-with_all kept (block ∷ blocks) all may =
-    let new = starts_alone block.start block.words kept may.0.some all may.0.apart in
+words_in-with_all kept (run ∷ runs) all may =
+    let new = starts_alone run.0 run.1 kept may.0.some all may.0.apart in
     omega (
       arith,
-      words_in-with_all (with_new kept block.start block.words) blocks
-          (all-with_new (λ (run : ℕ × ℕ). 2 ≤ run.1) kept block.start block.words new all may.0.some) may.1,
-      sum-with_new kept block.start block.words new,
-      sum_by-cons (λ (one : Block). one.words) block blocks,
+      words_in-with_all (with_new kept run.0 run.1) runs
+          (all-with_new (λ (run : ℕ × ℕ). 2 ≤ run.1) kept run.0 run.1 new all may.0.some) may.1,
+      sum-with_new kept run.0 run.1 new,
+      sum_by-cons (λ (one : ℕ × ℕ). one.1) run runs,
     )

@@ -12,7 +12,7 @@ ghost use Rattle.std.specs.Prelude.{IfErr, IfSome, IfNone, [], length, sum, slic
 ghost use Rattle.std.specs.Option.{option_map};
 ghost use Rattle.ms_base.specs.Level.{size_of};
 ghost use Rattle.ms_base.specs.Asks.{next_level};
-ghost use Rattle.ms_base.specs.Names.{with_new};
+ghost use Rattle.ms_base.specs.Names.{named, with_new};
 ghost use Rattle.ms_base.specs.Good.{IsSound};
 ghost use Rattle.ms_base.specs.State.{empty_arena};
 ghost use Rattle.ms_base.specs.Place.{placed, current, current_top, with_rest, tops_with, best_fit};
@@ -328,6 +328,8 @@ fn place_free(kept: &mut Kept, n: u64) -> Option<u64>
     requires some { 2 ≤ n }
     requires ordered { kept.old.came ≡ 0 }
     requires room { 0 < kept.old.room }
+    requires small { (start words : ℕ) → named kept.old.kept start ≡ Some words → n ≤ words
+        → start + words < 2 ^ 32 }
     ensures placed { IfSome result (λ start. PlacesFree kept.old.kept n start kept.new.kept) }
     ensures none { IfNone result (best_fit kept.old.kept n ≡ None) }
     ensures room { kept.old.room ≤ kept.new.room + 1 }
@@ -342,6 +344,7 @@ fn place_free(kept: &mut Kept, n: u64) -> Option<u64>
 fn keep_rest(kept: &mut Kept, start: u64, words: u64)
     requires room { 0 < kept.old.room }
     requires may { 2 ≤ words → MayBeKept kept.old.kept (start, words) }
+    requires small { start + words < 2 ^ 32 }
     ensures kept { kept.new.kept ≡ with_rest kept.old.kept start words }
     ensures room { kept.old.room ≤ kept.new.room + 1 }
 {

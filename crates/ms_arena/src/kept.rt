@@ -25,8 +25,9 @@ use std::marker::Model;
 pub struct Kept {
     /// Those that are in order, of two words at least.
     ordered: FreeBlocks,
-    /// Those that came since.
-    came: Vec<Block>,
+    /// Those that came since, each its start and its words: words are numbered below 2^27, so 32 bits
+    /// are enough for both, and as much room is made as blocks are live.
+    came: Vec<(u32, u32)>,
     /// How many words these have together, modulo 2^64.
     words: u64,
 }
@@ -109,12 +110,13 @@ impl Kept {
     pub(crate) fn add(&mut self, block: Block)
         requires room { 0 < self.old.room }
         requires words { 2 ≤ block.words }
-        requires ends { block.start + block.words < 2 ^ 64 }
+        requires small { block.start + block.words < 2 ^ 32 }
         requires apart { IsFalse (meets_any (run_of block) self.old.kept) }
         ensures kept { self.new.kept ≡ with_new self.old.kept block.start block.words }
         ensures room { self.new.room + 1 ≡ self.old.room }
     {
-        self.came.push_reserved(block);
+        self.came
+            .push_reserved((block.start as u32, block.words as u32));
         self.words = self.words.wrapping_add(block.words);
     }
 
@@ -144,12 +146,15 @@ impl Kept {
 }
 
 /// Adds blocks in order, in room that there is.
-fn add_all(ordered: &mut FreeBlocks, blocks: &[Block])
-    requires room { length blocks.now ≤ ordered.old.room }
-    requires may { MayAllBeKept ordered.old.kept blocks.now }
-    ensures { ordered.new.kept ≡ with_all ordered.old.kept blocks.now }
+fn add_all(ordered: &mut FreeBlocks, runs: &[(u32, u32)])
+    requires room { length runs.now ≤ ordered.old.room }
+    requires may { MayAllBeKept ordered.old.kept runs.now }
+    ensures { ordered.new.kept ≡ with_all ordered.old.kept runs.now }
 {
-    for block in blocks {
-        ordered.add(*block);
+    for run in runs {
+        ordered.add(Block {
+            start: u64::from(run.0),
+            words: u64::from(run.1),
+        });
     }
 }

@@ -4,10 +4,13 @@ use Rattle.ms_base.specs.Place.{placed, tops_with}
 use Rattle.ms_base.specs.Good.{IsSound}
 use Rattle.ms_arena.specs.Kept.{KeptView}
 use Rattle.ms_arena.specs.Books.{BooksView, Awaits}
-use Rattle.ms_arena.proofs.BookLemmas.{books_small, free_awaits, books_placed_free, top_awaits, books_placed_at_top}
+use Rattle.ms_arena.proofs.BookLemmas.{books_small, free_awaits, kept_below, books_placed_free, top_awaits, books_placed_at_top}
 use Rattle.ms_arena.proofs.BookLemmas.{placed_at_top, same_books, same_sound}
 use Rattle.ms_arena.proofs.ChunkLemmas.{last_there}
 use Rattle.ms_arena.proofs.books.Books.place.Goals as goal
+
+pub place_free-requires-clause-small : goal.place_free-requires-clause-small
+place_free-requires-clause-small c = kept_below _ _ _ c.args.n c.self.invariant c.requires.some
 
 pub invariant_of-self : goal.invariant_of-self
 invariant_of-self c =
