@@ -1,66 +1,63 @@
-use Rattle.std.proofs.Common.{ap, arith, sym}
+use Rattle.std.proofs.Common.{◌≡◌, ◌/◌, ◌%◌, ◌≤◌, ◌<◌, ℕ, ap, arith, sym}
+use Rattle.ms_arena.specs.Pages.{word_at}
 use Rattle.std.proofs.lemmas.Grind.{common_steps}
 use Rattle.ms_arena.specs.declared.pages.Page.{Page}
-use Rattle.ms_arena.proofs.PagesLemmas.{lies, marked, part_leaves, was_written}
+use Rattle.ms_arena.proofs.PagesLemmas.{Lies, lies, marked, part_leaves, was_written}
 use Rattle.ms_arena.proofs.pages.Pages.clear_in.Goals as goal
+use Rattle.ms_arena.proofs.pages.Pages.clear_in.Goals.{Else-not-page, After-wipe}
+
+-- A page that was written lies in the store.
+page_lies : (c : Else-not-page)
+    → let f = c.self.inside in
+    Lies (record { pages = f.pages.items; store = f.store.items; room = f.room }) c.args.number c.index-page.result.now
+page_lies c =
+    lies _ c.args.self.now _ _ c.args.number c.index-page.result.now c.self.invariant c.self.view_is
+    c.requires.there c.index-page.ensures (was_written c.index-page.result.now.written c.if-not-page.false)
+
+-- What a part of it that was wiped leaves.
+left : (c : After-wipe) (at : ℕ)
+    → (at / 512 ≡ c.args.number → c.saturating_sub-first.result ≤ at % 512 → at % 512 < c.min-last.result → ⊥)
+    → let f = c.self.inside in
+    word_at (record { pages = f.pages.items; store = c.wipe.new.store.items; room = f.room }) at ≡ word_at c.args.self.now at
+left c =
+    part_leaves _ c.args.self.now _ _ c.args.number c.base_of-base.result c.saturating_sub-first.result c.min-last.result
+    c.index-page.result.now _ c.self.invariant c.self.view_is c.requires.there c.index-page.ensures
+    (was_written c.index-page.result.now.written c.if-not-page.false) c.base_of-base.ensures
+    (omega (arith, c.min-last.ensures)) c.wipe.ensures.before c.wipe.ensures.after
 
 pub returns-else-first-eq0-clause-others : goal.returns-else-first-eq0-clause-others
 returns-else-first-eq0-clause-others c = λ at other.
-    part_leaves _ c.args.self.now _ _ c.args.number c.base_of-base.result c.saturating_sub-first.result
-    c.min-last.result
-    c.index-page.result.now _ c.self.invariant c.self.view_is c.requires.there c.index-page.ensures
-    (was_written c.index-page.result.now.written c.if-not-page.false) c.base_of-base.ensures
-    (omega (arith, c.min-last.ensures)) c.wipe.ensures.before
-    c.wipe.ensures.after at (λ same low high. other same)
+    left (goal.at.returns-else-first-eq0-clause-others c).After-wipe at (λ same low high. other same)
 
 pub returns-else-first-eq0-clause-before : goal.returns-else-first-eq0-clause-before
 returns-else-first-eq0-clause-before c = λ at before.
-    part_leaves _ c.args.self.now _ _ c.args.number c.base_of-base.result c.saturating_sub-first.result
-    c.min-last.result
-    c.index-page.result.now _ c.self.invariant c.self.view_is c.requires.there c.index-page.ensures
-    (was_written c.index-page.result.now.written c.if-not-page.false) c.base_of-base.ensures
-    (omega (arith, c.min-last.ensures)) c.wipe.ensures.before
-    c.wipe.ensures.after at (λ same low high.
+    left (goal.at.returns-else-first-eq0-clause-before c).After-wipe at (λ same low high.
     absurd (omega (arith, before, same, low, c.saturating_sub-first.ensures)))
 
 pub returns-else-first-eq0-clause-after : goal.returns-else-first-eq0-clause-after
 returns-else-first-eq0-clause-after c = λ at after.
-    part_leaves _ c.args.self.now _ _ c.args.number c.base_of-base.result c.saturating_sub-first.result
-    c.min-last.result
-    c.index-page.result.now _ c.self.invariant c.self.view_is c.requires.there c.index-page.ensures
-    (was_written c.index-page.result.now.written c.if-not-page.false) c.base_of-base.ensures
-    (omega (arith, c.min-last.ensures)) c.wipe.ensures.before
-    c.wipe.ensures.after at (λ same low high.
+    left (goal.at.returns-else-first-eq0-clause-after c).After-wipe at (λ same low high.
     absurd (omega (arith, after, same, high, c.min-last.ensures)))
 
 pub base_of-base-requires-clause-placed : goal.base_of-base-requires-clause-placed
 base_of-base-requires-clause-placed c =
-    let lies = lies _ c.args.self.now _ _ c.args.number c.index-page.result.now c.self.invariant c.self.view_is
-    c.requires.there c.index-page.ensures (was_written c.index-page.result.now.written c.if-not-page.false) in
-    lies.some
+    (page_lies (goal.at.base_of-base-requires-clause-placed c).Else-not-page).some
 
 pub base_of-base-requires-clause-fits : goal.base_of-base-requires-clause-fits
 base_of-base-requires-clause-fits c =
-    let lies = lies _ c.args.self.now _ _ c.args.number c.index-page.result.now c.self.invariant c.self.view_is
-    c.requires.there c.index-page.ensures (was_written c.index-page.result.now.written c.if-not-page.false) in
-    omega (arith, lies.within, c.self.inside.store.ok)
+    omega (arith, (page_lies (goal.at.base_of-base-requires-clause-fits c).Else-not-page).within, c.self.inside.store.ok)
 
 pub overflow_add-base-else-first-eq0 : goal.overflow_add-base-else-first-eq0
 overflow_add-base-else-first-eq0 c =
-    let lies = lies _ c.args.self.now _ _ c.args.number c.index-page.result.now c.self.invariant c.self.view_is
-    c.requires.there c.index-page.ensures (was_written c.index-page.result.now.written c.if-not-page.false) in
-    omega (arith, lies.some, lies.within, c.self.inside.store.ok, c.base_of-base.ensures, c.min-last.ensures)
+    omega (arith, (page_lies (goal.at.overflow_add-base-else-first-eq0 c).Else-not-page).some, (page_lies (goal.at.overflow_add-base-else-first-eq0 c).Else-not-page).within, c.self.inside.store.ok, c.base_of-base.ensures, c.min-last.ensures)
 
 pub wipe-requires-clause-within : goal.wipe-requires-clause-within
 wipe-requires-clause-within c =
-    let lies = lies _ c.args.self.now _ _ c.args.number c.index-page.result.now c.self.invariant c.self.view_is
-    c.requires.there c.index-page.ensures (was_written c.index-page.result.now.written c.if-not-page.false) in
-    omega (arith, lies.some, lies.within, c.base_of-base.ensures, c.min-last.ensures)
+    omega (arith, (page_lies (goal.at.wipe-requires-clause-within c).Else-not-page).some, (page_lies (goal.at.wipe-requires-clause-within c).Else-not-page).within, c.base_of-base.ensures, c.min-last.ensures)
 
 pub invariant_of-self : goal.invariant_of-self
 invariant_of-self c =
-    let lies = lies _ c.args.self.now _ _ c.args.number c.index-page.result.now c.self.invariant c.self.view_is
-    c.requires.there c.index-page.ensures (was_written c.index-page.result.now.written c.if-not-page.false) in
+    let lies = page_lies (goal.at.invariant_of-self c).Else-not-page in
     marked _ _ _ c.args.number _ c.self.invariant lies.there (ap (λ (page : Page). page.place) (sym lies.is)) lies.some
 
 pub returns-then-not-page-clause-zero : goal.returns-then-not-page-clause-zero
