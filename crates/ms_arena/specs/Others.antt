@@ -19,7 +19,7 @@ entries_onto (placed ∷ list) entries = entries_onto list ((placed.stretch, pla
 -- What a list or a map stands for.
 abbrev pub others_in : Table → OthersView
 others_in (Few list) = record { entries = entries_onto list.items []; spare = vec_capacity list - vec_len list }
-others_in (Many map) = record { entries = map.entries; spare = spare map }
+others_in (Many map) = record { entries = map.value.entries; spare = spare map.value }
 
 -- A stretch has a place, and all others have theirs.
 abbrev pub Enters : List (ℕ × ℕ) → ℕ → ℕ → List (ℕ × ℕ) → Type 0

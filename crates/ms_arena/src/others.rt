@@ -24,8 +24,8 @@ const FEW: usize = 8;
 enum Table {
     /// Of at most eight.
     Few(Vec<Placed>),
-    /// Of any number.
-    Many(HashMap<usize, usize>),
+    /// Of any number. In a box: few arenas have one, and each would have the room for it.
+    Many(Box<HashMap<usize, usize>>),
 }
 
 /// The places of stretches.
@@ -91,7 +91,7 @@ impl Others {
                     return list.reserve(FEW - list.len());
                 }
                 let map = gathered(alloc, list.as_slice(), stretches)?;
-                self.table = Table::Many(map);
+                self.table = Table::Many(Box::new(alloc, map)?);
                 Ok(())
             }
             Table::Many(map) => map.reserve(stretches),

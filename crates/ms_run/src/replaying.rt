@@ -68,7 +68,6 @@ pub fn replay<R: Threads + Wait + Sync, G: Gate + Sync>(
 /// is kept: those of one worker as they come, and those of a phase of several once it has been
 /// worked. An error leaves in the sink what it leaves. Takes memory, and waits as `replay` does.
 /// This project's choice.
-#[inline(always)]
 pub fn replay_into<R: Threads + Wait + Sync, G: Gate + Sync, S: AnswerSink>(
     rt: &R,
     alloc: Global,
