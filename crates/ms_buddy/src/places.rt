@@ -73,7 +73,7 @@ impl Model for Place {
 
 impl Place {
     /// Keeps what is lent.
-    pub(crate) fn new(lending: Lending) -> Place
+    pub(crate) fn of(lending: Lending) -> Place
         requires { IsFront lending.front }
         ensures { result ≡ Some lending }
     {
@@ -186,7 +186,7 @@ impl<A: Allocator> Places<A> {
                 owner,
                 front,
             };
-            self.put(place, Place::new(lending));
+            self.put(place, Place::of(lending));
         }
     }
 }

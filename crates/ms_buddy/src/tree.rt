@@ -306,7 +306,7 @@ impl<A: Allocator> SplitTree<A> {
             owner,
             front: front as u32,
         };
-        self.places.put((at / PLACE) as usize, Place::new(lending));
+        self.places.put((at / PLACE) as usize, Place::of(lending));
         part_counts(&mut self.counts, free, lent);
         self.free.part(free, at, lent);
         Ok(())

@@ -105,8 +105,8 @@ returns-then-is_err-clause-refusal g c =
           ∙ not_whole l.kept.node _ part c.in-Some.free l.is deep l.any,
     )
 
-pub new-requires : goal.new-requires
-new-requires g c = (
+pub of-requires : goal.of-requires
+of-requires g c = (
   c.requires.some,
   omega (
     arith,
@@ -142,10 +142,10 @@ pub invariant_of-self-2 : goal.invariant_of-self-2
 invariant_of-self-2 g c =
     let part = span_at c.args.at c.args.level in
     let l = lends g (goal.at.invariant_of-self-2 g c).In-Some in
-    let made-in = (goal.at.invariant_of-self-2 g c).Else-is_err in
-    rw (c.put.ensures, c.new.ensures)
+    let room = (goal.at.invariant_of-self-2 g c).Else-is_err in
+    rw (c.put.ensures, c.of.ensures)
     (kept_then _ _ _ _ _ part c.args.owner c.args.front c.in-Some.free l c.make.new.self _ _ _ _ c.make.ensures.lent
-    (within g made-in l) (made g made-in) c.make.ensures.stay c.make.ensures.more refl refl refl
+    (within g room l) (made g room) c.make.ensures.stay c.make.ensures.more refl refl refl
     (rw c.number-lent.ensures.same at c.part_counts.ensures) (rw c.number-lent.ensures.same at c.part.ensures.bits)
     (c.part.ensures.filled l.kept.tree.told))
 
@@ -153,7 +153,7 @@ pub returns-clause-lent : goal.returns-clause-lent
 returns-clause-lent g c =
     let part = span_at c.args.at c.args.level in
     let l = lends g (goal.at.returns-clause-lent g c).In-Some in
-    rw (c.put.ensures, c.new.ensures)
+    rw (c.put.ensures, c.of.ensures)
     (lent_then _ _ _ _ _ part c.args.owner c.args.front c.in-Some.free l c.make.new.self _ c.make.ensures.lent
     (within g (goal.at.returns-clause-lent g c).Else-is_err l) refl refl refl
     ∙ ap (with_leaf (leaf_of part c.args.owner c.args.front)) c.self.view_is)
