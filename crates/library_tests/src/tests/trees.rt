@@ -162,11 +162,11 @@ fn called_again(heap: &LocalHeap) -> ([u32; 2], usize, Result<(), Refusal>, usiz
     (counts, kept, again, heap.used())
 }
 
-/// The table of places, 4095 of 16 bytes, stays for the next carve.
+/// The table of places, 4095 of 8 bytes, stays for the next carve; the heap's pieces are of 16.
 #[test]
 fn the_table_serves_the_next_carve(rt: HostRuntime) {
     let heap = LocalHeap::new(rt.alloc(), 1048576).expect(&rt, "memory is ample");
-    let wanted = ([4096, 4096], 65520, Ok(()), 65520);
+    let wanted = ([4096, 4096], 32768, Ok(()), 32768);
     let told = (called_again(&heap), heap.used());
     drop(heap);
     same(&rt, &told, &(wanted, 0));
