@@ -11,6 +11,7 @@ use Rattle.std.proofs.Math.Nat.{mul-mod_left}
 use Rattle.ms_base.specs.declared.span.Span.{Span}
 use Rattle.ms_base.specs.Interval.{lies_in}
 use Rattle.ms_base.specs.Level.{size_of, highest_level}
+use Rattle.ms_base.proofs.free.HalvesLemmas.{size_falls}
 use Rattle.ms_buddy.specs.declared.places.Lending.{Lending}
 use Rattle.ms_buddy.specs.Counts.{AreShifted, IsParted, beside, buddy_of, holder_of, number_of, one_at}
 use Rattle.ms_buddy.specs.FreeBits.{AreFreeBits, IsFilled, IsKept, IsMoved, bit_of}
@@ -18,7 +19,7 @@ use Rattle.ms_buddy.specs.declared.places.Leaf.{Leaf}
 use Rattle.ms_buddy.specs.declared.places.Leaf.TheVariants.{Free as FreeLeaf, Lent as LentTo}
 use Rattle.ms_buddy.specs.Leaves.{AreInOrder, IsLeafAt, LendsAt, LentLeaf, can_enlarge, covers, fits_in, is_lent, is_same, leaf_of, span_at, span_of, with_front, with_leaf}
 use Rattle.ms_buddy.specs.Leaves.{with_parent, without_leaf, words_of}
-use Rattle.ms_buddy.specs.Places.{leaf_from, lending_at, lent_from}
+use Rattle.ms_buddy.specs.Places.{IsFront, leaf_from, lending_at, lent_from}
 use Rattle.ms_buddy.specs.Tree.{Node, Free, Lent, Split, IsPlace, IsSplit, IsTree, MayBeLent, free_in, lent_in}
 use Rattle.ms_buddy.proofs.TreeHalvesLemmas.{holder_is, size_of-some}
 use Rattle.ms_buddy.proofs.BuddyLemmas.{number_of-holder, past}
@@ -215,28 +216,6 @@ split_past Free part any some = absurd (starts part.start part.level some any)
 split_past (Lent owner front) part any some = absurd (cc (any))
 split_past (Split lower upper) part any some = tt
 
--- There is a place for a part that is lent, once there are others where it is parted.
-pub place_there : (lent : List LentLeaf) (places now : ℕ) (counts words filled : List ℕ)
-    (kept : IsKept lent places counts words filled) (part : Span) (free : ℕ) → IsAsked kept.node words part
-    → free ≤ part.level → list_any (is_same (holder_of free part)) (free_in 0 0 kept.node) ≡ true
-    → (free < part.level → now ≡ 4096) → (places ≡ 4096 → now ≡ 4096) → places ≤ now → part.start / 128 < now
-place_there lent places now counts words filled kept part free is order any made stay more = elim (cases_lt free part.level) [
-  | inl deep ↦ omega (arith, is.root.in_root, made deep)
-  | inr past ↦ elim (cases_lt 0 part.start) [
-    | inr none ↦ omega (arith, none, kept.some, more)
-    | inl some ↦ omega (
-      arith,
-      is.root.in_root,
-      stay (kept.room (split_past kept.node part
-          (subst (λ (p : Span). list_any (is_same p) (free_in 0 0 kept.node) ≡ true) (own (omega (arith, order, past))) any) some)),
-    )
-  ]
-]
-  where
-    own : free ≡ part.level → holder_of free part ≡ part
-    own e = alike (holder_of free part) part
-        (omega (arith, subst (λ (n : ℕ). part.start % size_of n ≡ 0) (sym e) is.aligned)) e
-
 -- Nothing is lent from the place of a part that lies in a free leaf.
 none_there : (node : Node) (words : List ℕ) (part : Span) (free : ℕ) (entries : List (Option Lending))
     → IsAsked node words part → lent_in 0 0 node ≡ lent_from 0 entries
@@ -390,17 +369,40 @@ parts_then lent places counts words filled part owner front free l =
     subst (λ (n : ℕ). IsParted (free_in 0 0 l.kept.node) (holder_of n part) part (free_in 0 0 done.0.after)) done.1
     done.0.parted
 
+-- There is a place for the part that is lent, once there are others where it is parted.
+pub place_then : (lent : List LentLeaf) (places : ℕ) (counts words filled : List ℕ) (part : Span)
+    (owner front free : ℕ) (l : Lends lent places counts words filled part owner front free) (now : ℕ)
+    → (free < part.level → now ≡ 4096) → (places ≡ 4096 → now ≡ 4096) → places ≤ now → part.start / 128 < now
+place_then lent places counts words filled part owner front free l now made stay more =
+    elim (cases_lt free part.level) [
+      | inl deep ↦ omega (arith, l.is.root.in_root, made deep)
+      | inr past ↦ elim (cases_lt 0 part.start) [
+        | inr none ↦ omega (arith, none, l.kept.some, more)
+        | inl some ↦ omega (
+          arith,
+          l.is.root.in_root,
+          stay (l.kept.room (split_past l.kept.node part
+              (subst (λ (p : Span). list_any (is_same p) (free_in 0 0 l.kept.node) ≡ true)
+              (own (omega (arith, l.order, past))) l.any) some)),
+        )
+      ]
+    ]
+  where
+    own : free ≡ part.level → holder_of free part ≡ part
+    own e = alike (holder_of free part) part
+        (omega (arith, subst (λ (n : ℕ). part.start % size_of n ≡ 0) (sym e) l.is.aligned)) e
+
 pub kept_then : (lent : List LentLeaf) (places : ℕ) (counts words filled : List ℕ) (part : Span) (owner front free : ℕ)
     (l : Lends lent places counts words filled part owner front free) (entries : List (Option Lending)) (lending : Lending)
-    (counted moved told : List ℕ) → lent_from 0 entries ≡ lent → part.start / 128 < length entries
-    → (free < part.level → length entries ≡ 4096) → (places ≡ 4096 → length entries ≡ 4096) → places ≤ length entries
+    (counted moved told : List ℕ) → lent_from 0 entries ≡ lent → (free < part.level → length entries ≡ 4096)
+    → (places ≡ 4096 → length entries ≡ 4096) → places ≤ length entries
     → lending.level ≡ part.level → lending.owner ≡ owner → lending.front ≡ front
     → AreShifted counts free (part.level + 1) counted → IsMoved words (holder_of free part ∷ []) (beside (holder_of free part) part) moved
     → IsFilled moved told
     → IsKept (lent_from 0 (slice_set entries (part.start / 128) (Some lending)))
     (length (slice_set entries (part.start / 128) (Some lending))) counted moved told
-kept_then lent places counts words filled part owner front free l entries lending counted moved told same within made stay
-    more level own reach shifted bits full =
+kept_then lent places counts words filled part owner front free l entries lending counted moved told same made stay more
+    level own reach shifted bits full =
     let parted = parts_then lent places counts words filled part owner front free l in
     let c = node_then lent places counts words filled part owner front free l in
     let long = same_length entries (part.start / 128) (Some lending) in record {
@@ -412,8 +414,9 @@ kept_then lent places counts words filled part owner front free l entries lendin
         told = full;
       };
       lent_is = c.lent ∙ ap (with_leaf (leaf_of part owner front)) (l.kept.lent_is ∙ sym same)
-          ∙ sym (carve_put l.kept.node words part free entries lending l.is (l.kept.lent_is ∙ sym same) within l.any level
-          ∙ leaf_same lending.owner owner lending.front front own reach);
+          ∙ sym (carve_put l.kept.node words part free entries lending l.is (l.kept.lent_is ∙ sym same)
+          (place_then lent places counts words filled part owner front free l (length entries) made stay more) l.any
+          level ∙ leaf_same lending.owner owner lending.front front own reach);
       some = omega (arith, long, l.kept.some, more);
       room = λ split. long ∙ elim (c.was split) [
         | inl before ↦ stay (l.kept.room before)
@@ -427,11 +430,13 @@ kept_then lent places counts words filled part owner front free l entries lendin
 
 pub lent_then : (lent : List LentLeaf) (places : ℕ) (counts words filled : List ℕ) (part : Span) (owner front free : ℕ)
     (l : Lends lent places counts words filled part owner front free) (entries : List (Option Lending)) (lending : Lending)
-    → lent_from 0 entries ≡ lent → part.start / 128 < length entries
+    → lent_from 0 entries ≡ lent → (free < part.level → length entries ≡ 4096)
+    → (places ≡ 4096 → length entries ≡ 4096) → places ≤ length entries
     → lending.level ≡ part.level → lending.owner ≡ owner → lending.front ≡ front
     → lent_from 0 (slice_set entries (part.start / 128) (Some lending)) ≡ with_leaf (leaf_of part owner front) lent
-lent_then lent places counts words filled part owner front free l entries lending same within level own reach =
-    carve_put l.kept.node words part free entries lending l.is (l.kept.lent_is ∙ sym same) within l.any level
+lent_then lent places counts words filled part owner front free l entries lending same made stay more level own reach =
+    carve_put l.kept.node words part free entries lending l.is (l.kept.lent_is ∙ sym same)
+    (place_then lent places counts words filled part owner front free l (length entries) made stay more) l.any level
     ∙ rw (same, own, reach) refl
 
 -- What is known of a lent part of a root.
@@ -448,14 +453,16 @@ abbrev pub IsLentHere : List (Option Lending) → List ℕ → List ℕ → List
 IsLentHere entries counts words filled part =
     IsLentIn (lent_from 0 entries) (length entries) counts words filled entries part
 
-pub is_lent_in : (lent : List LentLeaf) (places : ℕ) (counts words filled : List ℕ) (entries : List (Option Lending))
-    (part : Span) (kept : IsKept lent places counts words filled) → lent_from 0 entries ≡ lent → IsTrue (is_lent lent part)
-    → IsLentIn lent places counts words filled entries part
-is_lent_in lent places counts words filled entries part kept same there =
+-- A part that is lent by the list that the tree tells is lent here.
+pub lent_here : (entries : List (Option Lending)) (counts words filled : List ℕ) (told : List LentLeaf) (part : Span)
+    → IsKept (lent_from 0 entries) (length entries) counts words filled → lent_from 0 entries ≡ told
+    → IsTrue (is_lent told part) → IsLentHere entries counts words filled part
+lent_here entries counts words filled told part kept same lent =
+    let there = subst (λ (leaves : List LentLeaf). IsTrue (is_lent leaves part)) (sym same) lent in
     let own = subst (λ (leaves : List LentLeaf). IsTrue (is_lent leaves part)) (sym kept.lent_is) there in
     let leaves = are_leaves kept.node kept.tree.tree in record {
       kept = kept;
-      at = at_its_place entries part (subst (λ (leaves : List LentLeaf). IsTrue (is_lent leaves part)) (sym same) there);
+      at = at_its_place entries part there;
       root = record {
         tree = kept.tree.tree;
         marked = kept.tree.marked;
@@ -464,6 +471,10 @@ is_lent_in lent places counts words filled entries part kept same there =
       there = own;
       low = (lent_place part (lent_in 0 0 kept.node) leaves.parts leaves.in_root own).0.0;
     }
+
+-- A place can hold the front of a part, and of its parent, which is twice as large.
+pub front_fits : (level front : ℕ) → 0 < front → front ≤ 2 * size_of level → level ≤ highest_level → IsFront front
+front_fits level front some within low = (some, omega (arith, within, size_falls 0 level (omega arith) low))
 
 -- What a release to the level that the bits tell leaves.
 pub record Returns (words : List ℕ) (part : Span) (merge : ℕ) (before : Node) : Type 0 where

@@ -239,10 +239,6 @@ leader_cannot part level start half lower upper s child e f =
     none true false = refl
     none false y = refl
 
--- A refusal stands where a part can't become its parent.
-pub refused : (can : Bool) → can ≡ false → (false ≡ true → can ≡ true) × (can ≡ true → false ≡ true)
-refused can e = (λ h. absurd (cc), λ h. sym e ∙ h)
-
 -- A lent part of two halves that starts no later than they do starts where they do.
 pub starts_here : (part : Span) (level start half : ℕ) (lower upper : Node)
     → AtHalves level start half lower upper

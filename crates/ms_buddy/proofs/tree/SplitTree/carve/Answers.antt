@@ -1,22 +1,23 @@
 -- The bits tell the free leaf in which the part lies, and it is lent there.
-use Rattle.std.proofs.Common.{◌≡◌, ◌<◌, ◌/◌, ℕ, true, false, Ok, Err, IsTrue, length, refl, sym, ap, ◌∙◌, arith, ltb-true, lt-ltb}
+use Rattle.std.proofs.Common.{◌≡◌, ◌<◌, ℕ, true, false, Ok, Err, IsTrue, length, refl, sym, ap, ◌∙◌, arith, ltb-true}
+use Rattle.std.proofs.Common.{lt-ltb}
 use Rattle.std.specs.Prelude.{nat_lt, Result}
 use Rattle.std.specs.List.{list_any}
 use Rattle.ms_base.specs.declared.refusal.Refusal.{Refusal}
 use Rattle.ms_base.specs.declared.refusal.Refusal.TheVariants.{NoRoom, OutOfMemory}
-use Rattle.ms_base.proofs.free.HalvesLemmas.{size_falls}
 use Rattle.ms_buddy.specs.Counts.{holder_of}
 use Rattle.ms_buddy.specs.Places.{lent_from}
 use Rattle.ms_buddy.specs.Leaves.{fits_in, free_of, is_same, leaf_of, span_at, with_leaf}
-use Rattle.ms_buddy.proofs.CallLemmas.{Lends, asked, err_holds, fits_there, holder_listed, kept_then, lent_then, node_then}
-use Rattle.ms_buddy.proofs.CallLemmas.{none_fits, not_whole, ok_holds, parts_then, place_there}
+use Rattle.ms_buddy.proofs.CallLemmas.{IsAsked, Lends, asked, err_holds, fits_there, front_fits, holder_listed}
+use Rattle.ms_buddy.proofs.CallLemmas.{kept_then, lent_then, node_then, none_fits, not_whole, ok_holds, parts_then}
+use Rattle.ms_buddy.proofs.CallLemmas.{place_then}
 use Rattle.ms_buddy.proofs.CarvedLemmas.{clash}
 use Rattle.ms_buddy.proofs.FreeLeafLemmas.{free_of-kept}
 use Rattle.ms_buddy.proofs.FreeNumberLemmas.{tree_may_part}
 use Rattle.ms_buddy.proofs.TreeCountLemmas.{room_to_part, some_to_part}
 use Rattle.ms_buddy.proofs.tree.SplitTree.carve.Given.{Over}
 use Rattle.ms_buddy.proofs.tree.SplitTree.carve.Goals as goal
-use Rattle.ms_buddy.proofs.tree.SplitTree.carve.Goals.{In_default, In-Some, Else-is_err}
+use Rattle.ms_buddy.proofs.tree.SplitTree.carve.Goals.{After-holder, In_default, In-Some, Else-is_err}
 
 other_refusal : (result : Result (Unit {0}) Refusal) (level : ℕ) → result ≡ Err OutOfMemory → result ≡ Err (NoRoom level) → ⊥
 other_refusal result level e f = absurd (cc)
@@ -24,14 +25,20 @@ other_refusal result level e f = absurd (cc)
 not_refused : (result : Result (Unit {0}) Refusal) (level : ℕ) → result ≡ Ok tt → result ≡ Err (NoRoom level) → ⊥
 not_refused result level e f = absurd (cc)
 
+-- What is asked of the part.
+part_asked : (g : Over) (c : After-holder g)
+    → IsAsked c.self.invariant.node c.self.inside.free.words (span_at c.args.at c.args.level)
+part_asked g c =
+    asked _ _ _ _ _ c.self.invariant (span_at c.args.at c.args.level) c.requires.in_root
+    (omega (arith, c.number-lent.ensures.same, c.number-lent.ensures.below)) c.requires.aligned
+
 -- The part lies in no free leaf.
 misses : (g : Over) (c : In_default g) → fits_in (span_at c.args.at c.args.level) (free_of c.args.self.now) ≡ false
 misses g c =
     let kept = c.self.invariant in
     let part = span_at c.args.at c.args.level in
     sym (ap (fits_in part) (free_of-kept _ _ _ _ _ kept ∙ ap free_of c.self.view_is))
-    ∙ none_fits kept.node _ part (asked _ _ _ _ _ kept part c.requires.in_root
-    (omega (arith, c.number-lent.ensures.same, c.number-lent.ensures.below)) c.requires.aligned)
+    ∙ none_fits kept.node _ part (part_asked g c.before)
     (λ holder h. c.in_default.ensures.none holder (omega (arith, h, c.number-lent.ensures.same)))
 
 -- The part lies in a free leaf, that of the level found.
@@ -41,8 +48,7 @@ lends : (g : Over) (c : In-Some g)
 lends g c =
     let kept = c.self.invariant in
     let part = span_at c.args.at c.args.level in
-    let is = asked _ _ _ _ _ kept part c.requires.in_root
-    (omega (arith, c.number-lent.ensures.same, c.number-lent.ensures.below)) c.requires.aligned in record {
+    let is = part_asked g c.before in record {
       kept = kept;
       is = is;
       some = c.requires.some;
@@ -59,20 +65,12 @@ fits g c =
     sym (ap (fits_in part) (free_of-kept _ _ _ _ _ l.kept ∙ ap free_of c.self.view_is))
     ∙ fits_there l.kept.node _ part c.in-Some.free l.is l.order l.any
 
--- Where there is memory, the other places are there where the root is split, and the part's place is one of them.
+-- Where there is memory, the other places are there where the root is split.
 made : (g : Over) (c : Else-is_err g) → c.in-Some.free < c.args.level → length c.make.new.self ≡ 4096
 made g c deep =
     ok_holds c.make.result (IsTrue (nat_lt c.in-Some.free c.number-lent.result) → length c.make.new.self ≡ 4096)
     (sym c.if-is_err.ensures.value) c.make.ensures.all
     (lt-ltb c.in-Some.free c.number-lent.result (omega (arith, deep, c.number-lent.ensures.same)))
-
-within : (g : Over) (c : Else-is_err g)
-    → Lends (lent_from 0 c.self.inside.places) (length c.self.inside.places) c.self.inside.counts c.self.inside.free.words
-    c.self.inside.free.filled (span_at c.args.at c.args.level) c.args.owner c.args.front c.in-Some.free
-    → c.args.at / 128 < length c.make.new.self
-within g c l =
-    place_there _ _ (length c.make.new.self) _ _ _ l.kept (span_at c.args.at c.args.level) c.in-Some.free l.is l.order l.any
-    (made g c) c.make.ensures.stay c.make.ensures.more
 
 pub returns-in_default-clause-no_room : goal.returns-in_default-clause-no_room
 returns-in_default-clause-no_room g c =
@@ -106,18 +104,14 @@ returns-then-is_err-clause-refusal g c =
     )
 
 pub of-requires : goal.of-requires
-of-requires g c = (
-  c.requires.some,
-  omega (
-    arith,
-    c.requires.within,
-    size_falls 0 c.args.level (omega (arith)) (omega (arith, c.number-lent.ensures.same, c.number-lent.ensures.below)),
-  ),
-)
+of-requires g c =
+    front_fits c.args.level _ c.requires.some (omega (arith, c.requires.within))
+    (part_asked g (goal.at.of-requires g c).After-holder).low
 
 pub put-requires-clause-within : goal.put-requires-clause-within
 put-requires-clause-within g c =
-    within g (goal.at.put-requires-clause-within g c).Else-is_err (lends g (goal.at.put-requires-clause-within g c).In-Some)
+    place_then _ _ _ _ _ _ _ _ _ (lends g (goal.at.put-requires-clause-within g c).In-Some) _
+    (made g (goal.at.put-requires-clause-within g c).Else-is_err) c.make.ensures.stay c.make.ensures.more
 
 pub part_counts-requires-clause-some : goal.part_counts-requires-clause-some
 part_counts-requires-clause-some g c =
@@ -145,7 +139,7 @@ invariant_of-self-2 g c =
     let room = (goal.at.invariant_of-self-2 g c).Else-is_err in
     rw (c.put.ensures, c.of.ensures)
     (kept_then _ _ _ _ _ part c.args.owner c.args.front c.in-Some.free l c.make.new.self _ _ _ _ c.make.ensures.lent
-    (within g room l) (made g room) c.make.ensures.stay c.make.ensures.more refl refl refl
+    (made g room) c.make.ensures.stay c.make.ensures.more refl refl refl
     (rw c.number-lent.ensures.same at c.part_counts.ensures) (rw c.number-lent.ensures.same at c.part.ensures.bits)
     (c.part.ensures.filled l.kept.tree.told))
 
@@ -155,7 +149,7 @@ returns-clause-lent g c =
     let l = lends g (goal.at.returns-clause-lent g c).In-Some in
     rw (c.put.ensures, c.of.ensures)
     (lent_then _ _ _ _ _ part c.args.owner c.args.front c.in-Some.free l c.make.new.self _ c.make.ensures.lent
-    (within g (goal.at.returns-clause-lent g c).Else-is_err l) refl refl refl
+    (made g (goal.at.returns-clause-lent g c).Else-is_err) c.make.ensures.stay c.make.ensures.more refl refl refl
     ∙ ap (with_leaf (leaf_of part c.args.owner c.args.front)) c.self.view_is)
 
 pub returns-clause-no_room : goal.returns-clause-no_room

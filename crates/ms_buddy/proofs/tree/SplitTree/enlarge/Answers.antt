@@ -1,10 +1,10 @@
 -- The follower's bit is cleared, and a larger part stands at the leader's place.
-use Rattle.std.proofs.Common.{◌-◌, ◌/◌, ℕ, List, IsTrue, refl, sym, ap, subst, ◌∙◌, arith}
+use Rattle.std.proofs.Common.{◌-◌, ◌/◌, ℕ, sym, ap, ◌∙◌, arith}
 use Rattle.ms_base.specs.Level.{size_of}
-use Rattle.ms_base.proofs.free.HalvesLemmas.{size_falls}
 use Rattle.ms_buddy.specs.Counts.{follower_of}
-use Rattle.ms_buddy.specs.Leaves.{LentLeaf, can_enlarge, free_of, is_lent, with_parent}
-use Rattle.ms_buddy.proofs.CallLemmas.{IsLentHere, follower_in_root, is_lent_in, may_become, parent_put, same_length}
+use Rattle.ms_buddy.specs.Leaves.{can_enlarge, free_of, with_parent}
+use Rattle.ms_buddy.proofs.CallLemmas.{IsLentHere, follower_in_root, front_fits, lent_here, may_become, parent_put}
+use Rattle.ms_buddy.proofs.CallLemmas.{same_length}
 use Rattle.ms_buddy.proofs.EnlargedLemmas.{MayBecome, enlarged}
 use Rattle.ms_buddy.proofs.FreeLeafLemmas.{free_of-kept}
 use Rattle.ms_buddy.proofs.FreeNumberLemmas.{enlarged_bits}
@@ -16,9 +16,7 @@ use Rattle.ms_buddy.proofs.tree.SplitTree.enlarge.Goals.{After-self, Else-not-ca
 -- What is known of the part, and that it may become its parent.
 there : (g : Over) (c : After-self g)
     → IsLentHere c.self.inside.places c.self.inside.counts c.self.inside.free.words c.self.inside.free.filled c.args.span
-there g c =
-    is_lent_in _ _ _ _ _ c.self.inside.places c.args.span c.self.invariant refl
-    (subst (λ (lent : List LentLeaf). IsTrue (is_lent lent c.args.span)) (sym c.self.view_is) c.requires.lent)
+there g c = lent_here _ _ _ _ _ c.args.span c.self.invariant c.self.view_is c.requires.lent
 
 can : (g : Over) (c : Else-not-can_enlarge g)
     → (is : IsLentHere c.self.inside.places c.self.inside.counts c.self.inside.free.words c.self.inside.free.filled c.args.span)
@@ -52,7 +50,7 @@ change-requires-clause-few g c =
 pub change-requires-clause-front : goal.change-requires-clause-front
 change-requires-clause-front g c =
     let is = there g (goal.at.change-requires-clause-front g c).After-self in
-    (c.requires.some, omega (arith, c.requires.within, size_falls 0 c.args.span.level (omega (arith)) is.low))
+    front_fits c.args.span.level _ c.requires.some c.requires.within is.low
 
 pub part_counts-requires-clause-some : goal.part_counts-requires-clause-some
 part_counts-requires-clause-some g c =

@@ -1,8 +1,8 @@
 -- The bits tell how far the part merges, and its place is empty then.
-use Rattle.std.proofs.Common.{◌/◌, List, Some, IsTrue, refl, sym, ap, subst, ◌∙◌, arith}
+use Rattle.std.proofs.Common.{◌/◌, Some, sym, ap, ◌∙◌, arith}
 use Rattle.ms_buddy.specs.Counts.{holder_of}
-use Rattle.ms_buddy.specs.Leaves.{LentLeaf, is_lent, without_leaf}
-use Rattle.ms_buddy.proofs.CallLemmas.{IsLentHere, Returns, is_lent_in, release_put, returned, same_length}
+use Rattle.ms_buddy.specs.Leaves.{without_leaf}
+use Rattle.ms_buddy.proofs.CallLemmas.{IsLentHere, Returns, lent_here, release_put, returned, same_length}
 use Rattle.ms_buddy.proofs.FoundLemmas.{alike}
 use Rattle.ms_buddy.proofs.FreeLeafLemmas.{free_of-tree}
 use Rattle.ms_buddy.proofs.FreeNumberLemmas.{joined_bits, tree_may_join}
@@ -14,9 +14,7 @@ use Rattle.ms_buddy.proofs.tree.SplitTree.release.Goals.{After-self, After-merge
 -- What is known of the part, and what its release leaves.
 there : (g : Over) (c : After-self g)
     → IsLentHere c.self.inside.places c.self.inside.counts c.self.inside.free.words c.self.inside.free.filled c.args.span
-there g c =
-    is_lent_in _ _ _ _ _ c.self.inside.places c.args.span c.self.invariant refl
-    (subst (λ (lent : List LentLeaf). IsTrue (is_lent lent c.args.span)) (sym c.self.view_is) c.requires)
+there g c = lent_here _ _ _ _ _ c.args.span c.self.invariant c.self.view_is c.requires
 
 left : (g : Over) (c : After-merge_level-free g)
     → (is : IsLentHere c.self.inside.places c.self.inside.counts c.self.inside.free.words c.self.inside.free.filled c.args.span)

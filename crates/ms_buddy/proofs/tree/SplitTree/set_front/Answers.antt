@@ -1,11 +1,10 @@
 -- The front at the leaf's place changes, and the root is split as it was.
-use Rattle.std.proofs.Common.{◌/◌, List, IsTrue, refl, sym, ap, subst, ◌∙◌, arith}
+use Rattle.std.proofs.Common.{◌/◌, List, sym, ap, subst, ◌∙◌, arith}
 use Rattle.ms_base.specs.declared.span.Span.{Span}
-use Rattle.ms_base.proofs.free.HalvesLemmas.{size_falls}
 use Rattle.ms_buddy.specs.Counts.{AreCounts}
 use Rattle.ms_buddy.specs.FreeBits.{AreFreeBits}
-use Rattle.ms_buddy.specs.Leaves.{LentLeaf, is_lent, with_front}
-use Rattle.ms_buddy.proofs.CallLemmas.{IsLentHere, front_put, is_lent_in, same_length}
+use Rattle.ms_buddy.specs.Leaves.{with_front}
+use Rattle.ms_buddy.proofs.CallLemmas.{IsLentHere, front_fits, front_put, lent_here, same_length}
 use Rattle.ms_buddy.proofs.FrontedLemmas.{fronted}
 use Rattle.ms_buddy.proofs.tree.SplitTree.set_front.Given.{Over}
 use Rattle.ms_buddy.proofs.tree.SplitTree.set_front.Goals as goal
@@ -13,9 +12,7 @@ use Rattle.ms_buddy.proofs.tree.SplitTree.set_front.Goals.{After-self}
 
 there : (g : Over) (c : After-self g)
     → IsLentHere c.self.inside.places c.self.inside.counts c.self.inside.free.words c.self.inside.free.filled c.args.span
-there g c =
-    is_lent_in _ _ _ _ _ c.self.inside.places c.args.span c.self.invariant refl
-    (subst (λ (lent : List LentLeaf). IsTrue (is_lent lent c.args.span)) (sym c.self.view_is) c.requires.lent)
+there g c = lent_here _ _ _ _ _ c.args.span c.self.invariant c.self.view_is c.requires.lent
 
 pub change-requires-clause-within : goal.change-requires-clause-within
 change-requires-clause-within g c = (there g (goal.at.change-requires-clause-within g c).After-self).at.within
@@ -27,7 +24,7 @@ change-requires-clause-few g c =
 pub change-requires-clause-front : goal.change-requires-clause-front
 change-requires-clause-front g c =
     let is = there g (goal.at.change-requires-clause-front g c).After-self in
-    (c.requires.some, omega (arith, c.requires.within, size_falls 0 c.args.span.level (omega (arith)) is.low))
+    front_fits c.args.span.level _ c.requires.some (omega (arith, c.requires.within)) is.low
 
 pub invariant_of-self : goal.invariant_of-self
 invariant_of-self g c =
