@@ -5,18 +5,29 @@
 //!                 newest            others
 //!
 //! The stretch that got its place last is looked at before the others (`others`), since an arena
-//! mostly allocates there, and small arenas have no other. Beside them are noted some runs of
-//! stretches that all have places, so that a large block needs no look at each of its own. Only
-//! `reserve` takes memory.
-ghost use Rattle.std.specs.Prelude.{◌≡◌, ℕ, ◌+◌, ◌<◌, ◌≤◌, IsTrue, OnOk, cond, nat_eq};
+//! mostly allocates there, and small arenas have no other. Beside them, once a large block comes, a
+//! run of stretches that all have places is noted for each root chunk of the space, so that a large
+//! block needs no look at each of its own: no block reaches past its root. Only `reserve` takes
+//! memory.
+ghost use Rattle.std.specs.Prelude.{◌≡◌, ℕ, ◌+◌, ◌<◌, ◌≤◌, IsTrue, List, OnOk, Option, cond, nat_eq};
+ghost use Rattle.ms_arena.specs.declared.places.Placed.{Placed};
 ghost use Rattle.ms_arena.specs.Places.{HavePlaces, StayPlaces, place_in, place_of};
 
 use crate::others::Others;
 use std::alloc::{AllocError, Global};
 use std::marker::Model;
 
-/// How many stretches a run has at least that is noted by itself.
+/// Into how many stretches a large block may reach at least.
 const LARGE: usize = 32;
+
+/// How many stretches a root chunk has, of 2^19 words.
+const ROOT: usize = 256;
+
+/// How many root chunks the space has, whose words are numbered below 2^27.
+const ROOTS: usize = 256;
+
+/// A run of no stretch.
+const NONE: Run = Run { first: 0, past: 0 };
 
 /// A stretch with its place.
 #[derive(Clone, Copy, Drop)]
@@ -43,7 +54,8 @@ pub struct Places {
     newest: Option<Placed>,
     /// The place of each other stretch that has one.
     others: Others,
-    /// Runs of which each stretch has a place.
+    /// For each root chunk a run of its stretches of which each has a place; nothing before a large
+    /// block comes.
     runs: Vec<Run>,
 }
 
@@ -132,13 +144,12 @@ impl Places {
         ensures { IsTrue result
             → (stretch : ℕ) → first ≤ stretch → stretch < past → 0 < place_of self.now stretch }
     {
-        for at in 0..self.runs.len() {
-            let run = self.runs[at];
-            if run.first <= first && past <= run.past {
-                return true;
-            }
+        let root = first / ROOT;
+        if root >= self.runs.len() {
+            return false;
         }
-        false
+        let run = self.runs[root];
+        run.first <= first && past <= run.past
     }
 
     /// Notes that all stretches from one up to another have places.
@@ -151,19 +162,20 @@ impl Places {
     }
 }
 
-/// Makes room for a run more where so many stretches may become one; where that is refused none is
-/// noted.
+/// Makes room for a run of each root chunk where a block may reach into so many stretches; where
+/// that is refused none is noted.
 #[inline(always)]
 fn make_run_room(runs: &mut Vec<Run>, stretches: usize)
-    ensures { runs.new.items ≡ runs.old.items }
+    ensures { (newest : Option Placed) (others : List (ℕ × ℕ)) → HavePlaces newest others runs.old.items
+        → HavePlaces newest others runs.new.items }
 {
-    if stretches >= LARGE {
-        let _ = runs.reserve(1);
+    if stretches >= LARGE && runs.is_empty() {
+        let _ = runs.resize(ROOTS, NONE);
     }
 }
 
-/// Notes a run beside others: as a part of the first that it meets or touches, else by itself where
-/// it is large.
+/// Notes a run as its root's: together with the one that is noted there where they meet or touch,
+/// else in its place where it is longer.
 fn note_in(newest: &Option<Placed>, others: &Others, runs: &mut Vec<Run>, first: usize, past: usize)
     requires order { first ≤ past }
     requires places { (stretch : ℕ) → first ≤ stretch → stretch < past
@@ -171,18 +183,18 @@ fn note_in(newest: &Option<Placed>, others: &Others, runs: &mut Vec<Run>, first:
     requires runs { HavePlaces newest.now others.now.entries runs.old.items }
     ensures { HavePlaces newest.now others.now.entries runs.new.items }
 {
-    for at in 0..runs.len() {
-        let run = runs[at];
-        if first <= run.past && run.first <= past {
-            runs[at] = Run {
-                first: run.first.min(first),
-                past: run.past.max(past),
-            };
-            return;
-        }
+    let root = first / ROOT;
+    if root >= runs.len() {
+        return;
     }
-    if past - first >= LARGE && runs.len() < runs.capacity() {
-        runs.push_reserved(Run { first, past });
+    let run = runs[root];
+    if first <= run.past && run.first <= past {
+        runs[root] = Run {
+            first: run.first.min(first),
+            past: run.past.max(past),
+        };
+    } else if past - first > run.past.saturating_sub(run.first) {
+        runs[root] = Run { first, past };
     }
 }
 

@@ -1,39 +1,58 @@
 -- Blocks by rank in trees of one class each: where a block goes, and which one fits first, in the trees' blocks one
 -- after the other. Used by the functions of `classes`.
 use Rattle.std.proofs.Common.{◌≡◌, ◌≢◌, ℕ, ◌+◌, ◌<◌, ◌≤◌, true, false, List, [], ◌∷◌, ◌++◌, Option, Some, None, refl}
-use Rattle.std.proofs.Common.{ap, ap₂, sym, subst, subst₂, ◌∙◌, arith, zero, suc, length, take, drop, inl, inr}
+use Rattle.std.proofs.Common.{ap, ap₂, sym, subst, subst₂, ◌∙◌, arith, zero, suc, get_or, length, take, drop, inl, inr}
 use Rattle.std.proofs.Common.{bit_and, bit_or, w64, Bool, cond, ◌*◌, ◌-◌, ◌/◌, ◌%◌, ◌^◌}
 use Rattle.std.specs.Prelude.{nat_le, if◌then◌else◌, slice_get, slice_set, Vec, IfSome, IsTrue, IsFalse}
 use Rattle.std.specs.Int.{bit_at, bit_not, trailing_zeros}
 use Rattle.std.specs.List.{AllByRecursion}
-use Rattle.std.specs.Option.{option_map_or}
-use Rattle.std.proofs.lemmas.Bool.{cases_eq, cases_lt, lt-leb}
+use Rattle.std.specs.Prelude.{IfNone, OnSome}
+use Rattle.std.specs.Option.{option_map, option_map_or}
+use Rattle.std.proofs.lemmas.Bool.{cases_eq, cases_lt, le-leb, lt-leb}
 use Rattle.std.proofs.lemmas.Grind.{get_or-set_at}
-use Rattle.std.proofs.lemmas.List.{append-nil, drop_all, get_or-set_other, length-set, take_all}
+use Rattle.std.proofs.lemmas.List.{append-nil, get_or-set_other, length-set, take_all}
 use Rattle.std.proofs.lemmas.Nat.{shr-shr, shr_le}
 use Rattle.std.proofs.lemmas.Nat.Bits.{bit_at-zero, bit_at-trailing_zeros, bit_at_above, bit_at_and}
 use Rattle.std.proofs.lemmas.Nat.Bits.{bit_at_clear_other, bit_at_set_same, bit_at_set_other}
-use Rattle.std.proofs.lemmas.Option.{get_or_from_slice_get, slice_get_read, slice_get_within}
+use Rattle.std.proofs.lemmas.Option.{get_or_from_slice_get, slice_get-get_or, slice_get_read, slice_get_within}
 use Rattle.std.proofs.lemmas.Bool.Decides.{nat_tests}
 use Rattle.ms_base.specs.declared.span.Block.{Block}
-use Rattle.ms_blocks.specs.Classes.{AreByClass, AreClassed, AreOf, AreTrees, IsFirstClass, TellsOf, TellsWhether}
+use Rattle.ms_blocks.specs.Classes.{AreByClass, AreClassed, AreOf, AreTrees, IsNextClass, NoneFitsAt, TellsOf}
+use Rattle.ms_blocks.specs.Classes.{TellsWhether}
 use Rattle.ms_blocks.specs.Classes.{all_of, blocks_in, class_of}
 use Rattle.ms_blocks.specs.declared.classes.Trees.{Trees}
 use Rattle.ms_blocks.specs.Rank.{ranks_before, IsRanked, with_ranked, first_fit, without_fit}
 use Rattle.ms_blocks.specs.Tree.{blocks_of}
 use Rattle.ms_blocks.specs.declared.tree.Tree.{Tree}
+use Rattle.ms_blocks.specs.declared.tree.Tree.TheVariants.{Empty}
 use Rattle.ms_blocks.proofs.RankLemmas.{all_left, all_so, all_with, all_without, first_fit-left, first_fit-past}
 use Rattle.ms_blocks.proofs.RankLemmas.{with_ranked-left, without_fit-left, without_fit-none, without_fit-past}
 
--- A block of a lower class ranks before one of a higher class, and has fewer words.
-class_first : (a b : Block) → class_of a.words < class_of b.words → ranks_before a b ≡ true
-class_first a b h = grind (arith, nat_tests)
-
-class_behind : (a b : Block) → class_of b.words < class_of a.words → ranks_before a b ≡ false
-class_behind a b h = grind (arith, nat_tests)
+-- More words are in no lower class.
+class_up : (few many : ℕ) → few ≤ many → class_of few ≤ class_of many
+class_up few many h = grind (arith, nat_tests)
 
 class_few : (few words : ℕ) → class_of few < class_of words → few < words
-class_few few words h = grind (arith, nat_tests)
+class_few few words h = elim (cases_lt few words) [
+  | inl less ↦ less
+  | inr more ↦ absurd (omega (arith, h, class_up words few more))
+]
+
+pub class_within : (words : ℕ) → class_of words < 64
+class_within words = grind (arith, nat_tests)
+
+-- A block of a lower class ranks before one of a higher class.
+fewer_first : (a b : Block) → a.words < b.words → ranks_before a b ≡ true
+fewer_first a b h = grind (arith, nat_tests)
+
+more_behind : (a b : Block) → b.words < a.words → ranks_before a b ≡ false
+more_behind a b h = grind (arith, nat_tests)
+
+class_first : (a b : Block) → class_of a.words < class_of b.words → ranks_before a b ≡ true
+class_first a b h = fewer_first a b (class_few a.words b.words h)
+
+class_behind : (a b : Block) → class_of b.words < class_of a.words → ranks_before a b ≡ false
+class_behind a b h = more_behind a b (class_few b.words a.words h)
 
 all_append : (P : Block → Type 0) (left right : List Block) → AllByRecursion P left → AllByRecursion P right
     → AllByRecursion P (left ++ right)
@@ -180,35 +199,31 @@ ranked_at (first ∷ trees) zero tree ranked there =
 ranked_at (first ∷ trees) (suc at) tree ranked there =
     ranked_at trees at tree (ranked_parts (blocks_of first) (all_of trees) ranked).1 there
 
--- Trees of lower classes have no fit, nor have those with no block.
+-- None before a class fits where none from that of the words on does: those of lower classes are too small.
 none_before : {A : Type 0} (trees : List (Tree A)) (class at words : ℕ) → AreClassed class trees
-    → ((k : ℕ) (tree : Tree A) → k < at → class_of words ≤ class + k → slice_get trees k ≡ Some tree
-    → blocks_of tree ≡ [])
+    → ((k : ℕ) → k < at → class_of words ≤ class + k → NoneFitsAt trees k words)
     → first_fit (all_of (take at trees)) words ≡ None
-none_before trees class zero words classed empty = refl
-none_before [] class (suc at) words classed empty = refl
-none_before (tree ∷ trees) class (suc at) words classed empty =
+none_before trees class zero words classed none = refl
+none_before [] class (suc at) words classed none = refl
+none_before (tree ∷ trees) class (suc at) words classed none =
     first_fit-past (blocks_of tree) (all_of (take at trees)) words here
     ∙ none_before trees (class + 1) at words classed.1
-    (λ k later low from there. empty (suc k) later (omega (arith, low)) (omega (arith, from)) there)
+    (λ k low from tree there. none (suc k) (omega (arith, low)) (omega (arith, from)) tree there)
   where
     here : first_fit (blocks_of tree) words ≡ None
     here = elim (cases_lt class (class_of words)) [
       | inl low ↦ few_fit (blocks_of tree) words
           (all_so _ _ (blocks_of tree) (λ b is. omega (arith, is, low)) classed.0)
-      | inr high ↦ ap (λ (bs : List Block). first_fit bs words) (empty 0 tree (omega arith) (omega (arith, high)) refl)
+      | inr high ↦ none 0 (omega arith) (omega (arith, high)) tree refl
     ]
 
--- One of a class that may have a fit has one, but the last.
-fits_class : (words many : ℕ) → class_of words ≤ class_of many → class_of many < 63 → nat_le words many ≡ true
-fits_class words many low high = grind (arith, nat_tests)
-
+-- One of a higher class has so many words.
 some_fits : (blocks : List Block) (words class : ℕ) → AreOf class blocks
-    → class_of words ≤ class → class < 63 → blocks ≢ [] → first_fit blocks words ≢ None
-some_fits [] words class all low high full none = full refl
-some_fits (block ∷ blocks) words class all low high full none =
-    let fits = fits_class words block.words (omega (arith, low, all.0)) (omega (arith, high, all.0)) in
-    let is : Some block ≡ None = rw fits at none in absurd (cc)
+    → class_of words < class → blocks ≢ [] → first_fit blocks words ≢ None
+some_fits [] words class all low full none = full refl
+some_fits (block ∷ blocks) words class all low full none =
+    let less : words < block.words = class_few words block.words (omega (arith, low, all.0)) in
+    let is : Some block ≡ None = rw (le-leb words block.words (omega (arith, less))) at none in absurd (cc)
 
 -- A fork has a block.
 pub not_none : (left right : List Block) (block : Block) → left ++ block ∷ right ≢ []
@@ -237,6 +252,9 @@ none_more (first ∷ trees) tree none empty =
 bit_moved : (n first i : ℕ) → bit_at (n / 2 ^ first) i ≡ bit_at n (first + i)
 bit_moved n first i = ap (λ x. x % 2) (shr-shr n first i)
 
+pub half : (some class : ℕ) → some / 2 ^ class / 2 ≡ some / 2 ^ (class + 1)
+half some class = shr-shr some class 1
+
 bit_from : (some first class : ℕ) → first ≤ class → bit_at some class ≡ bit_at (some / 2 ^ first) (class - first)
 bit_from some first class from =
     let moved : class ≡ first + (class - first) = omega arith in
@@ -246,30 +264,30 @@ pub none_later : (some first class : ℕ) → some / 2 ^ first ≡ 0 → first �
 none_later some first class none from =
     bit_from some first class from ∙ ap (λ n. bit_at n (class - first)) none ∙ bit_at-zero (class - first)
 
-pub is_first : (some words first : ℕ) → first ≡ class_of words → 0 < some / 2 ^ first → some < 2 ^ 64
-    → IsFirstClass some words (first + trailing_zeros w64 (some / 2 ^ first))
-is_first some words first is more fits = record {
-  within = elim (cases_lt (first + place) 64) [
+pub is_next : (some class : ℕ) → 0 < some / 2 ^ (class + 1) → some < 2 ^ 64
+    → IsNextClass some class (class + 1 + trailing_zeros w64 (some / 2 ^ (class + 1)))
+is_next some class more fits = record {
+  within = elim (cases_lt (class + 1 + place) 64) [
     | inl low ↦ low
-    | inr high ↦ absurd (omega (arith, one, bit_at_above some 64 (first + place) fits high))
+    | inr high ↦ absurd (omega (arith, one, bit_at_above some 64 (class + 1 + place) fits high))
   ];
-  from = omega (arith, is);
-  past = λ class from under. bit_from some first class (omega (arith, is, from))
-      ∙ lies.2 (class - first) (omega (arith, is, from, under));
+  from = omega arith;
+  past = λ other from under. bit_from some (class + 1) other (omega (arith, from))
+      ∙ lies.2 (other - (class + 1)) (omega (arith, from, under));
   one = one;
 }
   where
     later : ℕ
-    later = some / 2 ^ first
+    later = some / 2 ^ (class + 1)
 
     place : ℕ
     place = trailing_zeros w64 later
 
     lies : (place < 64) × (bit_at later place ≡ 1) × ((i : ℕ) → i < place → bit_at later i ≡ 0)
-    lies = bit_at-trailing_zeros w64 later more (omega (arith, fits, shr_le some first))
+    lies = bit_at-trailing_zeros w64 later more (omega (arith, fits, shr_le some (class + 1)))
 
-    one : bit_at some (first + place) ≡ 1
-    one = sym (bit_moved some first place) ∙ lies.1
+    one : bit_at some (class + 1 + place) ≡ 1
+    one = sym (bit_moved some (class + 1) place) ∙ lies.1
 
 pub bit_others : (some class other : ℕ) → class < 64 → some < 2 ^ 64 → other ≢ class
     → bit_at (bit_and some (bit_not w64 (1 * 2 ^ class % 2 ^ 64))) other ≡ bit_at some other
@@ -342,7 +360,7 @@ inserts_among trees some at tree grown block by_class ranked is there grows = re
     grown_is = grows (ranked_at trees at tree ranked there)
 
     within : at < 64
-    within = omega (arith, is)
+    within = omega (arith, is, class_within block.words)
 
 -- What a removal makes of them.
 pub record TakesFit {A : Type 0} (trees : List (Tree A)) (told at words : ℕ) (rest : Tree A) (taken : Option Block)
@@ -350,21 +368,22 @@ pub record TakesFit {A : Type 0} (trees : List (Tree A)) (told at words : ℕ) (
   pub classes : AreByClass told (slice_set trees at rest)
   pub among : TakesAmong trees at words rest taken
 
-pub takes_fit : {A : Type 0} (trees : List (Tree A)) (some told at words : ℕ) (tree rest : Tree A)
-    (taken : Option Block) → AreByClass some trees → IsRanked (all_of trees) → IsFirstClass some words at
+pub takes_fit : {A : Type 0} (trees : List (Tree A)) (some told at words : ℕ) (tree rest : Tree A) (taken : Block)
+    → AreByClass some trees → IsRanked (all_of trees) → first_fit (all_of (take at trees)) words ≡ None
     → slice_get trees at ≡ Some tree
-    → (IsRanked (blocks_of tree) → first_fit (blocks_of tree) words ≡ taken)
+    → (IsRanked (blocks_of tree) → first_fit (blocks_of tree) words ≡ Some taken)
     → (IsRanked (blocks_of tree) → blocks_of rest ≡ without_fit (blocks_of tree) words)
     → ((other : ℕ) → other ≢ at → bit_at told other ≡ bit_at some other)
-    → TellsWhether (bit_at told at) (blocks_of rest) → TakesFit trees told at words rest taken
-takes_fit trees some told at words tree rest taken by_class ranked first there found left others here = record {
+    → TellsWhether (bit_at told at) (blocks_of rest) → TakesFit trees told at words rest (Some taken)
+takes_fit trees some told at words tree rest taken by_class ranked before there found left others here = record {
   classes = record {
     there = length-set trees at rest ∙ by_class.there;
     classed = classed_with trees 0 at rest by_class.classed
         (subst (AreOf (0 + at)) (sym (left in_tree)) (all_without _ (blocks_of tree) words classed));
     tells = tells_anew trees some told at rest by_class.tells others here;
   };
-  among = takes_among trees at tree rest words taken there before behind (found in_tree) (left in_tree);
+  among = takes_among trees at tree rest words (Some taken) there before (λ none. absurd (cc)) (found in_tree)
+      (left in_tree);
 }
   where
     in_tree : IsRanked (blocks_of tree)
@@ -373,28 +392,89 @@ takes_fit trees some told at words tree rest taken by_class ranked first there f
     classed : AreOf (0 + at) (blocks_of tree)
     classed = classed_at trees 0 at tree by_class.classed there
 
-    before : first_fit (all_of (take at trees)) words ≡ None
-    before = none_before trees 0 at words by_class.classed
-        (λ k tree under from there. (by_class.tells k tree there).0 (first.past k (omega (arith, from)) under))
+-- Nothing fits in the one tree of a class of which nothing is taken.
+pub none_here : {A : Type 0} (trees : List (Tree A)) (at words : ℕ) (tree : Tree A) → IsRanked (all_of trees)
+    → slice_get trees at ≡ Some tree → (IsRanked (blocks_of tree) → first_fit (blocks_of tree) words ≡ None)
+    → NoneFitsAt trees at words
+none_here trees at words tree ranked there none = λ other is.
+    let same : other ≡ tree = cc in
+    ap (λ (t : Tree _). first_fit (blocks_of t) words) same ∙ none (ranked_at trees at tree ranked there)
 
-    behind : taken ≡ None → first_fit (all_of (drop (suc at) trees)) words ≡ None
-    behind none = elim (cases_lt at 63) [
-      | inl low ↦ absurd (some_fits (blocks_of tree) words (0 + at) classed (omega (arith, first.from))
-          (omega (arith, low)) ((by_class.tells at tree there).1 first.one) (found in_tree ∙ none))
-      | inr last ↦ ap (λ (ts : List (Tree _)). first_fit (all_of ts) words)
-          (drop_all (suc at) trees (omega (arith, by_class.there, last)))
-    ]
+-- A class of which a block is taken has its bit.
+pub bit_few : (n i : ℕ) → bit_at n i < 2
+bit_few n i = omega arith
+
+pub one_where_some : (bit words : ℕ) (blocks : List Block) (taken : Block) → TellsWhether bit blocks → bit < 2
+    → first_fit blocks words ≡ Some taken → bit ≡ 1
+one_where_some bit words blocks taken tells two is = elim (cases_lt 0 bit) [
+  | inl more ↦ omega (arith, more, two)
+  | inr none ↦ let empty : Some taken ≡ None = sym is ∙ ap (λ bs. first_fit bs words) (tells.0 (omega (arith, none))) in
+      absurd (cc)
+]
+
+-- Where no tree before a class fits, none before the next one that has a block does, nor any at all where none has.
+none_up_to : {A : Type 0} (trees : List (Tree A)) (some class words at : ℕ) → AreByClass some trees
+    → class ≡ class_of words → NoneFitsAt trees class words
+    → ((other : ℕ) → class < other → other < at → bit_at some other ≡ 0)
+    → first_fit (all_of (take at trees)) words ≡ None
+none_up_to trees some class words at by_class is here past = none_before trees 0 at words by_class.classed
+    (λ k under from tree there. elim (cases_eq k class) [
+      | inl same ↦ here tree (subst (λ (n : ℕ). slice_get trees n ≡ Some tree) same there)
+      | inr differ ↦ ap (λ bs. first_fit bs words)
+          ((by_class.tells k tree there).0 (past k (omega (arith, from, is, differ)) under))
+    ])
+
+-- None before the class of the words has so many.
+pub none_below : {A : Type 0} (trees : List (Tree A)) (some class words : ℕ) → AreByClass some trees
+    → class ≡ class_of words → first_fit (all_of (take class trees)) words ≡ None
+none_below trees some class words by_class is = none_before trees 0 class words by_class.classed
+    (λ k under from. absurd (omega (arith, under, from, is)))
+
+pub none_to_next : {A : Type 0} (trees : List (Tree A)) (some class next words : ℕ) → AreByClass some trees
+    → class ≡ class_of words → NoneFitsAt trees class words → IsNextClass some class next
+    → first_fit (all_of (take next trees)) words ≡ None
+none_to_next trees some class next words by_class is here to =
+    none_up_to trees some class words next by_class is here to.past
+
+pub none_at_all : {A : Type 0} (trees : List (Tree A)) (some class words : ℕ) → AreByClass some trees
+    → class ≡ class_of words → NoneFitsAt trees class words
+    → ((other : ℕ) → class < other → bit_at some other ≡ 0) → first_fit (all_of trees) words ≡ None
+none_at_all trees some class words by_class is here past =
+    ap (λ (ts : List (Tree _)). first_fit (all_of ts) words) (sym (take_all 64 trees (omega (arith, by_class.there))))
+    ∙ none_up_to trees some class words 64 by_class is here (λ other later under. past other later)
+
+-- The next class has a fit.
+pub next_fits : {A : Type 0} (trees : List (Tree A)) (some class next words : ℕ) → AreByClass some trees
+    → class ≡ class_of words → IsNextClass some class next → NoneFitsAt trees next words → ⊥
+next_fits {A} trees some class next words by_class is to none =
+    some_fits (blocks_of tree) words (0 + next) (classed_at trees 0 next tree by_class.classed there)
+    (omega (arith, is, to.from)) ((by_class.tells next tree there).1 to.one) (none tree there)
+  where
+    within : next < length trees
+    within = omega (arith, to.within, by_class.there)
+
+    tree : Tree A
+    tree = get_or trees next Empty
+
+    there : slice_get trees next ≡ Some tree
+    there = slice_get-get_or trees next Empty within
+
+-- What is taken where it can't be that nothing fits.
+pub found_next : {X P : Type 0} (fit : Option Block) (block_of : X → Block) (taken : Option X)
+    → IfSome taken (λ x. fit ≡ Some (block_of x)) → IfNone taken P → (P → ⊥) → fit ≡ option_map block_of taken
+found_next fit block_of (Some x) found none not = found
+found_next fit block_of None found none not = absurd (not none)
+
+pub left_next : {X P Q : Type 0} (taken : Option X) → OnSome taken Q → IfNone taken P → (P → ⊥) → Q
+left_next (Some x) left none not = left
+left_next None left none not = absurd (not none)
 
 -- No block fits where no class has one, from that of the words on.
 none_among : {A : Type 0} (trees : List (Tree A)) (some words : ℕ) → AreByClass some trees
     → ((class : ℕ) → class_of words ≤ class → bit_at some class ≡ 0) → first_fit (all_of trees) words ≡ None
-none_among trees some words by_class none =
-    ap (λ (ts : List (Tree _)). first_fit (all_of ts) words) (sym whole)
-    ∙ none_before trees 0 64 words by_class.classed
-    (λ k tree under from there. (by_class.tells k tree there).0 (none k (omega (arith, from))))
-  where
-    whole : take 64 trees ≡ trees
-    whole = take_all 64 trees (omega (arith, by_class.there))
+none_among trees some words by_class none = none_at_all trees some (class_of words) words by_class refl
+    (λ tree there. ap (λ bs. first_fit bs words) ((by_class.tells (class_of words) tree there).0 (none _ (omega arith))))
+    (λ other later. none other (omega (arith, later)))
 
 pub none_in : {A : Type 0} (trees : Trees A) (words : ℕ) → AreTrees trees
     → ((class : ℕ) → class_of words ≤ class → bit_at trees.some class ≡ 0) → first_fit (blocks_in trees) words ≡ None

@@ -1,17 +1,22 @@
--- Blocks by rank, in a tree for each number of words below 63 and one for all larger blocks (this project's choice).
-use Rattle.std.specs.Prelude.{◌≡◌, ◌≢◌, ℕ, ◌+◌, ◌<◌, ◌≤◌, List, [], ◌∷◌, ◌++◌, length, min, slice_get, Some}
-use Rattle.std.specs.Prelude.{Vec, IfSome}
+-- Blocks by rank, in trees by size: one for each number of words below 48, one for each 256 words below 2,048, and one
+-- for each 65,536 words from there on (this project's choice).
+use Rattle.std.specs.Prelude.{◌≡◌, ◌≢◌, ℕ, ◌+◌, ◌<◌, List, [], ◌∷◌, ◌++◌, length, min, slice_get, Some}
+use Rattle.std.specs.Prelude.{Vec, IfSome, None, nat_lt, ◌/◌, if◌then◌else◌}
 use Rattle.std.specs.Option.{option_map_or}
 use Rattle.std.specs.Int.{bit_at}
 use Rattle.std.specs.List.{AllByRecursion}
 use Rattle.ms_base.specs.declared.span.Block.{Block}
 use Rattle.ms_blocks.specs.declared.classes.Trees.{Trees}
 use Rattle.ms_blocks.specs.declared.tree.Tree.{Tree}
+use Rattle.ms_blocks.specs.Rank.{first_fit}
 use Rattle.ms_blocks.specs.Tree.{blocks_of}
 
 -- The number of the tree in which blocks of so many words are.
 abbrev pub class_of : ℕ → ℕ
-class_of words = min words 63
+class_of words =
+    if nat_lt words 48 then words
+    else if nat_lt words 2048 then 48 + words / 256
+    else 56 + min (words / 65536) 7
 
 -- The blocks of trees, one tree after the other.
 abbrev pub all_of : {A : Type 0} → List (Tree A) → List Block
@@ -42,12 +47,17 @@ pub record AreByClass {A : Type 0} (some : ℕ) (trees : List (Tree A)) : Type 0
   pub classed : AreClassed 0 trees
   pub tells : TellsOf some trees
 
--- The class is the first one, from that of so many words on, whose bit is 1.
-pub record IsFirstClass (some words found : ℕ) : Type 0 where
-  pub within : found < 64
-  pub from : class_of words ≤ found
-  pub past : (class : ℕ) → class_of words ≤ class → class < found → bit_at some class ≡ 0
-  pub one : bit_at some found ≡ 1
+-- No block of a class has so many words.
+abbrev pub NoneFitsAt : {A : Type 0} → List (Tree A) → ℕ → ℕ → Type 0
+NoneFitsAt trees class words =
+    (tree : _) → slice_get trees class ≡ Some tree → first_fit (blocks_of tree) words ≡ None
+
+-- The next class whose bit is 1.
+pub record IsNextClass (some class next : ℕ) : Type 0 where
+  pub within : next < 64
+  pub from : class < next
+  pub past : (other : ℕ) → class < other → other < next → bit_at some other ≡ 0
+  pub one : bit_at some next ≡ 1
 
 -- The blocks of the trees, where there are trees.
 abbrev pub blocks_in : {A : Type 0} → Trees A → List Block

@@ -1,17 +1,18 @@
-//! Blocks by rank, in a tree for each number of words below 63, and one for all larger blocks.
+//! Blocks by rank, in 64 trees by size: one for each number of words below 48, one for each 256 words
+//! below 2,048, and one for each 65,536 words from there on.
 //!
-//!     words      0     1     2      3     ..    62     63 and more
-//!     tree     | - | | - | | /\ | | /\ |  ..  | /\ |   |   /\   |
+//!     words     0     1     2    ..    47    48..255   256..511  ..  2,048..65,535  ..
+//!     tree    | - | | - | | /\ | ..  | /\ |   | /\ |    | /\ |   ..      | /\ |     ..
 //!
 //! The blocks of a tree rank before those of the next, so what callers see is one list, and each
-//! tree is a low one: most free blocks are small. A best fit is in the first tree that has a block
-//! and may have one so large; a bit for each tree tells whether it has one. After the lists by size
-//! of HotSpot's binList.hpp.
+//! tree is a low one. A best fit is in the tree of its size, or where none there is large enough in
+//! the next one that has a block; a bit for each tree tells whether it has one. After the lists by
+//! size of HotSpot's binList.hpp; the sizes of the larger ones are this project's choice.
 ghost use Rattle.std.specs.Prelude.{◌≡◌, ◌≢◌, ◌<◌, ◌≤◌, ℕ, [], cond, IfOk, IfSome, IfNone, IsSome, OnSome};
-ghost use Rattle.std.specs.Prelude.{IsTrue, IsFalse};
+ghost use Rattle.std.specs.Prelude.{IsTrue, IsFalse, Some, None, take};
 ghost use Rattle.std.specs.Int.{bit_at};
 ghost use Rattle.std.specs.Option.{option_map};
-ghost use Rattle.ms_blocks.specs.Classes.{AreByClass, AreTrees, IsFirstClass, all_of, blocks_in, class_of};
+ghost use Rattle.ms_blocks.specs.Classes.{AreByClass, AreTrees, IsNextClass, NoneFitsAt, all_of, blocks_in, class_of};
 ghost use Rattle.ms_blocks.specs.Rank.{IsRanked, first_fit, with_ranked, without_fit};
 
 use crate::tree::{Fork, Tree, insert, take_fit};
@@ -93,7 +94,10 @@ pub fn take_in<A: Allocator>(trees: &mut Trees<A>, words: u64) -> Option<Box<For
     ensures found { first_fit (blocks_in trees.old) words ≡ option_map (λ fork. fork.value.block) result }
     ensures left { blocks_in trees.new ≡ without_fit (blocks_in trees.old) words }
 {
-    let class = first_class(trees.some, words)?;
+    let class = class_of(words);
+    if trees.some >> class == 0 {
+        return None;
+    }
     match &mut trees.classes {
         Some(classes) => take_among(classes.as_mut_slice(), &mut trees.some, class, words),
         None => None,
@@ -112,8 +116,8 @@ fn insert_among<A: Allocator>(trees: &mut [Tree<A>], some: &mut u64, spare: Box<
     insert(&mut trees[class], spare);
 }
 
-/// Takes the first block of ranked trees that has so many words, with its fork, where the class is
-/// the first with a block that may have so many. Out of line, since few allocations come here.
+/// Takes the first block of ranked trees that has so many words, with its fork. Out of line, since
+/// few allocations come here.
 #[inline(never)]
 fn take_among<A: Allocator>(
     trees: &mut [Tree<A>],
@@ -123,28 +127,57 @@ fn take_among<A: Allocator>(
 ) -> Option<Box<Fork<A>, A>>
     requires trees { AreByClass some.old trees.old }
     requires ranked { IsRanked (all_of trees.old) }
-    requires first { IsFirstClass some.old words class }
+    requires class { class ≡ class_of words }
     ensures trees { AreByClass some.new trees.new }
     ensures found { first_fit (all_of trees.old) words ≡ option_map (λ fork. fork.value.block) result }
     ensures left { all_of trees.new ≡ without_fit (all_of trees.old) words }
 {
-    let found = take_fit(&mut trees[class], words, &mut false);
-    *some = told_again(*some, class, trees[class].is_empty());
-    found
+    match take_at(trees, some, class, words) {
+        Some(found) => Some(found),
+        // None of this class has so many words, and each of a later one has.
+        None => {
+            let later = next_class(*some, class)?;
+            take_at(trees, some, later, words)
+        }
+    }
 }
 
-/// Finds the first class with a block that may have one of so many words.
-#[inline(always)]
-fn first_class(some: u64, words: u64) -> Option<usize>
-    ensures first { IfSome result (IsFirstClass some words) }
-    ensures none { IfNone result ((class : ℕ) → class_of words ≤ class → bit_at some class ≡ 0) }
+/// Takes the first block of a class that has so many words, with its fork, where none before it has.
+fn take_at<A: Allocator>(
+    trees: &mut [Tree<A>],
+    some: &mut u64,
+    class: usize,
+    words: u64,
+) -> Option<Box<Fork<A>, A>>
+    requires trees { AreByClass some.old trees.old }
+    requires ranked { IsRanked (all_of trees.old) }
+    requires within { class < 64 }
+    requires before { first_fit (all_of (take class trees.old)) words ≡ None }
+    ensures trees { AreByClass some.new trees.new }
+    ensures found { IfSome result (λ fork. first_fit (all_of trees.old) words ≡ Some fork.value.block) }
+    ensures left { OnSome result (all_of trees.new ≡ without_fit (all_of trees.old) words) }
+    ensures none { IfNone result (NoneFitsAt trees.old class words) }
+    ensures unchanged { IfNone result (trees.new ≡ trees.old) }
+    ensures told { IfNone result (some.new ≡ some.old) }
 {
-    let first = class_of(words);
-    let later = some >> first;
+    let Some(found) = take_fit(&mut trees[class], words, &mut false) else {
+        return None;
+    };
+    *some = told_again(*some, class, trees[class].is_empty());
+    Some(found)
+}
+
+/// Finds the next class that has a block.
+fn next_class(some: u64, class: usize) -> Option<usize>
+    requires within { class < 64 }
+    ensures next { IfSome result (IsNextClass some class) }
+    ensures none { IfNone result ((later : ℕ) → class < later → bit_at some later ≡ 0) }
+{
+    let later = some >> class >> 1;
     if later == 0 {
         return None;
     }
-    Some(first + later.trailing_zeros() as usize)
+    Some(class + 1 + later.trailing_zeros() as usize)
 }
 
 /// Tells which trees have a block, once one that had some has none, or has some still.
@@ -162,5 +195,12 @@ fn class_of(words: u64) -> usize
     ensures class { result ≡ class_of words }
     ensures within { result < 64 }
 {
-    words.min(63) as usize
+    let class = if words < 48 {
+        words
+    } else if words < 2048 {
+        48 + words / 256
+    } else {
+        56 + (words / 65536).min(7)
+    };
+    class as usize
 }

@@ -9,7 +9,7 @@
 //! whatever blocks come and go. Nothing that is proved rests on the heights.
 //! Forks come from outside and go back whole. Each operation says which list of blocks the tree
 //! holds then, from left to right.
-ghost use Rattle.std.specs.Prelude.{◌≡◌, ◌≢◌, ◌∷◌, ◌++◌, [], IsTrue, IsFalse};
+ghost use Rattle.std.specs.Prelude.{◌≡◌, ◌≢◌, ◌∷◌, ◌++◌, [], IsTrue, IsFalse, IfNone};
 ghost use Rattle.std.specs.Option.{option_map};
 ghost use Rattle.ms_blocks.specs.Rank.{IsRanked, ranks_before, with_ranked, first_fit, without_fit};
 ghost use Rattle.ms_blocks.specs.Tree.{blocks_of, blocks_at, left_of, TakesTop, TakesFirst};
@@ -110,6 +110,7 @@ pub fn take_fit<A: Allocator>(
         first_fit (blocks_of tree.old) words ≡ option_map (λ fork. fork.value.block) result }
     ensures left { IsRanked (blocks_of tree.old) →
         blocks_of tree.new ≡ without_fit (blocks_of tree.old) words }
+    ensures unchanged { IfNone result (tree.new ≡ tree.old) }
 {
     match tree {
         Tree::Empty => None,

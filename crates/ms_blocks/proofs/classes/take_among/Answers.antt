@@ -1,33 +1,45 @@
-use Rattle.std.proofs.Common.{◌<◌, ◌∙◌, ap, arith, get_or-set_same, length, option_map, sym}
-use Rattle.std.proofs.lemmas.Option.{slice_get-get_or}
-use Rattle.ms_blocks.specs.Tree.{blocks_of}
-use Rattle.ms_blocks.specs.declared.tree.Tree.{Tree}
-use Rattle.ms_blocks.proofs.ClassLemmas.{TakesFit, takes_fit, tells_whether}
+-- The class of the words has the first fit, or the next one that has a block.
+use Rattle.std.proofs.Common.{◌≡◌, None, sym}
+use Rattle.ms_blocks.specs.Classes.{all_of}
+use Rattle.ms_blocks.specs.Rank.{first_fit}
+use Rattle.ms_blocks.proofs.ClassLemmas.{found_next, left_next, next_fits, none_at_all, none_below, none_to_next}
+use Rattle.ms_blocks.proofs.RankLemmas.{without_fit-none}
 use Rattle.ms_blocks.proofs.classes.take_among.Given.{Over}
 use Rattle.ms_blocks.proofs.classes.take_among.Goals as goal
-use Rattle.ms_blocks.proofs.classes.take_among.Goals.{After-told_again}
+use Rattle.ms_blocks.proofs.classes.take_among.Goals.{After-from_residual}
 
-made : (g : Over) (c : After-told_again g)
-    → TakesFit c.args.trees.now c.told_again.result c.args.class c.args.words c.take_fit-found.new.tree
-    (option_map (λ fork. fork.value.block) c.take_fit-found.result)
-made g c =
-    let place = c.args.class in
-    let rest = c.take_fit-found.new.tree in
-    let within : place < length c.args.trees.now =
-    omega (arith, c.requires.first.within, c.requires.trees.there) in
-    let here = ap (λ (t : Tree _). blocks_of t)
-    (get_or-set_same c.args.trees.now place rest c.index-trees-class-2.result within) in
-    takes_fit c.args.trees.now c.args.some.now c.told_again.result place c.args.words _ rest _
-    c.requires.trees c.requires.ranked c.requires.first (slice_get-get_or c.args.trees.now place _ within)
-    c.take_fit-found.ensures.found c.take_fit-found.ensures.left c.told_again.ensures.others
-    (tells_whether c.is_empty.result _ (blocks_of rest) c.told_again.ensures.here
-    (λ empty. sym here ∙ c.is_empty.ensures.none empty) (λ full none. c.is_empty.ensures.some full (here ∙ none)))
+pub take_at-requires-clause-before : goal.take_at-requires-clause-before
+take_at-requires-clause-before g c =
+    none_below c.args.trees.now c.args.some.now c.args.class c.args.words c.requires.trees c.requires.class
 
-pub returns-clause-trees : goal.returns-clause-trees
-returns-clause-trees g c = (made g c).classes
+none : (g : Over) (c : After-from_residual g) → first_fit (all_of c.args.trees.now) c.args.words ≡ None
+none g c =
+    none_at_all c.args.trees.now c.args.some.now c.args.class c.args.words c.requires.trees c.requires.class
+    c.in-None.ensures.none (rw c.in-None.ensures.told at c.in_err-later-in-None.ensures.none)
 
-pub returns-clause-found : goal.returns-clause-found
-returns-clause-found g c = (made g c).among.found
+pub returns-in_err-later-in-None-clause-found : goal.returns-in_err-later-in-None-clause-found
+returns-in_err-later-in-None-clause-found g c = rw c.from_residual.ensures (none g c)
 
-pub returns-clause-left : goal.returns-clause-left
-returns-clause-left g c = (made g c).among.left
+pub returns-in_err-later-in-None-clause-left : goal.returns-in_err-later-in-None-clause-left
+returns-in_err-later-in-None-clause-left g c =
+    rw c.in-None.ensures.unchanged (sym (without_fit-none (all_of c.args.trees.now) c.args.words (none g c)))
+
+pub take_at-requires-in-None-clause-before : goal.take_at-requires-in-None-clause-before
+take_at-requires-in-None-clause-before g c =
+    rw c.in-None.ensures.unchanged
+    (none_to_next c.args.trees.now c.args.some.now c.args.class c.in_ok-later-in-None.later c.args.words c.requires.trees
+    c.requires.class c.in-None.ensures.none (rw c.in-None.ensures.told at c.in_ok-later-in-None.ensures.next))
+
+pub returns-in_ok-later-in-None-clause-found : goal.returns-in_ok-later-in-None-clause-found
+returns-in_ok-later-in-None-clause-found g c =
+    found_next _ _ c.take_at-in-None.result (rw c.in-None.ensures.unchanged at c.take_at-in-None.ensures.found)
+    (rw c.in-None.ensures.unchanged at c.take_at-in-None.ensures.none)
+    (next_fits c.args.trees.now c.args.some.now c.args.class c.in_ok-later-in-None.later c.args.words c.requires.trees
+    c.requires.class (rw c.in-None.ensures.told at c.in_ok-later-in-None.ensures.next))
+
+pub returns-in_ok-later-in-None-clause-left : goal.returns-in_ok-later-in-None-clause-left
+returns-in_ok-later-in-None-clause-left g c =
+    left_next c.take_at-in-None.result (rw c.in-None.ensures.unchanged at c.take_at-in-None.ensures.left)
+    (rw c.in-None.ensures.unchanged at c.take_at-in-None.ensures.none)
+    (next_fits c.args.trees.now c.args.some.now c.args.class c.in_ok-later-in-None.later c.args.words c.requires.trees
+    c.requires.class (rw c.in-None.ensures.told at c.in_ok-later-in-None.ensures.next))

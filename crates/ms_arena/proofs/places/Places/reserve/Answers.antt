@@ -3,8 +3,8 @@ use Rattle.ms_arena.proofs.PlacesLemmas.{places_stay}
 use Rattle.ms_arena.proofs.places.Places.reserve.Goals as goal
 
 pub invariant_of-self : goal.invariant_of-self
-invariant_of-self c = rw c.make_run_room.ensures
-    (λ at stretch low high. subst (λ (n : ℕ). 0 < n)
+invariant_of-self c = λ at stretch low high.
+    subst (λ (n : ℕ). 0 < n)
     (sym (places_stay c.self.inside.newest c.self.inside.others.entries c.reserve.new.self.entries
     c.reserve.ensures.stay stretch))
-    (c.self.invariant at stretch low high))
+    (c.make_run_room.ensures c.self.inside.newest c.self.inside.others.entries c.self.invariant at stretch low high)
