@@ -1,5 +1,5 @@
--- Blocks by rank, in trees by size: one for each number of words below 48, one for each 256 words below 2,048, and one
--- for each 65,536 words from there on (this project's choice).
+-- Blocks by rank, in trees by size: one for each number of words below 55, one for those below 256, one for those below
+-- 65,536, and seven for each 65,536 words from there on, of which the last has all above (this project's choice).
 use Rattle.std.specs.Prelude.{◌≡◌, ◌≢◌, ℕ, ◌+◌, ◌<◌, List, [], ◌∷◌, ◌++◌, length, min, slice_get, Some}
 use Rattle.std.specs.Prelude.{Vec, IfSome, None, nat_lt, ◌/◌, if◌then◌else◌}
 use Rattle.std.specs.Option.{option_map_or}
@@ -14,8 +14,8 @@ use Rattle.ms_blocks.specs.Tree.{blocks_of}
 -- The number of the tree in which blocks of so many words are.
 abbrev pub class_of : ℕ → ℕ
 class_of words =
-    if nat_lt words 48 then words
-    else if nat_lt words 2048 then 48 + words / 256
+    if nat_lt words 55 then words
+    else if nat_lt words 256 then 55
     else 56 + min (words / 65536) 7
 
 -- The blocks of trees, one tree after the other.

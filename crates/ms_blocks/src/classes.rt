@@ -1,8 +1,8 @@
-//! Blocks by rank, in 64 trees by size: one for each number of words below 48, one for each 256 words
-//! below 2,048, and one for each 65,536 words from there on.
+//! Blocks by rank, in 64 trees by size: one for each number of words below 55, one for those below
+//! 256, one for those below 65,536, and seven for each 65,536 words from there on.
 //!
-//!     words     0     1     2    ..    47    48..255   256..511  ..  2,048..65,535  ..
-//!     tree    | - | | - | | /\ | ..  | /\ |   | /\ |    | /\ |   ..      | /\ |     ..
+//!     words     0     1     2     ..    54    55..255    256..65,535   65,536..131,071   ..
+//!     tree    | - | | - | | /\ |  ..  | /\ |   | /\ |        | /\ |            | /\ |        ..
 //!
 //! The blocks of a tree rank before those of the next, so what callers see is one list, and each
 //! tree is a low one. A best fit is in the tree of its size, or where none there is large enough in
@@ -195,10 +195,10 @@ fn class_of(words: u64) -> usize
     ensures class { result ≡ class_of words }
     ensures within { result < 64 }
 {
-    let class = if words < 48 {
+    let class = if words < 55 {
         words
-    } else if words < 2048 {
-        48 + words / 256
+    } else if words < 256 {
+        55
     } else {
         56 + (words / 65536).min(7)
     };
