@@ -25,8 +25,8 @@ use std::marker::Model;
 pub struct Kept {
     /// Those that are in order, of two words at least.
     ordered: FreeBlocks,
-    /// Those that came since, each its start and its words: words are numbered below 2^27, so 32 bits
-    /// are enough for both, and as much room is made as blocks are live.
+    /// Those that came since, each its start and its words: words are numbered below 2^27, so 32
+    /// bits are enough for both, and as much room is made as blocks are live.
     came: Vec<(u32, u32)>,
     /// How many words these have together, modulo 2^64.
     words: u64,
@@ -59,7 +59,9 @@ impl Kept {
         }
     }
 
-    /// Takes all blocks out, and keeps the memory for those that come.
+    /// Takes all blocks out, and keeps the memory for those that come. Out of line, since many an
+    /// arena that starts anew held none.
+    #[inline(never)]
     pub(crate) fn clear(&mut self, alloc: Global)
         ensures { self.new.kept ≡ [] }
     {

@@ -66,7 +66,9 @@ impl Words {
     }
 
     /// Takes all places away, and keeps the memory that they had, with the room for more. What the
-    /// words held stays there, and is cleared where a place is given again.
+    /// words held stays there, and is cleared where a place is given again. Out of line, since many
+    /// an arena that starts anew had none.
+    #[inline(never)]
     pub(crate) fn clear(&mut self)
         ensures { (word : ℕ) → place_at self.new word ≡ 0 }
     {

@@ -3,10 +3,9 @@
 use Rattle.std.proofs.Common.{◌≡◌, ◌≢◌, ℕ, ◌+◌, ◌<◌, ◌≤◌, true, false, List, [], ◌∷◌, ◌++◌, Option, Some, None, refl}
 use Rattle.std.proofs.Common.{ap, ap₂, sym, subst, subst₂, ◌∙◌, arith, zero, suc, get_or, length, take, drop, inl, inr}
 use Rattle.std.proofs.Common.{bit_and, bit_or, w64, Bool, cond, ◌*◌, ◌-◌, ◌/◌, ◌%◌, ◌^◌}
-use Rattle.std.specs.Prelude.{min, nat_le, if◌then◌else◌, slice_get, slice_set, Vec, IfSome, IsTrue, IsFalse}
+use Rattle.std.specs.Prelude.{min, nat_le, if◌then◌else◌, slice_get, slice_set, Vec, IfSome, IfNone, OnSome, IsTrue, IsFalse}
 use Rattle.std.specs.Int.{bit_at, bit_not, trailing_zeros}
 use Rattle.std.specs.List.{AllByRecursion}
-use Rattle.std.specs.Prelude.{IfNone, OnSome}
 use Rattle.std.specs.Option.{option_map, option_map_or}
 use Rattle.std.proofs.lemmas.Bool.{cases_eq, cases_lt, le-leb, lt-leb}
 use Rattle.std.proofs.lemmas.Grind.{get_or-set_at}
@@ -403,10 +402,10 @@ none_here trees at words tree ranked there none = λ other is.
     let same : other ≡ tree = cc in
     ap (λ (t : Tree _). first_fit (blocks_of t) words) same ∙ none (ranked_at trees at tree ranked there)
 
--- A class of which a block is taken has its bit.
 pub bit_few : (n i : ℕ) → bit_at n i < 2
 bit_few n i = omega arith
 
+-- A class of which a block is taken has its bit.
 pub one_where_some : (bit words : ℕ) (blocks : List Block) (taken : Block) → TellsWhether bit blocks → bit < 2
     → first_fit blocks words ≡ Some taken → bit ≡ 1
 one_where_some bit words blocks taken tells two is = elim (cases_lt 0 bit) [

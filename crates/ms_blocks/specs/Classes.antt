@@ -1,5 +1,5 @@
 -- Blocks by rank, in trees by size: one for each number of words below 55, one for those below 256, one for those below
--- 65,536, and seven for each 65,536 words from there on, of which the last has all above (this project's choice).
+-- 65,536, and seven of 65,536 sizes each, the last with all above (this project's choice).
 use Rattle.std.specs.Prelude.{◌≡◌, ◌≢◌, ℕ, ◌+◌, ◌<◌, List, [], ◌∷◌, ◌++◌, length, min, slice_get, Some}
 use Rattle.std.specs.Prelude.{Vec, IfSome, None, nat_lt, ◌/◌, if◌then◌else◌}
 use Rattle.std.specs.Option.{option_map_or}

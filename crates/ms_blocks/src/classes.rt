@@ -1,5 +1,5 @@
 //! Blocks by rank, in 64 trees by size: one for each number of words below 55, one for those below
-//! 256, one for those below 65,536, and seven for each 65,536 words from there on.
+//! 256, one for those below 65,536, and seven of 65,536 sizes each, the last with all above.
 //!
 //!     words     0     1     2     ..    54    55..255    256..65,535   65,536..131,071   ..
 //!     tree    | - | | - | | /\ |  ..  | /\ |   | /\ |        | /\ |            | /\ |        ..

@@ -242,7 +242,9 @@ fn level_anew<A: Allocator>(tree: &mut Tree<A>) -> bool
     height_of(tree) != height
 }
 
-/// Levels a tree on top, of which one side is higher by two.
+/// Levels a tree on top, of which one side is higher by two. Out of line, so that what it keeps for
+/// itself is kept where it turns alone.
+#[inline(never)]
 fn turn<A: Allocator>(tree: &mut Tree<A>)
     ensures { blocks_of tree.new ≡ blocks_of tree.old }
 {

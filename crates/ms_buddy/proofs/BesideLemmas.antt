@@ -1,9 +1,10 @@
 -- The bits of the halves beside the way to a part, as they are set and cleared one after the other.
-use Rattle.std.proofs.Common.{◌≡◌, ◌<◌, ◌≤◌, ℕ, zero, suc, ◌+◌, ◌-◌, ◌%◌, ◌^◌, Bool, true, false, cond, List, [], ◌∷◌}
+use Rattle.std.proofs.Common.{◌≡◌, ◌<◌, ◌≤◌, ℕ, zero, suc, ◌+◌, ◌-◌, ◌*◌, ◌%◌, ◌^◌, Bool, true, false, cond, List, [], ◌∷◌}
 use Rattle.std.proofs.Common.{refl, sym, ap, ◌∙◌, inl, inr, arith}
 use Rattle.std.specs.Prelude.{◌==◌, nat_lt}
 use Rattle.std.proofs.lemmas.Bool.{cases_lt}
 use Rattle.std.proofs.lemmas.Bool.Decides.{nat_tests}
+use Rattle.std.proofs.lemmas.Nat.{pow-add}
 use Rattle.std.proofs.lemmas.Nat.Bits.{bit_at-lt}
 use Rattle.std.proofs.Math.Nat.{pow-le-pow_right}
 use Rattle.ms_base.specs.declared.span.Span.{Span}
@@ -13,8 +14,8 @@ use Rattle.ms_buddy.specs.FreeBits.{ArePut, IsMoved, MayJoin, MayPart, bit_of}
 use Rattle.ms_buddy.specs.Leaves.{span_at}
 use Rattle.ms_buddy.specs.Tree.{IsPlace}
 use Rattle.ms_buddy.proofs.TreeHalvesLemmas.{holder_is, lower_place, size_of-halves, size_of-some, upper_place}
-use Rattle.ms_buddy.proofs.NumberLemmas.{holder_place, number_from}
-use Rattle.ms_buddy.proofs.BuddyLemmas.{lower_is_buddy, past, upper_is_buddy}
+use Rattle.ms_buddy.proofs.NumberLemmas.{holder_place, number_below, number_from}
+use Rattle.ms_buddy.proofs.BuddyLemmas.{lower_is_buddy, number_of-holder, past, upper_is_buddy}
 use Rattle.ms_buddy.proofs.CountLemmas.{lower_beside, number-cons, number-none, number-one, none_beside, upper_beside}
 
 -- The bit of a number is set or cleared, and the others stay.
@@ -74,20 +75,39 @@ next_beside level at lent m deep low below = elim (cases_lt at (start + size_of 
         ∙ ap (λ (n : ℕ). one_at (buddy_of (number_of (span_at at (level + 1)))) m
         + count_of_number m (halves_beside (lent - (level + 1)) (level + 1) n at)) (sym f)
 
--- The bit of that half is put, and then those of the others.
-pub next_put : (words mid new : List ℕ) (level at lent number bit : ℕ) → level < lent → lent ≤ highest_level
-    → at < 524288 → number ≡ buddy_of (number_of (span_at at (level + 1))) → Changed words number bit mid
-    → ArePut mid (beside (holder_of (level + 1) (span_at at lent)) (span_at at lent)) bit new
-    → ArePut words (beside (holder_of level (span_at at lent)) (span_at at lent)) bit new
-next_put words mid new level at lent number bit deep low below e one more m =
+-- No bit is put on the way from a part to itself.
+pub none_put : (words : List ℕ) (at lent bit : ℕ)
+    → ArePut words (beside (holder_of lent (span_at at lent)) (span_at at lent)) bit words
+none_put words at lent bit m = rw (no_halves (lent - lent) lent (at - at % size_of lent) at m (omega arith)) refl
+
+-- The bits of the halves below a level are put, and then that of the other half there.
+pub put_above : (words mid new : List ℕ) (level at lent number bit : ℕ) → 0 < level → level ≤ lent
+    → lent ≤ highest_level → at < 524288 → number ≡ buddy_of (number_of (span_at at level))
+    → ArePut words (beside (holder_of level (span_at at lent)) (span_at at lent)) bit mid
+    → Changed mid number bit new
+    → ArePut words (beside (holder_of (level - 1) (span_at at lent)) (span_at at lent)) bit new
+put_above words mid new level at lent number bit some deep low below e more one m =
     by_case (number == m) (bit_of words m) (bit_of mid m) (bit_of new m) _
-    (count_of_number m (beside (holder_of (level + 1) (span_at at lent)) (span_at at lent)))
-    (rw e (next_beside level at lent m deep low below)) (one m) (more m)
+    (count_of_number m (beside (holder_of level (span_at at lent)) (span_at at lent)))
+    (rw e (rw (back level some) at (next_beside (level - 1) at lent m (omega (arith, some, deep)) low below)))
+    (more m) (one m)
   where
-    by_case : (is : Bool) (old mid new count rest : ℕ) → count ≡ cond is 1 0 + rest → mid ≡ cond is bit old
-        → new ≡ cond (nat_lt 0 rest) bit mid → new ≡ cond (nat_lt 0 count) bit old
-    by_case true old mid new count rest e one more = grind (arith, nat_tests)
-    by_case false old mid new count rest e one more = grind (arith, nat_tests)
+    back : (level : ℕ) → 0 < level → level - 1 + 1 ≡ level
+    back level some = omega (arith, some)
+
+    by_case : (is : Bool) (old mid new count rest : ℕ) → count ≡ cond is 1 0 + rest
+        → mid ≡ cond (nat_lt 0 rest) bit old → new ≡ cond is bit mid → new ≡ cond (nat_lt 0 count) bit old
+    by_case true old mid new count rest e more one = grind (arith, nat_tests)
+    by_case false old mid new count rest e more one = grind (arith, nat_tests)
+
+-- A bit that is set once others were cleared was set before.
+pub was_set : (words mid : List ℕ) (parts : List Span) (m : ℕ) → ArePut words parts 0 mid → bit_of mid m ≡ 1
+    → bit_of words m ≡ 1
+was_set words mid parts m put set = by_case (nat_lt 0 (count_of_number m parts)) (bit_of words m) (sym (put m) ∙ set)
+  where
+    by_case : (b : Bool) (bit : ℕ) → cond b 0 bit ≡ 1 → bit ≡ 1
+    by_case true bit e = absurd (omega (arith, e))
+    by_case false bit e = e
 
 -- The number of the part that is split is that of none of these halves, whose numbers are larger.
 pub none_is_whole : (times level start at m : ℕ) → level + times ≤ highest_level → IsPlace level start
@@ -128,19 +148,66 @@ none_is_whole (suc times) level start at m low place small = elim (cases_lt at (
     other : (number : ℕ) → 2 ^ (level + 1) ≤ number → one_at number m ≡ 0
     other number h = differs number m (omega (arith, small, h))
 
--- A free leaf is parted: its bit is cleared, and those of the halves beside the way are set.
-pub part_done : (words mid new : List ℕ) (number : ℕ) (leaf part : Span) → number ≡ number_of leaf
-    → MayPart words leaf part → Changed words number 0 mid → ArePut mid (beside leaf part) 1 new
-    → IsMoved words (leaf ∷ []) (beside leaf part) new
-part_done words mid new number leaf part e may cleared set m =
-    by_case (number_of leaf == m) (bit_of words m) (bit_of mid m) (bit_of new m) (count_of_number m (leaf ∷ []))
-    (count_of_number m (beside leaf part)) (bit_at-lt _ _) (number-one m leaf) (rw e at (cleared m)) (set m)
-    (may.gone m) (may.come m)
+-- So none of them has the number of that part, nor its buddy's.
+part_apart : (level at lent m : ℕ) → level ≤ lent → lent ≤ highest_level → at < 524288 → m < 2 * 2 ^ level
+    → count_of_number m (beside (holder_of level (span_at at lent)) (span_at at lent)) ≡ 0
+part_apart level at lent m deep low below small =
+    none_is_whole (lent - level) level (at - at % size_of level) at m (omega (arith, deep, low))
+    (holder_place level (span_at at lent) (omega (arith, deep, low)) below) (omega (arith, small, pow-add 2 level 1))
+
+pub was_clear : (words mid : List ℕ) (level at lent : ℕ) → level ≤ lent → lent ≤ highest_level → at < 524288
+    → ArePut words (beside (holder_of level (span_at at lent)) (span_at at lent)) 0 mid
+    → bit_of mid (buddy_of (number_of (span_at at level))) ≡ 0
+    → bit_of words (buddy_of (number_of (span_at at level))) ≡ 0
+was_clear words mid level at lent deep low below put clear =
+    same (count_of_number (buddy_of (number_of (span_at at level))) (beside (holder_of level (span_at at lent)) (span_at at lent)))
+    _ _ (part_apart level at lent (buddy_of (number_of (span_at at level))) deep low below near) (put _) clear
   where
-    by_case : (is : Bool) (old mid new here more : ℕ) → old < 2 → here ≡ cond is 1 0 → mid ≡ cond is 0 old
-        → new ≡ cond (nat_lt 0 more) 1 mid → here ≤ old → old + more ≤ 1 + here → new + here ≡ old + more
-    by_case true old mid new here more small is one some gone come = grind (arith, nat_tests)
-    by_case false old mid new here more small is one some gone come = grind (arith, nat_tests)
+    place : IsPlace level (at - at % size_of level)
+    place = holder_place level (span_at at lent) (omega (arith, deep, low)) below
+
+    even_row : (n p : ℕ) → n < 2 * p → buddy_of n < 2 * p
+    even_row n p h = by_parity (n % 2 == 0) refl
+      where
+        by_parity : (b : Bool) → (n % 2 == 0) ≡ b → cond b (n + 1) (n - 1) < 2 * p
+        by_parity true e = grind (arith, nat_tests)
+        by_parity false e = omega (arith, h)
+
+    near : buddy_of (number_of (span_at at level)) < 2 * 2 ^ level
+    near =
+        even_row (number_of (span_at at level)) (2 ^ level)
+        (rw (number_of-holder level (span_at at lent) (omega (arith, deep, low)) below)
+        (number_below level (at - at % size_of level) place))
+
+    same : (count old mid : ℕ) → count ≡ 0 → mid ≡ cond (nat_lt 0 count) 0 old → mid ≡ 0 → old ≡ 0
+    same count old mid e put clear = grind (arith, nat_tests)
+
+-- A free leaf is parted: the bits of the halves beside the way are set, and its own is cleared.
+pub part_done : (words mid new : List ℕ) (level at lent number : ℕ) → level ≤ lent → lent ≤ highest_level → at < 524288
+    → number ≡ number_of (span_at at level) → MayPart words (holder_of level (span_at at lent)) (span_at at lent)
+    → ArePut words (beside (holder_of level (span_at at lent)) (span_at at lent)) 1 mid → Changed mid number 0 new
+    → IsMoved words (holder_of level (span_at at lent) ∷ []) (beside (holder_of level (span_at at lent)) (span_at at lent)) new
+part_done words mid new level at lent number deep low below e may set cleared m =
+    by_case (number_of leaf == m) (bit_of words m) (bit_of mid m) (bit_of new m) (count_of_number m (leaf ∷ []))
+    (count_of_number m (beside leaf (span_at at lent))) (bit_at-lt _ _) (number-one m leaf) (set m)
+    (rw (e ∙ number_of-holder level (span_at at lent) (omega (arith, deep, low)) below) at (cleared m))
+    (may.gone m) (may.come m) alone
+  where
+    leaf : Span
+    leaf = holder_of level (span_at at lent)
+
+    small : (p n m : ℕ) → (n == m) ≡ true → n < p → m < p
+    small p n m is h = grind (arith, nat_tests)
+
+    alone : (number_of leaf == m) ≡ true → count_of_number m (beside leaf (span_at at lent)) ≡ 0
+    alone is =
+        part_apart level at lent m deep low below
+        (small _ (number_of leaf) m is (number_below level leaf.start (holder_place level (span_at at lent) (omega (arith, deep, low)) below)))
+
+    by_case : (is : Bool) (old mid new here more : ℕ) → old < 2 → here ≡ cond is 1 0 → mid ≡ cond (nat_lt 0 more) 1 old
+        → new ≡ cond is 0 mid → here ≤ old → old + more ≤ 1 + here → (is ≡ true → more ≡ 0) → new + here ≡ old + more
+    by_case true old mid new here more small is some one gone come alone = omega (arith, small, is, one, gone, alone refl)
+    by_case false old mid new here more small is some one gone come alone = grind (arith, nat_tests)
 
 -- It is joined again: the bits of these halves are cleared, and its own is set.
 pub join_done : (words mid new : List ℕ) (number : ℕ) (leaf part : Span) → number ≡ number_of leaf

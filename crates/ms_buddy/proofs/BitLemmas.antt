@@ -7,7 +7,7 @@ use Rattle.std.proofs.lemmas.Bool.{cases_lt, cases_eq}
 use Rattle.std.proofs.lemmas.Bool.Decides.{nat_tests}
 use Rattle.std.proofs.lemmas.List.{get_or-set_same, get_or-set_other}
 use Rattle.std.proofs.lemmas.Nat.{shr_le, shr-shr}
-use Rattle.std.proofs.lemmas.Nat.Bits.{bit_at-zero, bit_at-trailing_zeros, bit_at_above}
+use Rattle.std.proofs.lemmas.Nat.Bits.{bit_at-lt, bit_at-zero, bit_at-trailing_zeros, bit_at_above}
 use Rattle.ms_buddy.specs.FreeBits.{IsFilled, IsLowestBit, IsNextSet, bit_of}
 
 is_same_number : (a b : ℕ) → a ≡ b → (a == b) ≡ true
@@ -40,6 +40,13 @@ changed words number other word bit within here there = elim (cases_eq (other / 
       ∙ sym (ap (λ b. cond b bit (bit_of words other))
       (is_other_number number other (λ e. differs (ap (λ n. n / 64) e))))
 ]
+
+-- A bit that isn't 1 is 0.
+pub clear_bit : (words : List ℕ) (number : ℕ) → (bit_of words number == 1) ≡ false → bit_of words number ≡ 0
+clear_bit words number = by_case (bit_of words number) (bit_at-lt _ _)
+  where
+    by_case : (bit : ℕ) → bit < 2 → (bit == 1) ≡ false → bit ≡ 0
+    by_case bit small e = grind (arith, nat_tests)
 
 -- No bit is set in words of zeros.
 zero_word : (n at : ℕ) → get_or {A = ℕ} (replicate n 0) at 0 ≡ 0

@@ -1,14 +1,14 @@
 -- Numbers of parts: which those of a level are, and that no two parts have one. For the set of free leaves.
-use Rattle.std.proofs.Common.{◌≡◌, ◌<◌, ◌≤◌, ℕ, ◌+◌, ◌-◌, ◌*◌, ◌/◌, ◌%◌, ◌^◌, refl, sym, ap, ◌∙◌, inl, inr, arith}
+use Rattle.std.proofs.Common.{◌≡◌, ◌<◌, ◌≤◌, ℕ, ◌+◌, ◌-◌, ◌*◌, ◌/◌, ◌%◌, ◌^◌, refl, sym, ap, subst, ◌∙◌, inl, inr, arith}
 use Rattle.std.proofs.lemmas.Bool.{cases_lt}
 use Rattle.std.proofs.lemmas.Nat.{pow-add, div-add-mod', div_below, le-div}
-use Rattle.std.proofs.Math.Nat.{mod-lt, mul-mod_left, div-eq_of_eq-mul_left, mul-le-mul_right, pow-le-pow_right, le_of_mul-le-mul_right}
+use Rattle.std.proofs.Math.Nat.{div-div-eq-div-mul, mod-lt, mul-mod_left, div-eq_of_eq-mul_left, mul-le-mul_right, pow-le-pow_right, le_of_mul-le-mul_right}
 use Rattle.ms_base.specs.declared.span.Span.{Span}
 use Rattle.ms_base.specs.Level.{size_of, highest_level}
 use Rattle.ms_buddy.specs.Counts.{holder_of, number_of}
 use Rattle.ms_buddy.specs.Leaves.{span_at}
 use Rattle.ms_buddy.specs.Tree.{IsPlace}
-use Rattle.ms_buddy.proofs.TreeHalvesLemmas.{size_of-some}
+use Rattle.ms_buddy.proofs.TreeHalvesLemmas.{size_of-halves, size_of-some}
 
 -- A root has so many words of each level's size.
 row_words : (level : ℕ) → level ≤ highest_level → 2 ^ level * size_of level ≡ 524288
@@ -61,6 +61,39 @@ number_fits level start h below =
   where
     large : 128 ≤ size_of level
     large = pow-le-pow_right {n = 2} (omega arith) {i = 7} {j = 19 - level} (omega arith)
+
+twice_size : (level : ℕ) → 0 < level → level ≤ highest_level → size_of level * 2 ≡ size_of (level - 1)
+twice_size level some h = omega (
+  arith,
+  size_of-halves (level - 1) (omega (arith, some, h)),
+  ap size_of (there level some),
+)
+  where
+    there : (level : ℕ) → 0 < level → level - 1 + 1 ≡ level
+    there level some = omega (arith, some)
+
+-- The part of the level above that starts there has half the number, and the root has 1.
+pub number_above : (level at : ℕ) → 0 < level → level ≤ highest_level
+    → number_of (span_at at level) / 2 ≡ number_of (span_at at (level - 1))
+unfolding number_of
+number_above level at some h =
+    div-div-eq-div-mul (524288 + at) (size_of level) 2 ∙ ap (λ (n : ℕ). (524288 + at) / n) (twice_size level some h)
+
+pub number_of-root : (at : ℕ) → at < 524288 → number_of (span_at at 0) ≡ 1
+unfolding number_of
+number_of-root at h = omega (arith, h)
+
+pub number_of-small : (level at : ℕ) → level ≤ highest_level → at < 524288 → number_of (span_at at level) < 8192
+number_of-small level at h below = rw (← number_is level at) (number_fits level at h below)
+
+-- What holds of the levels past one, and of it, holds of those past the one above.
+pub and_above : (P : ℕ → Type 0) (level most : ℕ) → P level
+    → ((other : ℕ) → level < other → other ≤ most → P other)
+    → (other : ℕ) → level - 1 < other → other ≤ most → P other
+and_above P level most here past other above low = elim (cases_lt level other) [
+  | inl more ↦ past other more low
+  | inr same ↦ subst P (omega (arith, same, above)) here
+]
 
 -- A part's number times its size is where it starts, past the words of a root.
 pub number_words : (level start : ℕ) → IsPlace level start

@@ -14,7 +14,7 @@ ghost use Rattle.std.specs.Int.{bit_at};
 ghost use Rattle.ms_base.specs.declared.sizes.TheConstants.{ROOT_WORDS};
 ghost use Rattle.ms_base.specs.Level.{size_of};
 ghost use Rattle.ms_buddy.specs.Counts.{beside, buddy_of, holder_of, number_of};
-ghost use Rattle.ms_buddy.specs.FreeBits.{ArePut, IsFilled, IsLowestBit, IsMoved, IsNextSet, MayJoin, MayPart, bit_of};
+ghost use Rattle.ms_buddy.specs.FreeBits.{IsFilled, IsLowestBit, IsMoved, IsNextSet, MayJoin, MayPart, bit_of};
 ghost use Rattle.ms_buddy.specs.Leaves.{span_at};
 
 use ms_base::ROOT_WORDS;
@@ -96,24 +96,14 @@ impl FreeBits {
         ensures filled { IsFilled self.old.words self.old.filled
             → IsFilled self.new.words self.new.filled }
     {
-        self.put(number(free, at), false);
-        self.put_beside(free, at, lent, true);
-    }
-
-    /// Joins the part of a level that starts at an offset and the halves beside it to one free
-    /// leaf.
-    pub(crate) fn join(&mut self, free: u8, at: u64, lent: u8)
-        requires order { free ≤ lent }
-        requires low { lent ≤ 12 }
-        requires in_root { at < ROOT_WORDS }
-        requires bits { MayJoin self.old.words (holder_of free (span_at at lent)) (span_at at lent) }
-        ensures bits { IsMoved self.new.words (holder_of free (span_at at lent) ∷ [])
-            (beside (holder_of free (span_at at lent)) (span_at at lent)) self.old.words }
-        ensures filled { IsFilled self.old.words self.old.filled
-            → IsFilled self.new.words self.new.filled }
-    {
-        self.put_beside(free, at, lent, false);
-        self.put(number(free, at), true);
+        let mut level = lent;
+        let mut number = number(lent, at);
+        while level != free {
+            self.put(buddy_of(number), true);
+            level -= 1;
+            number /= 2;
+        }
+        self.put(number, false);
     }
 
     /// Tells the level of the free leaf that holds the part of a level at an offset, where one does.
@@ -125,51 +115,48 @@ impl FreeBits {
         ensures none { IfNone result ((holder : ℕ) → holder ≤ level
             → bit_of self.now.words (number_of (span_at at holder)) ≡ 0) }
     {
-        if self.has(number(level, at)) {
-            return Some(level);
+        // A whole root is the farthest from the part, so it is looked for first.
+        if self.has(1) {
+            return Some(0);
         }
-        if level == 0 {
-            return None;
+        let mut holder = level;
+        let mut number = number(level, at);
+        while !self.has(number) {
+            if holder == 0 {
+                return None;
+            }
+            holder -= 1;
+            number /= 2;
         }
-        self.holder(level - 1, at)
+        Some(holder)
     }
 
-    /// Tells the level to which a part of a level merges that starts at an offset: below it each
-    /// buddy is free, and there it is the root, or its buddy isn't free.
-    pub(crate) fn merge_level(&self, level: u8, at: u64) -> u8
-        requires low { level ≤ 12 }
-        requires in_root { at < ROOT_WORDS }
-        ensures low { result ≤ level }
-        ensures apart { 0 < result → bit_of self.now.words
-            (buddy_of (number_of (span_at at result))) ≡ 0 }
-        ensures merged { (below : ℕ) → result < below → below ≤ level → bit_of self.now.words
-            (buddy_of (number_of (span_at at below))) ≡ 1 }
-    {
-        if level == 0 {
-            return 0;
-        }
-        if !self.has(buddy_of(number(level, at))) {
-            return level;
-        }
-        self.merge_level(level - 1, at)
-    }
-
-    /// Sets or clears the bits of the halves beside the way from the part of a level that holds an
-    /// offset down to the part of a lower level there.
-    fn put_beside(&mut self, level: u8, at: u64, lent: u8, set: bool)
-        requires order { level ≤ lent }
+    /// Merges the part of a level that starts at an offset with its buddy for as long as that is
+    /// free, so that the part that results is a free leaf and the buddies are none any more. Tells
+    /// its level: it is the root, or its buddy isn't free.
+    pub(crate) fn merge(&mut self, lent: u8, at: u64) -> u8
         requires low { lent ≤ 12 }
         requires in_root { at < ROOT_WORDS }
-        ensures bits { ArePut self.old.words
-            (beside (holder_of level (span_at at lent)) (span_at at lent)) (cond set 1 0) self.new.words }
+        ensures low { result ≤ lent }
+        ensures apart { 0 < result → bit_of self.old.words
+            (buddy_of (number_of (span_at at result))) ≡ 0 }
+        ensures merged { (below : ℕ) → result < below → below ≤ lent → bit_of self.old.words
+            (buddy_of (number_of (span_at at below))) ≡ 1 }
+        ensures bits { MayJoin self.old.words (holder_of result (span_at at lent)) (span_at at lent)
+            → IsMoved self.new.words (holder_of result (span_at at lent) ∷ [])
+            (beside (holder_of result (span_at at lent)) (span_at at lent)) self.old.words }
         ensures filled { IsFilled self.old.words self.old.filled
             → IsFilled self.new.words self.new.filled }
     {
-        if level == lent {
-            return;
+        let mut free = lent;
+        let mut number = number(lent, at);
+        while free != 0 && self.has(buddy_of(number)) {
+            self.put(buddy_of(number), false);
+            free -= 1;
+            number /= 2;
         }
-        self.put(buddy_of(number(level + 1, at)), set);
-        self.put_beside(level + 1, at, lent, set);
+        self.put(number, true);
+        free
     }
 
     /// Tells whether the bit of a number is set.
@@ -189,10 +176,13 @@ impl FreeBits {
             → IsFilled self.new.words self.new.filled }
     {
         let row = number / BITS;
-        let word = with_bit(self.words[row], number % BITS, set);
-        let row_word = with_bit(self.filled[row / BITS], row % BITS, word != 0);
+        let before = self.words[row];
+        let word = with_bit(before, number % BITS, set);
         self.words[row] = word;
-        self.filled[row / BITS] = row_word;
+        if word != 0 && before != 0 {
+            return;
+        }
+        self.filled[row / BITS] = with_bit(self.filled[row / BITS], row % BITS, word != 0);
     }
 }
 
@@ -241,11 +231,7 @@ fn buddy_of(number: usize) -> usize
     ensures same { result ≡ buddy_of number }
     ensures within { result < 8192 }
 {
-    if number % 2 == 0 {
-        number + 1
-    } else {
-        number - 1
-    }
+    number / 2 * 2 + (1 - number % 2)
 }
 
 /// Tells where the part of a level starts that holds an offset.

@@ -8,7 +8,7 @@
 //! A lent part stands at the place of its first word. The first place stands apart from the others,
 //! so that a root that is lent whole takes no memory. Only `make` takes it, for all the others at
 //! once. After HotSpot, where each chunk has a header; a table is this project's choice.
-ghost use Rattle.std.specs.Prelude.{◌≡◌, ℕ, ◌^◌, ◌<◌, ◌≤◌, IsTrue, [], ◌∷◌, Some, None, OnOk, OnErr, IfSome, length, slice_set};
+ghost use Rattle.std.specs.Prelude.{◌≡◌, ℕ, ◌<◌, ◌≤◌, IsTrue, [], ◌∷◌, Some, None, OnOk, OnErr, length, slice_set};
 ghost use Rattle.ms_buddy.specs.declared.places.Lending.{Lending};
 ghost use Rattle.ms_buddy.specs.Places.{IsFront, lending_at, lent_from};
 

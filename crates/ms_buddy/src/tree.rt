@@ -230,10 +230,9 @@ impl<A: Allocator> SplitTree<A> {
     {
         let start = span.start;
         let lent = span.level.number();
-        let free = self.free.merge_level(lent, start);
+        let free = self.free.merge(lent, start);
         self.places.put((start / PLACE) as usize, NONE);
         join_counts(&mut self.counts, free, lent);
-        self.free.join(free, start, lent);
         part(start_of_holder(free, start), free)
     }
 

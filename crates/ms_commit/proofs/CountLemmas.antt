@@ -1,7 +1,8 @@
 -- Counting the set bits of a word is counting the places of its bits.
-use Rattle.std.proofs.Common.{◌≡◌, ◌<◌, ℕ, zero, suc, ◌+◌, ◌*◌, ◌/◌, ◌%◌, ◌^◌, Bool, true, false, cond, ◌&&◌, List, ◌∷◌}
+use Rattle.std.proofs.Common.{◌≡◌, ◌<◌, ◌≤◌, ℕ, zero, suc, ◌+◌, ◌*◌, ◌/◌, ◌%◌, ◌^◌, Bool, true, false, cond, ◌&&◌, List, ◌∷◌}
 use Rattle.std.proofs.Common.{length, get_or, bit_and, refl, sym, ap, ap₂, ◌∙◌, arith}
-use Rattle.std.specs.Prelude.{◌==◌}
+use Rattle.std.specs.Prelude.{◌==◌, nat_le, nat_lt}
+use Rattle.std.proofs.lemmas.Bool.Decides.{nat_tests}
 use Rattle.std.specs.Int.{bit_at}
 use Rattle.std.specs.Int.Count.{ones, ones_step}
 use Rattle.std.specs.List.{filter, range_with_len}
@@ -9,7 +10,7 @@ use Rattle.std.proofs.lemmas.Nat.{pow-add, and_le_r}
 use Rattle.std.proofs.lemmas.List.{length-append}
 use Rattle.std.proofs.lemmas.Nat.Bits.{bit_at_lowest, bit_at-suc}
 use Rattle.ms_commit.specs.Mask.{is_one, is_set}
-use Rattle.ms_commit.proofs.RangeLemmas.{filter-cut, filter_agree_in}
+use Rattle.ms_commit.proofs.RangeLemmas.{and_false, filter-cut, filter_agree_in, filter_none_in, length-filter-below}
 use Rattle.ms_commit.proofs.MaskLemmas.{is_one-and, is_set-place}
 
 pub length-kept : {X : Type 0} (b : Bool) (x : X) (rest : List X)
@@ -96,3 +97,18 @@ counted_more p words index run count fits places so_far =
 
     next : 64 * index + 64 ≡ 64 * (index + 1)
     next = omega arith
+
+-- How many numbers of a range are set, of those below a place.
+abbrev pub set_within : List ℕ → ℕ → ℕ → ℕ → ℕ
+set_within words first end place =
+    length (filter (λ k. is_set words k && (nat_le first k && nat_lt k end)) (range_with_len 0 place))
+
+pub none_within : (words : List ℕ) (first end : ℕ) → 0 ≡ set_within words first end (64 * (first / 64))
+none_within words first end =
+    ap length (sym (filter_none_in (λ k. is_set words k && (nat_le first k && nat_lt k end)) 0 (64 * (first / 64))
+    (λ k low high. and_false (is_set words k) (nat_le first k && nat_lt k end) (grind (arith, nat_tests)))))
+
+pub within_below : (words : List ℕ) (first end place : ℕ) → set_within words first end place ≤ end
+within_below words first end place =
+    length-filter-below (λ k. is_set words k && (nat_le first k && nat_lt k end)) place end
+    (λ k past. and_false (is_set words k) (nat_le first k && nat_lt k end) (grind (arith, nat_tests)))

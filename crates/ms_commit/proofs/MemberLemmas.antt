@@ -1,5 +1,5 @@
 -- The words of a mask against the set of its members: what changed bits do to the set.
-use Rattle.std.proofs.Common.{◌≡◌, ◌≤◌, ◌<◌, ℕ, ◌+◌, ◌*◌, Bool, true, false, cond, ◌&&◌, ◌||◌, not, List, [], ◌∷◌}
+use Rattle.std.proofs.Common.{◌≡◌, ◌≤◌, ◌<◌, ℕ, ◌+◌, ◌-◌, ◌*◌, Bool, true, false, cond, ◌&&◌, ◌||◌, not, List, [], ◌∷◌}
 use Rattle.std.proofs.Common.{length, refl, sym, ap, ap₂, ◌∙◌, subst, arith}
 use Rattle.std.specs.Prelude.{◌==◌}
 use Rattle.std.specs.Ordering.{nat_cmp}
@@ -51,6 +51,15 @@ pub count_within-members : (words : List ℕ) (first count : ℕ)
 count_within-members words first count =
     ap length (filter_agree (is_among (members_of words)) (is_set words) (is_among-members words)
     (range_with_len first count))
+
+pub range_counted : (words members : List ℕ) (first count : ℕ) → members_of words ≡ members
+    → length (filter (is_set words) (range_with_len first (first + count - first))) ≡ count_within members first count
+range_counted words members first count are =
+    ap (λ n. length (filter (is_set words) (range_with_len first n))) (so_many first count)
+    ∙ sym (count_within-members words first count) ∙ ap (λ members. count_within members first count) are
+  where
+    so_many : (first count : ℕ) → first + count - first ≡ count
+    so_many first count = omega arith
 
 pub members_in_range : (words : List ℕ) (first count : ℕ)
     → ((k : ℕ) → first ≤ k → k < first + count → k < 64 * length words)

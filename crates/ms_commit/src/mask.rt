@@ -107,7 +107,7 @@ impl<const WORDS: usize> Mask<WORDS> {
         ensures counted { is_among self.old number ≡ true → length self.new + 1 ≡ length self.old }
         ensures set { IsSetBelow (64 * WORDS) self.new }
     {
-        clear_bits(&mut self.words, number, number + 1);
+        let _ = clear_bits(&mut self.words, number, number + 1);
     }
 
     /// Adds the numbers of a range.
@@ -122,15 +122,16 @@ impl<const WORDS: usize> Mask<WORDS> {
         set_bits(&mut self.words, first, first + count);
     }
 
-    /// Takes the numbers of a range out.
-    pub fn remove_range(&mut self, first: usize, count: usize)
+    /// Takes the numbers of a range out, and tells how many of them were members.
+    pub fn remove_range(&mut self, first: usize, count: usize) -> usize
         requires within { (k : ℕ) → first ≤ k → k < first + count → k < 64 * WORDS }
         requires fits { first + count < 2 ^ 64 }
+        ensures members { result ≡ count_within self.old first count }
         ensures removed { self.new ≡ without_range self.old first count }
         ensures counted { length self.new + count_within self.old first count ≡ length self.old }
         ensures set { IsSetBelow (64 * WORDS) self.new }
     {
-        clear_bits(&mut self.words, first, first + count);
+        clear_bits(&mut self.words, first, first + count)
     }
 }
 
@@ -170,14 +171,20 @@ fn set_bits(words: &mut [u64], first: usize, end: usize)
     }
 }
 
-/// Clears the bits of the numbers from `first` up to `end`.
-fn clear_bits(words: &mut [u64], first: usize, end: usize)
-    ensures { (k : ℕ) → k < 64 * length words.old
+/// Clears the bits of the numbers from `first` up to `end`, and tells how many of them were set;
+/// those past the words are clear.
+fn clear_bits(words: &mut [u64], first: usize, end: usize) -> usize
+    ensures count { result ≡ length (filter (is_set words.old) (range_with_len first (end - first))) }
+    ensures cleared { (k : ℕ) → k < 64 * length words.old
         → is_set words.new k ≡ (is_set words.old k && not (nat_le first k && nat_lt k end)) }
 {
+    let mut count = 0;
     for index in first / BITS..end.div_ceil(BITS).min(words.len()) {
-        words[index] &= !bits_between(first, end, BITS * index);
+        let bits = bits_between(first, end, BITS * index);
+        count += (words[index] & bits).count_ones() as usize;
+        words[index] &= !bits;
     }
+    count
 }
 
 /// Finds the lowest number whose bit is clear.

@@ -137,8 +137,7 @@ impl Nodes {
     {
         let count = self.slot_granules as usize;
         let first = slot as usize * count;
-        let cleared = self.granules.count(first, count);
-        self.granules.remove_range(first, count);
+        let cleared = self.granules.remove_range(first, count);
         self.committed -= cleared as u64;
         self.slots.remove(slot as usize);
         self.reserved -= 1;
@@ -189,8 +188,7 @@ impl Nodes {
         requires { AreInReserved self.old first count }
         ensures { self.new ≡ without_granules self.old first count }
     {
-        let present = self.granules.count(first as usize, count as usize);
-        self.granules.remove_range(first as usize, count as usize);
+        let present = self.granules.remove_range(first as usize, count as usize);
         self.committed -= present as u64;
     }
 

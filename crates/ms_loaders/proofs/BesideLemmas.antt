@@ -1,5 +1,5 @@
 -- An allocation under a name beside the row is one under a name of the table. `allocate_in` uses this.
-use Rattle.std.proofs.Common.{◌≡◌, ℕ, cond, Option, Some, None, Result, Ok, Err, List, sym, ap, ◌∙◌, inl, inr, true}
+use Rattle.std.proofs.Common.{◌≡◌, ℕ, cond, Some, Result, Ok, Err, List, sym, ap, ◌∙◌, inl, inr}
 use Rattle.std.specs.Prelude.{nat_eq}
 use Rattle.std.specs.Map.{lookup}
 use Rattle.std.proofs.lemmas.Bool.{cases_eq, eq-eqb, ne_eqb}
@@ -14,7 +14,7 @@ use Rattle.ms_base.proofs.entries.LookupLemmas.{named_new_same, named_new_other}
 use Rattle.ms_arena.specs.Alloc.{TakeRelation, GrowRelation}
 use Rattle.ms_arena.specs.Raw.{RawView}
 use Rattle.ms_loaders.specs.Naming.{AllocatesNamed, EnterRefused, names_after}
-use Rattle.ms_loaders.specs.Table.{TableView, NamesAnew, StayNamed, block_of, entries_of, in_row, no_block, unless_none}
+use Rattle.ms_loaders.specs.Table.{TableView, NamesAnew, block_of, entries_of, in_row, no_block, unless_none}
 use Rattle.ms_loaders.proofs.TableLemmas.{named_of, new_entries, stay_entries}
 
 -- The table with these others.

@@ -93,7 +93,7 @@ impl Loader {
         ensures made { self.new ≡ new_loader account class_account kind }
         ensures sound { IsSoundView self.new }
     {
-        self.names.clear();
+        forget(&mut self.names, &self.arena, &self.class_arena);
         let former = self.arena.renew(account, kind);
         (former, self.class_arena.renew(class_account, kind))
     }
@@ -271,4 +271,15 @@ impl Loader {
     {
         self.arena.used() + self.class_arena.used()
     }
+}
+
+/// Takes all names out; where neither arena holds a chunk there are none.
+fn forget(names: &mut Names, arena: &RawArena, class_arena: &RawArena)
+    requires none { arena.now.books.chunks ≡ [] → class_arena.now.books.chunks ≡ [] → names.old.entries ≡ [] }
+    ensures { names.new.entries ≡ [] }
+{
+    if arena.account().held() == 0 && class_arena.account().held() == 0 {
+        return;
+    }
+    names.clear();
 }

@@ -1,18 +1,13 @@
-use Rattle.std.proofs.Common.{◌*◌, ◌/◌, ◌+◌, ◌&&◌, ap, ◌∙◌, sym, length, arith}
+use Rattle.std.proofs.Common.{◌*◌, ◌+◌, ◌&&◌, ap, ◌∙◌, length, arith}
 use Rattle.std.specs.Prelude.{nat_le, nat_lt}
-use Rattle.std.proofs.lemmas.Bool.Decides.{nat_tests}
 use Rattle.ms_commit.specs.Mask.{is_set}
-use Rattle.ms_commit.proofs.RangeLemmas.{and_false, filter_none_in, length-filter-below, filter-window}
+use Rattle.ms_commit.proofs.RangeLemmas.{filter-window}
 use Rattle.ms_commit.proofs.MaskLemmas.{is_set-past}
-use Rattle.ms_commit.proofs.CountLemmas.{counted_more}
+use Rattle.ms_commit.proofs.CountLemmas.{counted_more, none_within, within_below}
 use Rattle.ms_commit.proofs.mask.count_bits.Goals as goal
 
 pub loop-index-init : goal.loop-index-init
-loop-index-init c =
-    ap length (sym (filter_none_in (λ k. is_set c.args.words.now k && (nat_le c.args.first k && nat_lt k c.args.end)) 0
-    (64 * (c.args.first / 64))
-    (λ k low high. and_false (is_set c.args.words.now k) (nat_le c.args.first k && nat_lt k c.args.end)
-    (grind (arith, nat_tests)))))
+loop-index-init c = none_within c.args.words.now c.args.first c.args.end
 
 pub loop-index-preserved : goal.loop-index-preserved
 loop-index-preserved c =
@@ -25,10 +20,7 @@ overflow_add-count c =
     omega (
       arith,
       loop-index-preserved c,
-      length-filter-below (λ k. is_set c.args.words.now k && (nat_le c.args.first k && nat_lt k c.args.end))
-          (64 * (c.loop-index.index + 1)) c.args.end
-          (λ k past. and_false (is_set c.args.words.now k) (nat_le c.args.first k && nat_lt k c.args.end)
-          (grind (arith, nat_tests))),
+      within_below c.args.words.now c.args.first c.args.end (64 * (c.loop-index.index + 1)),
     )
 
 pub returns : goal.returns

@@ -11,5 +11,5 @@ returns-clause-bits c other =
 pub returns-clause-filled : goal.returns-clause-filled
 returns-clause-filled c are =
     row_changed c.args.self.now.words c.args.self.now.filled _ _ _ _ (omega (arith, c.requires)) are refl
-    (λ other. changed c.args.self.now.filled _ other _ _ (omega (arith, c.requires)) c.with_bit-row_word.ensures.here
-    c.with_bit-row_word.ensures.others)
+    (λ other. changed c.args.self.now.filled _ other _ _ (omega (arith, c.requires)) c.with_bit.ensures.here
+    c.with_bit.ensures.others)

@@ -8,7 +8,7 @@ use Rattle.ms_commit.proofs.mask.Mask.remove.Goals as goal
 pub returns-clause-removed : goal.returns-clause-removed
 returns-clause-removed g c =
     members_remove c.self.inside.words c.clear_bits.new.words c.args.number
-    (c.clear_bits.auto.words, c.clear_bits.ensures)
+    (c.clear_bits.auto.words, c.clear_bits.ensures.cleared)
     ∙ ap (λ members. without_number members c.args.number) c.self.view_is
 
 pub returns-clause-counted : goal.returns-clause-counted
@@ -18,7 +18,7 @@ returns-clause-counted g c =
     subst IsCounted c.self.view_is (λ member. omega (
       arith,
       counted_without c.self.inside.words c.clear_bits.new.words c.args.number 1
-          (λ k low high. omega (arith, c.self.told, c.requires.within)) (c.clear_bits.auto.words, c.clear_bits.ensures),
+          (λ k low high. omega (arith, c.self.told, c.requires.within)) (c.clear_bits.auto.words, c.clear_bits.ensures.cleared),
       count_within-one (members_of c.self.inside.words) c.args.number true member,
     ))
 

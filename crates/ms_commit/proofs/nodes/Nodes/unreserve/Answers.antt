@@ -3,8 +3,8 @@ use Rattle.std.proofs.lemmas.Nat.{row_fits}
 use Rattle.ms_commit.proofs.KeepingLemmas.{slot_in_kept, kept_unreserve}
 use Rattle.ms_commit.proofs.nodes.Nodes.unreserve.Goals as goal
 
-pub remove_range-requires : goal.remove_range-requires
-remove_range-requires c =
+pub remove_range-cleared-requires : goal.remove_range-cleared-requires
+remove_range-cleared-requires c =
     let inside = row_fits c.args.slot c.self.inside.slot_granules 64 512 c.requires.below c.self.invariant.slot_few in
     (omega arith, (λ k low high. omega (arith, inside), omega (arith, inside)))
 
@@ -16,9 +16,9 @@ invariant_of-self c =
     let reserved =
     slot_in_kept c.self.inside c.args.self.now c.args.slot c.self.view_is c.requires.reserved c.requires.below in
     let slots = c.remove.ensures in
-    let granules = c.remove_range.ensures in
-    kept_unreserve c.self.inside c.remove.new.self c.remove_range.new.self c.args.slot c.count-cleared.result
-    c.self.invariant c.count-cleared.ensures slots.removed (slots.counted reserved) slots.set
+    let granules = c.remove_range-cleared.ensures in
+    kept_unreserve c.self.inside c.remove.new.self c.remove_range-cleared.new.self c.args.slot c.remove_range-cleared.result
+    c.self.invariant granules.members slots.removed (slots.counted reserved) slots.set
     granules.removed granules.set.rising granules.counted
 
 pub overflow_sub-self-2 : goal.overflow_sub-self-2

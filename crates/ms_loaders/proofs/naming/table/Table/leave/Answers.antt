@@ -1,4 +1,4 @@
-use Rattle.std.proofs.Common.{◌≡◌, ◌∙◌, ◌+◌, ◌-◌, ℕ, List, ap, arith, drop, length-drop, take, take_at}
+use Rattle.std.proofs.Common.{◌≡◌, ◌∙◌, ◌+◌, ◌-◌, List, ap, arith, drop, length-drop, take, take_at}
 use Rattle.ms_base.specs.declared.span.Block.{Block}
 use Rattle.ms_loaders.specs.Table.{TableView, block_in, block_of}
 use Rattle.ms_loaders.proofs.SlideLemmas.{left_behind}
