@@ -34,12 +34,18 @@ use std::marker::Model;
 const SMALL_BLOCKS: usize = 128;
 
 /// The arena of one class loader in one space. After HotSpot's metaspaceArena.hpp.
-#[derive(Drop)]
 pub struct Arena {
     /// Chunks, tops, free blocks and words.
     raw: RawArena,
     /// How many words each live block has, by its start.
     live: HashMap<u64, u64>,
+}
+
+impl Drop for Arena {
+    /// Lets its parts go. Written out, so that crates above drop it by a call and see no part.
+    fn drop(self) {
+        let Arena { raw: _, live: _ } = self;
+    }
 }
 
 impl Model for Arena {
@@ -165,7 +171,8 @@ impl Arena {
     pub fn into_account(self) -> Account
         ensures { result ≡ account_of self }
     {
-        self.raw.into_account()
+        let Arena { raw, live: _ } = self;
+        raw.into_account()
     }
 
     /// Lends the account. A caller also learns here what is true of every arena. Takes no memory.

@@ -50,7 +50,6 @@ const MANY_BLOCKS: usize = 64;
 
 /// The arena of one class loader in one space, which trusts whoever has its blocks. After HotSpot's
 /// metaspaceArena.hpp.
-#[derive(Drop)]
 pub struct RawArena {
     /// Where the words of live blocks come from.
     alloc: Global,
@@ -64,6 +63,20 @@ pub struct RawArena {
     count: usize,
     /// How many words these have together, modulo 2^64.
     total: u64,
+}
+
+impl Drop for RawArena {
+    /// Lets its parts go. Written out, so that crates above drop it by a call and see no part.
+    fn drop(self) {
+        let RawArena {
+            alloc: _,
+            kind: _,
+            books: _,
+            words: _,
+            count: _,
+            total: _,
+        } = self;
+    }
 }
 
 impl Model for RawArena {
@@ -211,7 +224,15 @@ impl RawArena {
     pub fn into_account(self) -> Account
         ensures { result ≡ raw_account self }
     {
-        self.books.into_account()
+        let RawArena {
+            alloc: _,
+            kind: _,
+            books,
+            words: _,
+            count: _,
+            total: _,
+        } = self;
+        books.into_account()
     }
 
     /// Lends the account. Takes no memory.

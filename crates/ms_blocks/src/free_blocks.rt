@@ -24,7 +24,6 @@ use std::marker::Model;
 /// The words that an arena keeps for its next allocations: blocks that don't meet, each of at
 /// least two words, and room for more of them. A start is a word number, and a size is in words.
 /// Adding and removing take time that grows like the logarithm of the blocks kept.
-#[derive(Drop)]
 pub struct FreeBlocks<A: Allocator = Global> {
     /// The free blocks by rank, one a fork, in trees by size; none before room is first made.
     trees: Trees<A>,
@@ -34,6 +33,18 @@ pub struct FreeBlocks<A: Allocator = Global> {
     count: usize,
     /// How many words they have together, below 2 ^ 64.
     total: u64,
+}
+
+impl<A: Allocator> Drop for FreeBlocks<A> {
+    /// Lets its parts go. Written out, so that crates above drop it by a call and see no part.
+    fn drop(self) {
+        let FreeBlocks {
+            trees: _,
+            spare: _,
+            count: _,
+            total: _,
+        } = self;
+    }
 }
 
 impl<A: Allocator> Model for FreeBlocks<A> {

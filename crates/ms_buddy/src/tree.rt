@@ -43,7 +43,6 @@ use std::marker::Model;
 
 /// The split tree of one root chunk, whose words are numbered from 0. Contracts see the
 /// list of its lent leaves, in order of address. After JEP 387.
-#[derive(Drop)]
 pub struct SplitTree<A: Allocator> {
     /// What is lent from each place on.
     places: Places<A>,
@@ -51,6 +50,17 @@ pub struct SplitTree<A: Allocator> {
     counts: [u16; LEVELS],
     /// Which parts of the root are free leaves.
     free: FreeBits,
+}
+
+impl<A: Allocator> Drop for SplitTree<A> {
+    /// Lets its parts go. Written out, so that crates above drop it by a call and see no part.
+    fn drop(self) {
+        let SplitTree {
+            places: _,
+            counts: _,
+            free: _,
+        } = self;
+    }
 }
 
 impl<A: Allocator> Model for SplitTree<A> {

@@ -30,7 +30,6 @@ use std::marker::Model;
 
 /// One class loader. After HotSpot's ClassLoaderMetaspace, which has an arena in each space too;
 /// the names are this project's choice.
-#[derive(Drop)]
 pub struct Loader {
     // Its arena in the space that is not the class space.
     arena: RawArena,
@@ -38,6 +37,17 @@ pub struct Loader {
     class_arena: RawArena,
     // Its live blocks by name, 0 to 2^32 - 1: each where it starts, and its words.
     names: Names,
+}
+
+impl Drop for Loader {
+    /// Lets its parts go. Written out, so that crates above drop it by a call and see no part.
+    fn drop(self) {
+        let Loader {
+            arena: _,
+            class_arena: _,
+            names: _,
+        } = self;
+    }
 }
 
 impl Model for Loader {
@@ -233,7 +243,12 @@ impl Loader {
         ensures account { result.0 ≡ account_in NonClass self }
         ensures class_account { result.1 ≡ account_in Class self }
     {
-        (self.arena.into_account(), self.class_arena.into_account())
+        let Loader {
+            arena,
+            class_arena,
+            names: _,
+        } = self;
+        (arena.into_account(), class_arena.into_account())
     }
 
     /// Lends the accounts, the class space's last. A caller also learns here what is true of every

@@ -40,7 +40,6 @@ use std::marker::Model;
 pub use walks::{Iter, Values};
 
 /// Loaders by name. This project's choice; HotSpot's class loader data hang in a list.
-#[derive(Drop)]
 pub struct Loaders {
     // Where the boxes and the pages come from.
     alloc: Global,
@@ -54,6 +53,20 @@ pub struct Loaders {
     owners: Owners,
     // Loaders that were unloaded, for new ones.
     spares: Spares,
+}
+
+impl Drop for Loaders {
+    /// Lets its parts go. Written out, so that crates above drop it by a call and see no part.
+    fn drop(self) {
+        let Loaders {
+            alloc: _,
+            places: _,
+            first: _,
+            count: _,
+            owners: _,
+            spares: _,
+        } = self;
+    }
 }
 
 impl Model for Loaders {

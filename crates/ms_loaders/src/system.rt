@@ -39,7 +39,6 @@ pub use sums::LoaderTotals;
 
 /// The interval machine in one thread: class loaders by name, each with an arena in each space,
 /// over one pool.
-#[derive(Drop)]
 pub struct System {
     // Where loaders, blocks and replies come from.
     alloc: Global,
@@ -49,6 +48,18 @@ pub struct System {
     pool: Pool,
     // The loaders by name, at most 65536, whose accounts are all that the pool has open.
     loaders: Loaders,
+}
+
+impl Drop for System {
+    /// Lets its parts go. Written out, so that crates above drop it by a call and see no part.
+    fn drop(self) {
+        let System {
+            alloc: _,
+            policy: _,
+            pool: _,
+            loaders: _,
+        } = self;
+    }
 }
 
 impl Model for System {

@@ -17,7 +17,6 @@ use std::marker::Model;
 /// What was lent to one owner in one space. It can't be cloned; an account that is dropped without
 /// `close` stays open, and its chunks stay lent. This project's choice; HotSpot's arenas keep such
 /// a list themselves.
-#[derive(Drop)]
 pub struct Account {
     /// The owner's number, 1 to 4294967295; 0 where the account is closed.
     pub(crate) owner: u32,
@@ -25,6 +24,17 @@ pub struct Account {
     pub(crate) space: Space,
     /// The chunks in the order taken; starts are word numbers, fronts words.
     pub(crate) chunks: Vec<Chunk>,
+}
+
+impl Drop for Account {
+    /// Lets its parts go. Written out, so that crates above drop it by a call and see no part.
+    fn drop(self) {
+        let Account {
+            owner: _,
+            space: _,
+            chunks: _,
+        } = self;
+    }
 }
 
 impl Model for Account {
@@ -48,6 +58,16 @@ impl Account {
             space,
             chunks: Vec::new(alloc),
         }
+    }
+
+    /// Gives the list of the chunks out, and drops all else.
+    pub(crate) fn into_chunks(self) -> Vec<Chunk> {
+        let Account {
+            owner: _,
+            space: _,
+            chunks,
+        } = self;
+        chunks
     }
 
     /// Tells how many chunks the account holds. A caller also learns here what is true of the

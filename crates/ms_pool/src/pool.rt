@@ -26,11 +26,17 @@ use std::marker::Model;
 /// The pool of both spaces: it lends buddy chunks to accounts from the root chunks of reserved
 /// nodes, commits their fronts by granules, and takes everything of an account back in one step.
 /// After HotSpot's chunkManager.cpp and virtualSpaceList.cpp.
-#[derive(Drop)]
 pub struct Pool {
     /// All that is kept; `Lender` has units and ranges. In a box, since it has some kilobytes and a
     /// pool is moved into and out of locks.
     lender: Box<Lender>,
+}
+
+impl Drop for Pool {
+    /// Lets its parts go. Written out, so that crates above drop it by a call and see no part.
+    fn drop(self) {
+        let Pool { lender: _ } = self;
+    }
 }
 
 impl Model for Pool {

@@ -44,8 +44,9 @@ impl Spare {
 
     /// Keeps the memory of an account's list, where it isn't much and there is none here.
     pub(crate) fn keep(&mut self, account: Account) {
-        if self.chunks.capacity() == 0 && account.chunks.capacity() <= MOST {
-            self.chunks = account.chunks;
+        let chunks = account.into_chunks();
+        if self.chunks.capacity() == 0 && chunks.capacity() <= MOST {
+            self.chunks = chunks;
         }
     }
 }

@@ -48,11 +48,10 @@ impl SharedPool {
         requires { seat.id ≡ self.now.id }
         ensures { result ≡ seat }
     {
-        let PoolSeat { seat } = seat;
         LockedPool {
             rt,
             shared: self,
-            seat,
+            seat: seat.into_table_seat(),
         }
     }
 }

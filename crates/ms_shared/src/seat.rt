@@ -12,9 +12,15 @@ use std::marker::Model;
 
 /// A thread's right to call a pool behind a lock. A seat that is dropped takes what it serves with
 /// it, and its lock can't give the pool out again. This project's choice.
-#[derive(Drop)]
 pub struct PoolSeat {
     pub(crate) seat: Seat<Option<Pool>, LockView>,
+}
+
+impl Drop for PoolSeat {
+    /// Lets its parts go. Written out, so that crates above drop it by a call and see no part.
+    fn drop(self) {
+        let PoolSeat { seat: _ } = self;
+    }
 }
 
 impl Model for PoolSeat {

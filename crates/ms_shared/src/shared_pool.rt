@@ -32,10 +32,16 @@ use std::sync::Wait;
 use std::thread;
 
 /// A pool behind a lock. This project's choice.
-#[derive(Drop)]
 pub struct SharedPool {
     table: Table<Option<Pool>, LockView, LockKey, Locked, Global>,
     made: usize,
+}
+
+impl Drop for SharedPool {
+    /// Lets its parts go. Written out, so that crates above drop it by a call and see no part.
+    fn drop(self) {
+        let SharedPool { table: _, made: _ } = self;
+    }
 }
 
 impl Model for SharedPool {

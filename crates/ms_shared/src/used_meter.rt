@@ -17,10 +17,16 @@ use std::alloc::{AllocError, Global};
 use std::marker::Model;
 
 /// A count of used words that threads share. This project's choice.
-#[derive(Drop)]
 pub struct UsedMeter {
     table: Table<u8, MeterView, usize, Metered, Global>,
     made: usize,
+}
+
+impl Drop for UsedMeter {
+    /// Lets its parts go. Written out, so that crates above drop it by a call and see no part.
+    fn drop(self) {
+        let UsedMeter { table: _, made: _ } = self;
+    }
 }
 
 impl Model for UsedMeter {
@@ -39,9 +45,15 @@ impl Model for UsedMeter {
 
 /// A thread's right to add to a meter and to take from it, with an amount of its own. A seat that
 /// is dropped leaves its amount in the word, and its meter can't be closed. This project's choice.
-#[derive(Drop)]
 pub struct MeterSeat {
     seat: Seat<u8, MeterView>,
+}
+
+impl Drop for MeterSeat {
+    /// Lets its parts go. Written out, so that crates above drop it by a call and see no part.
+    fn drop(self) {
+        let MeterSeat { seat: _ } = self;
+    }
 }
 
 impl Model for MeterSeat {

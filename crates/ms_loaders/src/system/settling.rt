@@ -65,6 +65,12 @@ impl System {
         ensures all { open_accounts result.0 ≡ accounts_in result.1 }
         ensures names { AreNamed result.1 }
     {
-        (self.pool, self.loaders)
+        let System {
+            alloc: _,
+            policy: _,
+            pool,
+            loaders,
+        } = self;
+        (pool, loaders)
     }
 }
