@@ -14,7 +14,7 @@ use Rattle.ms_buddy.specs.FreeBits.{ArePut, IsMoved, MayJoin, MayPart, bit_of}
 use Rattle.ms_buddy.specs.Leaves.{span_at}
 use Rattle.ms_buddy.specs.Tree.{IsPlace}
 use Rattle.ms_buddy.proofs.TreeHalvesLemmas.{holder_is, lower_place, size_of-halves, size_of-some, upper_place}
-use Rattle.ms_buddy.proofs.NumberLemmas.{holder_place, number_below, number_from}
+use Rattle.ms_buddy.proofs.NumberLemmas.{holder_place, level_back, number_below, number_from}
 use Rattle.ms_buddy.proofs.BuddyLemmas.{lower_is_buddy, number_of-holder, past, upper_is_buddy}
 use Rattle.ms_buddy.proofs.CountLemmas.{lower_beside, number-cons, number-none, number-one, none_beside, upper_beside}
 
@@ -89,12 +89,9 @@ pub put_above : (words mid new : List ℕ) (level at lent number bit : ℕ) → 
 put_above words mid new level at lent number bit some deep low below e more one m =
     by_case (number == m) (bit_of words m) (bit_of mid m) (bit_of new m) _
     (count_of_number m (beside (holder_of level (span_at at lent)) (span_at at lent)))
-    (rw e (rw (back level some) at (next_beside (level - 1) at lent m (omega (arith, some, deep)) low below)))
+    (rw e (rw (level_back level some) at (next_beside (level - 1) at lent m (omega (arith, some, deep)) low below)))
     (more m) (one m)
   where
-    back : (level : ℕ) → 0 < level → level - 1 + 1 ≡ level
-    back level some = omega (arith, some)
-
     by_case : (is : Bool) (old mid new count rest : ℕ) → count ≡ cond is 1 0 + rest
         → mid ≡ cond (nat_lt 0 rest) bit old → new ≡ cond is bit mid → new ≡ cond (nat_lt 0 count) bit old
     by_case true old mid new count rest e more one = grind (arith, nat_tests)

@@ -62,15 +62,16 @@ number_fits level start h below =
     large : 128 ≤ size_of level
     large = pow-le-pow_right {n = 2} (omega arith) {i = 7} {j = 19 - level} (omega arith)
 
+-- The level below the one above is the level.
+pub level_back : (level : ℕ) → 0 < level → level - 1 + 1 ≡ level
+level_back level some = omega (arith, some)
+
 twice_size : (level : ℕ) → 0 < level → level ≤ highest_level → size_of level * 2 ≡ size_of (level - 1)
 twice_size level some h = omega (
   arith,
   size_of-halves (level - 1) (omega (arith, some, h)),
-  ap size_of (there level some),
+  ap size_of (level_back level some),
 )
-  where
-    there : (level : ℕ) → 0 < level → level - 1 + 1 ≡ level
-    there level some = omega (arith, some)
 
 -- The part of the level above that starts there has half the number, and the root has 1.
 pub number_above : (level at : ℕ) → 0 < level → level ≤ highest_level
