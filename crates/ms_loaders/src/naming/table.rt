@@ -40,8 +40,8 @@ pub struct Table {
     pub(super) others: HashMap<u32, SmallBlock>,
     /// How many names the row has, as they came and went.
     count: usize,
-    /// How many came since the row last slid on.
-    came: usize,
+    /// How many were asked for since the row last slid on.
+    asked: usize,
 }
 
 impl Model for Table {
@@ -68,7 +68,7 @@ impl Table {
             row: Vec::new(alloc),
             others: HashMap::new(alloc),
             count: 0,
-            came: 0,
+            asked: 0,
         }
     }
 
@@ -82,7 +82,7 @@ impl Table {
             self.others.clear();
         }
         self.count = 0;
-        self.came = 0;
+        self.asked = 0;
     }
 
     /// Tells for how many names there is memory.
@@ -111,6 +111,7 @@ impl Table {
         ensures none { IsFalse result → in_row self.new.first self.new.row name ≡ no_block }
         ensures stay { StayNamed self.old self.new }
     {
+        self.asked = self.asked.wrapping_add(1);
         if has_place(self.first, &self.row, name) {
             return true;
         }
@@ -125,8 +126,9 @@ impl Table {
     }
 
     /// Makes the row longer, or has it slide on, for a name that has no place in it, where the name
-    /// is near. It slides only once so many names came as a quarter of its places, so that it costs
-    /// no more than they did. All names stay.
+    /// is near. It slides only once so many names were asked for as a quarter of its places, so that
+    /// it costs no more than they did; those that are refused count, or many of them would have the
+    /// row stay behind for good. All names stay.
     #[inline(never)]
     fn grow(&mut self, name: usize, many: bool) -> Result<(), AllocError>
         requires { name < 2 ^ 32 }
@@ -145,7 +147,7 @@ impl Table {
         }
         let half = places / 2;
         if wanted <= places + half
-            && half <= self.came.saturating_mul(2)
+            && half <= self.asked.saturating_mul(2)
             && self.first + half + places <= NAMES
         {
             return self.slide(half);
@@ -191,7 +193,7 @@ impl Table {
         self.row.truncate(left);
         self.first += names;
         self.count = self.count.saturating_sub(moved);
-        self.came = 0;
+        self.asked = 0;
         Ok(())
     }
 
@@ -205,7 +207,6 @@ impl Table {
     {
         let _ = set_block(self.first, &mut self.row, name, SmallBlock::new(block));
         self.count = self.count.wrapping_add(1);
-        self.came = self.came.wrapping_add(1);
     }
 
     /// Takes a name out, and tells which block had it, if one had.
