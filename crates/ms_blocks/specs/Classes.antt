@@ -1,5 +1,5 @@
--- Blocks by rank, in trees by size: one for each number of words below 55, one for those below 256, one for those below
--- 65,536, and seven of 65,536 sizes each, the last with all above (this project's choice).
+-- Blocks by rank, in trees by size: one for each number of words below 32, and above that for ranges of sizes, the last
+-- with all from 458,752 on (this project's choice).
 use Rattle.std.specs.Prelude.{◌≡◌, ◌≢◌, ℕ, ◌+◌, ◌<◌, List, [], ◌∷◌, ◌++◌, length, min, slice_get, Some}
 use Rattle.std.specs.Prelude.{Vec, IfSome, None, nat_lt, ◌/◌, if◌then◌else◌}
 use Rattle.std.specs.Option.{option_map_or}
@@ -14,9 +14,12 @@ use Rattle.ms_blocks.specs.Tree.{blocks_of}
 -- The number of the tree in which blocks of so many words are.
 abbrev pub class_of : ℕ → ℕ
 class_of words =
-    if nat_lt words 55 then words
-    else if nat_lt words 256 then 55
-    else 56 + min (words / 65536) 7
+    if nat_lt words 32 then words
+    else if nat_lt words 64 then 28 + words / 8
+    else if nat_lt words 256 then 34 + words / 32
+    else if nat_lt words 2048 then 42 + words / 512
+    else if nat_lt words 32768 then 46 + words / 8192
+    else 49 + min (words / 32768) 14
 
 -- The blocks of trees, one tree after the other.
 abbrev pub all_of : {A : Type 0} → List (Tree A) → List Block

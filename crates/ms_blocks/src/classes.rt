@@ -1,8 +1,8 @@
-//! Blocks by rank, in 64 trees by size: one for each number of words below 55, one for those below
-//! 256, one for those below 65,536, and seven of 65,536 sizes each, the last with all above.
+//! Blocks by rank, in 64 trees by size: one for each number of words below 32, and for larger ones
+//! ranges that are wider the larger they are, the last with all above.
 //!
-//!     words     0     1     2     ..    54    55..255    256..65,535   65,536..131,071   ..
-//!     tree    | - | | - | | /\ |  ..  | /\ |   | /\ |        | /\ |            | /\ |        ..
+//!     words     0     1     2     ..    31    32..39    ..    256..511    ..    32,768..65,535    ..
+//!     tree    | - | | - | | /\ |  ..  | /\ |   | /\ |    ..     | /\ |     ..        | /\ |        ..
 //!
 //! The blocks of a tree rank before those of the next, so what callers see is one list, and each
 //! tree is a low one. A best fit is in the tree of its size, or where none there is large enough in
@@ -20,9 +20,6 @@ use std::alloc::{AllocError, Allocator};
 
 /// How many trees there are.
 const CLASSES: usize = 64;
-
-/// The first class of more than one size.
-const FIRST_LARGE: u64 = 55;
 
 /// The trees, which are there once room was made.
 #[derive(Drop)]
@@ -97,12 +94,12 @@ pub fn take_in<A: Allocator>(trees: &mut Trees<A>, words: u64) -> Option<Box<For
     ensures found { first_fit (blocks_in trees.old) words ≡ option_map (λ fork. fork.value.block) result }
     ensures left { blocks_in trees.new ≡ without_fit (blocks_in trees.old) words }
 {
-    // No class is lower than this.
-    if trees.some >> words.min(FIRST_LARGE) == 0 {
+    let class = class_of(words);
+    if trees.some >> class == 0 {
         return None;
     }
     match &mut trees.classes {
-        Some(classes) => take_among(classes.as_mut_slice(), &mut trees.some, words),
+        Some(classes) => take_among(classes.as_mut_slice(), &mut trees.some, class, words),
         None => None,
     }
 }
@@ -119,21 +116,22 @@ fn insert_among<A: Allocator>(trees: &mut [Tree<A>], some: &mut u64, spare: Box<
     insert(&mut trees[class], spare);
 }
 
-/// Takes the first block of ranked trees that has so many words, with its fork. Out of line, since
-/// few allocations come here.
+/// Takes the first block of ranked trees that has so many words, those of a class, with its fork.
+/// Out of line, since few allocations come here.
 #[inline(never)]
 fn take_among<A: Allocator>(
     trees: &mut [Tree<A>],
     some: &mut u64,
+    class: usize,
     words: u64,
 ) -> Option<Box<Fork<A>, A>>
+    requires class { class ≡ class_of words }
     requires trees { AreByClass some.old trees.old }
     requires ranked { IsRanked (all_of trees.old) }
     ensures trees { AreByClass some.new trees.new }
     ensures found { first_fit (all_of trees.old) words ≡ option_map (λ fork. fork.value.block) result }
     ensures left { all_of trees.new ≡ without_fit (all_of trees.old) words }
 {
-    let class = class_of(words);
     match take_at(trees, some, class, words) {
         Some(found) => Some(found),
         // None of this class has so many words, and each of a later one has.
@@ -197,12 +195,18 @@ fn class_of(words: u64) -> usize
     ensures class { result ≡ class_of words }
     ensures within { result < 64 }
 {
-    let class = if words < FIRST_LARGE {
+    let class = if words < 32 {
         words
+    } else if words < 64 {
+        28 + words / 8
     } else if words < 256 {
-        FIRST_LARGE
+        34 + words / 32
+    } else if words < 2048 {
+        42 + words / 512
+    } else if words < 32768 {
+        46 + words / 8192
     } else {
-        56 + (words / 65536).min(7)
+        49 + (words / 32768).min(14)
     };
     class as usize
 }

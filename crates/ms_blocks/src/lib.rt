@@ -7,7 +7,7 @@
 //!                                                            (40, 4)
 //!
 //! Fewer words rank first, and of as many words the lower start. So the best fit is the first block
-//! that is large enough. Blocks of fewer than 55 words are in a tree for each size and larger ones
+//! that is large enough. Blocks of fewer than 32 words are in a tree for each size and larger ones
 //! in trees for a range of sizes each, a bit tells which trees have any, and a path down one or two
 //! of them finds it.
 //! Kept true: no two blocks meet, each has at least two words, and none ends past 2 ^ 64 - 1.

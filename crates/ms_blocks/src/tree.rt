@@ -236,9 +236,11 @@ fn level_anew<A: Allocator>(tree: &mut Tree<A>) -> bool
     ensures { blocks_of tree.new ≡ blocks_of tree.old }
 {
     let height = height_of(tree);
-    if !is_level(tree) {
-        turn(tree);
+    let mut moved = false;
+    if is_level(tree, &mut moved) {
+        return moved;
     }
+    turn(tree);
     height_of(tree) != height
 }
 
@@ -253,8 +255,10 @@ fn turn<A: Allocator>(tree: &mut Tree<A>)
     }
 }
 
-/// Tells whether neither side of the fork on top is higher by two, and its height anew.
-fn is_level<A: Allocator>(tree: &mut Tree<A>) -> bool
+/// Tells whether neither side of the fork on top is higher by two, and its height anew; `moved`
+/// tells whether that is another one.
+#[inline(always)]
+fn is_level<A: Allocator>(tree: &mut Tree<A>, moved: &mut bool) -> bool
     ensures { blocks_of tree.new ≡ blocks_of tree.old }
 {
     match tree {
@@ -262,7 +266,9 @@ fn is_level<A: Allocator>(tree: &mut Tree<A>) -> bool
         Tree::Forked(fork) => {
             let left = height_of(&fork.left);
             let right = height_of(&fork.right);
-            fork.height = left.max(right).wrapping_add(1);
+            let height = left.max(right).wrapping_add(1);
+            *moved = height != fork.height;
+            fork.height = height;
             left <= right.wrapping_add(1) && right <= left.wrapping_add(1)
         }
     }
