@@ -189,7 +189,7 @@ impl Table {
     {
         let moved = hand_over(self.first, self.row.as_slice(), names, &mut self.others)?;
         let left = self.row.len() - names;
-        self.row.rotate_left(names);
+        self.row.copy_within(names.., 0);
         self.row.truncate(left);
         self.first += names;
         self.count = self.count.saturating_sub(moved);
