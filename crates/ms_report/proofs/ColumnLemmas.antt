@@ -1,9 +1,9 @@
 -- Columns written from the right into blank bytes. Used by `columns`.
 use Rattle.std.proofs.Common.{◌≡◌, ◌≤◌, ◌<◌, ◌^◌, ℕ, zero, suc, ◌-◌, List, ◌++◌, length, replicate, drop, take, sym, ◌∙◌, ap}
-use Rattle.std.proofs.Common.{◌+◌, min, codes, arith, append_assoc, refl, [], ◌∷◌, length-append}
+use Rattle.std.proofs.Common.{◌+◌, min, codes, arith, append_assoc, refl, [], ◌∷◌}
 use Rattle.std.proofs.Common.{Result, Ok, Err, OnOk}
 use Rattle.std.proofs.lemmas.Fmt.{IsAscii-decimal, length-decimal-le}
-use Rattle.std.proofs.lemmas.List.{take_all, take-append-drop, take-replicate, drop-replicate, drop-append-le, take-append-le}
+use Rattle.std.proofs.lemmas.List.{take-append-drop, take-replicate, drop-replicate, drop-append-le, take-append-le}
 use Rattle.std.proofs.lemmas.List.{length-drop, length-replicate, length-take-le, drop-drop, drop_at}
 use borrow.Rule.Slice.PartMut.{put_mid}
 use Rattle.std.proofs.lemmas.Slice.{take-put_mid_below}
@@ -134,20 +134,6 @@ word_written old word piece end long fits is =
 
     low : start ≤ length old
     low = omega (arith, long)
-
--- They are no shorter than what stands before the word.
-pub before_word : (old piece : List ℕ) (start many : ℕ) → start ≤ length old
-    → start ≤ length (put_mid start many old piece)
-before_word old piece start many low =
-    let parts : length (put_mid start many old piece) ≡ length (take start old) + length (piece ++ drop many (drop start old)) =
-    length-append (take start old) (piece ++ drop many (drop start old)) in
-    omega (arith, parts, length-take-le start old low)
-
--- What is taken of a room from a place on is all that is written there.
-pub written_tail : (room text : List ℕ) (size from : ℕ) → length room ≡ size → drop from room ≡ text
-    → take (size - from) (drop from room) ≡ text
-written_tail room text size from long is =
-    take_all (size - from) (drop from room) (omega (arith, length-drop from room, long)) ∙ is
 
 -- The line of a level is four numbers, of which the first has two places more.
 pub level_added : {X E : Type 0} (result : Result X E) (old new : List ℕ) (level held free : ℕ) → level < 2 ^ 16

@@ -4,16 +4,12 @@
 //!     |       3 value 4711\n|    two numbers and a word, written from the end of a room
 //!
 //! Takes memory for the text alone.
-ghost use Rattle.std.specs.Prelude.{◌≡◌, ◌≤◌, ◌+◌, ◌++◌, OnOk, IsAscii, string_bytes, codes};
-ghost use Rattle.std.specs.Prelude.{decimal, length, drop};
+ghost use Rattle.std.specs.Prelude.{◌≡◌, ◌≤◌, ◌++◌, OnOk, IsAscii, string_bytes, codes};
+ghost use Rattle.std.specs.Prelude.{decimal, length};
 ghost use Rattle.ms_report.specs.Cells.{four_line};
 
-use crate::line::{Line, push_ascii};
-use itoa::write_digits;
+use crate::line::Line;
 use std::alloc::AllocError;
-
-/// The bytes of two numbers of twenty digits, a word of seven bytes and the line's end.
-const ROOM: usize = 48;
 
 /// A number and the places of its column.
 pub type Placed = (usize, u64);
@@ -41,19 +37,6 @@ pub(crate) fn push_four(
     line.push_to(text)
 }
 
-/// Appends a number and what stands after it, in one piece.
-#[inline(always)]
-pub(crate) fn push_before(text: &mut String, number: u64, word: &str) -> Result<(), AllocError>
-    requires ascii { IsAscii word.now }
-    requires room { length word.now ≤ 28 }
-    ensures { OnOk result (string_bytes text.new
-        ≡ string_bytes text.old ++ (decimal number ++ word.now)) }
-{
-    let mut room = [b'\n'; ROOM];
-    let from = write_before(&mut room, ROOM, number, word);
-    push_ascii(text, &room[from..])
-}
-
 /// Appends two numbers with a word between them, and the line's end, in one piece.
 #[inline(always)]
 pub(crate) fn push_both(
@@ -67,21 +50,9 @@ pub(crate) fn push_both(
     ensures { OnOk result (string_bytes text.new
         ≡ string_bytes text.old ++ (decimal number ++ (word.now ++ (decimal last ++ codes "\n")))) }
 {
-    let mut room = [b'\n'; ROOM];
-    let end = write_digits(last, &mut room, ROOM - 1);
-    let from = write_before(&mut room, end, number, word);
-    push_ascii(text, &room[from..])
-}
-
-/// Writes a number and a word so that they end at a place, and tells where they begin.
-#[inline(always)]
-fn write_before(room: &mut [u8], end: usize, number: u64, word: &str) -> usize
-    requires within { end ≤ length room.old }
-    requires fits { length word.now + 20 ≤ end }
-    ensures begin { result ≤ end }
-    ensures written { drop result room.new ≡ decimal number ++ (word.now ++ drop end room.old) }
-{
-    let start = end - word.len();
-    room[start..end].copy_from_slice(word.as_bytes());
-    write_digits(number, room, start)
+    let mut line = Line::end();
+    line.put_right(0, last);
+    line.put_word(word);
+    line.put_right(0, number);
+    line.push_to(text)
 }

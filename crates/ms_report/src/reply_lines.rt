@@ -6,13 +6,14 @@
 //!
 //! Kept true: a line is the bytes that `ms_base/specs/ReplyText.antt` gives. Takes memory for the
 //! text alone.
-ghost use Rattle.std.specs.Prelude.{◌≡◌, ◌++◌, OnOk, string_bytes, codes, decimal};
+ghost use Rattle.std.specs.Prelude.{◌≡◌, ◌≤◌, ◌++◌, OnOk, IsAscii, string_bytes, codes, decimal, length};
 ghost use Rattle.ms_base.specs.ReplyText.{name_of, reply_line};
 ghost use Rattle.ms_report.specs.ReplyLines.{answer_text};
 
-use crate::columns::{push_before, push_both};
+use crate::columns::push_both;
 use crate::detailed::push_detailed;
 use crate::done_line::DoneLine;
+use crate::line::Line;
 use crate::refused::Refusals;
 use ms_base::{Refusal, Reply, Settings};
 use ms_loaders::{Answer, Detail};
@@ -87,14 +88,18 @@ fn push_refusal(text: &mut String, number: u64, refusal: Refusal) -> Result<(), 
         ≡ string_bytes text.old
         ++ (decimal number ++ (codes " refused " ++ (name_of refusal ++ codes "\n")))) }
 {
-    push_before(text, number, " refused ")?;
-    text.push_str(name(refusal))?;
-    text.push_str("\n")
+    let mut line = Line::end();
+    line.put_word(name(refusal));
+    line.put_word(" refused ");
+    line.put_right(0, number);
+    line.push_to(text)
 }
 
 /// Tells the name of a refusal, without its numbers.
 fn name(refusal: Refusal) -> &'static str
-    ensures { result.now ≡ name_of refusal }
+    ensures name { result.now ≡ name_of refusal }
+    ensures few { length result.now ≤ 12 }
+    ensures ascii { IsAscii result.now }
 {
     match refusal {
         Refusal::ZeroWords => "ZeroWords",

@@ -1,4 +1,4 @@
-use Rattle.std.proofs.Common.{◌≡◌, ◌∙◌, ◌+◌, ◌++◌, ℕ, List, ap, arith, drop, get_or, sym}
+use Rattle.std.proofs.Common.{◌∙◌, ◌+◌, ◌++◌, ℕ, List, ap, arith, drop, get_or, sym}
 use Rattle.std.specs.Prelude.{string_bytes}
 use Rattle.ms_report.specs.Layout.{header, level_lines, level_table, level_texts, table_line}
 use Rattle.ms_report.proofs.SpaceLemmas.{level_more, longer, no_levels}
