@@ -11,9 +11,10 @@
 //! waits.
 ghost use Rattle.std.specs.Prelude.{◌≡◌, ◌+◌, ◌++◌, ◌∷◌, [], ◌≤◌, map, IfOk, IfErr, OnOk, vec_len};
 ghost use Rattle.std.specs.Prelude.{vec_capacity, ◌<◌};
-ghost use Rattle.std.specs.Prelude.{◌≢◌, ℕ, Some, slice_get};
+ghost use Rattle.std.specs.Prelude.{◌≢◌, ℕ, IsTrue, Some, slice_get};
+ghost use Rattle.std.specs.Option.{is_some};
 ghost use Rattle.ms_base.specs.declared.kind.Space.TheVariants.{NonClass, Class};
-ghost use Rattle.ms_base.specs.Names.{AreNamed};
+ghost use Rattle.ms_base.specs.Names.{AreNamed, named};
 ghost use Rattle.ms_base.specs.Request.{loader_of};
 ghost use Rattle.ms_run.specs.Turn.{shares_in, place_in};
 ghost use Rattle.ms_loaders.specs.Loader.{account_in};
@@ -29,8 +30,7 @@ ghost use Rattle.ms_run.specs.Dealing.{AreDealtTo, HaveMeters, MayBeDealt, IsSam
 use crate::fault::RunFault;
 use crate::gathering::put_loader;
 use crate::share::{Share, Task};
-use crate::turn::{MOST_WORKERS, Turn, loader_named};
-use ms_base::Step;
+use crate::turn::{Turn, loader_named};
 use ms_loaders::{Loader, Loaders};
 use ms_pool::Pool;
 use ms_shared::{MeterSeat, PoolSeat, SharedPool, UsedMeter};
@@ -198,7 +198,7 @@ fn share_beside(
 {
     let loaders = Loaders::new(alloc);
     let mut crew = Crew { seat, loaders };
-    hand_all(alloc, shared, tasks.as_slice(), first, &mut crew)?;
+    hand_all(shared, tasks.as_slice(), first, &mut crew)?;
     make_share(alloc, turn, at, tasks, crew, meter)
 }
 
@@ -243,44 +243,23 @@ fn deal_lines(
     ensures listed { IfOk result (λ lists. AreListed (place_in turn.now) lines.now lists.items) }
     ensures count { IfOk result (λ lists. vec_len lists ≡ count) }
 {
-    let mut lists = empty_lists(alloc, turn, lines, count)?;
+    let mut lists = empty_lists(alloc, count)?;
     for line in lines {
         add_task(turn, *line, &mut lists)?;
     }
     Ok(lists)
 }
 
-/// Makes so many lists of no task, each with room for what its share will have.
-fn empty_lists(
-    alloc: Global,
-    turn: &Turn,
-    lines: &[Line],
-    count: usize,
-) -> Result<Vec<Vec<Task>>, AllocError>
+/// Makes so many lists of no task.
+fn empty_lists(alloc: Global, count: usize) -> Result<Vec<Vec<Task>>, AllocError>
     ensures listed { IfOk result (λ lists. AreEmpty lists.items) }
     ensures count { IfOk result (λ lists. vec_len lists ≡ count) }
 {
-    let rooms = rooms_for(turn, lines);
     let mut lists = Vec::with_capacity(alloc, count)?;
-    for at in 0..count {
-        let room = rooms.get(at).copied().unwrap_or(0);
-        lists.push_reserved(Vec::with_capacity(alloc, room)?);
+    for _ in 0..count {
+        lists.push_reserved(Vec::new(alloc));
     }
     Ok(lists)
-}
-
-/// Counts the lines that ask a step, by the share that they go to. A guess, of which nothing is
-/// promised.
-fn rooms_for(turn: &Turn, lines: &[Line]) -> [usize; MOST_WORKERS] {
-    let mut rooms = [0_usize; MOST_WORKERS];
-    for line in lines {
-        if let Command::Step(step) = line.command()
-            && let Some(room) = rooms.get_mut(turn.place(loader_named(&step)))
-        {
-            *room = room.wrapping_add(1);
-        }
-    }
-    rooms
 }
 
 /// Adds the task of a line to the list of the share that it goes to.
@@ -314,7 +293,6 @@ fn take_list(alloc: Global, lists: &mut Vec<Vec<Task>>, at: usize) -> Vec<Task>
 
 /// Hands on all loaders that tasks name, to a crew that has none.
 fn hand_all(
-    alloc: Global,
     shared: &SharedPool,
     tasks: &[Task],
     from: &mut Crew,
@@ -333,37 +311,22 @@ fn hand_all(
         ≡ used_in from.old.loaders + used_in to.old.loaders) }
     ensures wanting { IfErr result (λ fault. fault ≡ RunFault.OutOfMemory) }
 {
-    let names = list_names(alloc, tasks)?;
-    for name in names {
-        hand_on(shared, name, from, to)?;
-    }
-    Ok(())
-}
-
-/// Lists the names of the loaders that tasks name, each as often as they do.
-fn list_names(alloc: Global, tasks: &[Task]) -> Result<Vec<u16>, AllocError>
-    ensures { IfOk result (λ names. names.items ≡ names_in tasks.now) }
-{
-    let mut names = Vec::new(alloc);
     for task in tasks {
-        add_name(task.step, &mut names)?;
+        // A loader goes over at the first task that names it.
+        if let Some(name) = loader_named(&task.step) {
+            if from.loaders.contains(name) {
+                hand_on(shared, name, from, to)?;
+            }
+        }
     }
-    Ok(names)
-}
-
-/// Adds the loader that a step names, where it names one.
-fn add_name(step: Step, names: &mut Vec<u16>) -> Result<(), AllocError>
-    ensures { OnOk result (names.new.items ≡ names.old.items ++ name_with (loader_of step) []) }
-{
-    let Some(name) = loader_named(&step) else {
-        return Ok(());
-    };
-    names.push(name)?;
     Ok(())
 }
 
-/// Hands the loader of a name on, where there is one: both of its accounts, then itself.
+/// Hands the loader of a name on, which is there: both of its accounts, then itself. Out of line,
+/// since most tasks name one that went over.
+#[inline(never)]
 fn hand_on(shared: &SharedPool, name: u16, from: &mut Crew, to: &mut Crew) -> Result<(), RunFault>
+    requires there { IsTrue (is_some (named from.old.loaders name)) }
     requires crews { AreCrews shared.now from.old.seat from.old.loaders to.old.seat to.old.loaders }
     ensures crews { OnOk result
         (AreCrews shared.now from.new.seat from.new.loaders to.new.seat to.new.loaders) }
@@ -377,7 +340,7 @@ fn hand_on(shared: &SharedPool, name: u16, from: &mut Crew, to: &mut Crew) -> Re
     ensures wanting { IfErr result (λ fault. fault ≡ RunFault.OutOfMemory) }
 {
     let Some(loader) = from.loaders.remove(name) else {
-        return Ok(());
+        unreachable!()
     };
     hand_accounts(shared, &loader, &mut from.seat, &mut to.seat);
     let Ok(()) = put_loader(name, loader, &mut to.loaders) else {

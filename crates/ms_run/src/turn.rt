@@ -258,6 +258,9 @@ fn find_active(
 {
     active.clear();
     for line in lines {
+        if active.len() == workers {
+            break;
+        }
         if let Command::Step(step) = line.command() {
             let worker = worker_at(first, phase, workers, loader_named(&step));
             add_active(active, places, worker);

@@ -10,7 +10,6 @@ use Rattle.ms_base.specs.Names.{named, with_new, without}
 use Rattle.ms_base.proofs.entries.EntryLemmas.{split_at, gap_at, values_split, values_joined}
 use Rattle.ms_loaders.specs.Loader.{LoaderView}
 use Rattle.ms_loaders.specs.Used.{used_by, used_in}
-use Rattle.ms_loaders.proofs.MappedLemmas.{without_missing}
 use Rattle.ms_shared.specs.MeterRule.{MeterSeatState}
 use Rattle.ms_shared.specs.SeatView.{SeatState}
 use Rattle.ms_run.specs.declared.share.Share.{Share}
@@ -61,11 +60,6 @@ used_handed loaders others after others' name loader found left fresh come = ome
   used_taken loaders name loader found,
   used_added others name loader fresh,
 )
-
-pub used_still : (loaders others after : Loaded) (name : ℕ) → named loaders name ≡ None → after ≡ without loaders name
-    → used_in after + used_in others ≡ used_in loaders + used_in others
-used_still loaders others after name none left =
-    ap (λ (l : Loaded). used_in l + used_in others) (left ∙ without_missing loaders name none)
 
 -- A list's first element, and the rest.
 first_and_rest : {X : Type 0} (xs rest : List X) (x : X) → 0 < length xs → x ≡ get_or xs 0 x → rest ≡ drop 1 xs

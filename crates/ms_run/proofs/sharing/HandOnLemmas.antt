@@ -1,8 +1,9 @@
 -- A loader handed on from seat to seat by its two accounts: each seat serves its own loaders before and
 -- after, and no owner is of both. For `hand_on`.
 use Rattle.std.proofs.Common.{◌≡◌, ◌≢◌, ◌≤◌, ◌+◌, ℕ, true, Some, None, List, [], ◌∷◌, ◌++◌, map, length, refl, sym, ap}
-use Rattle.std.proofs.Common.{◌∙◌, subst, ◌⊎◌, inl, inr, ⊎_elim, arith, ◌<◌, IsTrue}
+use Rattle.std.proofs.Common.{◌∙◌, subst, ◌⊎◌, inl, inr, ⊎_elim, arith, ◌<◌, IsTrue, Option, false}
 use Rattle.std.specs.List.{AllByRecursion}
+use Rattle.std.specs.Option.{is_some}
 use Rattle.std.proofs.lemmas.List.{length-append, map-append}
 use Rattle.std.proofs.lemmas.List.Sums.{sum_by-append}
 use Rattle.std.proofs.lemmas.List.Elements.{recursion_from_All, All-from_recursion}
@@ -18,7 +19,6 @@ use Rattle.ms_base.proofs.events.SeenEntryLemmas.{named_without_same}
 use Rattle.ms_pool.specs.Account.{AccountState}
 use Rattle.ms_loaders.specs.Loader.{LoaderView, account_in}
 use Rattle.ms_loaders.specs.System.{accounts_of, owners_of}
-use Rattle.ms_loaders.proofs.MappedLemmas.{without_missing}
 use Rattle.ms_shared.specs.declared.lock_rule.SeatView.{SeatView}
 use Rattle.ms_shared.specs.Entries.{Has, only, all_but}
 use Rattle.ms_shared.specs.SeatView.{SeatState, ServesBy, opened_by, without_account, with_account}
@@ -286,15 +286,14 @@ handed_names name v loaders others after others_after names found left made = rw
 })
 
 -- Where no loader has the name, all stays.
-pub none_handed : (name : ℕ) (loaders others after : Loaded) → named loaders name ≡ None → after ≡ without loaders name
-    → IsHanded name loaders others after others
-none_handed name loaders others after none left = rw (left ∙ without_missing loaders name none) (record {
-  gone = none;
-  there = inr (none, refl);
-  stay = λ other differ. (refl, refl);
-})
+not_there : (found : Option LoaderView) → is_some found ≡ false → found ≡ None
+not_there None none = refl
+not_there (Some loader) none = absurd (cc)
 
-pub beside_still : (name : ℕ) (loaders others after : Loaded) (from to : SeatView) → named loaders name ≡ None
-    → after ≡ without loaders name → AreBeside from loaders to others
-    → AreBeside from after to others
-beside_still name loaders others after from to none left its = rw (left ∙ without_missing loaders name none) its
+pub none_handed : (name : ℕ) (loaders others : Loaded) → is_some (named loaders name) ≡ false
+    → IsHanded name loaders others loaders others
+none_handed name loaders others none = record {
+  gone = not_there (named loaders name) none;
+  there = inr (not_there (named loaders name) none, refl);
+  stay = λ other differ. (refl, refl);
+}

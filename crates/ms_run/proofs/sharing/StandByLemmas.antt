@@ -1,11 +1,10 @@
 -- Loaders that stand by: which names a share's tasks have, and that places which differ only for other
 -- names deal and merge alike. For dealing.rt and phase.rt.
 use Rattle.std.proofs.Common.{◌≡◌, ◌≢◌, ◌≤◌, ◌<◌, ◌+◌, ℕ, Bool, true, false, cond, ◌||◌, ◌&&◌, Option, Some, None, List}
-use Rattle.std.proofs.Common.{[], ◌∷◌, ◌++◌, length, refl, sym, ap, ◌∙◌, subst, arith, eq-eqb, ne_eqb, take, get_or}
+use Rattle.std.proofs.Common.{[], ◌∷◌, length, refl, sym, ap, ◌∙◌, subst, arith, eq-eqb, ne_eqb, drop, drop-cons, get_or, suc}
 use Rattle.std.specs.Prelude.{◌==◌}
 use Rattle.std.specs.List.{AllByRecursion, filter}
 use Rattle.std.proofs.lemmas.Bool.{eqb-true, or_right}
-use Rattle.std.proofs.lemmas.List.{take_more}
 use Rattle.ms_base.specs.declared.step.Step.{Step}
 use Rattle.ms_base.specs.Committed.{is_among}
 use Rattle.ms_base.specs.Request.{loader_of}
@@ -19,24 +18,12 @@ use Rattle.ms_run.specs.Shares.{Place, AreWithin, AreMerged, names_in, name_with
 use Rattle.ms_run.specs.Shares.{tasks_of, tasks_at}
 use Rattle.ms_run.specs.Dealing.{Loaded, AreHanded, AreHandedAt}
 
--- The names of some tasks, and of one more.
-name_joined : (o : Option ℕ) (names more : List ℕ) → name_with o (names ++ more) ≡ name_with o names ++ more
-name_joined None names more = refl
-name_joined (Some name) names more = refl
-
-names_joined : (tasks : List Task) (task : Task)
-    → names_in (tasks ++ task ∷ []) ≡ names_in tasks ++ name_with (loader_of task.step) []
-names_joined [] task = refl
-names_joined (x ∷ tasks) task =
-    ap (name_with (loader_of x.step)) (names_joined tasks task)
-    ∙ name_joined (loader_of x.step) (names_in tasks) (name_with (loader_of task.step) [])
-
-pub names_more : (tasks : List Task) (i : ℕ) (d : Task) (names new : List ℕ) → i < length tasks
-    → names ≡ names_in (take i tasks) → new ≡ names ++ name_with (loader_of (get_or tasks i d).step) []
-    → new ≡ names_in (take (i + 1) tasks)
-names_more tasks i d names new within before added =
-    added ∙ ap (λ (l : List ℕ). l ++ name_with (loader_of (get_or tasks i d).step) []) before
-    ∙ sym (names_joined (take i tasks) (get_or tasks i d)) ∙ ap names_in (sym (take_more tasks i d within))
+-- The names of the tasks from one on are its own, and those of the tasks after it.
+pub names_from : (tasks : List Task) (i : ℕ) (d : Task) → i < length tasks
+    → names_in (drop i tasks) ≡ name_with (loader_of (get_or tasks i d).step) (names_in (drop (i + 1) tasks))
+names_from tasks i d within =
+    let next : suc i ≡ i + 1 = omega arith in
+    ap names_in (drop-cons tasks i d within) ∙ ap (λ n. names_in (get_or tasks i d ∷ drop n tasks)) next
 
 -- A name is of the tasks that go to a place, where it is of the tasks and goes there.
 or_more : (b c d p : Bool) → c ≡ (d && p) → (b ≡ true → p ≡ true) → (b || c) ≡ ((b || d) && p)

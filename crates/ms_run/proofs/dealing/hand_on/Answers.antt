@@ -1,21 +1,9 @@
 use Rattle.std.proofs.Common.{◌∙◌, sym, ap}
 use Rattle.ms_shared.specs.SeatView.{SeatState}
 use Rattle.ms_run.proofs.sharing.HandOnLemmas.{beside_after, serves_first, serves_second, counts_first, counts_second}
-use Rattle.ms_run.proofs.sharing.HandOnLemmas.{beside_still, handed_names, none_handed}
-use Rattle.ms_run.proofs.metered.DealtUseLemmas.{used_handed, used_still}
+use Rattle.ms_run.proofs.sharing.HandOnLemmas.{handed_names}
+use Rattle.ms_run.proofs.metered.DealtUseLemmas.{used_handed}
 use Rattle.ms_run.proofs.dealing.hand_on.Goals as goal
-
-pub returns-in_default-clause-crews : goal.returns-in_default-clause-crews
-returns-in_default-clause-crews c = record {
-  own = c.requires.crews.own;
-  to_own = c.requires.crews.to_own;
-  beside = beside_still _ _ _ _ _ _ (sym c.remove.ensures.found ∙ c.in_default.is) c.remove.ensures.rest
-      c.requires.crews.beside;
-}
-
-pub returns-in_default-clause-handed : goal.returns-in_default-clause-handed
-returns-in_default-clause-handed c =
-    none_handed _ _ _ _ (sym c.remove.ensures.found ∙ c.in_default.is) c.remove.ensures.rest
 
 pub hand_accounts-requires-clause-served : goal.hand_accounts-requires-clause-served
 hand_accounts-requires-clause-served c =
@@ -50,11 +38,6 @@ pub returns-clause-handed : goal.returns-clause-handed
 returns-clause-handed c =
     handed_names _ c.in-Some.loader _ _ _ _ c.requires.crews.beside.names (sym c.remove.ensures.found ∙ c.in-Some.is)
     c.remove.ensures.rest c.in-Ok.ensures.inserted
-
-pub returns-in_default-clause-used : goal.returns-in_default-clause-used
-returns-in_default-clause-used c =
-    used_still c.args.from.now.loaders c.args.to.now.loaders _ c.args.name
-    (sym c.remove.ensures.found ∙ c.in_default.is) c.remove.ensures.rest
 
 pub returns-clause-used : goal.returns-clause-used
 returns-clause-used c =
