@@ -3,7 +3,7 @@
 use Rattle.std.proofs.Common.{◌≡◌, ◌≢◌, ℕ, ◌+◌, ◌<◌, ◌≤◌, true, false, List, [], ◌∷◌, ◌++◌, Option, Some, None, refl}
 use Rattle.std.proofs.Common.{ap, ap₂, sym, subst, subst₂, ◌∙◌, arith, zero, suc, get_or, length, take, drop, inl, inr}
 use Rattle.std.proofs.Common.{bit_and, bit_or, w64, Bool, cond, ◌*◌, ◌-◌, ◌/◌, ◌%◌, ◌^◌}
-use Rattle.std.specs.Prelude.{nat_le, if◌then◌else◌, slice_get, slice_set, Vec, IfSome, IfNone, OnSome, IsTrue, IsFalse}
+use Rattle.std.specs.Prelude.{min, nat_le, if◌then◌else◌, slice_get, slice_set, Vec, IfSome, IfNone, OnSome, IsTrue, IsFalse}
 use Rattle.std.specs.Int.{bit_at, bit_not, trailing_zeros}
 use Rattle.std.specs.List.{AllByRecursion}
 use Rattle.std.specs.Option.{option_map, option_map_or}
@@ -36,6 +36,9 @@ class_few few words h = elim (cases_lt few words) [
   | inl less ↦ less
   | inr more ↦ absurd (omega (arith, h, class_up words few more))
 ]
+
+pub no_lower : (words : ℕ) → min words 32 ≤ class_of words
+no_lower words = grind (arith, nat_tests)
 
 pub class_within : (words : ℕ) → class_of words < 64
 class_within words = grind (arith, nat_tests)

@@ -21,6 +21,9 @@ use std::alloc::{AllocError, Allocator};
 /// How many trees there are.
 const CLASSES: usize = 64;
 
+/// Below so many words each size has a tree of its own.
+const SINGLE: u64 = 32;
+
 /// The trees, which are there once room was made.
 #[derive(Drop)]
 pub struct Trees<A: Allocator> {
@@ -94,12 +97,12 @@ pub fn take_in<A: Allocator>(trees: &mut Trees<A>, words: u64) -> Option<Box<For
     ensures found { first_fit (blocks_in trees.old) words ≡ option_map (λ fork. fork.value.block) result }
     ensures left { blocks_in trees.new ≡ without_fit (blocks_in trees.old) words }
 {
-    let class = class_of(words);
-    if trees.some >> class == 0 {
+    // No class is lower than this.
+    if trees.some >> words.min(SINGLE) == 0 {
         return None;
     }
     match &mut trees.classes {
-        Some(classes) => take_among(classes.as_mut_slice(), &mut trees.some, class, words),
+        Some(classes) => take_among(classes.as_mut_slice(), &mut trees.some, words),
         None => None,
     }
 }
@@ -116,22 +119,21 @@ fn insert_among<A: Allocator>(trees: &mut [Tree<A>], some: &mut u64, spare: Box<
     insert(&mut trees[class], spare);
 }
 
-/// Takes the first block of ranked trees that has so many words, those of a class, with its fork.
-/// Out of line, since few allocations come here.
+/// Takes the first block of ranked trees that has so many words, with its fork. Out of line, since
+/// few allocations come here.
 #[inline(never)]
 fn take_among<A: Allocator>(
     trees: &mut [Tree<A>],
     some: &mut u64,
-    class: usize,
     words: u64,
 ) -> Option<Box<Fork<A>, A>>
-    requires class { class ≡ class_of words }
     requires trees { AreByClass some.old trees.old }
     requires ranked { IsRanked (all_of trees.old) }
     ensures trees { AreByClass some.new trees.new }
     ensures found { first_fit (all_of trees.old) words ≡ option_map (λ fork. fork.value.block) result }
     ensures left { all_of trees.new ≡ without_fit (all_of trees.old) words }
 {
+    let class = class_of(words);
     match take_at(trees, some, class, words) {
         Some(found) => Some(found),
         // None of this class has so many words, and each of a later one has.
@@ -195,7 +197,7 @@ fn class_of(words: u64) -> usize
     ensures class { result ≡ class_of words }
     ensures within { result < 64 }
 {
-    let class = if words < 32 {
+    let class = if words < SINGLE {
         words
     } else if words < 64 {
         28 + words / 8

@@ -4,8 +4,10 @@ use Rattle.ms_loaders.specs.declared.replies.Answer.{Answer}
 use Rattle.ms_run.specs.Sink.{PutsAll}
 use Rattle.ms_run.specs.Turn.{place_in}
 use Rattle.ms_run.proofs.AloneLemmas.{puts_more, puts_none}
-use Rattle.ms_run.proofs.sharing.MergeLemmas.{starts, next_line, has_reply, merges_next, all_merged}
+use Rattle.ms_run.proofs.sharing.MergeLemmas.{Next, starts, next_line, has_reply, merges_next, all_merged}
+use Rattle.ms_run.proofs.merging.merge.Given.{Over}
 use Rattle.ms_run.proofs.merging.merge.Goals as goal
+use Rattle.ms_run.proofs.merging.merge.Goals.{After-index}
 
 pub loop-line-init : goal.loop-line-init
 loop-line-init g c = (
@@ -18,52 +20,40 @@ loop-line-init g c = (
   puts_none g.S.AnswerSink.took c.args.sink.now,
 )
 
-pub index-reply-requires : goal.index-reply-requires
-index-reply-requires g c =
-    let within : c.loop-line.line-index < length c.args.lines.now =
-    omega (arith, c.loop-line-test.true, c.loop-line.auto.line-index-end) in
-    let asked = c.requires.steps c.loop-line.line-index _ within in
-    let has = has_reply _ _ _ _ _ _ _ _ _ _ _ _ c.requires.answered c.loop-line.invariant.1
-    (next_line (place_in c.args.turn.now) c.args.lines.now c.args.shares.now.items c.loop-line.line-index
-    c.loop-line.taken.items _ _ _ _
-    c.line-item.is
-    asked c.place_of-place.ensures.place within
+-- The line that is merged next has its task and its share.
+within : (g : Over) (c : After-index g) → c.loop-line.line-index < length c.args.lines.now
+within g c = omega (arith, c.loop-line-test.true, c.loop-line.auto.line-index-end)
+
+next : (g : Over) (c : After-index g)
+    → Next (place_in c.args.turn.now) c.args.lines.now c.args.shares.now.items c.loop-line.line-index
+    c.loop-line.taken.items c.line-item.result
+    (c.requires.steps c.loop-line.line-index c.line-item.result (within g c)).0 c.place_of-place.result
+    c.index.result.now c.index-next.result.now
+next g c =
+    next_line (place_in c.args.turn.now) c.args.lines.now c.args.shares.now.items c.loop-line.line-index
+    c.loop-line.taken.items _ _ _ _ c.line-item.is (c.requires.steps c.loop-line.line-index _ (within g c))
+    c.place_of-place.ensures.place (within g c)
     (slice_get_read c.args.shares.now.items _ _ _ c.args.shares.now.ok.0
     (omega (arith, c.place_of-place.ensures.within, c.requires.count)) c.index.ensures)
-    c.index-next.ensures) in
+    c.index-next.ensures
+
+pub index-reply-requires : goal.index-reply-requires
+index-reply-requires g c =
+    let has = has_reply _ _ _ _ _ _ _ _ _ _ _ _ c.requires.answered c.loop-line.invariant.1 (next g c) in
     omega (arith, has.in_replies, c.index.result.now.replies.ok.0)
 
 pub overflow_add-next : goal.overflow_add-next
 overflow_add-next g c =
-    let within : c.loop-line.line-index < length c.args.lines.now =
-    omega (arith, c.loop-line-test.true, c.loop-line.auto.line-index-end) in
-    let asked = c.requires.steps c.loop-line.line-index _ within in
     let has = has_reply _ _ _ _ _ _ _ _ _ _ _ _ c.requires.answered c.loop-line.invariant.1
-    (next_line (place_in c.args.turn.now) c.args.lines.now c.args.shares.now.items c.loop-line.line-index
-    c.loop-line.taken.items _ _ _ _
-    c.line-item.is
-    asked c.place_of-place.ensures.place within
-    (slice_get_read c.args.shares.now.items _ _ _ c.args.shares.now.ok.0
-    (omega (arith, c.place_of-place.ensures.within, c.requires.count)) c.index.ensures)
-    c.index-next.ensures) in
+    (next g (goal.at.overflow_add-next g c).After-index) in
     let replies = c.index.result.now.replies in
     omega (arith, has.in_replies, replies.ok.0, replies.ok.1, replies.small)
 
 pub loop-line-preserved : goal.loop-line-preserved
 loop-line-preserved g c =
-    let within : c.loop-line.line-index < length c.args.lines.now =
-    omega (arith, c.loop-line-test.true, c.loop-line.auto.line-index-end) in
-    let asked = c.requires.steps c.loop-line.line-index _ within in
     let so_far = c.loop-line.invariant in
     let grown = merges_next _ _ _ _ _ _ _ _ _ _ _ _ _ c.requires.answered so_far.1
-    (next_line (place_in c.args.turn.now) c.args.lines.now c.args.shares.now.items c.loop-line.line-index
-    c.loop-line.taken.items _ _ _ _
-    c.line-item.is
-    asked c.place_of-place.ensures.place within
-    (slice_get_read c.args.shares.now.items _ _ _ c.args.shares.now.ok.0
-    (omega (arith, c.place_of-place.ensures.within, c.requires.count)) c.index.ensures)
-    c.index-next.ensures)
-    c.index-reply.ensures in (
+    (next g (goal.at.loop-line-preserved g c).After-index) c.index-reply.ensures in (
       _,
       grown,
       puts_more g.S.AnswerSink.took so_far.0 (_ ∷ []) c.args.sink.now c.loop-line.sink c.put.new.self so_far.2
