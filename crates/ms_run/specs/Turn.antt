@@ -1,5 +1,5 @@
 -- Whose turn it is in a phase.
-use Rattle.std.specs.Prelude.{◌≡◌, ℕ, Bool, false, cond, ◌+◌, ◌%◌, ◌==◌, ◌<◌, ◌≤◌, List, length, Option, Some, None}
+use Rattle.std.specs.Prelude.{◌≡◌, ℕ, Bool, false, cond, ◌+◌, ◌-◌, ◌%◌, ◌==◌, ◌<◌, ◌≤◌, List, length, min, Option, Some, None}
 use Rattle.std.specs.Prelude.{slice_get, slice_index_or, slice_set}
 use Rattle.ms_base.specs.Committed.{is_among}
 use Rattle.ms_trace.specs.declared.trace.Line.{Line}
@@ -29,7 +29,7 @@ worker_in turn name = worker_by turn.first turn.phase turn.workers name
 
 -- The place of a worker's share.
 abbrev pub place_of : TurnState → ℕ → ℕ
-place_of turn worker = slice_index_or turn.places worker 0 % shares_in turn
+place_of turn worker = min (slice_index_or turn.places worker 0) (shares_in turn - 1)
 
 -- The place of the share that has the lines of a loader, and of a purge.
 abbrev pub place_in : TurnState → Option ℕ → ℕ

@@ -133,7 +133,7 @@ impl Turn {
         ensures all_within { AreWithin (place_in self.now) (shares_in self.now) }
     {
         let worker = worker_at(self.first.as_slice(), self.phase, self.workers, name);
-        entry(self.places.as_slice(), worker) % self.active.len()
+        entry(self.places.as_slice(), worker).min(self.active.len() - 1)
     }
 }
 
