@@ -80,7 +80,7 @@ impl Pages {
         self.grow(alloc, pages.max(self.room.saturating_mul(2)))
     }
 
-    /// Makes room for so many pages. What was written is copied, and no room that was not.
+    /// Makes room for so many pages.
     fn grow(&mut self, alloc: Global, room: usize) -> Result<(), AllocError>
         requires { self.old.room ≤ room }
         ensures room { OnOk result (self.new.room ≡ room) }
@@ -93,10 +93,8 @@ impl Pages {
         };
         let mut pages = Vec::with_capacity(alloc, room)?;
         pages.extend_from_slice(self.pages.as_slice())?;
-        let mut store = Vec::with_capacity(alloc, words)?;
-        store.extend_from_slice(self.store.as_slice())?;
+        make_longer(alloc, &mut self.store, words)?;
         self.pages = pages;
-        self.store = store;
         self.room = room;
         Ok(())
     }
@@ -273,6 +271,22 @@ impl Pages {
             wipe(&mut self.store, base + first, base + last);
         }
     }
+}
+
+/// Makes room for so many words in a store. One of which an eighth was written stays one piece, which
+/// the system may move by its pages; else what was written is copied, and no room that was not.
+fn make_longer(alloc: Global, store: &mut Vec<u64>, words: usize) -> Result<(), AllocError>
+    ensures room { OnOk result (words ≤ vec_capacity store.new) }
+    ensures words { store.new.items ≡ store.old.items }
+    ensures unchanged { OnErr result (vec_capacity store.new ≡ vec_capacity store.old) }
+{
+    if store.capacity() / 8 <= store.len() {
+        return store.reserve_exact(words.saturating_sub(store.len()));
+    }
+    let mut longer = Vec::with_capacity(alloc, words)?;
+    longer.extend_from_slice(store.as_slice())?;
+    *store = longer;
+    Ok(())
 }
 
 /// Tells where the words of a page begin in the store.

@@ -21,7 +21,7 @@ use std::marker::Model;
 const NAMES: usize = 65_536;
 
 /// The most workers that there are.
-pub const MOST_WORKERS: usize = 8;
+const MOST_WORKERS: usize = 8;
 
 /// Stands for the worker of a name that the trace doesn't have.
 const UNNAMED: u8 = 255;
