@@ -1,7 +1,7 @@
 -- A loader handed on from seat to seat by its two accounts: each seat serves its own loaders before and
 -- after, and no owner is of both. For `hand_on`.
 use Rattle.std.proofs.Common.{◌≡◌, ◌≢◌, ◌≤◌, ◌+◌, ℕ, true, Some, None, List, [], ◌∷◌, ◌++◌, map, length, refl, sym, ap}
-use Rattle.std.proofs.Common.{◌∙◌, subst, ◌⊎◌, inl, inr, ⊎_elim, arith, ◌<◌, IsTrue, Option, false}
+use Rattle.std.proofs.Common.{◌∙◌, subst, ◌⊎◌, inl, inr, ⊎_elim, arith, ◌<◌, IsTrue, false}
 use Rattle.std.specs.List.{AllByRecursion}
 use Rattle.std.specs.Option.{is_some}
 use Rattle.std.proofs.lemmas.List.{length-append, map-append}
@@ -24,6 +24,7 @@ use Rattle.ms_shared.specs.Entries.{Has, only, all_but}
 use Rattle.ms_shared.specs.SeatView.{SeatState, ServesBy, opened_by, without_account, with_account}
 use Rattle.ms_shared.proofs.HandLemmas.{handed_serves, left_serves, taker_serves}
 use Rattle.ms_run.specs.Dealing.{Loaded, AreBeside, IsHanded}
+use Rattle.ms_loaders.proofs.steps.CallLemmas.{missing}
 use Rattle.ms_loaders.proofs.steps.CloseLemmas.{accounts_joined}
 use Rattle.ms_loaders.proofs.steps.ServedLemmas.{accounts_split, all_joined, all_parts, is_it, it_is, owners_split}
 use Rattle.ms_loaders.proofs.steps.ServedLemmas.{served_still, times, times_split}
@@ -286,14 +287,10 @@ handed_names name v loaders others after others_after names found left made = rw
 })
 
 -- Where no loader has the name, all stays.
-not_there : (found : Option LoaderView) → is_some found ≡ false → found ≡ None
-not_there None none = refl
-not_there (Some loader) none = absurd (cc)
-
 pub none_handed : (name : ℕ) (loaders others : Loaded) → is_some (named loaders name) ≡ false
     → IsHanded name loaders others loaders others
 none_handed name loaders others none = record {
-  gone = not_there (named loaders name) none;
-  there = inr (not_there (named loaders name) none, refl);
+  gone = missing (named loaders name) none;
+  there = inr (missing (named loaders name) none, refl);
   stay = λ other differ. (refl, refl);
 }
