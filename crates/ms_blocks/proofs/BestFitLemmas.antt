@@ -76,7 +76,7 @@ is_least_of n found other (inr (inl more)) fit = le-leb found.1 other.1 (omega (
 is_least_of n found other (inr (inr tied)) fit = le-leb found.1 other.1 (omega (arith, tied.0))
 
 -- Where no block fits, all are too small, and no run fits.
-all_too_small : (blocks : List Block) (n : ℕ) → first_fit blocks n ≡ None
+pub all_too_small : (blocks : List Block) (n : ℕ) → first_fit blocks n ≡ None
     → AllByRecursion (λ (block : Block). block.words < n) blocks
 all_too_small [] n e = tt
 all_too_small (block ∷ blocks) n e =

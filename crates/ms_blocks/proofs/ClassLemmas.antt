@@ -3,10 +3,10 @@
 use Rattle.std.proofs.Common.{◌≡◌, ◌≢◌, ℕ, ◌+◌, ◌<◌, ◌≤◌, true, false, List, [], ◌∷◌, ◌++◌, Option, Some, None, refl}
 use Rattle.std.proofs.Common.{ap, ap₂, sym, subst, subst₂, ◌∙◌, arith, zero, suc, get_or, length, take, drop, inl, inr}
 use Rattle.std.proofs.Common.{bit_and, bit_or, w64, Bool, cond, ◌*◌, ◌-◌, ◌/◌, ◌%◌, ◌^◌}
-use Rattle.std.specs.Prelude.{min, nat_le, if◌then◌else◌, slice_get, slice_set, Vec, IfSome, IfNone, OnSome, IsTrue, IsFalse}
+use Rattle.std.specs.Prelude.{nat_le, if◌then◌else◌, slice_get, slice_set, IfSome, IfNone, OnSome, IsTrue, IsFalse}
 use Rattle.std.specs.Int.{bit_at, bit_not, trailing_zeros}
 use Rattle.std.specs.List.{AllByRecursion}
-use Rattle.std.specs.Option.{option_map, option_map_or}
+use Rattle.std.specs.Option.{option_map}
 use Rattle.std.proofs.lemmas.Bool.{cases_eq, cases_lt, le-leb, lt-leb}
 use Rattle.std.proofs.lemmas.Grind.{get_or-set_at}
 use Rattle.std.proofs.lemmas.List.{append-nil, get_or-set_other, length-set, take_all}
@@ -16,10 +16,9 @@ use Rattle.std.proofs.lemmas.Nat.Bits.{bit_at_clear_other, bit_at_set_same, bit_
 use Rattle.std.proofs.lemmas.Option.{get_or_from_slice_get, slice_get-get_or, slice_get_read, slice_get_within}
 use Rattle.std.proofs.lemmas.Bool.Decides.{nat_tests}
 use Rattle.ms_base.specs.declared.span.Block.{Block}
-use Rattle.ms_blocks.specs.Classes.{AreByClass, AreClassed, AreOf, AreTrees, IsNextClass, NoneFitsAt, TellsOf}
+use Rattle.ms_blocks.specs.Classes.{AreByClass, AreClassed, AreOf, IsNextClass, NoneFitsAt, TellsOf}
 use Rattle.ms_blocks.specs.Classes.{TellsWhether}
-use Rattle.ms_blocks.specs.Classes.{all_of, blocks_in, class_of}
-use Rattle.ms_blocks.specs.declared.classes.Trees.{Trees}
+use Rattle.ms_blocks.specs.Classes.{all_of, class_of}
 use Rattle.ms_blocks.specs.Rank.{ranks_before, IsRanked, with_ranked, first_fit, without_fit}
 use Rattle.ms_blocks.specs.Tree.{blocks_of}
 use Rattle.ms_blocks.specs.declared.tree.Tree.{Tree}
@@ -36,9 +35,6 @@ class_few few words h = elim (cases_lt few words) [
   | inl less ↦ less
   | inr more ↦ absurd (omega (arith, h, class_up words few more))
 ]
-
-pub no_lower : (words : ℕ) → min words 32 ≤ class_of words
-no_lower words = grind (arith, nat_tests)
 
 pub class_within : (words : ℕ) → class_of words < 64
 class_within words = grind (arith, nat_tests)
@@ -470,23 +466,6 @@ found_next fit block_of None found none not = absurd (not none)
 pub left_next : {X P Q : Type 0} (taken : Option X) → OnSome taken Q → IfNone taken P → (P → ⊥) → Q
 left_next (Some x) left none not = left
 left_next None left none not = absurd (not none)
-
--- No block fits where no class has one, from that of the words on.
-none_among : {A : Type 0} (trees : List (Tree A)) (some words : ℕ) → AreByClass some trees
-    → ((class : ℕ) → class_of words ≤ class → bit_at some class ≡ 0) → first_fit (all_of trees) words ≡ None
-none_among trees some words by_class none = none_at_all trees some (class_of words) words by_class refl
-    (λ tree there. ap (λ bs. first_fit bs words) ((by_class.tells (class_of words) tree there).0 (none _ (omega arith))))
-    (λ other later. none other (omega (arith, later)))
-
-pub none_in : {A : Type 0} (trees : Trees A) (words : ℕ) → AreTrees trees
-    → ((class : ℕ) → class_of words ≤ class → bit_at trees.some class ≡ 0) → first_fit (blocks_in trees) words ≡ None
-none_in trees words are none =
-    elim trees.classes as (λ (classes : Option (Vec (Tree _) _)). IfSome classes
-    (λ classes. AreByClass trees.some classes.items)
-    → first_fit (option_map_or (λ (classes : Vec (Tree _) _). all_of classes.items) classes []) words ≡ None) [
-      | None ↦ λ are. refl
-      | Some classes ↦ λ are. none_among classes.items trees.some words are none
-    ] are
 
 pub none_each : {A : Type 0} (trees : List (Tree A)) (class : ℕ) (tree : Tree A) → all_of trees ≡ []
     → slice_get trees class ≡ Some tree → blocks_of tree ≡ []

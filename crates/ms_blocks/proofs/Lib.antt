@@ -1,4 +1,5 @@
 pub mod RankLemmas
+pub mod FewLemmas
 pub mod ClassLemmas
 pub mod KeptEntryLemmas
 pub mod StartLemmas

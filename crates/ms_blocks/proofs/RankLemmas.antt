@@ -1,7 +1,7 @@
 -- Blocks in the order of best fit: where a block goes, and which one fits first, in a list that is
 -- joined of a tree's left side, its block in the middle, and its right side. Used by the tree's functions.
 use Rattle.std.proofs.Common.{◌≡◌, ◌≢◌, ℕ, ◌<◌, ◌≤◌, true, false, List, [], ◌∷◌, ◌++◌, Option, Some, None, refl, ap}
-use Rattle.std.proofs.Common.{sym, ◌∙◌, arith}
+use Rattle.std.proofs.Common.{sym, ◌∙◌, ◌+◌, arith, length}
 use Rattle.std.specs.Prelude.{nat_le, if◌then◌else◌}
 use Rattle.std.specs.List.{AllByRecursion}
 use Rattle.std.proofs.lemmas.List.{append-nil}
@@ -264,3 +264,23 @@ ranked_without (other ∷ blocks) words ranked =
         ranked_without blocks words ranked.1,
       )
     ]
+
+-- They make it longer and shorter by one.
+pub length_with : (blocks : List Block) (block : Block) → length (with_ranked blocks block) ≡ length blocks + 1
+length_with [] block = refl
+length_with (other ∷ blocks) block =
+    elim (ranks_before other block) as (λ b. length (if b then other ∷ with_ranked blocks block else block ∷ other ∷ blocks)
+    ≡ length (other ∷ blocks) + 1) [
+      | true ↦ omega (arith, length_with blocks block)
+      | false ↦ omega arith
+    ]
+
+pub length_without : (blocks : List Block) (words : ℕ) (found : Block) → first_fit blocks words ≡ Some found
+    → length blocks ≡ length (without_fit blocks words) + 1
+length_without [] words found e = absurd (cc)
+length_without (other ∷ blocks) words found e =
+    elim (nat_le words other.words) as (λ b. (if b then Some other else first_fit blocks words) ≡ Some found
+    → length (other ∷ blocks) ≡ length (if b then blocks else other ∷ without_fit blocks words) + 1) [
+      | true ↦ λ e. omega arith
+      | false ↦ λ e. omega (arith, length_without blocks words found e)
+    ] e

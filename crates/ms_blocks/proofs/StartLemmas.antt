@@ -1,14 +1,14 @@
 -- Blocks by rank, seen as runs by start: what an addition and the removal of the first fit are
 -- there. Used by the methods of `FreeBlocks`.
-use Rattle.std.proofs.Common.{◌≡◌, ◌≢◌, ℕ, true, false, List, [], ◌∷◌, Some, None, refl, ap, sym, ◌∙◌}
+use Rattle.std.proofs.Common.{length, arith, ◌+◌, ◌≡◌, ◌≢◌, ℕ, true, false, List, [], ◌∷◌, Some, None, refl, ap, sym, ◌∙◌}
 use Rattle.std.specs.Prelude.{nat_le, if◌then◌else◌}
 use Rattle.std.specs.List.{AllByRecursion}
 use Rattle.ms_base.specs.declared.span.Block.{Block}
 use Rattle.ms_base.specs.Names.{named, with_new, without}
 use Rattle.ms_blocks.specs.Rank.{ranks_before, with_ranked, first_fit, without_fit}
 use Rattle.ms_blocks.specs.FreeBlocks.{by_start, StartsDiffer}
-use Rattle.ms_blocks.proofs.KeptEntryLemmas.{with_new-with_new, named-with_new, named-with_new_other, unnamed_is_other}
-use Rattle.ms_blocks.proofs.KeptEntryLemmas.{unnamed_before, without-with_new, all-with_new}
+use Rattle.ms_blocks.proofs.KeptEntryLemmas.{length-with_new, with_new-with_new, named-with_new, named-with_new_other, unnamed_is_other}
+use Rattle.ms_blocks.proofs.KeptEntryLemmas.{length-with_new, unnamed_before, without-with_new, all-with_new}
 
 -- A block added at its rank is a run added at its start.
 pub by_start-with_ranked : (blocks : List Block) (block : Block) → named (by_start blocks) block.start ≡ None
@@ -124,4 +124,13 @@ new_is_other [] start new = tt
 new_is_other (block ∷ blocks) start new = (
   unnamed_is_other (by_start blocks) block.start block.words start new,
   new_is_other blocks start (unnamed_before (by_start blocks) block.start block.words start new),
+)
+
+-- There are as many runs as blocks.
+pub length-by_start : (blocks : List Block) → StartsDiffer blocks → length (by_start blocks) ≡ length blocks
+length-by_start [] differ = refl
+length-by_start (block ∷ blocks) differ = omega (
+  arith,
+  length-with_new (by_start blocks) block.start block.words differ.0,
+  length-by_start blocks differ.1,
 )

@@ -1,8 +1,7 @@
 -- Blocks by rank, in trees by size: one for each number of words below 32, and above that for ranges of sizes, the last
 -- with all from 458,752 on (this project's choice).
 use Rattle.std.specs.Prelude.{◌≡◌, ◌≢◌, ℕ, ◌+◌, ◌<◌, List, [], ◌∷◌, ◌++◌, length, min, slice_get, Some}
-use Rattle.std.specs.Prelude.{Vec, IfSome, None, nat_lt, ◌/◌, if◌then◌else◌}
-use Rattle.std.specs.Option.{option_map_or}
+use Rattle.std.specs.Prelude.{None, nat_lt, ◌/◌, if◌then◌else◌}
 use Rattle.std.specs.Int.{bit_at}
 use Rattle.std.specs.List.{AllByRecursion}
 use Rattle.ms_base.specs.declared.span.Block.{Block}
@@ -62,10 +61,6 @@ pub record IsNextClass (some class next : ℕ) : Type 0 where
   pub past : (other : ℕ) → class < other → other < next → bit_at some other ≡ 0
   pub one : bit_at some next ≡ 1
 
--- The blocks of the trees, where there are trees.
-abbrev pub blocks_in : {A : Type 0} → Trees A → List Block
-blocks_in trees = option_map_or (λ (classes : Vec (Tree _) _). all_of classes.items) trees.classes []
-
--- There are trees by class, or none.
+-- The trees are by class.
 abbrev pub AreTrees : {A : Type 0} → Trees A → Type 0
-AreTrees trees = IfSome trees.classes (λ classes. AreByClass trees.some classes.items)
+AreTrees trees = AreByClass trees.some trees.classes.items

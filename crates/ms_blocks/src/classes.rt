@@ -8,11 +8,11 @@
 //! tree is a low one. A best fit is in the tree of its size, or where none there is large enough in
 //! the next one that has a block; a bit for each tree tells whether it has one. After the lists by
 //! size of HotSpot's binList.hpp; the sizes of the larger ones are this project's choice.
-ghost use Rattle.std.specs.Prelude.{◌≡◌, ◌≢◌, ◌<◌, ◌≤◌, ℕ, [], cond, IfOk, IfSome, IfNone, IsSome, OnSome};
+ghost use Rattle.std.specs.Prelude.{◌≡◌, ◌≢◌, ◌<◌, ℕ, [], cond, IfOk, IfSome, IfNone, OnSome};
 ghost use Rattle.std.specs.Prelude.{IsTrue, IsFalse, Some, None, take};
 ghost use Rattle.std.specs.Int.{bit_at};
 ghost use Rattle.std.specs.Option.{option_map};
-ghost use Rattle.ms_blocks.specs.Classes.{AreByClass, AreTrees, IsNextClass, NoneFitsAt, all_of, blocks_in, class_of};
+ghost use Rattle.ms_blocks.specs.Classes.{AreByClass, AreTrees, IsNextClass, NoneFitsAt, all_of, class_of};
 ghost use Rattle.ms_blocks.specs.Rank.{IsRanked, first_fit, with_ranked, without_fit};
 
 use crate::tree::{Fork, Tree, insert, take_fit};
@@ -24,87 +24,52 @@ const CLASSES: usize = 64;
 /// Below so many words each size has a tree of its own.
 const SINGLE: u64 = 32;
 
-/// The trees, which are there once room was made.
+/// The trees.
 #[derive(Drop)]
 pub struct Trees<A: Allocator> {
-    /// The trees by class, or none.
-    classes: Option<Vec<Tree<A>, A>>,
+    /// The trees by class.
+    classes: Vec<Tree<A>, A>,
     /// A bit for each tree, 1 where it has a block.
     some: u64,
 }
 
-impl<A: Allocator> Trees<A> {
-    /// No trees yet.
-    pub fn none() -> Trees<A>
-        ensures trees { AreTrees result }
-        ensures empty { blocks_in result ≡ [] }
-    {
-        Trees {
-            classes: None,
-            some: 0,
-        }
-    }
-
-    /// Tells whether no trees are there yet.
-    pub fn is_none(&self) -> bool
-        ensures none { IsTrue result → blocks_in self.now ≡ [] }
-        ensures some { IsFalse result → IsSome self.now.classes }
-    {
-        self.classes.is_none()
-    }
-}
-
 /// Makes the trees, with no block. Takes memory.
 pub fn make_trees<A: Allocator + Clone>(alloc: &A) -> Result<Trees<A>, AllocError>
-    ensures there { IfOk result (λ trees. IsSome trees.classes) }
     ensures trees { IfOk result AreTrees }
-    ensures empty { IfOk result (λ trees. blocks_in trees ≡ []) }
+    ensures empty { IfOk result (λ trees. all_of trees.classes.items ≡ []) }
 {
     let mut trees = Vec::with_capacity(alloc.clone()?, CLASSES)?;
     for _ in 0..CLASSES {
         trees.push_reserved(Tree::Empty);
     }
     Ok(Trees {
-        classes: Some(trees),
+        classes: trees,
         some: 0,
     })
 }
 
-/// Adds the spare fork's block to those of the trees, which are there.
+/// Adds the spare fork's block to those of the trees.
 pub fn insert_in<A: Allocator>(trees: &mut Trees<A>, spare: Box<Fork<A>, A>)
-    requires there { IsSome trees.old.classes }
     requires trees { AreTrees trees.old }
-    requires ranked { IsRanked (blocks_in trees.old) }
-    ensures there { IsSome trees.new.classes }
+    requires ranked { IsRanked (all_of trees.old.classes.items) }
     ensures trees { AreTrees trees.new }
-    ensures blocks { blocks_in trees.new ≡ with_ranked (blocks_in trees.old) spare.value.block }
+    ensures blocks { all_of trees.new.classes.items
+        ≡ with_ranked (all_of trees.old.classes.items) spare.value.block }
 {
-    match &mut trees.classes {
-        Some(classes) => insert_among(classes.as_mut_slice(), &mut trees.some, spare),
-        None => unreachable!(),
-    }
+    insert_among(trees.classes.as_mut_slice(), &mut trees.some, spare);
 }
 
-/// Takes the first block of the trees that has so many words, with its fork. Nothing is called
-/// where no tree may have one: in most allocations none has.
-#[inline(always)]
+/// Takes the first block of the trees that has so many words, with its fork.
 pub fn take_in<A: Allocator>(trees: &mut Trees<A>, words: u64) -> Option<Box<Fork<A>, A>>
     requires trees { AreTrees trees.old }
-    requires ranked { IsRanked (blocks_in trees.old) }
-    ensures there { OnSome result (IsSome trees.new.classes) }
-    ensures stay { IsSome trees.old.classes → IsSome trees.new.classes }
+    requires ranked { IsRanked (all_of trees.old.classes.items) }
     ensures trees { AreTrees trees.new }
-    ensures found { first_fit (blocks_in trees.old) words ≡ option_map (λ fork. fork.value.block) result }
-    ensures left { blocks_in trees.new ≡ without_fit (blocks_in trees.old) words }
+    ensures found { first_fit (all_of trees.old.classes.items) words
+        ≡ option_map (λ fork. fork.value.block) result }
+    ensures left { all_of trees.new.classes.items
+        ≡ without_fit (all_of trees.old.classes.items) words }
 {
-    // No class is lower than this.
-    if trees.some >> words.min(SINGLE) == 0 {
-        return None;
-    }
-    match &mut trees.classes {
-        Some(classes) => take_among(classes.as_mut_slice(), &mut trees.some, words),
-        None => None,
-    }
+    take_among(trees.classes.as_mut_slice(), &mut trees.some, words)
 }
 
 /// Adds the spare fork's block to those of ranked trees.
@@ -119,9 +84,7 @@ fn insert_among<A: Allocator>(trees: &mut [Tree<A>], some: &mut u64, spare: Box<
     insert(&mut trees[class], spare);
 }
 
-/// Takes the first block of ranked trees that has so many words, with its fork. Out of line, since
-/// few allocations come here.
-#[inline(never)]
+/// Takes the first block of ranked trees that has so many words, with its fork.
 fn take_among<A: Allocator>(
     trees: &mut [Tree<A>],
     some: &mut u64,

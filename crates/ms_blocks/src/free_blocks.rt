@@ -1,12 +1,12 @@
 //! The free blocks of one arena, in room that is made ahead.
 //!
-//!     trees     a fork for each free block          count of them, total of their words
-//!     spare     | fork | fork | fork |  ..  |       room, then places for the forks in the trees
+//!     store    4 words (20, 4)  4 words (40, 4)  10 words (0, 10)
+//!     room for 5 more     count 3     total 18     none has more than 10
 //!
-//! Adding a block moves a spare fork into a tree, and removing one moves it back: neither takes
-//! memory. Kept true: the trees hold the blocks by rank, they lie apart, the count and the total
-//! are theirs, the vector of spare forks has a place for each fork of the trees, and the trees are
-//! there where there is room: they are made with the first.
+//! Neither adding a block nor removing one takes memory. Kept true: the store has the blocks by
+//! rank, they lie apart, the count and the total are theirs, there is the room that is told, and no
+//! block has more words than the bound: so where a larger one is asked for, the store isn't looked
+//! at, as in most allocations.
 ghost use Rattle.std.specs.Prelude.{◌≡◌, ◌+◌, ◌^◌, ◌<◌, ◌≤◌, max, IsFalse, [], length, OnOk, OnErr, IfErr, IsOk};
 ghost use Rattle.std.specs.Prelude.{IfSome, OnSome, IfNone, vec_len, vec_capacity};
 ghost use Rattle.std.specs.Option.{option_map};
@@ -15,34 +15,36 @@ ghost use Rattle.ms_base.specs.Names.{with_new, without};
 ghost use Rattle.ms_base.specs.Place.{best_fit};
 ghost use Rattle.ms_blocks.specs.FreeBlocks.{KeptBlocks, AreKept, MayBeKept, IsBestFit, NoneFits, run_of, words_in};
 
-use crate::classes::{Trees, insert_in, make_trees, take_in};
-use crate::tree::Fork;
+use crate::store::{Store, insert, make_room, take};
 use ms_base::{Block, Refusal};
-use std::alloc::{AllocError, Allocator, Global};
+use std::alloc::{Allocator, Global};
 use std::marker::Model;
 
 /// The words that an arena keeps for its next allocations: blocks that don't meet, each of at
 /// least two words, and room for more of them. A start is a word number, and a size is in words.
 /// Adding and removing take time that grows like the logarithm of the blocks kept.
 pub struct FreeBlocks<A: Allocator = Global> {
-    /// The free blocks by rank, one a fork, in trees by size; none before room is first made.
-    trees: Trees<A>,
-    /// The room: a fork for each block that may be added yet.
-    spare: Vec<Box<Fork<A>, A>, A>,
-    /// How many blocks the trees have.
+    /// The free blocks by rank.
+    store: Store<A>,
+    /// For how many more there is room.
+    room: usize,
+    /// How many there are.
     count: usize,
     /// How many words they have together, below 2 ^ 64.
     total: u64,
+    /// None of them has more words; one may have had so many.
+    most: u64,
 }
 
 impl<A: Allocator> Drop for FreeBlocks<A> {
     /// Lets its parts go. Written out, so that crates above drop it by a call and see no part.
     fn drop(self) {
         let FreeBlocks {
-            trees: _,
-            spare: _,
+            store: _,
+            room: _,
             count: _,
             total: _,
+            most: _,
         } = self;
     }
 }
@@ -66,10 +68,11 @@ impl<A: Allocator> FreeBlocks<A> {
         ensures { result ≡ record { kept = []; room = 0 } }
     {
         FreeBlocks {
-            trees: Trees::none(),
-            spare: Vec::new(alloc),
+            store: Store::new(alloc),
+            room: 0,
             count: 0,
             total: 0,
+            most: 0,
         }
     }
 
@@ -83,13 +86,11 @@ impl<A: Allocator> FreeBlocks<A> {
         ensures kept { self.new.kept ≡ with_new self.old.kept block.start block.words }
         ensures room { self.new.room + 1 ≡ self.old.room }
     {
-        let Some(mut fork) = self.spare.pop() else {
-            unreachable!()
-        };
-        fork.block = block;
-        insert_in(&mut self.trees, fork);
+        insert(&mut self.store, block);
+        self.room -= 1;
         self.count += 1;
         self.total += block.words;
+        self.most = self.most.max(block.words);
     }
 
     /// Takes out the best fit whole: the free block with the fewest words that has at least so
@@ -106,19 +107,17 @@ impl<A: Allocator> FreeBlocks<A> {
         ensures back { IfSome result (λ block. MayBeKept self.new.kept (run_of block)) }
         ensures unchanged { IfNone result (self.new ≡ self.old) }
     {
-        match take_in(&mut self.trees, words) {
-            None => None,
-            Some(fork) => {
-                let block = fork.block;
-                self.count -= 1;
-                self.total -= block.words;
-                // The fork left a place free when it was added.
-                match self.spare.push(fork) {
-                    Ok(()) => Some(block),
-                    Err(_) => unreachable!(),
-                }
-            }
+        if self.most < words {
+            return None;
         }
+        let Some(block) = take(&mut self.store, words) else {
+            self.most = words.saturating_sub(1);
+            return None;
+        };
+        self.room += 1;
+        self.count -= 1;
+        self.total -= block.words;
+        Some(block)
     }
 
     /// Tells how many words the free blocks have together, below 2 ^ 64.
@@ -140,7 +139,7 @@ impl<A: Allocator> FreeBlocks<A> {
     pub fn room(&self) -> usize
         ensures { result ≡ self.now.room }
     {
-        self.spare.len()
+        self.room
     }
 }
 
@@ -154,44 +153,18 @@ impl<A: Allocator + Clone> FreeBlocks<A> {
         ensures refusal { IfErr result (λ refusal. refusal ≡ Refusal.OutOfMemory) }
         ensures unchanged { OnErr result (self.new ≡ self.old) }
     {
-        let room = self.spare.len();
-        if n <= room {
+        if n <= self.room {
             return Ok(());
         }
-        if self.trees.is_none() {
-            let Ok(trees) = make_trees(self.spare.allocator()) else {
-                return Err(Refusal::OutOfMemory);
-            };
-            self.trees = trees;
+        if self.count.checked_add(n).is_none() {
+            return Err(Refusal::OutOfMemory);
         }
-        match fill(&mut self.spare, n, self.count) {
-            Ok(()) => Ok(()),
-            Err(_) => {
-                self.spare.truncate(room);
-                Err(Refusal::OutOfMemory)
+        match make_room(&mut self.store, self.count, n) {
+            Ok(()) => {
+                self.room = n;
+                Ok(())
             }
+            Err(_) => Err(Refusal::OutOfMemory),
         }
     }
-}
-
-/// Fills up to so many spare forks, with places for those of the trees. A refusal leaves what was
-/// made.
-fn fill<A: Allocator + Clone>(
-    spare: &mut Vec<Box<Fork<A>, A>, A>,
-    room: usize,
-    count: usize,
-) -> Result<(), AllocError>
-    requires { vec_len spare.old < room }
-    ensures filled { OnOk result (vec_len spare.new ≡ room) }
-    ensures places { OnOk result (room + count ≤ vec_capacity spare.new) }
-    ensures longer { vec_len spare.old ≤ vec_len spare.new }
-    ensures larger { vec_capacity spare.old ≤ vec_capacity spare.new }
-{
-    // All places first, so that what can't be had is refused at once.
-    spare.reserve(room - spare.len())?;
-    for _ in spare.len()..room {
-        let alloc = spare.allocator().clone()?;
-        spare.push(Box::new(alloc, Fork::spare())?)?;
-    }
-    spare.reserve(count)
 }

@@ -368,7 +368,7 @@ fn tell_height<A: Allocator>(fork: &mut Fork<A>)
 }
 
 /// Tells whether the first block ranks before the second.
-fn ranks_first(one: &Block, other: &Block) -> bool
+pub fn ranks_first(one: &Block, other: &Block) -> bool
     ensures { result ≡ ranks_before one.now other.now }
 {
     one.words < other.words || (one.words == other.words && one.start < other.start)

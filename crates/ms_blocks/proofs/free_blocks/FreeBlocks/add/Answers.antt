@@ -1,19 +1,19 @@
-use Rattle.std.proofs.Common.{◌≡◌, ◌+◌, ◌^◌, ◌<◌, ◌≤◌, false, subst, sym, arith, vec_len}
+use Rattle.std.proofs.Common.{◌≡◌, ◌+◌, ◌-◌, ◌^◌, ◌<◌, ◌≤◌, false, ap, subst, sym, arith}
 use Rattle.ms_base.specs.declared.span.Block.{Block}
 use Rattle.ms_base.specs.Interval.{meets_any}
 use Rattle.ms_blocks.specs.FreeBlocks.{KeptBlocks, MayBeKept, run_of, by_start}
-use Rattle.ms_blocks.specs.Classes.{blocks_in}
+use Rattle.ms_blocks.specs.Store.{HasRoom, blocks_in}
 use Rattle.ms_blocks.specs.Tended.{kept_blocks}
 use Rattle.ms_blocks.specs.declared.free_blocks.FreeBlocks.TheInside.{Inside}
 use Rattle.ms_blocks.proofs.TendedLemmas.{Adds, adds}
 use Rattle.ms_blocks.proofs.free_blocks.FreeBlocks.add.Given.{Over}
 use Rattle.ms_blocks.proofs.free_blocks.FreeBlocks.add.Goals as goal
-use Rattle.ms_blocks.proofs.free_blocks.FreeBlocks.add.Goals.{After-insert_in}
+use Rattle.ms_blocks.proofs.free_blocks.FreeBlocks.add.Goals.{After-insert}
 
 -- What is asked of the block, said of the fields.
 may : {A : Type 0} (f : Inside A) (now : KeptBlocks) (block : Block) → kept_blocks f ≡ now → 2 ≤ block.words
     → block.start + block.words < 2 ^ 64 → meets_any (run_of block) now.kept ≡ false
-    → MayBeKept (by_start (blocks_in f.trees)) (run_of block)
+    → MayBeKept (by_start (blocks_in f.store)) (run_of block)
 may f now block seen some ends apart = record {
   some = some;
   ends = ends;
@@ -21,23 +21,26 @@ may f now block seen some ends apart = record {
 }
 
 -- What the addition makes of the fields.
-added : (g : Over) (c : After-insert_in g) → Adds c.self.inside c.args.block (blocks_in c.insert_in.new.trees)
+added : (g : Over) (c : After-insert g) → Adds c.self.inside c.args.block (blocks_in c.insert.new.store)
 added g c =
     let asked = may c.self.inside c.args.self.now c.args.block c.self.view_is
     c.requires.words c.requires.ends c.requires.apart in
-    adds c.self.inside c.args.block (blocks_in c.insert_in.new.trees) c.self.invariant.blocks asked
-    (λ ranked. c.insert_in.ensures.blocks)
+    adds c.self.inside c.args.block (blocks_in c.insert.new.store) c.self.invariant.blocks asked c.insert.ensures.blocks
 
 pub overflow_add-self-2 : goal.overflow_add-self-2
-overflow_add-self-2 g c = omega (arith, (added g (goal.at.overflow_add-self-2 g c).After-insert_in).sum_fits)
+overflow_add-self-2 g c = omega (arith, (added g (goal.at.overflow_add-self-2 g c).After-insert).sum_fits)
 
 pub invariant_of-self : goal.invariant_of-self
-invariant_of-self g c = record {
-  blocks = rw c.pop.ensures.capacity ((added g (goal.at.invariant_of-self g c).After-insert_in).tended
-      (vec_len c.pop.new.self) (omega (arith, c.in-Some.ensures.cases)));
-  classed = c.insert_in.ensures.trees;
-  there = λ some. c.insert_in.ensures.there;
-}
+invariant_of-self g c =
+    let f = c.self.inside in
+    let room : f.room ≡ f.room - 1 + 1 =
+    omega (arith, c.requires.room, ap (λ (kept : KeptBlocks). kept.room) c.self.view_is) in
+    record {
+      blocks = rw c.max-self-inside.ensures (added g (goal.at.invariant_of-self g c).After-insert).tended;
+      store = c.insert.ensures.store;
+      room = c.insert.ensures.room (f.room - 1) (subst (HasRoom f.store) room c.self.invariant.room);
+      fits = omega (arith, c.self.invariant.fits, room);
+    }
 
 pub returns-clause-kept : goal.returns-clause-kept
-returns-clause-kept g c = rw (← c.self.view_is) (added g (goal.at.returns-clause-kept g c).After-insert_in).runs
+returns-clause-kept g c = rw (← c.self.view_is) (added g (goal.at.returns-clause-kept g c).After-insert).runs

@@ -1,91 +1,78 @@
-use Rattle.std.proofs.Common.{List, subst, sym, ap, ◌∙◌, arith, vec_len, vec_capacity}
+use Rattle.std.proofs.Common.{◌≡◌, IfNone, IfSome, List, None, Option, Some, ap, arith, subst, sym, ◌∙◌, ℕ}
+use Rattle.std.specs.Option.{option_map}
 use Rattle.ms_base.specs.declared.span.Block.{Block}
-use Rattle.ms_blocks.specs.FreeBlocks.{KeptBlocks, LieFrom, run_of, by_start}
-use Rattle.ms_blocks.specs.Classes.{blocks_in}
-use Rattle.ms_blocks.specs.Tended.{AreTended}
+use Rattle.ms_blocks.specs.FreeBlocks.{KeptBlocks, LieFrom, by_start, run_of}
+use Rattle.ms_blocks.specs.Store.{blocks_in}
 use Rattle.ms_blocks.proofs.BestFitLemmas.{best_fit-found, best_fit-none}
-use Rattle.ms_blocks.proofs.TendedLemmas.{Takes, takes, Misses, misses}
+use Rattle.ms_blocks.proofs.TendedLemmas.{Misses, Takes, misses, none_kept, takes}
 use Rattle.ms_blocks.proofs.free_blocks.FreeBlocks.remove.Given.{Over}
 use Rattle.ms_blocks.proofs.free_blocks.FreeBlocks.remove.Goals as goal
-use Rattle.ms_blocks.proofs.free_blocks.FreeBlocks.remove.Goals.{In-None, In-Some}
+use Rattle.ms_blocks.proofs.free_blocks.FreeBlocks.remove.Goals.{In-Some, In_default}
 
--- What the removal makes of the fields, with a fit and without one.
-taken : (g : Over) (c : In-Some g)
-    → Takes c.self.inside c.args.words c.in-Some.fork.value.block (blocks_in c.take_in.new.trees)
-taken g c =
-    takes c.self.inside c.args.words c.in-Some.fork.value.block (blocks_in c.take_in.new.trees) c.self.invariant.blocks
-    (λ ranked. c.in-Some.ensures.found) (λ ranked. c.in-Some.ensures.left)
-
-missed : (g : Over) (c : In-None g) → Misses c.self.inside c.args.words (blocks_in c.take_in.new.trees)
+-- What the removal makes of the fields, without a fit and with one.
+missed : (g : Over) (c : In_default g) → Misses c.self.inside c.args.words (blocks_in c.take.new.store)
 missed g c =
-    misses c.self.inside c.args.words (blocks_in c.take_in.new.trees) c.self.invariant.blocks
-    (λ ranked. c.in-None.ensures.found) (λ ranked. c.in-None.ensures.left)
+    misses c.self.inside c.args.words (blocks_in c.take.new.store) c.self.invariant.blocks
+    c.in_default.ensures.found c.in_default.ensures.left
+
+taken : (g : Over) (c : In-Some g) → Takes c.self.inside c.args.words c.in-Some.block (blocks_in c.take.new.store)
+taken g c =
+    takes c.self.inside c.args.words c.in-Some.block (blocks_in c.take.new.store) c.self.invariant.blocks
+    c.in-Some.ensures.found c.in-Some.ensures.left
 
 pub invariant_of-self : goal.invariant_of-self
-invariant_of-self g c =
-    let f = c.self.inside in record {
-      blocks = subst
-          (λ (blocks : List Block). AreTended blocks (vec_len f.spare) (vec_capacity f.spare) f.count f.total)
-          (missed g c).same c.self.invariant.blocks;
-      classed = c.take_in.ensures.trees;
-      there = λ some. c.take_in.ensures.stay (c.self.invariant.there some);
-    }
+invariant_of-self g c = record {
+  blocks = rw c.saturating_sub-self-inside.ensures (missed g (goal.at.invariant_of-self g c).In_default).tended;
+  store = c.take.ensures.store;
+  room = c.in_default.ensures.same c.self.inside.room c.self.invariant.room;
+  fits = c.self.invariant.fits;
+}
 
-pub overflow_sub-self : goal.overflow_sub-self
-overflow_sub-self g c = (taken g (goal.at.overflow_sub-self g c).In-Some).counted
+pub returns-in_default-clause-none : goal.returns-in_default-clause-none
+returns-in_default-clause-none g c =
+    rw (← c.self.view_is) (missed g (goal.at.returns-in_default-clause-none g c).In_default).none
 
-pub overflow_sub-self-in-Some : goal.overflow_sub-self-in-Some
-overflow_sub-self-in-Some g c = rw c.deref.ensures (taken g (goal.at.overflow_sub-self-in-Some g c).In-Some).summed
-
-pub unreachable-requires : goal.unreachable-requires
-unreachable-requires g c =
-    absurd (omega (
-      arith,
-      (taken g (goal.at.unreachable-requires g c).In-Some).counted,
-      c.self.invariant.blocks.placed,
-      c.in-Err.ensures.full,
-    ))
-
-pub invariant_of-self-in-Some : goal.invariant_of-self-in-Some
-invariant_of-self-in-Some g c =
-    record {
-      blocks = rw (c.deref.ensures, c.in-Ok.ensures.len)
-          ((taken g (goal.at.invariant_of-self-in-Some g c).In-Some).tended (vec_capacity c.push.new.self)
-          c.in-Ok.ensures.capacity);
-      classed = c.take_in.ensures.trees;
-      there = λ some. c.in-Some.ensures.there;
-    }
-
-pub returns-in-None-clause-none : goal.returns-in-None-clause-none
-returns-in-None-clause-none g c = rw (← c.self.view_is) (missed g c).none
-
-pub returns-in-None-clause-answer : goal.returns-in-None-clause-answer
-returns-in-None-clause-answer g c =
-    sym (best_fit-none c.args.self.now.kept c.args.words (returns-in-None-clause-none g c))
-
-pub returns-in-None-clause-unchanged : goal.returns-in-None-clause-unchanged
-returns-in-None-clause-unchanged g c =
+pub returns-in_default-clause-unchanged : goal.returns-in_default-clause-unchanged
+returns-in_default-clause-unchanged g c =
     ap (λ (blocks : List Block). let seen : KeptBlocks =
-    record { kept = by_start blocks; room = vec_len c.self.inside.spare } in seen) (sym (missed g c).same)
-    ∙ c.self.view_is
+    record { kept = by_start blocks; room = c.self.inside.room } in seen)
+    (sym (missed g (goal.at.returns-in_default-clause-unchanged g c).In_default).same) ∙ c.self.view_is
 
-pub returns-in-Ok-clause-best : goal.returns-in-Ok-clause-best
-returns-in-Ok-clause-best g c = rw (
-  ← c.self.view_is,
-  c.deref.ensures,
-) (taken g (goal.at.returns-in-Ok-clause-best g c).In-Some).best
+pub overflow_sub-self-2 : goal.overflow_sub-self-2
+overflow_sub-self-2 g c = (taken g (goal.at.overflow_sub-self-2 g c).In-Some).summed
 
-pub returns-in-Ok-clause-answer : goal.returns-in-Ok-clause-answer
-returns-in-Ok-clause-answer g c =
+pub invariant_of-self-2 : goal.invariant_of-self-2
+invariant_of-self-2 g c =
+    let made = taken g (goal.at.invariant_of-self-2 g c).In-Some in
+    record {
+      blocks = made.tended;
+      store = c.take.ensures.store;
+      room = c.in-Some.ensures.room c.self.inside.room c.self.invariant.room;
+      fits = omega (arith, c.self.invariant.fits, made.counted);
+    }
+
+pub returns-clause-best : goal.returns-clause-best
+returns-clause-best g c = rw (← c.self.view_is) (taken g (goal.at.returns-clause-best g c).In-Some).best
+
+pub returns-clause-taken : goal.returns-clause-taken
+returns-clause-taken g c = rw (← c.self.view_is) (taken g (goal.at.returns-clause-taken g c).In-Some).runs
+
+pub returns-clause-back : goal.returns-clause-back
+returns-clause-back g c = (taken g (goal.at.returns-clause-back g c).In-Some).back
+
+pub returns-then-self-words-clause-none : goal.returns-then-self-words-clause-none
+returns-then-self-words-clause-none g c =
+    rw (← c.self.view_is) (none_kept c.self.inside c.args.words c.self.invariant.blocks c.if-self-words.true)
+
+pub returns-then-self-words-clause-answer : goal.returns-then-self-words-clause-answer
+returns-then-self-words-clause-answer g c =
+    sym (best_fit-none c.args.self.now.kept c.args.words (returns-then-self-words-clause-none g c))
+
+pub returns-in_default-clause-answer : goal.returns-in_default-clause-answer
+returns-in_default-clause-answer g c =
+    sym (best_fit-none c.args.self.now.kept c.args.words (returns-in_default-clause-none g c))
+
+pub returns-clause-answer : goal.returns-clause-answer
+returns-clause-answer g c =
     let laid = subst (λ (blocks : KeptBlocks). LieFrom 0 blocks.kept) c.self.view_is c.self.invariant.blocks.laid in
-    sym (best_fit-found 0 c.args.self.now.kept c.args.words (run_of c.deref.result.now.block) laid
-    (returns-in-Ok-clause-best g c))
-
-pub returns-in-Ok-clause-taken : goal.returns-in-Ok-clause-taken
-returns-in-Ok-clause-taken g c = rw (
-  ← c.self.view_is,
-  c.deref.ensures,
-) (taken g (goal.at.returns-in-Ok-clause-taken g c).In-Some).runs
-
-pub returns-in-Ok-clause-back : goal.returns-in-Ok-clause-back
-returns-in-Ok-clause-back g c = rw c.deref.ensures (taken g (goal.at.returns-in-Ok-clause-back g c).In-Some).back
+    sym (best_fit-found 0 c.args.self.now.kept c.args.words (run_of c.in-Some.block) laid (returns-clause-best g c))
