@@ -1,6 +1,6 @@
 -- Blocks by rank, seen as runs by start: what an addition and the removal of the first fit are
 -- there. Used by the methods of `FreeBlocks`.
-use Rattle.std.proofs.Common.{length, arith, ◌+◌, ◌≡◌, ◌≢◌, ℕ, true, false, List, [], ◌∷◌, Some, None, refl, ap, sym, ◌∙◌}
+use Rattle.std.proofs.Common.{length, arith, ◌≡◌, ◌≢◌, ℕ, true, false, List, [], ◌∷◌, Some, None, refl, ap, sym, ◌∙◌}
 use Rattle.std.specs.Prelude.{nat_le, if◌then◌else◌}
 use Rattle.std.specs.List.{AllByRecursion}
 use Rattle.ms_base.specs.declared.span.Block.{Block}

@@ -1,13 +1,13 @@
 -- What is kept of free blocks, after an addition and after the removal of the first fit. Used by
 -- `FreeBlocks::add` and `FreeBlocks::remove`.
-use Rattle.std.proofs.Common.{◌≡◌, ℕ, ◌+◌, ◌-◌, ◌^◌, ◌≤◌, ◌<◌, List, length, Some, None, ap, sym, subst, ◌∙◌, arith}
+use Rattle.std.proofs.Common.{◌≡◌, ℕ, ◌+◌, ◌-◌, ◌^◌, ◌≤◌, ◌<◌, List, Some, None, ap, sym, subst, ◌∙◌, arith}
 use Rattle.std.proofs.Common.{[], ◌∷◌, refl}
-use Rattle.std.specs.Prelude.{max, nat_le, if◌then◌else◌}
+use Rattle.std.specs.Prelude.{max}
 use Rattle.std.specs.List.{AllByRecursion}
 use Rattle.std.proofs.lemmas.Bool.{lt-leb}
 use Rattle.ms_base.specs.declared.span.Block.{Block}
 use Rattle.ms_base.specs.Names.{named, with_new, without}
-use Rattle.ms_blocks.specs.Rank.{IsRanked, with_ranked, first_fit, without_fit}
+use Rattle.ms_blocks.specs.Rank.{with_ranked, first_fit, without_fit}
 use Rattle.ms_blocks.specs.FreeBlocks.{IsBestFit, NoneFits, MayBeKept, run_of, by_start, StartsDiffer, LieFrom}
 use Rattle.ms_blocks.specs.FreeBlocks.{words_in}
 use Rattle.ms_blocks.specs.Store.{blocks_in}

@@ -1,5 +1,5 @@
 -- Where free blocks are: a few in a row, more in trees (this project's choice).
-use Rattle.std.specs.Prelude.{◌≡◌, ℕ, ◌+◌, ◌≤◌, List, length, vec_len, vec_capacity}
+use Rattle.std.specs.Prelude.{ℕ, ◌+◌, ◌≤◌, List, length, vec_len, vec_capacity}
 use Rattle.ms_base.specs.declared.span.Block.{Block}
 use Rattle.ms_blocks.specs.declared.store.Store.{Store}
 use Rattle.ms_blocks.specs.declared.store.Store.TheVariants.{Few, Many}

@@ -1,5 +1,4 @@
-use Rattle.std.proofs.Common.{◌≡◌, IfNone, IfSome, List, None, Option, Some, ap, arith, subst, sym, ◌∙◌, ℕ}
-use Rattle.std.specs.Option.{option_map}
+use Rattle.std.proofs.Common.{List, ap, arith, subst, sym, ◌∙◌}
 use Rattle.ms_base.specs.declared.span.Block.{Block}
 use Rattle.ms_blocks.specs.FreeBlocks.{KeptBlocks, LieFrom, by_start, run_of}
 use Rattle.ms_blocks.specs.Store.{blocks_in}
