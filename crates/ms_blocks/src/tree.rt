@@ -89,10 +89,10 @@ pub fn insert<A: Allocator>(tree: &mut Tree<A>, spare: Box<Fork<A>, A>) -> bool
         Tree::Forked(fork) => {
             if ranks_first(&fork.block, &spare.block) {
                 let higher = insert(&mut fork.right, spare);
-                level(tree, higher)
+                level_grown(tree, higher, Side::Right)
             } else {
                 let higher = insert(&mut fork.left, spare);
-                level(tree, higher)
+                level_grown(tree, higher, Side::Left)
             }
         }
     }
@@ -218,6 +218,41 @@ fn put_alone<A: Allocator>(tree: &mut Tree<A>, mut spare: Box<Fork<A>, A>)
     spare.right = Tree::Empty;
     spare.height = 1;
     *tree = Tree::Forked(spare);
+}
+
+/// A side of a fork.
+#[derive(Clone, Copy)]
+enum Side {
+    Left,
+    Right,
+}
+
+/// Levels a tree on top, whose sides are level, where one is higher by one than it was, and tells
+/// whether the tree is higher then: not where the other side had been the higher one, and not where
+/// it turns.
+#[inline(always)]
+fn level_grown<A: Allocator>(tree: &mut Tree<A>, higher: bool, side: Side) -> bool
+    ensures { blocks_of tree.new ≡ blocks_of tree.old }
+{
+    if !higher {
+        return false;
+    }
+    if let Tree::Forked(fork) = tree {
+        let (left, right) = (height_of(&fork.left), height_of(&fork.right));
+        let (grown, other) = match side {
+            Side::Left => (left, right),
+            Side::Right => (right, left),
+        };
+        if grown <= other {
+            return false;
+        }
+        if grown == other.wrapping_add(1) {
+            fork.height = grown.wrapping_add(1);
+            return true;
+        }
+    }
+    turn(tree);
+    false
 }
 
 /// Levels a tree on top, whose sides are level, where one of them has another height than before,
