@@ -99,12 +99,12 @@ pub fn insert<A: Allocator>(tree: &mut Tree<A>, spare: Box<Fork<A>, A>) -> bool
 }
 
 /// Takes the first block of a ranked tree that has so many words, with its fork: the fork on the
-/// way that fits, and has nothing to its left that does. Where one is taken, `moved` tells whether
-/// the tree has another height then.
+/// way that fits, and has nothing to its left that does. Where one is taken, `lower` tells whether
+/// the tree is lower then.
 pub fn take_fit<A: Allocator>(
     tree: &mut Tree<A>,
     words: u64,
-    moved: &mut bool,
+    lower: &mut bool,
 ) -> Option<Box<Fork<A>, A>>
     ensures found { IsRanked (blocks_of tree.old) →
         first_fit (blocks_of tree.old) words ≡ option_map (λ fork. fork.value.block) result }
@@ -116,20 +116,20 @@ pub fn take_fit<A: Allocator>(
         Tree::Empty => None,
         Tree::Forked(fork) => {
             if fork.block.words < words {
-                return match take_fit(&mut fork.right, words, moved) {
+                return match take_fit(&mut fork.right, words, lower) {
                     Some(found) => {
-                        *moved = level(tree, *moved);
+                        *lower = level_shrunk(tree, *lower, Side::Right);
                         Some(found)
                     }
                     None => None,
                 };
             }
-            match take_fit(&mut fork.left, words, moved) {
+            match take_fit(&mut fork.left, words, lower) {
                 Some(found) => {
-                    *moved = level(tree, *moved);
+                    *lower = level_shrunk(tree, *lower, Side::Left);
                     Some(found)
                 }
-                None => take_top(tree, moved),
+                None => take_top(tree, lower),
             }
         }
     }
@@ -138,11 +138,11 @@ pub fn take_fit<A: Allocator>(
 /// Takes the fork on top, and joins the trees below it: mostly there is none to its left. Out of
 /// line, so that what it keeps for itself isn't kept at each turn of `take_fit`.
 #[inline(never)]
-fn take_top<A: Allocator>(tree: &mut Tree<A>, moved: &mut bool) -> Option<Box<Fork<A>, A>>
+fn take_top<A: Allocator>(tree: &mut Tree<A>, lower: &mut bool) -> Option<Box<Fork<A>, A>>
     ensures { TakesTop tree.old (blocks_of tree.new) (option_map (λ fork. fork.value.block) result) }
 {
     if tree.has_no_left() {
-        *moved = true;
+        *lower = true;
         return take_lowest(tree);
     }
     match mem::replace(tree, Tree::Empty) {
@@ -151,7 +151,7 @@ fn take_top<A: Allocator>(tree: &mut Tree<A>, moved: &mut bool) -> Option<Box<Fo
             let left = mem::replace(&mut fork.left, Tree::Empty);
             let right = mem::replace(&mut fork.right, Tree::Empty);
             *tree = join(left, right);
-            *moved = height_of(tree) != fork.height;
+            *lower = height_of(tree) != fork.height;
             Some(fork)
         }
     }
@@ -172,20 +172,20 @@ fn join<A: Allocator>(before: Tree<A>, mut behind: Tree<A>) -> Tree<A>
     }
 }
 
-/// Takes the first fork of a tree; `moved` tells then whether the tree has another height.
-fn take_first<A: Allocator>(tree: &mut Tree<A>, moved: &mut bool) -> Option<Box<Fork<A>, A>>
+/// Takes the first fork of a tree; `lower` tells then whether the tree is lower.
+fn take_first<A: Allocator>(tree: &mut Tree<A>, lower: &mut bool) -> Option<Box<Fork<A>, A>>
     ensures { TakesFirst (blocks_of tree.old) (option_map (λ fork. fork.value.block) result)
         (blocks_of tree.new) }
 {
     match tree {
         Tree::Empty => None,
-        Tree::Forked(fork) => match take_first(&mut fork.left, moved) {
+        Tree::Forked(fork) => match take_first(&mut fork.left, lower) {
             Some(found) => {
-                *moved = level(tree, *moved);
+                *lower = level_shrunk(tree, *lower, Side::Left);
                 Some(found)
             }
             None => {
-                *moved = true;
+                *lower = true;
                 take_lowest(tree)
             }
         },
@@ -227,22 +227,28 @@ enum Side {
     Right,
 }
 
+/// Tells how high a side of a fork is, and the other one.
+#[inline(always)]
+fn heights<A: Allocator>(fork: &Fork<A>, side: Side) -> (u8, u8) {
+    let (left, right) = (height_of(&fork.left), height_of(&fork.right));
+    match side {
+        Side::Left => (left, right),
+        Side::Right => (right, left),
+    }
+}
+
 /// Levels a tree on top, whose sides are level, where one is higher by one than it was, and tells
 /// whether the tree is higher then: not where the other side had been the higher one, and not where
 /// it turns.
 #[inline(always)]
-fn level_grown<A: Allocator>(tree: &mut Tree<A>, higher: bool, side: Side) -> bool
+fn level_grown<A: Allocator>(tree: &mut Tree<A>, grew: bool, side: Side) -> bool
     ensures { blocks_of tree.new ≡ blocks_of tree.old }
 {
-    if !higher {
+    if !grew {
         return false;
     }
     if let Tree::Forked(fork) = tree {
-        let (left, right) = (height_of(&fork.left), height_of(&fork.right));
-        let (grown, other) = match side {
-            Side::Left => (left, right),
-            Side::Right => (right, left),
-        };
+        let (grown, other) = heights(fork, side);
         if grown <= other {
             return false;
         }
@@ -255,26 +261,26 @@ fn level_grown<A: Allocator>(tree: &mut Tree<A>, higher: bool, side: Side) -> bo
     false
 }
 
-/// Levels a tree on top, whose sides are level, where one of them has another height than before,
-/// and tells whether the tree has another height then. Else nothing is looked at: few changes reach
-/// far up.
+/// Levels a tree on top, whose sides are level, where one is lower by one than it was, and tells
+/// whether the tree is lower then: not where both had been as high.
 #[inline(always)]
-fn level<A: Allocator>(tree: &mut Tree<A>, moved: bool) -> bool
+fn level_shrunk<A: Allocator>(tree: &mut Tree<A>, shrank: bool, side: Side) -> bool
     ensures { blocks_of tree.new ≡ blocks_of tree.old }
 {
-    moved && level_anew(tree)
-}
-
-/// Levels a tree on top, whose sides are level, and tells whether it has another height then.
-#[inline(never)]
-fn level_anew<A: Allocator>(tree: &mut Tree<A>) -> bool
-    ensures { blocks_of tree.new ≡ blocks_of tree.old }
-{
-    let height = height_of(tree);
-    let mut moved = false;
-    if is_level(tree, &mut moved) {
-        return moved;
+    if !shrank {
+        return false;
     }
+    if let Tree::Forked(fork) = tree {
+        let (shrunk, other) = heights(fork, side);
+        if shrunk.wrapping_add(1) == other {
+            return false;
+        }
+        if shrunk == other {
+            fork.height = other.wrapping_add(1);
+            return true;
+        }
+    }
+    let height = height_of(tree);
     turn(tree);
     height_of(tree) != height
 }
@@ -287,25 +293,6 @@ fn turn<A: Allocator>(tree: &mut Tree<A>)
 {
     if let Tree::Forked(fork) = mem::replace(tree, Tree::Empty) {
         *tree = leveled(fork);
-    }
-}
-
-/// Tells whether neither side of the fork on top is higher by two, and its height anew; `moved`
-/// tells whether that is another one.
-#[inline(always)]
-fn is_level<A: Allocator>(tree: &mut Tree<A>, moved: &mut bool) -> bool
-    ensures { blocks_of tree.new ≡ blocks_of tree.old }
-{
-    match tree {
-        Tree::Empty => true,
-        Tree::Forked(fork) => {
-            let left = height_of(&fork.left);
-            let right = height_of(&fork.right);
-            let height = left.max(right).wrapping_add(1);
-            *moved = height != fork.height;
-            fork.height = height;
-            left <= right.wrapping_add(1) && right <= left.wrapping_add(1)
-        }
     }
 }
 

@@ -14,7 +14,7 @@ returns-in-Some-clause-found g t c ranked =
 pub returns-in-Some-clause-left : goal.returns-in-Some-clause-left
 returns-in-Some-clause-left g t c ranked =
     let fork = c.in-Forked.fork.value in
-    rw (c.in-Forked.is, c.level.ensures, c.deref_mut.ensures.value)
+    rw (c.in-Forked.is, c.level_shrunk.ensures, c.deref_mut.ensures.value)
     (take_right (blocks_of fork.left) (blocks_of fork.right)
     (blocks_of c.take_fit.new.tree) fork.block c.args.words
     (rw c.in-Forked.is at ranked) (rw c.deref.ensures at c.if-deref-words.true)
@@ -47,7 +47,7 @@ returns-in-Some-take_fit-clause-found g t c ranked =
 pub returns-in-Some-take_fit-clause-left : goal.returns-in-Some-take_fit-clause-left
 returns-in-Some-take_fit-clause-left g t c ranked =
     let fork = c.in-Forked.fork.value in
-    rw (c.in-Forked.is, c.level-in-Some-take_fit.ensures, c.deref_mut-in-Forked.ensures.value)
+    rw (c.in-Forked.is, c.level_shrunk-in-Some-take_fit.ensures, c.deref_mut-in-Forked.ensures.value)
     (take_left (blocks_of fork.left) (blocks_of fork.right)
     (blocks_of c.take_fit-in-Forked.new.tree) fork.block c.in-Some-take_fit.found.value.block c.args.words
     (rw c.in-Forked.is at ranked)
