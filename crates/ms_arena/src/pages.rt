@@ -11,7 +11,7 @@
 //! written. Kept true: the store has the pages with a place and no others, each at its own. Only
 //! `reserve` takes memory. HotSpot's arenas are memory themselves; this list stands for it.
 ghost use Rattle.std.specs.Prelude.{◌≡◌, ◌≢◌, ℕ, ◌+◌, ◌-◌, ◌*◌, ◌/◌, ◌^◌, ◌<◌, ◌≤◌, OnOk, OnErr, length};
-ghost use Rattle.std.specs.Prelude.{true, false, IsTrue, slice_index, vec_capacity};
+ghost use Rattle.std.specs.Prelude.{true, false, IfOk, IsTrue, slice_index, vec_capacity};
 ghost use Rattle.ms_arena.specs.Pages.{word_at, page_at, Clears};
 
 use std::alloc::{AllocError, Global};
@@ -91,8 +91,7 @@ impl Pages {
         let Some(words) = room.checked_mul(PAGE) else {
             return Err(AllocError);
         };
-        let mut pages = Vec::with_capacity(alloc, room)?;
-        pages.extend_from_slice(self.pages.as_slice())?;
+        let pages = copied(alloc, self.pages.as_slice(), room)?;
         make_longer(alloc, &mut self.store, words)?;
         self.pages = pages;
         self.room = room;
@@ -283,10 +282,18 @@ fn make_longer(alloc: Global, store: &mut Vec<u64>, words: usize) -> Result<(), 
     if store.capacity() / 8 <= store.len() {
         return store.reserve_exact(words.saturating_sub(store.len()));
     }
-    let mut longer = Vec::with_capacity(alloc, words)?;
-    longer.extend_from_slice(store.as_slice())?;
-    *store = longer;
+    *store = copied(alloc, store.as_slice(), words)?;
     Ok(())
+}
+
+/// Copies a list into one with room for so many.
+fn copied<T: Copy>(alloc: Global, list: &[T], room: usize) -> Result<Vec<T>, AllocError>
+    ensures items { IfOk result (λ copy. copy.items ≡ list.now) }
+    ensures room { IfOk result (λ copy. room ≤ vec_capacity copy) }
+{
+    let mut copy = Vec::with_capacity(alloc, room)?;
+    copy.extend_from_slice(list)?;
+    Ok(copy)
 }
 
 /// Tells where the words of a page begin in the store.
