@@ -27,7 +27,7 @@ ghost use Rattle.ms_arena.specs.Books.{account_in};
 use crate::kept::Kept;
 use ms_base::{Block, Chunk, Kind, Level, Refusal, growth};
 use ms_pool::{Account, ChunkSource};
-use std::alloc::Global;
+use std::alloc::{AllocError, Global};
 use std::marker::Model;
 use std::mem;
 
@@ -149,7 +149,7 @@ impl Books {
     /// Puts the free blocks in order, and makes room for so many more, and for one top more; all
     /// else stays.
     #[inline(always)]
-    pub(crate) fn make_room(&mut self, blocks: usize) -> Result<(), Refusal>
+    pub(crate) fn make_room(&mut self, blocks: usize) -> Result<(), AllocError>
         ensures room { OnOk result (blocks ≤ self.new.room) }
         ensures ordered { OnOk result (self.new.came ≡ 0) }
         ensures places { OnOk result (1 ≤ self.new.places) }
@@ -159,7 +159,6 @@ impl Books {
           came = self.new.came;
           places = self.new.places;
         } }
-        ensures refused { IfErr result (λ refusal. refusal ≡ Refusal.OutOfMemory) }
     {
         self.kept.make_room(blocks)?;
         if self.tops.len() == self.tops.capacity() {
@@ -296,15 +295,11 @@ impl Books {
 
 /// Makes room for more tops, where there is none left.
 #[inline(never)]
-fn make_top_room(tops: &mut Vec<u64>) -> Result<(), Refusal>
+fn make_top_room(tops: &mut Vec<u64>) -> Result<(), AllocError>
     ensures places { OnOk result (1 ≤ vec_capacity tops.new - vec_len tops.new) }
     ensures tops { tops.new.items ≡ tops.old.items }
-    ensures refused { IfErr result (λ refusal. refusal ≡ Refusal.OutOfMemory) }
 {
-    match tops.reserve(MORE_TOPS) {
-        Ok(()) => Ok(()),
-        Err(_) => Err(Refusal::OutOfMemory),
-    }
+    tops.reserve(MORE_TOPS)
 }
 
 /// Takes all tops and free blocks out; where the account holds no chunk there are none.

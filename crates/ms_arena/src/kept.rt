@@ -7,7 +7,7 @@
 //! live: a block that comes is only noted, in room that was made when it was placed, and put in
 //! order before the next placement. Kept true: each block that came may be kept beside those that
 //! were there before it, and their words are summed. Only `make_room` takes memory.
-ghost use Rattle.std.specs.Prelude.{◌≡◌, ◌+◌, ◌^◌, ◌<◌, ◌≤◌, IsFalse, [], length, OnOk, IfErr, IfSome, IfNone};
+ghost use Rattle.std.specs.Prelude.{◌≡◌, ◌+◌, ◌^◌, ◌<◌, ◌≤◌, IsFalse, [], length, OnOk, IfSome, IfNone};
 ghost use Rattle.std.specs.Option.{option_map};
 ghost use Rattle.ms_base.specs.Interval.{meets_any};
 ghost use Rattle.ms_base.specs.Names.{with_new, without};
@@ -15,9 +15,9 @@ ghost use Rattle.ms_base.specs.Place.{best_fit};
 ghost use Rattle.ms_blocks.specs.FreeBlocks.{IsBestFit, MayBeKept, run_of, words_in};
 ghost use Rattle.ms_arena.specs.Kept.{MayAllBeKept, with_all};
 
-use ms_base::{Block, Refusal};
+use ms_base::Block;
 use ms_blocks::FreeBlocks;
-use std::alloc::Global;
+use std::alloc::{AllocError, Global};
 use std::marker::Model;
 
 /// The free blocks of one arena, and room for more of them. A start is a word number.
@@ -77,31 +77,28 @@ impl Kept {
 
     /// Puts all blocks in order, and makes room for so many more; the blocks stay.
     #[inline(always)]
-    pub(crate) fn make_room(&mut self, blocks: usize) -> Result<(), Refusal>
+    pub(crate) fn make_room(&mut self, blocks: usize) -> Result<(), AllocError>
         ensures room { OnOk result (blocks ≤ self.new.room) }
         ensures ordered { OnOk result (self.new.came ≡ 0) }
         ensures more { self.old.room ≤ self.new.room }
         ensures kept { self.new.kept ≡ self.old.kept }
-        ensures refused { IfErr result (λ refusal. refusal ≡ Refusal.OutOfMemory) }
     {
         if !self.came.is_empty() {
             self.order()?;
         }
-        match self.came.reserve(blocks) {
-            Ok(()) => Ok(()),
-            Err(_) => Err(Refusal::OutOfMemory),
-        }
+        self.came.reserve(blocks)
     }
 
     /// Puts all blocks in order.
     #[inline(never)]
-    fn order(&mut self) -> Result<(), Refusal>
+    fn order(&mut self) -> Result<(), AllocError>
         ensures ordered { OnOk result (self.new.came ≡ 0) }
         ensures more { self.old.room ≤ self.new.room }
         ensures kept { self.new.kept ≡ self.old.kept }
-        ensures refused { IfErr result (λ refusal. refusal ≡ Refusal.OutOfMemory) }
     {
-        self.ordered.reserve(self.came.len())?;
+        if self.ordered.reserve(self.came.len()).is_err() {
+            return Err(AllocError);
+        }
         add_all(&mut self.ordered, self.came.as_slice());
         self.came.clear();
         self.words = 0;

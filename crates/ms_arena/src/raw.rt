@@ -38,7 +38,7 @@ use crate::totals::{ArenaTotals, sums_of};
 use crate::words::Words;
 use ms_base::{Block, Chunk, Kind, ROOT_WORDS, Refusal, level_for};
 use ms_pool::{Account, ChunkSource};
-use std::alloc::Global;
+use std::alloc::{AllocError, Global};
 use std::marker::Model;
 
 /// For how many free blocks room is made at least, where few blocks are to come: nothing touches it
@@ -138,14 +138,16 @@ impl RawArena {
     {
         let n = asked(words)?;
         let many = self.expects_many();
-        made_room(
+        let Ok(()) = made_room(
             &mut self.books,
             &mut self.words,
             self.alloc,
             many,
             self.count,
             n,
-        )?;
+        ) else {
+            return Err(Refusal::OutOfMemory);
+        };
         // What is true of all books is learnt here, and once they have placed the block.
         let _ = self.books.account();
         match self.books.place(n) {
@@ -175,14 +177,16 @@ impl RawArena {
     {
         let n = asked(words)?;
         let many = self.expects_many();
-        made_room(
+        let Ok(()) = made_room(
             &mut self.books,
             &mut self.words,
             self.alloc,
             many,
             self.count,
             n,
-        )?;
+        ) else {
+            return Err(Refusal::OutOfMemory);
+        };
         // What is true of all books is learnt here, and once they have placed the block.
         let _ = self.books.account();
         let start = start_of(&mut self.books, source, self.kind, n)?;
@@ -318,7 +322,7 @@ fn made_room(
     many: bool,
     live: usize,
     n: u64,
-) -> Result<(), Refusal>
+) -> Result<(), AllocError>
     ensures room { OnOk result (live + 2 ≤ books.new.room) }
     ensures fits { OnOk result (live + 2 < 2 ^ 64) }
     ensures ordered { OnOk result (books.new.came ≡ 0) }
@@ -326,17 +330,13 @@ fn made_room(
     ensures run { OnOk result (HasRoom words.new n) }
     ensures books { IsSameBooks books.old books.new }
     ensures words { StayWords words.old words.new }
-    ensures refused { IfErr result (λ refusal. refusal ≡ Refusal.OutOfMemory) }
 {
     let Some(blocks) = live.checked_add(2) else {
-        return Err(Refusal::OutOfMemory);
+        return Err(AllocError);
     };
     let least = if many { MANY_BLOCKS } else { FEW_BLOCKS };
     books.make_room(blocks.max(least))?;
-    match words.reserve(alloc, n, many) {
-        Ok(()) => Ok(()),
-        Err(_) => Err(Refusal::OutOfMemory),
-    }
+    words.reserve(alloc, n, many)
 }
 
 /// Makes a block of the words of a run, and counts it, in room that there is.

@@ -15,7 +15,7 @@ returns-in-Some-clause-gains c = rw (← c.self.view_is)
     (gained c.self.inside.books c.made_room.new.books c.place.new.self c.self.inside.kind c.self.inside.count
     c.self.inside.total c.entered-block.new.count c.entered-block.new.total c.self.inside.words c.made_room.new.words
     c.entered-block.new.words c.entered-block.result c.in-Some.start c.in_ok-n.n
-    c.in_ok-n.ensures.some c.in_ok-made_room.ensures.books c.in_ok-made_room.ensures.words c.in-Some.ensures.awaits
+    c.in_ok-n.ensures.some c.in-Ok.ensures.books c.in-Ok.ensures.words c.in-Some.ensures.awaits
     c.entered-block.ensures.opens
     (omega (
       arith,
