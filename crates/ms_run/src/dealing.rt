@@ -9,7 +9,7 @@
 //! that stands by stays there. Each share has a seat of the phase's meter, with nothing counted
 //! yet. Takes memory for seats, lists of tasks and of replies, and places of loaders; nothing
 //! waits.
-ghost use Rattle.std.specs.Prelude.{◌≡◌, ◌+◌, ◌++◌, ◌∷◌, [], ◌≤◌, map, IfOk, IfErr, OnOk, vec_len};
+ghost use Rattle.std.specs.Prelude.{◌≡◌, ◌+◌, ◌++◌, ◌∷◌, [], ◌≤◌, map, IfOk, OnOk, vec_len};
 ghost use Rattle.std.specs.Prelude.{vec_capacity, ◌<◌};
 ghost use Rattle.std.specs.Prelude.{◌≢◌, ℕ, IsTrue, Some, slice_get};
 ghost use Rattle.std.specs.Option.{is_some};
@@ -27,7 +27,6 @@ ghost use Rattle.ms_run.specs.Dealing.{AreCrews, AreListed, AreEmpty, AreAdded, 
 ghost use Rattle.ms_run.specs.Dealing.{AreHanded, AreSeats};
 ghost use Rattle.ms_run.specs.Dealing.{AreDealtTo, HaveMeters, MayBeDealt, IsSameSeat};
 
-use crate::fault::RunFault;
 use crate::gathering::put_loader;
 use crate::share::{Share, Task};
 use crate::turn::{Turn, loader_named};
@@ -53,7 +52,7 @@ pub fn deal(
     lines: &[Line],
     pool: Pool,
     loaders: Loaders,
-) -> Result<(SharedPool, Vec<Share>, UsedMeter), RunFault>
+) -> Result<(SharedPool, Vec<Share>, UsedMeter), AllocError>
     requires may { MayBeDealt pool loaders }
     requires steps { AreSteps lines.now }
     ensures dealt { IfOk result (λ made. AreDealt (place_for (place_in turn.now) lines.now)
@@ -62,7 +61,6 @@ pub fn deal(
     ensures first { IfOk result (λ made. made.0.first ≡ pool) }
     ensures meters { IfOk result (λ made. HaveMeters made.2 (vec_len made.1) made.1.items) }
     ensures used { IfOk result (λ made. used_over made.1.items ≡ used_in loaders) }
-    ensures wanting { IfErr result (λ fault. fault ≡ RunFault.OutOfMemory) }
 {
     let count = turn.shares();
     let (shared, seats) = lock(alloc, pool, count)?;
@@ -80,7 +78,7 @@ fn deal_metered(
     shared: &SharedPool,
     seats: Vec<PoolSeat>,
     loaders: Loaders,
-) -> Result<(Vec<Share>, UsedMeter), RunFault>
+) -> Result<(Vec<Share>, UsedMeter), AllocError>
     requires count { vec_len seats ≡ shares_in turn.now }
     requires seats { AreSeats shared.now seats.items loaders }
     requires names { AreNamed loaders }
@@ -90,7 +88,6 @@ fn deal_metered(
         made.0.items) }
     ensures meters { IfOk result (λ made. HaveMeters made.1 (vec_len made.0) made.0.items) }
     ensures used { IfOk result (λ made. used_over made.0.items ≡ used_in loaders) }
-    ensures wanting { IfErr result (λ fault. fault ≡ RunFault.OutOfMemory) }
 {
     let (meter, meters) = UsedMeter::new(alloc, turn.shares())?;
     let shares = deal_to(alloc, turn, lines, shared, seats, meters, loaders)?;
@@ -98,19 +95,18 @@ fn deal_metered(
 }
 
 /// Puts the pool behind a lock with so many seats.
-fn lock(alloc: Global, pool: Pool, count: usize) -> Result<(SharedPool, Vec<PoolSeat>), RunFault>
+fn lock(alloc: Global, pool: Pool, count: usize) -> Result<(SharedPool, Vec<PoolSeat>), AllocError>
     requires some { 1 ≤ count }
     requires few { count ≤ 8 }
     ensures lock { IfOk result (λ made. made.0.seats ≡ count) }
     ensures first { IfOk result (λ made. made.0.first ≡ pool) }
     ensures seats { IfOk result (λ made. made.1.items ≡ new_seats made.0.id count pool) }
-    ensures wanting { IfErr result (λ fault. fault ≡ RunFault.OutOfMemory) }
 {
     match SharedPool::new(alloc, pool, count) {
         Ok(made) => Ok(made),
         Err(refused) => {
             drop(refused);
-            Err(RunFault::OutOfMemory)
+            Err(AllocError)
         }
     }
 }
@@ -125,7 +121,7 @@ fn deal_to(
     mut seats: Vec<PoolSeat>,
     mut meters: Vec<MeterSeat>,
     loaders: Loaders,
-) -> Result<Vec<Share>, RunFault>
+) -> Result<Vec<Share>, AllocError>
     requires count { vec_len seats ≡ shares_in turn.now }
     requires seats { AreSeats shared.now seats.items loaders }
     requires meters { vec_len meters ≡ vec_len seats }
@@ -136,7 +132,6 @@ fn deal_to(
         shares.items) }
     ensures meters { IfOk result (λ shares. map meter_of shares.items ≡ meters.items) }
     ensures used { IfOk result (λ shares. used_over shares.items ≡ used_in loaders) }
-    ensures wanting { IfErr result (λ fault. fault ≡ RunFault.OutOfMemory) }
 {
     let mut shares = Vec::with_capacity(alloc, seats.len())?;
     let mut lists = deal_lines(alloc, turn, lines, seats.len())?;
@@ -156,15 +151,14 @@ fn deal_to(
 }
 
 /// Puts a share before the others.
-fn put_first(mut shares: Vec<Share>, share: Share) -> Result<Vec<Share>, RunFault>
+fn put_first(mut shares: Vec<Share>, share: Share) -> Result<Vec<Share>, AllocError>
     ensures items { IfOk result (λ all. all.items ≡ share ∷ shares.items) }
-    ensures wanting { IfErr result (λ fault. fault ≡ RunFault.OutOfMemory) }
 {
     match shares.insert(0, share) {
         Ok(()) => Ok(shares),
         Err(refused) => {
             drop(refused);
-            Err(RunFault::OutOfMemory)
+            Err(AllocError)
         }
     }
 }
@@ -180,7 +174,7 @@ fn share_beside(
     seat: PoolSeat,
     tasks: Vec<Task>,
     meter: MeterSeat,
-) -> Result<Share, RunFault>
+) -> Result<Share, AllocError>
     requires { AreCrews shared.now first.old.seat first.old.loaders seat [] }
     ensures crews { IfOk result (λ share.
         AreCrews shared.now first.new.seat first.new.loaders share.seat share.loaders) }
@@ -194,7 +188,6 @@ fn share_beside(
     ensures tasks { IfOk result (λ share. share.tasks.items ≡ tasks.items) }
     ensures room { IfOk result (λ share. vec_len share.tasks ≤ vec_capacity share.replies) }
     ensures none { IfOk result (λ share. share.replies.items ≡ []) }
-    ensures wanting { IfErr result (λ fault. fault ≡ RunFault.OutOfMemory) }
 {
     let loaders = Loaders::new(alloc);
     let mut crew = Crew { seat, loaders };
@@ -210,14 +203,13 @@ fn make_share(
     tasks: Vec<Task>,
     crew: Crew,
     meter: MeterSeat,
-) -> Result<Share, RunFault>
+) -> Result<Share, AllocError>
     ensures seat { IfOk result (λ share. share.seat ≡ crew.seat) }
     ensures meter { IfOk result (λ share. share.meter ≡ meter) }
     ensures loaders { IfOk result (λ share. share.loaders ≡ crew.loaders) }
     ensures tasks { IfOk result (λ share. share.tasks.items ≡ tasks.items) }
     ensures room { IfOk result (λ share. vec_len share.tasks ≤ vec_capacity share.replies) }
     ensures none { IfOk result (λ share. share.replies.items ≡ []) }
-    ensures wanting { IfErr result (λ fault. fault ≡ RunFault.OutOfMemory) }
 {
     let replies = Vec::with_capacity(alloc, tasks.len())?;
     let Crew { seat, loaders } = crew;
@@ -297,7 +289,7 @@ fn hand_all(
     tasks: &[Task],
     from: &mut Crew,
     to: &mut Crew,
-) -> Result<(), RunFault>
+) -> Result<(), AllocError>
     requires crews { AreCrews shared.now from.old.seat from.old.loaders to.old.seat to.old.loaders }
     requires none { to.old.loaders ≡ [] }
     ensures crews { OnOk result
@@ -309,7 +301,6 @@ fn hand_all(
     ensures used { OnOk result
         (used_in from.new.loaders + used_in to.new.loaders
         ≡ used_in from.old.loaders + used_in to.old.loaders) }
-    ensures wanting { IfErr result (λ fault. fault ≡ RunFault.OutOfMemory) }
 {
     for task in tasks {
         // A loader goes over at the first task that names it.
@@ -325,7 +316,7 @@ fn hand_all(
 /// Hands the loader of a name on, which is there: both of its accounts, then itself. Out of line,
 /// since most tasks name one that went over.
 #[inline(never)]
-fn hand_on(shared: &SharedPool, name: u16, from: &mut Crew, to: &mut Crew) -> Result<(), RunFault>
+fn hand_on(shared: &SharedPool, name: u16, from: &mut Crew, to: &mut Crew) -> Result<(), AllocError>
     requires there { IsTrue (is_some (named from.old.loaders name)) }
     requires crews { AreCrews shared.now from.old.seat from.old.loaders to.old.seat to.old.loaders }
     ensures crews { OnOk result
@@ -337,14 +328,13 @@ fn hand_on(shared: &SharedPool, name: u16, from: &mut Crew, to: &mut Crew) -> Re
     ensures used { OnOk result
         (used_in from.new.loaders + used_in to.new.loaders
         ≡ used_in from.old.loaders + used_in to.old.loaders) }
-    ensures wanting { IfErr result (λ fault. fault ≡ RunFault.OutOfMemory) }
 {
     let Some(loader) = from.loaders.remove(name) else {
         unreachable!()
     };
     hand_accounts(shared, &loader, &mut from.seat, &mut to.seat);
     let Ok(()) = put_loader(name, loader, &mut to.loaders) else {
-        return Err(RunFault::OutOfMemory);
+        return Err(AllocError);
     };
     Ok(())
 }
