@@ -86,7 +86,8 @@ impl Row for Reserving {
     }
 
     fn call(&mut self, rt: &HostRuntime) -> Answer {
-        told(rt, self.blocks.reserve(5))
+        // More than a row has, so that what is kept goes into trees.
+        told(rt, self.blocks.reserve(40))
     }
 }
 
