@@ -157,12 +157,17 @@ impl Allocating {
         Ok(Allocating { pool, arena, asked })
     }
 
-    /// Allocates two blocks in each of two chunks, and frees one in each.
+    /// Allocates blocks in each of two chunks, and frees all but one in each: so many that there is
+    /// no room yet to put them in order.
     fn fill(&mut self) -> Result<(), Refusal> {
         let first = self.alloc(2)?;
         self.alloc(250)?;
         self.alloc(300)?;
         let last = self.alloc(100)?;
+        let small = [self.alloc(2)?, self.alloc(2)?, self.alloc(2)?];
+        for block in small {
+            self.free(block)?;
+        }
         self.free(first)?;
         self.free(last)
     }

@@ -131,9 +131,9 @@ fn many_of<A: Allocator + Clone>(
     ensures blocks { IfOk result (λ store. blocks_in store ≡ row.now) }
     ensures room { IfOk result (λ store. HasRoom store room) }
 {
-    let trees = make_trees(alloc)?;
     let mut spare = Vec::new(alloc.clone()?);
     fill(&mut spare, row.len() + room, 0)?;
+    let trees = make_trees(alloc)?;
     let mut store = Store::Many(trees, spare);
     for block in row {
         insert(&mut store, *block);
