@@ -6,7 +6,7 @@ use Rattle.std.specs.Prelude.{nat_eq, slice_index_or}
 use Rattle.std.specs.Map.{lookup}
 use Rattle.std.proofs.lemmas.List.{take_more}
 use Rattle.ms_arena.specs.declared.places.Placed.{Placed}
-use Rattle.ms_arena.specs.Others.{Enters, StayEntries, entries_onto}
+use Rattle.ms_arena.specs.Others.{entries_onto, place_listed}
 
 -- One more at the list's end comes first.
 onto_more : (list : List Placed) (placed : Placed) (entries : List (ℕ × ℕ))
@@ -15,33 +15,46 @@ onto_more [] placed entries = refl
 onto_more (other ∷ list) placed entries = onto_more list placed ((other.stretch, other.place) ∷ entries)
 
 -- So it has its place, and the others theirs.
-pub more_enters : (list : List Placed) (placed : Placed)
-    → Enters (entries_onto list []) placed.stretch placed.place (entries_onto (list ++ placed ∷ []) [])
-more_enters list placed other = ap (lookup (nat_eq other)) (onto_more list placed [])
+abbrev ComesFirst : List (ℕ × ℕ) → ℕ → ℕ → List (ℕ × ℕ) → Type 0
+ComesFirst old stretch place new = (other : ℕ)
+    → lookup (nat_eq other) new ≡ cond (nat_eq other stretch) (Some place) (lookup (nat_eq other) old)
+
+more_comes : (list : List Placed) (placed : Placed)
+    → ComesFirst (entries_onto list []) placed.stretch placed.place (entries_onto (list ++ placed ∷ []) [])
+more_comes list placed other = ap (lookup (nat_eq other)) (onto_more list placed [])
+
+told : (test : Bool) (place : ℕ) (found : Option ℕ) (none : ℕ)
+    → unwrap_or (cond test (Some place) found) none ≡ cond test place (unwrap_or found none)
+told true place found none = refl
+told false place found none = refl
+
+pub more_enters : (list : List Placed) (placed : Placed) (other none : ℕ)
+    → unwrap_or (lookup (nat_eq other) (entries_onto (list ++ placed ∷ []) [])) none
+    ≡ cond (nat_eq other placed.stretch) placed.place (unwrap_or (lookup (nat_eq other) (entries_onto list [])) none)
+more_enters list placed other none =
+    ap (λ (found : Option ℕ). unwrap_or found none) (more_comes list placed other)
+    ∙ told (nat_eq other placed.stretch) placed.place (lookup (nat_eq other) (entries_onto list [])) none
 
 -- A list up to one place further.
-pub taken_enters : (list : List Placed) (at : ℕ) (none : Placed) → at < length list
-    → Enters (entries_onto (take at list) []) (slice_index_or list at none).stretch (slice_index_or list at none).place
+taken_comes : (list : List Placed) (at : ℕ) (none : Placed) → at < length list
+    → ComesFirst (entries_onto (take at list) []) (slice_index_or list at none).stretch (slice_index_or list at none).place
     (entries_onto (take (at + 1) list) [])
-taken_enters list at none within other =
+taken_comes list at none within other =
     ap (λ (l : List Placed). lookup (nat_eq other) (entries_onto l [])) (take_more list at none within)
-    ∙ more_enters (take at list) (slice_index_or list at none) other
+    ∙ more_comes (take at list) (slice_index_or list at none) other
 
--- A map in which a stretch of the list was entered has what the list has one place further.
-flipped : (a b : ℕ) → nat_eq a b ≡ nat_eq b a
-flipped a b = grind (arith, nat_tests)
-
-pub entered_on : (list : List Placed) (at : ℕ) (none : Placed) (old new : List (ℕ × ℕ)) → at < length list
-    → StayEntries (entries_onto (take at list) []) old
-    → ((other : ℕ) → lookup (nat_eq other) new ≡ cond (nat_eq (slice_index_or list at none).stretch other)
-    (Some (slice_index_or list at none).place) (lookup (nat_eq other) old))
-    → StayEntries (entries_onto (take (at + 1) list) []) new
-entered_on list at none old new within stay enters stretch =
+-- A table in which a place of the list was set has what the list has one place further.
+pub set_on : (list : List Placed) (at : ℕ) (none : Placed) (old new : List ℕ) → at < length list
+    → ((stretch : ℕ) → slice_index_or old stretch 0 ≡ place_listed (take at list) stretch)
+    → ((other : ℕ) → slice_index_or new other 0 ≡ cond (nat_eq other (slice_index_or list at none).stretch)
+    (slice_index_or list at none).place (slice_index_or old other 0))
+    → (stretch : ℕ) → slice_index_or new stretch 0 ≡ place_listed (take (at + 1) list) stretch
+set_on list at none old new within so_far set stretch =
     let placed : Placed = slice_index_or list at none in
-    enters stretch
-    ∙ ap (λ (test : Bool). cond test (Some placed.place) (lookup (nat_eq stretch) old)) (flipped placed.stretch stretch)
-    ∙ ap (λ (found : Option ℕ). cond (nat_eq stretch placed.stretch) (Some placed.place) found) (stay stretch)
-    ∙ sym (taken_enters list at none within stretch)
+    set stretch
+    ∙ ap (cond (nat_eq stretch placed.stretch) placed.place) (so_far stretch)
+    ∙ sym (ap (λ (found : Option ℕ). unwrap_or found 0) (taken_comes list at none within stretch)
+    ∙ told (nat_eq stretch placed.stretch) placed.place (lookup (nat_eq stretch) (entries_onto (take at list) [])) 0)
 
 -- What a look at the last place of a list tells: the place of the stretch, or that it stands before it.
 look : (list : List Placed) (left stretch : ℕ) (none : Placed) → 0 < left → left ≤ length list
@@ -52,7 +65,7 @@ look : (list : List Placed) (left stretch : ℕ) (none : Placed) → 0 < left �
 look list left stretch none some within =
     let before : left ≡ left - 1 + 1 = omega (arith, some) in
     ap (λ (n : ℕ). lookup (nat_eq stretch) (entries_onto (take n list) [])) before
-    ∙ taken_enters list (left - 1) none (omega (arith, some, within)) stretch
+    ∙ taken_comes list (left - 1) none (omega (arith, some, within)) stretch
 
 pub found_last : (list : List Placed) (left stretch : ℕ) (none : Placed) → 0 < left → left ≤ length list
     → lookup (nat_eq stretch) (entries_onto list []) ≡ lookup (nat_eq stretch) (entries_onto (take left list) [])

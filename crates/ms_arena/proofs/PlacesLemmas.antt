@@ -3,19 +3,16 @@
 use Rattle.std.proofs.Common.{◌≡◌, ℕ, ◌*◌, ◌/◌, ◌<◌, ◌≤◌, cond, true, false, Option, Some, None, List, sym, ap, arith}
 use Rattle.std.proofs.Common.{subst, inl, inr}
 use Rattle.std.specs.Prelude.{nat_eq}
-use Rattle.std.specs.Map.{lookup}
-use Rattle.std.specs.Option.{unwrap_or}
 use Rattle.std.proofs.lemmas.Bool.{cases_eq}
 use Rattle.ms_arena.specs.declared.places.Placed.{Placed}
+use Rattle.ms_arena.specs.Others.{OthersView, StayPlaced}
 use Rattle.ms_arena.specs.Places.{place_in}
 
--- A map that gives the same gives the same places.
-pub places_stay : (newest : Option Placed) (old new : List (ℕ × ℕ))
-    → ((stretch : ℕ) → lookup (nat_eq stretch) new ≡ lookup (nat_eq stretch) old) → (stretch : ℕ)
+-- Others that give the same give the same places.
+pub places_stay : (newest : Option Placed) (old new : OthersView) → StayPlaced old new → (stretch : ℕ)
     → place_in newest new stretch ≡ place_in newest old stretch
-places_stay None old new same stretch = ap (λ found. unwrap_or found 0) (same stretch)
-places_stay (Some newest) old new same stretch =
-    ap (λ found. cond (nat_eq newest.stretch stretch) newest.place (unwrap_or found 0)) (same stretch)
+places_stay None old new same stretch = same stretch
+places_stay (Some newest) old new same stretch = ap (cond (nat_eq newest.stretch stretch) newest.place) (same stretch)
 
 -- Where one more gets a place, those that have one have one still.
 pub still_placed : (old new : ℕ → ℕ) (stretch place first past : ℕ) → 0 < place

@@ -66,4 +66,4 @@ pub record AreWords (places : PlacesView) (room given ready : ℕ) : Type 0 wher
       → stretch ≡ other
   pub list : 2048 * (given + ready) ≤ 512 * room
   pub fits : 512 * room < 2 ^ 63
-  pub spare : ready ≤ places.spare
+  pub spare : ready ≤ places.others.spare

@@ -9,8 +9,9 @@
 //! run of stretches that all have places is noted for each root chunk of the space, so that a large
 //! block needs no look at each of its own: no block reaches past its root. Only `reserve` takes
 //! memory.
-ghost use Rattle.std.specs.Prelude.{◌≡◌, ℕ, ◌+◌, ◌<◌, ◌≤◌, IsTrue, List, OnOk, Option, cond, nat_eq};
+ghost use Rattle.std.specs.Prelude.{◌≡◌, ℕ, ◌+◌, ◌<◌, ◌≤◌, IsTrue, OnOk, Option, cond, nat_eq};
 ghost use Rattle.ms_arena.specs.declared.places.Placed.{Placed};
+ghost use Rattle.ms_arena.specs.Others.{OthersView};
 ghost use Rattle.ms_arena.specs.Places.{HavePlaces, StayPlaces, place_in, place_of};
 
 use crate::others::Others;
@@ -33,7 +34,7 @@ const NONE: Run = Run { first: 0, past: 0 };
 #[derive(Clone, Copy, Drop)]
 pub struct Placed {
     /// The stretch.
-    pub(crate) stretch: usize,
+    pub(crate) stretch: u16,
     /// Its place.
     pub(crate) place: usize,
 }
@@ -64,13 +65,9 @@ impl Model for Places {
 
     ghost Value = { PlacesView };
 
-    ghost view = { λ p. record {
-      newest = p.newest;
-      others = p.others.entries;
-      spare = p.others.spare;
-    } };
+    ghost view = { λ p. record { newest = p.newest; others = p.others } };
 
-    ghost invariant = { λ p. HavePlaces p.newest p.others.entries p.runs.items };
+    ghost invariant = { λ p. HavePlaces p.newest p.others p.runs.items };
 }
 
 impl Places {
@@ -101,14 +98,14 @@ impl Places {
 
     /// Tells for how many stretches more there is room at least.
     pub(crate) fn spare(&self) -> usize
-        ensures { result ≤ self.now.spare }
+        ensures { result ≤ self.now.others.spare }
     {
         self.others.spare()
     }
 
     /// Makes room for so many stretches more; the places stay.
     pub(crate) fn reserve(&mut self, alloc: Global, stretches: usize) -> Result<(), AllocError>
-        ensures room { OnOk result (stretches ≤ self.new.spare) }
+        ensures room { OnOk result (stretches ≤ self.new.others.spare) }
         ensures stay { StayPlaces self.old self.new }
     {
         make_run_room(&mut self.runs, stretches);
@@ -121,7 +118,7 @@ impl Places {
         ensures { result ≡ place_of self.now stretch }
     {
         if let Some(newest) = self.newest {
-            if newest.stretch == stretch {
+            if usize::from(newest.stretch) == stretch {
                 return newest.place;
             }
         }
@@ -130,13 +127,14 @@ impl Places {
 
     /// Gives a stretch a place, in room that there is.
     pub(crate) fn put(&mut self, stretch: usize, place: usize)
-        requires room { 0 < self.old.spare }
+        requires room { 0 < self.old.others.spare }
         requires some { 0 < place }
+        requires within { stretch < 65536 }
         ensures put { (other : ℕ) → place_of self.new other
             ≡ cond (nat_eq stretch other) place (place_of self.old other) }
-        ensures room { self.old.spare ≤ self.new.spare + 1 }
+        ensures room { self.old.others.spare ≤ self.new.others.spare + 1 }
     {
-        enter(&mut self.newest, &mut self.others, stretch, place);
+        enter(&mut self.newest, &mut self.others, stretch as u16, place);
     }
 
     /// Tells whether all stretches from one up to another are known to have places.
@@ -166,7 +164,7 @@ impl Places {
 /// that is refused none is noted.
 #[inline(always)]
 fn make_run_room(runs: &mut Vec<Run>, stretches: usize)
-    ensures { (newest : Option Placed) (others : List (ℕ × ℕ)) → HavePlaces newest others runs.old.items
+    ensures { (newest : Option Placed) (others : OthersView) → HavePlaces newest others runs.old.items
         → HavePlaces newest others runs.new.items }
 {
     if stretches >= LARGE && runs.is_empty() {
@@ -179,9 +177,9 @@ fn make_run_room(runs: &mut Vec<Run>, stretches: usize)
 fn note_in(newest: &Option<Placed>, others: &Others, runs: &mut Vec<Run>, first: usize, past: usize)
     requires order { first ≤ past }
     requires places { (stretch : ℕ) → first ≤ stretch → stretch < past
-        → 0 < place_in newest.now others.now.entries stretch }
-    requires runs { HavePlaces newest.now others.now.entries runs.old.items }
-    ensures { HavePlaces newest.now others.now.entries runs.new.items }
+        → 0 < place_in newest.now others.now stretch }
+    requires runs { HavePlaces newest.now others.now runs.old.items }
+    ensures { HavePlaces newest.now others.now runs.new.items }
 {
     let root = first / ROOT;
     if root >= runs.len() {
@@ -198,12 +196,12 @@ fn note_in(newest: &Option<Placed>, others: &Others, runs: &mut Vec<Run>, first:
     }
 }
 
-/// Gives a stretch a place: it is the newest then, and the former one goes into the map.
+/// Gives a stretch a place: it is the newest then, and the former one goes to the others.
 #[inline(always)]
-fn enter(newest: &mut Option<Placed>, others: &mut Others, stretch: usize, place: usize)
+fn enter(newest: &mut Option<Placed>, others: &mut Others, stretch: u16, place: usize)
     requires room { 0 < others.old.spare }
-    ensures put { (other : ℕ) → place_in newest.new others.new.entries other
-        ≡ cond (nat_eq stretch other) place (place_in newest.old others.old.entries other) }
+    ensures put { (other : ℕ) → place_in newest.new others.new other
+        ≡ cond (nat_eq stretch other) place (place_in newest.old others.old other) }
     ensures room { others.old.spare ≤ others.new.spare + 1 }
 {
     if let Some(former) = *newest {

@@ -5,6 +5,6 @@ use Rattle.ms_arena.proofs.places.Places.reserve.Goals as goal
 pub invariant_of-self : goal.invariant_of-self
 invariant_of-self c = λ at stretch low high.
     subst (λ (n : ℕ). 0 < n)
-    (sym (places_stay c.self.inside.newest c.self.inside.others.entries c.reserve.new.self.entries
+    (sym (places_stay c.self.inside.newest c.self.inside.others c.reserve.new.self
     c.reserve.ensures.stay stretch))
-    (c.make_run_room.ensures c.self.inside.newest c.self.inside.others.entries c.self.invariant at stretch low high)
+    (c.make_run_room.ensures c.self.inside.newest c.self.inside.others c.self.invariant at stretch low high)
