@@ -5,7 +5,6 @@ use Rattle.std.specs.Prelude.{None, nat_lt, ◌/◌, if◌then◌else◌}
 use Rattle.std.specs.Int.{bit_at}
 use Rattle.std.specs.List.{AllByRecursion}
 use Rattle.ms_base.specs.declared.span.Block.{Block}
-use Rattle.ms_blocks.specs.declared.classes.Trees.{Trees}
 use Rattle.ms_blocks.specs.declared.tree.Tree.{Tree}
 use Rattle.ms_blocks.specs.Rank.{first_fit}
 use Rattle.ms_blocks.specs.Tree.{blocks_of}
@@ -60,7 +59,3 @@ pub record IsNextClass (some class next : ℕ) : Type 0 where
   pub from : class < next
   pub past : (other : ℕ) → class < other → other < next → bit_at some other ≡ 0
   pub one : bit_at some next ≡ 1
-
--- The trees are by class.
-abbrev pub AreTrees : {A : Type 0} → Trees A → Type 0
-AreTrees trees = AreByClass trees.some trees.classes.items

@@ -3,20 +3,20 @@ use Rattle.std.specs.Prelude.{ℕ, ◌+◌, ◌≤◌, List, length, vec_len, ve
 use Rattle.ms_base.specs.declared.span.Block.{Block}
 use Rattle.ms_blocks.specs.declared.store.Store.{Store}
 use Rattle.ms_blocks.specs.declared.store.Store.TheVariants.{Few, Many}
-use Rattle.ms_blocks.specs.Classes.{AreTrees, all_of}
+use Rattle.ms_blocks.specs.Classes.{AreByClass, all_of}
 
 -- The blocks of a store, by rank.
 abbrev pub blocks_in : {A : Type 0} → Store A → List Block
 blocks_in (Few row) = row.items
-blocks_in (Many trees spare) = all_of trees.classes.items
+blocks_in (Many trees some spare) = all_of trees.items
 
 -- Trees have the blocks of their classes, and where the spare forks stand there are places for the trees' too.
 abbrev pub IsStore : {A : Type 0} → Store A → Type 0
 IsStore (Few row) = Unit {0}
-IsStore (Many trees spare) =
-    AreTrees trees × (vec_len spare + length (all_of trees.classes.items) ≤ vec_capacity spare)
+IsStore (Many trees some spare) =
+    AreByClass some trees.items × (vec_len spare + length (all_of trees.items) ≤ vec_capacity spare)
 
 -- There is room for so many more: places in the row, or spare forks.
 abbrev pub HasRoom : {A : Type 0} → Store A → ℕ → Type 0
 HasRoom (Few row) room = vec_len row + room ≤ vec_capacity row
-HasRoom (Many trees spare) room = room ≤ vec_len spare
+HasRoom (Many trees some spare) room = room ≤ vec_len spare

@@ -12,7 +12,7 @@ ghost use Rattle.std.specs.Prelude.{◌≡◌, ◌≢◌, ◌<◌, ℕ, [], cond
 ghost use Rattle.std.specs.Prelude.{IsTrue, IsFalse, Some, None, take};
 ghost use Rattle.std.specs.Int.{bit_at};
 ghost use Rattle.std.specs.Option.{option_map};
-ghost use Rattle.ms_blocks.specs.Classes.{AreByClass, AreTrees, IsNextClass, NoneFitsAt, all_of, class_of};
+ghost use Rattle.ms_blocks.specs.Classes.{AreByClass, IsNextClass, NoneFitsAt, all_of, class_of};
 ghost use Rattle.ms_blocks.specs.Rank.{IsRanked, first_fit, with_ranked, without_fit};
 
 use crate::tree::{Fork, Tree, insert, take_fit};
@@ -24,56 +24,20 @@ const CLASSES: usize = 64;
 /// Below so many words each size has a tree of its own.
 const SINGLE: u64 = 32;
 
-/// The trees.
-#[derive(Drop)]
-pub struct Trees<A: Allocator> {
-    /// The trees by class.
-    classes: Vec<Tree<A>, A>,
-    /// A bit for each tree, 1 where it has a block.
-    some: u64,
-}
-
 /// Makes the trees, with no block. Takes memory.
-pub fn make_trees<A: Allocator + Clone>(alloc: &A) -> Result<Trees<A>, AllocError>
-    ensures trees { IfOk result AreTrees }
-    ensures empty { IfOk result (λ trees. all_of trees.classes.items ≡ []) }
+pub fn make_trees<A: Allocator + Clone>(alloc: &A) -> Result<Vec<Tree<A>, A>, AllocError>
+    ensures trees { IfOk result (λ trees. AreByClass 0 trees.items) }
+    ensures empty { IfOk result (λ trees. all_of trees.items ≡ []) }
 {
     let mut trees = Vec::with_capacity(alloc.clone()?, CLASSES)?;
     for _ in 0..CLASSES {
         trees.push_reserved(Tree::Empty);
     }
-    Ok(Trees {
-        classes: trees,
-        some: 0,
-    })
-}
-
-/// Adds the spare fork's block to those of the trees.
-pub fn insert_in<A: Allocator>(trees: &mut Trees<A>, spare: Box<Fork<A>, A>)
-    requires trees { AreTrees trees.old }
-    requires ranked { IsRanked (all_of trees.old.classes.items) }
-    ensures trees { AreTrees trees.new }
-    ensures blocks { all_of trees.new.classes.items
-        ≡ with_ranked (all_of trees.old.classes.items) spare.value.block }
-{
-    insert_among(trees.classes.as_mut_slice(), &mut trees.some, spare);
-}
-
-/// Takes the first block of the trees that has so many words, with its fork.
-pub fn take_in<A: Allocator>(trees: &mut Trees<A>, words: u64) -> Option<Box<Fork<A>, A>>
-    requires trees { AreTrees trees.old }
-    requires ranked { IsRanked (all_of trees.old.classes.items) }
-    ensures trees { AreTrees trees.new }
-    ensures found { first_fit (all_of trees.old.classes.items) words
-        ≡ option_map (λ fork. fork.value.block) result }
-    ensures left { all_of trees.new.classes.items
-        ≡ without_fit (all_of trees.old.classes.items) words }
-{
-    take_among(trees.classes.as_mut_slice(), &mut trees.some, words)
+    Ok(trees)
 }
 
 /// Adds the spare fork's block to those of ranked trees.
-fn insert_among<A: Allocator>(trees: &mut [Tree<A>], some: &mut u64, spare: Box<Fork<A>, A>)
+pub fn insert_in<A: Allocator>(trees: &mut [Tree<A>], some: &mut u64, spare: Box<Fork<A>, A>)
     requires trees { AreByClass some.old trees.old }
     requires ranked { IsRanked (all_of trees.old) }
     ensures trees { AreByClass some.new trees.new }
@@ -85,7 +49,7 @@ fn insert_among<A: Allocator>(trees: &mut [Tree<A>], some: &mut u64, spare: Box<
 }
 
 /// Takes the first block of ranked trees that has so many words, with its fork.
-fn take_among<A: Allocator>(
+pub fn take_in<A: Allocator>(
     trees: &mut [Tree<A>],
     some: &mut u64,
     words: u64,

@@ -13,9 +13,9 @@ ghost use Rattle.std.specs.Prelude.{◌≡◌, ◌+◌, ◌^◌, ◌<◌, ◌≤
 ghost use Rattle.ms_blocks.specs.Rank.{IsRanked, first_fit, with_ranked, without_fit};
 ghost use Rattle.ms_blocks.specs.Store.{HasRoom, IsStore, blocks_in};
 
-use crate::classes::{Trees, insert_in, make_trees, take_in};
+use crate::classes::{insert_in, make_trees, take_in};
 use crate::few::{put, take_from};
-use crate::tree::Fork;
+use crate::tree::{Fork, Tree};
 use ms_base::Block;
 use std::alloc::{AllocError, Allocator};
 
@@ -27,8 +27,13 @@ const FEW: usize = 32;
 pub enum Store<A: Allocator> {
     /// In a row, 32 at most with those that may come yet.
     Few(Vec<Block, A>),
-    /// Any number, in trees, beside the spare forks.
-    Many(Trees<A>, Vec<Box<Fork<A>, A>, A>),
+    /// Any number, in the trees by class, of which a bit each tells whether it has any.
+    Many {
+        trees: Vec<Tree<A>, A>,
+        some: u64,
+        /// A fork for each block that may come yet.
+        spare: Vec<Box<Fork<A>, A>, A>,
+    },
 }
 
 /// Adds a block to those of a store, in room that there is.
@@ -43,12 +48,12 @@ pub fn insert<A: Allocator>(store: &mut Store<A>, block: Block)
 {
     match store {
         Store::Few(row) => put(row, block),
-        Store::Many(trees, spare) => {
+        Store::Many { trees, some, spare } => {
             let Some(mut fork) = spare.pop() else {
                 unreachable!()
             };
             fork.block = block;
-            insert_in(trees, fork);
+            insert_in(trees.as_mut_slice(), some, fork);
         }
     }
 }
@@ -67,8 +72,8 @@ pub fn take<A: Allocator>(store: &mut Store<A>, words: u64) -> Option<Block>
 {
     match store {
         Store::Few(row) => take_from(row, words),
-        Store::Many(trees, spare) => {
-            let fork = take_in(trees, words)?;
+        Store::Many { trees, some, spare } => {
+            let fork = take_in(trees.as_mut_slice(), some, words)?;
             let block = fork.block;
             // The fork left a place free when it was added.
             match spare.push(fork) {
@@ -115,7 +120,11 @@ pub fn make_room<A: Allocator + Clone>(
             *store = many;
             Ok(())
         }
-        Store::Many(_, spare) => fill(spare, room, count),
+        Store::Many {
+            trees: _,
+            some: _,
+            spare,
+        } => fill(spare, room, count),
     }
 }
 
@@ -134,7 +143,11 @@ fn many_of<A: Allocator + Clone>(
     let mut spare = Vec::new(alloc.clone()?);
     fill(&mut spare, row.len() + room, 0)?;
     let trees = make_trees(alloc)?;
-    let mut store = Store::Many(trees, spare);
+    let mut store = Store::Many {
+        trees,
+        some: 0,
+        spare,
+    };
     for block in row {
         insert(&mut store, *block);
     }

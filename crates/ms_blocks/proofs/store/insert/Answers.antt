@@ -1,17 +1,22 @@
-use Rattle.std.proofs.Common.{ap, arith, length}
+use Rattle.std.proofs.Common.{◌∙◌, ap, arith, length, sym}
+use Rattle.std.proofs.lemmas.List.{take_at}
 use Rattle.ms_blocks.specs.Classes.{all_of}
 use Rattle.ms_blocks.proofs.RankLemmas.{length_with}
 use Rattle.ms_blocks.proofs.store.insert.Goals as goal
 
 pub returns-in-Some-clause-store : goal.returns-in-Some-clause-store
-returns-in-Some-clause-store g c = (
-  c.insert_in.ensures.trees,
-  omega (
-    arith,
-    (rw c.in-Many.is at c.requires.store).1,
-    c.pop.ensures.capacity,
-    c.in-Some.ensures.cases,
-    ap length c.insert_in.ensures.blocks,
-    length_with (all_of c.in-Many.trees.classes.items) c.args.block,
-  ),
-)
+returns-in-Some-clause-store g c =
+    let was = rw c.in-Many.is at c.requires.store in
+    rw (take_at c.insert_in.new.trees _ c.in-Many.trees.len
+    (c.insert_in.ensures.trees.there ∙ sym was.0.there ∙ sym c.in-Many.trees.ok.0))
+    (
+      c.insert_in.ensures.trees,
+      omega (
+        arith,
+        was.1,
+        c.pop.ensures.capacity,
+        c.in-Some.ensures.cases,
+        ap length (rw c.as_mut_slice.ensures.value at c.insert_in.ensures.blocks),
+        length_with (all_of c.in-Many.trees.items) c.args.block,
+      ),
+    )

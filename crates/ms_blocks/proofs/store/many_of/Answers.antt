@@ -11,7 +11,7 @@ use Rattle.ms_blocks.proofs.store.many_of.Goals as goal
 -- Where there is room for many there is room for fewer.
 room_for : {A : Type 0} (store : Store A) (few many : ℕ) → few ≤ many → HasRoom store many → HasRoom store few
 room_for (Few row) few many fewer room = omega (arith, fewer, room)
-room_for (Many trees spare) few many fewer room = omega (arith, fewer, room)
+room_for (Many trees some spare) few many fewer room = omega (arith, fewer, room)
 
 -- One block more of the row is there.
 taken_more : (row was grown : List Block) (at : ℕ) (d : Block) → IsRanked row → at < length row → was ≡ take at row

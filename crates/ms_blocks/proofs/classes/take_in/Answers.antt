@@ -4,9 +4,9 @@ use Rattle.ms_blocks.specs.Classes.{all_of}
 use Rattle.ms_blocks.specs.Rank.{first_fit}
 use Rattle.ms_blocks.proofs.ClassLemmas.{found_next, left_next, next_fits, none_at_all, none_below, none_to_next}
 use Rattle.ms_blocks.proofs.RankLemmas.{without_fit-none}
-use Rattle.ms_blocks.proofs.classes.take_among.Given.{Over}
-use Rattle.ms_blocks.proofs.classes.take_among.Goals as goal
-use Rattle.ms_blocks.proofs.classes.take_among.Goals.{After-from_residual}
+use Rattle.ms_blocks.proofs.classes.take_in.Given.{Over}
+use Rattle.ms_blocks.proofs.classes.take_in.Goals as goal
+use Rattle.ms_blocks.proofs.classes.take_in.Goals.{After-from_residual}
 
 pub take_at-requires-clause-before : goal.take_at-requires-clause-before
 take_at-requires-clause-before g c =

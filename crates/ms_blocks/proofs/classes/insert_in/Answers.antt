@@ -2,9 +2,9 @@ use Rattle.std.proofs.Common.{◌∙◌, ◌*◌, ◌%◌, ◌^◌, ap, arith, b
 use Rattle.std.proofs.lemmas.Option.{slice_get-get_or}
 use Rattle.ms_blocks.specs.Classes.{class_of}
 use Rattle.ms_blocks.proofs.ClassLemmas.{InsertsAmong, inserts_among}
-use Rattle.ms_blocks.proofs.classes.insert_among.Given.{Over}
-use Rattle.ms_blocks.proofs.classes.insert_among.Goals as goal
-use Rattle.ms_blocks.proofs.classes.insert_among.Goals.{After-insert}
+use Rattle.ms_blocks.proofs.classes.insert_in.Given.{Over}
+use Rattle.ms_blocks.proofs.classes.insert_in.Goals as goal
+use Rattle.ms_blocks.proofs.classes.insert_in.Goals.{After-insert}
 
 made : (g : Over) (c : After-insert g)
     → InsertsAmong c.args.trees.now (bit_or c.args.some.now (1 * 2 ^ c.class_of-class.result % 2 ^ 64))
