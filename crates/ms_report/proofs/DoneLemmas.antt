@@ -149,15 +149,15 @@ done_is_ascii number from bytes line small =
     (IsAscii-cons 10 (replicate 12 32) (omega arith) (spaces_are_ascii 12))))))
 
 -- What it is.
-pub done_text : (number last from : ℕ) (bytes : List ℕ) → IsDoneLine last from bytes → last ≡ number
-    → take (24 - from) (drop from bytes) ≡ decimal number ++ codes " ok\n"
-done_text number last from bytes line is =
-    ap (take (24 - from)) (line.digits ∙ ap (λ (rest : List ℕ). decimal last ++ rest) line.word)
+pub done_text : (number last from more : ℕ) (bytes : List ℕ) → IsDoneLine last from bytes → last ≡ number
+    → take (20 + more - from) (drop from bytes) ≡ decimal number ++ take more (codes " ok\n" ++ replicate 12 32)
+done_text number last from more bytes line is =
+    ap (take (20 + more - from)) (line.digits ∙ ap (λ (rest : List ℕ). decimal last ++ rest) line.word)
     ∙ ap (λ (n : ℕ). take n (decimal last ++ (codes " ok\n" ++ replicate 12 32))) ends
-    ∙ take-append-add (decimal last) (codes " ok\n" ++ replicate 12 32) 4
-    ∙ ap (λ (n : ℕ). decimal n ++ codes " ok\n") is
+    ∙ take-append-add (decimal last) (codes " ok\n" ++ replicate 12 32) more
+    ∙ ap (λ (n : ℕ). decimal n ++ take more (codes " ok\n" ++ replicate 12 32)) is
   where
-    ends : 24 - from ≡ length (decimal last) + 4
+    ends : 20 + more - from ≡ length (decimal last) + more
     ends = omega (
       arith,
       ap length line.digits,

@@ -1,4 +1,4 @@
-//! The line that says that a command is done, which is kept and counted on.
+//! The line that says that a command is done, which is kept and counted on, and its number alone.
 //!
 //!     |               4711 ok\n            |     of the next line nine times of ten only the ones change
 //!                     ^  ^
@@ -7,7 +7,7 @@
 //! Kept true: from a byte on it is the line of the number that it was told last, and blank after
 //! it. So a piece of constant length is appended and what is too long cut off, which no call
 //! copies. Takes memory for the text alone.
-ghost use Rattle.std.specs.Prelude.{◌≡◌, ◌≤◌, ◌-◌, ◌++◌, OnOk, IsAscii, string_bytes, codes, decimal, drop, length, take};
+ghost use Rattle.std.specs.Prelude.{◌≡◌, ◌+◌, ◌≤◌, ◌-◌, ◌++◌, OnOk, IsAscii, string_bytes, codes, decimal, drop, length, take};
 ghost use Rattle.ms_report.specs.DoneLine.{IsDoneLine};
 
 use crate::line::push_ascii;
@@ -23,6 +23,9 @@ const PIECE: usize = 16;
 
 /// The place of the ones.
 const ONES: usize = 19;
+
+/// The place past the number.
+const NUMBER_END: usize = 20;
 
 /// The place past the line.
 const END: usize = 24;
@@ -62,7 +65,16 @@ impl DoneLine {
             ≡ string_bytes text.old ++ (decimal number ++ codes " ok\n")) }
     {
         count_on(&mut self.bytes, &mut self.from, &mut self.number, number);
-        push_piece(text, &self.bytes, self.from)
+        push_piece(text, &self.bytes, self.from, END)
+    }
+
+    /// Appends a number to a text.
+    #[inline(always)]
+    pub(crate) fn push_number(&mut self, text: &mut String, number: u32) -> Result<(), AllocError>
+        ensures { OnOk result (string_bytes text.new ≡ string_bytes text.old ++ decimal number) }
+    {
+        count_on(&mut self.bytes, &mut self.from, &mut self.number, number);
+        push_piece(text, &self.bytes, self.from, NUMBER_END)
     }
 }
 
@@ -82,18 +94,19 @@ fn count_on(bytes: &mut [u8], from: &mut usize, last: &mut u32, number: u32)
     *last = number;
 }
 
-/// Appends what stands in bytes from a place on up to the line's end.
+/// Appends what stands in bytes from one place on up to another.
 #[inline(always)]
-fn push_piece(text: &mut String, bytes: &[u8], from: usize) -> Result<(), AllocError>
+fn push_piece(text: &mut String, bytes: &[u8], from: usize, end: usize) -> Result<(), AllocError>
     requires long { length bytes.now ≡ 36 }
-    requires low { 8 ≤ from }
+    requires low { end ≤ from + 16 }
     requires high { from ≤ 20 }
+    requires order { from ≤ end }
     requires ascii { IsAscii (drop from bytes.now) }
     ensures { OnOk result (string_bytes text.new
-        ≡ string_bytes text.old ++ take (24 - from) (drop from bytes.now)) }
+        ≡ string_bytes text.old ++ take (end - from) (drop from bytes.now)) }
 {
-    let end = text.len() + (END - from);
+    let past = text.len() + (end - from);
     push_ascii(text, &bytes[from..from + PIECE])?;
-    text.truncate(end);
+    text.truncate(past);
     Ok(())
 }

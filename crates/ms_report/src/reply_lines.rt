@@ -6,14 +6,13 @@
 //!
 //! Kept true: a line is the bytes that `ms_base/specs/ReplyText.antt` gives. Takes memory for the
 //! text alone.
-ghost use Rattle.std.specs.Prelude.{◌≡◌, ◌≤◌, ◌++◌, OnOk, IsAscii, string_bytes, codes, decimal, length};
+ghost use Rattle.std.specs.Prelude.{◌≡◌, ◌++◌, OnOk, string_bytes, codes, decimal};
 ghost use Rattle.ms_base.specs.ReplyText.{name_of, reply_line};
 ghost use Rattle.ms_report.specs.ReplyLines.{answer_text};
 
 use crate::columns::push_both;
 use crate::detailed::push_detailed;
 use crate::done_line::DoneLine;
-use crate::line::Line;
 use crate::refused::Refusals;
 use ms_base::{Refusal, Reply, Settings};
 use ms_loaders::{Answer, Detail};
@@ -58,7 +57,7 @@ fn push_reply_line(
         Reply::At(start) if addresses => push_at(text, number, start),
         Reply::Ok | Reply::At(_) => done.push_to(text, line),
         Reply::Value(value) => push_value(text, number, value),
-        Reply::Refused(refusal) => push_refusal(text, number, refusal),
+        Reply::Refused(refusal) => push_refusal(text, done, line, refusal),
     }
 }
 
@@ -83,38 +82,38 @@ fn push_value(text: &mut String, number: u64, value: u64) -> Result<(), AllocErr
 }
 
 /// Appends the line that names a refusal.
-fn push_refusal(text: &mut String, number: u64, refusal: Refusal) -> Result<(), AllocError>
+fn push_refusal(
+    text: &mut String,
+    done: &mut DoneLine,
+    line: u32,
+    refusal: Refusal,
+) -> Result<(), AllocError>
     ensures { OnOk result (string_bytes text.new
         ≡ string_bytes text.old
-        ++ (decimal number ++ (codes " refused " ++ (name_of refusal ++ codes "\n")))) }
+        ++ (decimal line ++ (codes " refused " ++ (name_of refusal ++ codes "\n")))) }
 {
-    let mut line = Line::end();
-    line.put_word(name(refusal));
-    line.put_word(" refused ");
-    line.put_right(0, number);
-    line.push_to(text)
+    done.push_number(text, line)?;
+    text.push_str(refused(refusal))
 }
 
-/// Tells the name of a refusal, without its numbers.
-fn name(refusal: Refusal) -> &'static str
-    ensures name { result.now ≡ name_of refusal }
-    ensures few { length result.now ≤ 12 }
-    ensures ascii { IsAscii result.now }
+/// Tells what follows the number on the line of a refusal: its name, without its numbers.
+fn refused(refusal: Refusal) -> &'static str
+    ensures { result.now ≡ codes " refused " ++ (name_of refusal ++ codes "\n") }
 {
     match refusal {
-        Refusal::ZeroWords => "ZeroWords",
-        Refusal::TooLarge => "TooLarge",
-        Refusal::CommitLimit { .. } => "CommitLimit",
-        Refusal::ReserveLimit { .. } => "ReserveLimit",
-        Refusal::NotLive => "NotLive",
-        Refusal::OutOfRange { .. } => "OutOfRange",
-        Refusal::OutOfMemory => "OutOfMemory",
-        Refusal::NoLoader => "NoLoader",
-        Refusal::LoaderExists => "LoaderExists",
-        Refusal::NoBlock => "NoBlock",
-        Refusal::BlockExists => "BlockExists",
-        Refusal::IdsUsedUp => "IdsUsedUp",
-        Refusal::Unsettled { .. } => "Unsettled",
-        Refusal::NoRoom { .. } => "NoRoom",
+        Refusal::ZeroWords => " refused ZeroWords\n",
+        Refusal::TooLarge => " refused TooLarge\n",
+        Refusal::CommitLimit { .. } => " refused CommitLimit\n",
+        Refusal::ReserveLimit { .. } => " refused ReserveLimit\n",
+        Refusal::NotLive => " refused NotLive\n",
+        Refusal::OutOfRange { .. } => " refused OutOfRange\n",
+        Refusal::OutOfMemory => " refused OutOfMemory\n",
+        Refusal::NoLoader => " refused NoLoader\n",
+        Refusal::LoaderExists => " refused LoaderExists\n",
+        Refusal::NoBlock => " refused NoBlock\n",
+        Refusal::BlockExists => " refused BlockExists\n",
+        Refusal::IdsUsedUp => " refused IdsUsedUp\n",
+        Refusal::Unsettled { .. } => " refused Unsettled\n",
+        Refusal::NoRoom { .. } => " refused NoRoom\n",
     }
 }

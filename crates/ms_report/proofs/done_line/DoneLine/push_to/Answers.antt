@@ -10,5 +10,5 @@ push_piece-requires-clause-ascii c =
 
 pub returns : goal.returns
 returns c =
-    rw (done_text c.args.number c.count_on.new.last c.count_on.new.from c.count_on.new.bytes c.count_on.ensures.line
+    rw (done_text c.args.number c.count_on.new.last c.count_on.new.from 4 c.count_on.new.bytes c.count_on.ensures.line
     c.count_on.ensures.number) at c.push_piece.ensures
