@@ -19,13 +19,13 @@ ghost use Rattle.std.specs.Prelude.{Some, None, Err};
 ghost use Rattle.ms_base.specs.Level.{size_of};
 ghost use Rattle.ms_base.specs.Live.{block_words};
 ghost use Rattle.ms_base.specs.Place.{placed, current};
-ghost use Rattle.ms_base.specs.Asks.{asks_growth};
+ghost use Rattle.ms_base.specs.Asks.{asks_growth, next_level};
 ghost use Rattle.ms_base.specs.Totals.{used_of, kept_of};
 ghost use Rattle.ms_blocks.specs.FreeBlocks.{run_of};
 ghost use Rattle.ms_pool.specs.Account.{AreChunks};
 ghost use Rattle.ms_pool.specs.Source.{LeavesRest};
 ghost use Rattle.ms_arena.specs.Arena.{IsAskable, Places, PlaceRefused, block_at};
-ghost use Rattle.ms_arena.specs.Alloc.{Allocates, FindsPlace, AsksChunk, TakesNew, GrowsCurrent};
+ghost use Rattle.ms_arena.specs.Alloc.{Allocates, FindsPlace, AsksChunk, TakesNew};
 ghost use Rattle.ms_arena.specs.ArenaSums.{AreSumsOf};
 ghost use Rattle.ms_arena.specs.Books.{AsksFor, Awaits, ForAllLive, HasLooked, IsSameBooks, MayLook};
 ghost use Rattle.ms_arena.specs.Raw.{FreesRun, Gains, IsNewRaw, IsSameRaw, live_then, live_with, raw_account, with_live};
@@ -36,7 +36,7 @@ mod room;
 use crate::books::Books;
 use crate::totals::{ArenaTotals, sums_of};
 use crate::words::Words;
-use ms_base::{Block, Chunk, Kind, ROOT_WORDS, Refusal, level_for};
+use ms_base::{Block, Chunk, Kind, Level, ROOT_WORDS, Refusal, level_for};
 use ms_pool::{Account, ChunkSource};
 use std::alloc::{AllocError, Global};
 use std::marker::Model;
@@ -392,68 +392,52 @@ fn start_in_chunk<S: ChunkSource>(
         AsksChunk S.grew S.took (S.limits source.old).policy arena n (current arena.books)
         (asks_growth kind arena.space arena.books (current arena.books) n) source.old answer new source.new) }
 {
-    match growth_asked(books, kind, n) {
-        Some((chunk, total, may_enlarge)) => {
-            start_in_grown(books, source, kind, n, chunk, total, may_enlarge)
-        }
-        None => start_in_taken(books, source, kind, n),
-    }
-}
-
-/// Finds where a block starts in the current chunk once it grew, or else in a new one.
-fn start_in_grown<S: ChunkSource>(
-    books: &mut Books,
-    source: &mut S,
-    kind: Kind,
-    n: u64,
-    chunk: Chunk,
-    total: u64,
-    may_enlarge: bool,
-) -> Result<u64, Refusal>
-    requires may { MayLook S.serves source.old books.old n }
-    requires asks { AsksFor books.old.state kind books.old.space n chunk total may_enlarge }
-    ensures looked { HasLooked S.serves S.opened S.limits books.old n source.old result books.new source.new }
-    ensures grows { ForAllLive books.old kind n result books.new.state (λ arena answer new.
-        GrowsCurrent S.grew S.took (S.limits source.old).policy arena chunk n source.old answer new source.new) }
-{
+    let next = books.next_level(kind);
+    let Some((chunk, total, may_enlarge)) = growth_asked(books, next, n) else {
+        return start_in_taken(books, source, next, n);
+    };
     let start = chunk.start + (total - n);
     match books.grow(source, chunk, total, may_enlarge) {
         Ok(()) => Ok(start),
-        Err(_) => start_in_taken(books, source, kind, n),
+        Err(_) => start_in_taken(books, source, next, n),
     }
 }
 
-/// Finds where a block starts in a chunk that the source lends.
+/// Finds where a block starts in a chunk that the source lends, where the arena grows by that level
+/// next.
 fn start_in_taken<S: ChunkSource>(
     books: &mut Books,
     source: &mut S,
-    kind: Kind,
+    next: Level,
     n: u64,
 ) -> Result<u64, Refusal>
     requires { MayLook S.serves source.old books.old n }
     ensures looked { HasLooked S.serves S.opened S.limits books.old n source.old result books.new source.new }
-    ensures takes { ForAllLive books.old kind n result books.new.state (λ arena answer new.
+    ensures takes { (kind : Kind) → next ≡ next_level kind books.old.space books.old.state
+        → ForAllLive books.old kind n result books.new.state (λ arena answer new.
         TakesNew S.took (S.limits source.old).policy arena n source.old answer new source.new) }
 {
     let Some(most) = level_for(n) else {
         return Err(Refusal::TooLarge);
     };
-    let wanted = most.min(books.next_level(kind));
-    books.take(source, wanted, most, n)
+    books.take(source, most.min(next), most, n)
 }
 
 /// Tells whether the source is to grow the current chunk, how far, and whether the chunk may become
-/// its parent.
-fn growth_asked(books: &Books, kind: Kind, n: u64) -> Option<(Chunk, u64, bool)>
+/// its parent, where the arena grows by that level next.
+#[inline(always)]
+fn growth_asked(books: &Books, next: Level, n: u64) -> Option<(Chunk, u64, bool)>
     requires { n ≤ size_of 0 }
-    ensures asks { IfSome result
-        (λ asked. AsksFor books.now.state kind books.now.space n asked.0 asked.1 asked.2) }
-    ensures none { IfNone result
-        (asks_growth kind books.now.space books.now.state (current books.now.state) n ≡ false) }
+    ensures asks { IfSome result (λ asked. (kind : Kind)
+        → next ≡ next_level kind books.now.space books.now.state
+        → AsksFor books.now.state kind books.now.space n asked.0 asked.1 asked.2) }
+    ensures none { IfNone result ((kind : Kind)
+        → next ≡ next_level kind books.now.space books.now.state
+        → asks_growth kind books.now.space books.now.state (current books.now.state) n ≡ false) }
 {
     let (chunk, top) = books.current()?;
     let total = top + n;
-    let may_enlarge = books.next_level(kind) <= chunk.level;
+    let may_enlarge = next <= chunk.level;
     let size = chunk.level.words();
     if total <= size || (total <= 2 * size && may_enlarge) {
         Some((chunk, total, may_enlarge))

@@ -16,9 +16,9 @@ take-requires-clause-may g c =
     }
 
 pub returns-clause-takes : goal.returns-clause-takes
-returns-clause-takes g c = λ live.
-    let least : c.min-wanted.result ≡ min c.in-Some.most c.next_level.result = search rules in
-    takes_from _ _ c.args.books.now c.args.kind live _ _ c.args.n c.args.source.now c.take.result _ _
-    (least ∙ ap (λ (level : ℕ). min level c.next_level.result) c.in-Some.ensures.level
-    ∙ ap (λ (level : ℕ). min (level_that_holds c.args.n) level) c.next_level.ensures)
+returns-clause-takes g c = λ kind next_is live.
+    let least : c.min.result ≡ min c.in-Some.most c.args.next = search rules in
+    takes_from _ _ c.args.books.now kind live _ _ c.args.n c.args.source.now c.take.result _ _
+    (least ∙ ap (λ (level : ℕ). min level c.args.next) c.in-Some.ensures.level
+    ∙ ap (λ (level : ℕ). min (level_that_holds c.args.n) level) next_is)
     c.in-Some.ensures.level c.take.ensures.taken c.take.ensures.refused
