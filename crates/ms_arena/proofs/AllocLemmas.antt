@@ -1,5 +1,5 @@
 -- What `Books::take` and `Books::grow` make of an allocation as a whole. `start_in_taken`,
--- `start_in_grown` and `Arena::alloc` use it.
+-- `start_in_chunk` and `Arena::alloc` use it.
 use Rattle.std.proofs.Common.{◌≡◌, ℕ, Bool, Result, Ok, Err, List, refl, ap, ◌∙◌, subst, arith}
 use Rattle.std.specs.Result.{IfOk, IfErr}
 use Rattle.ms_base.specs.declared.policy.Policy.{Policy}

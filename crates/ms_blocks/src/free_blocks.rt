@@ -156,9 +156,6 @@ impl<A: Allocator + Clone> FreeBlocks<A> {
         if n <= self.room {
             return Ok(());
         }
-        if self.count.checked_add(n).is_none() {
-            return Err(Refusal::OutOfMemory);
-        }
         match make_room(&mut self.store, self.count, n) {
             Ok(()) => {
                 self.room = n;

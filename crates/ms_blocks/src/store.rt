@@ -105,7 +105,6 @@ pub fn make_room<A: Allocator + Clone>(
     requires store { IsStore store.old }
     requires ranked { IsRanked (blocks_in store.old) }
     requires count { count ≡ length (blocks_in store.old) }
-    requires fits { count + room < 2 ^ 64 }
     ensures store { IsStore store.new }
     ensures blocks { blocks_in store.new ≡ blocks_in store.old }
     ensures room { OnOk result (HasRoom store.new room) }
@@ -113,7 +112,7 @@ pub fn make_room<A: Allocator + Clone>(
 {
     match store {
         Store::Few(row) => {
-            if count + room <= FEW {
+            if count.saturating_add(room) <= FEW {
                 return row.reserve(room);
             }
             let many = many_of(row.allocator(), row.as_slice(), room)?;
@@ -135,13 +134,12 @@ fn many_of<A: Allocator + Clone>(
     room: usize,
 ) -> Result<Store<A>, AllocError>
     requires ranked { IsRanked row.now }
-    requires fits { length row.now + room < 2 ^ 64 }
     ensures store { IfOk result IsStore }
     ensures blocks { IfOk result (λ store. blocks_in store ≡ row.now) }
     ensures room { IfOk result (λ store. HasRoom store room) }
 {
     let mut spare = Vec::new(alloc.clone()?);
-    fill(&mut spare, row.len() + room, 0)?;
+    fill(&mut spare, row.len().saturating_add(room), 0)?;
     let trees = make_trees(alloc)?;
     let mut store = Store::Many {
         trees,
@@ -161,7 +159,6 @@ fn fill<A: Allocator + Clone>(
     room: usize,
     count: usize,
 ) -> Result<(), AllocError>
-    requires { count + room < 2 ^ 64 }
     ensures filled { OnOk result (room ≤ vec_len spare.new) }
     ensures places { OnOk result (vec_len spare.new + count ≤ vec_capacity spare.new) }
     ensures longer { vec_len spare.old ≤ vec_len spare.new }
@@ -170,7 +167,7 @@ fn fill<A: Allocator + Clone>(
 {
     // All places first, so that what can't be had is refused at once.
     let more = room.saturating_sub(spare.len());
-    spare.reserve(more + count)?;
+    spare.reserve(more.saturating_add(count))?;
     for _ in 0..more {
         let alloc = spare.allocator().clone()?;
         spare.push_reserved(Box::new(alloc, Fork::spare())?);
