@@ -8,8 +8,7 @@ pub returns-in-Some-clause-store : goal.returns-in-Some-clause-store
 returns-in-Some-clause-store g c =
     let was = rw c.in-Many.is at c.requires.store in
     rw (take_at c.insert_in.new.trees _ c.in-Many.trees.len
-    (c.insert_in.ensures.trees.there ∙ sym was.0.there ∙ sym c.in-Many.trees.ok.0))
-    (
+    (c.insert_in.ensures.trees.there ∙ sym was.0.there ∙ sym c.in-Many.trees.ok.0)) (
       c.insert_in.ensures.trees,
       omega (
         arith,

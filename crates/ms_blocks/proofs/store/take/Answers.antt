@@ -9,8 +9,7 @@ returns-in_err-fork-in-Many-clause-store g c =
     let was = rw c.in-Many.is at c.requires.store in
     let none = rw c.as_mut_slice.ensures.value at c.in_err-fork-in-Many.ensures.found in
     rw (take_at c.take_in.new.trees _ c.in-Many.trees.len
-    (c.take_in.ensures.trees.there ∙ sym was.0.there ∙ sym c.in-Many.trees.ok.0))
-    (
+    (c.take_in.ensures.trees.there ∙ sym was.0.there ∙ sym c.in-Many.trees.ok.0)) (
       c.take_in.ensures.trees,
       omega (
         arith,
@@ -25,8 +24,7 @@ returns-in-Ok-clause-store g c =
     let was = rw c.in-Many.is at c.requires.store in
     let found = rw c.as_mut_slice.ensures.value at c.in_ok-fork-in-Many.ensures.found in
     rw (take_at c.take_in.new.trees _ c.in-Many.trees.len
-    (c.take_in.ensures.trees.there ∙ sym was.0.there ∙ sym c.in-Many.trees.ok.0))
-    (
+    (c.take_in.ensures.trees.there ∙ sym was.0.there ∙ sym c.in-Many.trees.ok.0)) (
       c.take_in.ensures.trees,
       omega (
         arith,
