@@ -227,6 +227,17 @@ enum Side {
     Right,
 }
 
+impl Side {
+    /// Tells the other side.
+    #[inline(always)]
+    fn other(self) -> Side {
+        match self {
+            Side::Left => Side::Right,
+            Side::Right => Side::Left,
+        }
+    }
+}
+
 /// Tells how high a side of a fork is, and the other one.
 #[inline(always)]
 fn heights<A: Allocator>(fork: &Fork<A>, side: Side) -> (u8, u8) {
@@ -257,7 +268,7 @@ fn level_grown<A: Allocator>(tree: &mut Tree<A>, grew: bool, side: Side) -> bool
             return true;
         }
     }
-    turn(tree);
+    turn(tree, side);
     false
 }
 
@@ -281,18 +292,18 @@ fn level_shrunk<A: Allocator>(tree: &mut Tree<A>, shrank: bool, side: Side) -> b
         }
     }
     let height = height_of(tree);
-    turn(tree);
+    turn(tree, side.other());
     height_of(tree) != height
 }
 
-/// Levels a tree on top, of which one side is higher by two. Out of line, so that what it keeps for
+/// Levels a tree on top, of which a side is higher by two. Out of line, so that what it keeps for
 /// itself is kept where it turns alone.
 #[inline(never)]
-fn turn<A: Allocator>(tree: &mut Tree<A>)
+fn turn<A: Allocator>(tree: &mut Tree<A>, higher: Side)
     ensures { blocks_of tree.new ≡ blocks_of tree.old }
 {
     if let Tree::Forked(fork) = mem::replace(tree, Tree::Empty) {
-        *tree = leveled(fork);
+        *tree = turned(fork, higher);
     }
 }
 
@@ -301,14 +312,28 @@ fn leveled<A: Allocator>(mut fork: Box<Fork<A>, A>) -> Tree<A>
     ensures { blocks_of result ≡ blocks_at fork.value }
 {
     if is_higher(&fork.left, &fork.right) {
-        fork.left = leaning_left(mem::replace(&mut fork.left, Tree::Empty));
-        Tree::Forked(left_up(fork))
+        turned(fork, Side::Left)
     } else if is_higher(&fork.right, &fork.left) {
-        fork.right = leaning_right(mem::replace(&mut fork.right, Tree::Empty));
-        Tree::Forked(right_up(fork))
+        turned(fork, Side::Right)
     } else {
         tell_height(&mut fork);
         Tree::Forked(fork)
+    }
+}
+
+/// Puts what stands on top of the higher side of a fork on top of all.
+fn turned<A: Allocator>(mut fork: Box<Fork<A>, A>, higher: Side) -> Tree<A>
+    ensures { blocks_of result ≡ blocks_at fork.value }
+{
+    match higher {
+        Side::Left => {
+            fork.left = leaning_left(mem::replace(&mut fork.left, Tree::Empty));
+            Tree::Forked(left_up(fork))
+        }
+        Side::Right => {
+            fork.right = leaning_right(mem::replace(&mut fork.right, Tree::Empty));
+            Tree::Forked(right_up(fork))
+        }
     }
 }
 
