@@ -1,12 +1,13 @@
 -- Stretches that have places keep them, and a run of words is in each of its stretches. The functions of `places`
 -- and `words` use these.
-use Rattle.std.proofs.Common.{◌≡◌, ℕ, ◌*◌, ◌/◌, ◌<◌, ◌≤◌, cond, true, false, Option, Some, None, List, sym, ap, arith}
+use Rattle.std.proofs.Common.{◌≡◌, ℕ, ◌+◌, ◌-◌, ◌*◌, ◌/◌, ◌<◌, ◌≤◌, cond, true, false, Option, Some, None, List, sym, ap, arith}
 use Rattle.std.proofs.Common.{subst, inl, inr}
 use Rattle.std.specs.Prelude.{nat_eq}
 use Rattle.std.proofs.lemmas.Bool.{cases_eq}
+use Rattle.std.proofs.lemmas.Bool.Decides.{nat_tests}
 use Rattle.ms_arena.specs.declared.places.Placed.{Placed}
 use Rattle.ms_arena.specs.Others.{OthersView, StayPlaced}
-use Rattle.ms_arena.specs.Places.{place_in}
+use Rattle.ms_arena.specs.Places.{place_given, place_in}
 
 -- Others that give the same give the same places.
 pub places_stay : (newest : Option Placed) (old new : OthersView) → StayPlaced old new → (stretch : ℕ)
@@ -14,17 +15,19 @@ pub places_stay : (newest : Option Placed) (old new : OthersView) → StayPlaced
 places_stay None old new same stretch = same stretch
 places_stay (Some newest) old new same stretch = ap (cond (nat_eq newest.stretch stretch) newest.place) (same stretch)
 
--- Where one more gets a place, those that have one have one still.
-pub still_placed : (old new : ℕ → ℕ) (stretch place first past : ℕ) → 0 < place
-    → ((other : ℕ) → new other ≡ cond (nat_eq stretch other) place (old other))
-    → ((other : ℕ) → first ≤ other → other < past → 0 < old other)
-    → (other : ℕ) → first ≤ other → other < past → 0 < new other
-still_placed old new stretch place first past some put all other low high =
-    subst (λ (n : ℕ). 0 < n) (sym (put other))
-    (elim (nat_eq stretch other) as (λ b. 0 < cond b place (old other)) [
-      | true ↦ some
-      | false ↦ all other low high
-    ])
+-- Of no stretch all have the place that they had, and one stretch more has its own.
+pub given_none : (first place stretch former : ℕ) → former ≡ place_given first first place stretch former
+given_none first place stretch former = grind (arith, nat_tests)
+
+pub given_more : (first past place stretch former : ℕ) → first ≤ past
+    → cond (nat_eq past stretch) (place + (past - first)) (place_given first past place stretch former)
+    ≡ place_given first (past + 1) place stretch former
+given_more first past place stretch former order = grind (arith, nat_tests)
+
+-- Where more get places, those that have one have one still.
+pub still_placed : (first past place stretch former : ℕ) → 0 < place → 0 < former
+    → 0 < place_given first past place stretch former
+still_placed first past place stretch former some had = grind (arith, nat_tests)
 
 -- A word of a run in each of its stretches.
 pub record HasWordIn (start end stretch : ℕ) : Type 0 where

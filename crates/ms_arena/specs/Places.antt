@@ -1,5 +1,5 @@
 -- The places of stretches in a list (our choice).
-use Rattle.std.specs.Prelude.{◌≡◌, ℕ, ◌<◌, ◌≤◌, cond, nat_eq, List, Option, None, Some, slice_index_or}
+use Rattle.std.specs.Prelude.{◌≡◌, ℕ, ◌+◌, ◌-◌, ◌<◌, ◌≤◌, cond, nat_eq, nat_le, nat_lt, List, Option, None, Some, slice_index_or}
 use Rattle.ms_arena.specs.declared.places.Placed.{Placed}
 use Rattle.ms_arena.specs.declared.places.Run.{Run}
 use Rattle.ms_arena.specs.Others.{OthersView, place_among}
@@ -16,6 +16,12 @@ place_in (Some newest) others stretch = cond (nat_eq newest.stretch stretch) new
 
 abbrev pub place_of : PlacesView → ℕ → ℕ
 place_of places stretch = place_in places.newest places.others stretch
+
+-- The place of a stretch once those from one up to another were given the places from one on, in a row; the others
+-- have the place that they had.
+abbrev pub place_given : ℕ → ℕ → ℕ → ℕ → ℕ → ℕ
+place_given first past place stretch former =
+    cond (nat_le first stretch) (cond (nat_lt stretch past) (place + (stretch - first)) former) former
 
 -- A run by its number; further on there is none.
 abbrev pub run_at : List Run → ℕ → Run

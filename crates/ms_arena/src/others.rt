@@ -7,10 +7,10 @@
 //! Most arenas reach into a few stretches, for which a list is asked for once. A table is written
 //! up to the last stretch that has a place, and nothing touches its room. Only `reserve` takes
 //! memory.
-ghost use Rattle.std.specs.Prelude.{◌≡◌, ℕ, ◌+◌, ◌<◌, ◌≤◌, IfOk, OnOk, cond, nat_eq, slice_index_or, vec_capacity};
+ghost use Rattle.std.specs.Prelude.{◌≡◌, ℕ, ◌+◌, ◌<◌, ◌≤◌, IfOk, OnOk, cond, length, nat_eq, slice_index_or, vec_capacity};
 ghost use Rattle.ms_arena.specs.Others.{Enters, StayPlaced, place_among, place_listed};
 
-use crate::places::Placed;
+use crate::places::{Placed, ROOT};
 use std::alloc::{AllocError, Global};
 use std::marker::Model;
 
@@ -173,10 +173,23 @@ fn set_in(table: &mut Vec<usize>, stretch: u16, place: usize)
 {
     let at = usize::from(stretch);
     if at >= table.len() {
-        match table.resize(at + 1, 0) {
-            Ok(()) => {}
-            Err(_) => unreachable!(),
-        }
+        lengthen(table, at);
     }
     table[at] = place;
+}
+
+/// Makes a table longer, up to the stretches of the root chunk in which one lies.
+#[inline(never)]
+fn lengthen(table: &mut Vec<usize>, at: usize)
+    requires room { 65536 ≤ vec_capacity table.old }
+    requires within { at < 65536 }
+    requires past { length table.old.items ≤ at }
+    ensures there { at < length table.new.items }
+    ensures places { (other : ℕ) → slice_index_or table.new.items other 0 ≡ slice_index_or table.old.items other 0 }
+    ensures room { vec_capacity table.old ≤ vec_capacity table.new }
+{
+    match table.resize(at / ROOT * ROOT + ROOT, 0) {
+        Ok(()) => {}
+        Err(_) => unreachable!(),
+    }
 }

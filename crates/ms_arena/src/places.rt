@@ -9,10 +9,10 @@
 //! run of stretches that all have places is noted for each root chunk of the space, so that a large
 //! block needs no look at each of its own: no block reaches past its root. Only `reserve` takes
 //! memory.
-ghost use Rattle.std.specs.Prelude.{◌≡◌, ℕ, ◌+◌, ◌<◌, ◌≤◌, IsTrue, OnOk, Option, cond, nat_eq};
+ghost use Rattle.std.specs.Prelude.{◌≡◌, ℕ, ◌+◌, ◌-◌, ◌^◌, ◌<◌, ◌≤◌, IsTrue, OnOk, Option, cond, nat_eq};
 ghost use Rattle.ms_arena.specs.declared.places.Placed.{Placed};
 ghost use Rattle.ms_arena.specs.Others.{OthersView};
-ghost use Rattle.ms_arena.specs.Places.{HavePlaces, StayPlaces, place_in, place_of};
+ghost use Rattle.ms_arena.specs.Places.{HavePlaces, StayPlaces, place_given, place_in, place_of};
 
 use crate::others::Others;
 use std::alloc::{AllocError, Global};
@@ -22,7 +22,7 @@ use std::marker::Model;
 const LARGE: usize = 32;
 
 /// How many stretches a root chunk has, of 2^19 words.
-const ROOT: usize = 256;
+pub(crate) const ROOT: usize = 256;
 
 /// How many root chunks the space has, whose words are numbered below 2^27.
 const ROOTS: usize = 256;
@@ -125,16 +125,32 @@ impl Places {
         self.others.get(stretch)
     }
 
-    /// Gives a stretch a place, in room that there is.
-    pub(crate) fn put(&mut self, stretch: usize, place: usize)
-        requires room { 0 < self.old.others.spare }
-        requires some { 0 < place }
-        requires within { stretch < 65536 }
-        ensures put { (other : ℕ) → place_of self.new other
-            ≡ cond (nat_eq stretch other) place (place_of self.old other) }
-        ensures room { self.old.others.spare ≤ self.new.others.spare + 1 }
+    /// Tells whether no stretch from one up to another has a place.
+    pub(crate) fn has_none(&self, first: usize, past: usize) -> bool
+        ensures { IsTrue result
+            → (stretch : ℕ) → first ≤ stretch → stretch < past → place_of self.now stretch ≡ 0 }
     {
-        enter(&mut self.newest, &mut self.others, stretch as u16, place);
+        for stretch in first..past {
+            if self.get(stretch) != 0 {
+                return false;
+            }
+        }
+        true
+    }
+
+    /// Gives the stretches from one up to another their places, which follow one another, in room
+    /// that there is.
+    pub(crate) fn put(&mut self, first: usize, past: usize, place: usize)
+        requires order { first ≤ past }
+        requires within { past ≤ 65536 }
+        requires room { past - first ≤ self.old.others.spare }
+        requires some { 0 < place }
+        requires fits { place + (past - first) < 2 ^ 64 }
+        ensures put { (other : ℕ) → place_of self.new other
+            ≡ place_given first past place other (place_of self.old other) }
+        ensures room { self.old.others.spare ≤ self.new.others.spare + (past - first) }
+    {
+        enter_all(&mut self.newest, &mut self.others, first, past, place);
     }
 
     /// Tells whether all stretches from one up to another are known to have places.
@@ -193,6 +209,28 @@ fn note_in(newest: &Option<Placed>, others: &Others, runs: &mut Vec<Run>, first:
         };
     } else if past - first > run.past.saturating_sub(run.first) {
         runs[root] = Run { first, past };
+    }
+}
+
+/// Gives stretches their places, one after the other.
+#[inline(always)]
+fn enter_all(
+    newest: &mut Option<Placed>,
+    others: &mut Others,
+    first: usize,
+    past: usize,
+    place: usize,
+)
+    requires order { first ≤ past }
+    requires within { past ≤ 65536 }
+    requires room { past - first ≤ others.old.spare }
+    requires fits { place + (past - first) < 2 ^ 64 }
+    ensures put { (other : ℕ) → place_in newest.new others.new other
+        ≡ place_given first past place other (place_in newest.old others.old other) }
+    ensures room { others.old.spare ≤ others.new.spare + (past - first) }
+{
+    for stretch in first..past {
+        enter(newest, others, stretch as u16, place + (stretch - first));
     }
 }
 

@@ -11,7 +11,7 @@
 //! one wrote, which is cleared first. A word whose stretch has no place is 0. Kept true: no two
 //! stretches have one place, and the list has room for all. Only `reserve` takes memory. Stands on
 //! `places` and `pages`. HotSpot's arenas are memory themselves; this stands for it.
-ghost use Rattle.std.specs.Prelude.{◌≡◌, ℕ, ◌+◌, ◌*◌, ◌/◌, ◌^◌, ◌<◌, ◌≤◌, OnOk};
+ghost use Rattle.std.specs.Prelude.{◌≡◌, ℕ, ◌+◌, ◌-◌, ◌*◌, ◌/◌, ◌^◌, ◌<◌, ◌≤◌, OnOk};
 ghost use Rattle.ms_arena.specs.Places.{place_of};
 ghost use Rattle.ms_arena.specs.Words.{StayWords, HasRoom, Opens, OpensIn, IsThere, Writes, place_at, value_at};
 
@@ -169,8 +169,12 @@ impl Words {
         if self.list.is_blank() && self.places.has_all(first, past) {
             return;
         }
-        for stretch in first..past {
-            self.open_in(stretch, from, end);
+        if self.places.has_none(first, past) {
+            self.give(first, past);
+        } else {
+            for stretch in first..past {
+                self.open_in(stretch, from, end);
+            }
         }
         self.places.note(first, past);
     }
@@ -188,7 +192,7 @@ impl Words {
     {
         let place = self.places.get(stretch);
         if place == 0 {
-            self.give(stretch);
+            self.give(stretch, stretch + 1);
             return;
         }
         let base = (place - 1) * STRETCH;
@@ -197,22 +201,25 @@ impl Words {
         self.list.clear(base + first, base + last);
     }
 
-    /// Gives the next place to a stretch that has none; its words are 0.
+    /// Gives the next places to stretches from one up to another, which have none; their words are
+    /// 0.
     #[inline(never)]
-    fn give(&mut self, stretch: usize)
-        requires none { place_of self.old.places stretch ≡ 0 }
-        requires within { stretch < 65536 }
-        requires room { 0 < self.old.ready }
-        ensures here { (word : ℕ) → word / 2048 ≡ stretch → IsThere self.new word }
+    fn give(&mut self, first: usize, past: usize)
+        requires order { first ≤ past }
+        requires none { (stretch : ℕ) → first ≤ stretch → stretch < past → place_of self.old.places stretch ≡ 0 }
+        requires within { past ≤ 65536 }
+        requires room { past - first ≤ self.old.ready }
+        ensures here { (word : ℕ) → first ≤ word / 2048 → word / 2048 < past → IsThere self.new word }
         ensures there { (word : ℕ) → IsThere self.old word → IsThere self.new word }
         ensures values { (word : ℕ) → value_at self.new word ≡ value_at self.old word }
-        ensures room { self.old.ready ≤ self.new.ready + 1 }
+        ensures room { self.old.ready ≤ self.new.ready + (past - first) }
     {
+        let count = past - first;
+        let place = self.given + 1;
         let base = self.given * STRETCH;
-        self.list.clear(base, base + STRETCH);
-        self.given += 1;
-        self.ready -= 1;
-        let place = self.given;
-        self.places.put(stretch, place);
+        self.list.clear(base, base + count * STRETCH);
+        self.given += count;
+        self.ready -= count;
+        self.places.put(first, past, place);
     }
 }

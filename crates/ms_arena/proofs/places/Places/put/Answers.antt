@@ -1,10 +1,10 @@
-use Rattle.ms_arena.specs.Places.{place_in, run_at}
+use Rattle.std.proofs.Common.{◌<◌, ℕ, subst, sym}
+use Rattle.ms_arena.specs.Places.{place_in}
 use Rattle.ms_arena.proofs.PlacesLemmas.{still_placed}
 use Rattle.ms_arena.proofs.places.Places.put.Goals as goal
 
 pub invariant_of-self : goal.invariant_of-self
-invariant_of-self c = λ at.
-    still_placed (place_in c.self.inside.newest c.self.inside.others)
-    (place_in c.enter.new.newest c.enter.new.others) c.args.stretch c.args.place
-    (run_at c.self.inside.runs.items at).first (run_at c.self.inside.runs.items at).past c.requires.some
-    c.enter.ensures.put (c.self.invariant at)
+invariant_of-self c = λ at stretch low high.
+    subst (λ (n : ℕ). 0 < n) (sym (c.enter_all.ensures.put stretch))
+    (still_placed c.args.first c.args.past c.args.place stretch (place_in c.self.inside.newest c.self.inside.others stretch)
+    c.requires.some (c.self.invariant at stretch low high))

@@ -4,6 +4,7 @@ use Rattle.ms_arena.specs.Places.{place_of}
 use Rattle.ms_arena.specs.Words.{WordsView}
 use Rattle.ms_arena.proofs.PlacesLemmas.{word_in_stretch}
 use Rattle.ms_arena.proofs.words.Words.open_across.Goals as goal
+use Rattle.ms_arena.proofs.words.Words.open_across.Goals.{then-has_none, else-has_none+else-loop-stretch-test}
 
 pub loop-stretch-preserved : goal.loop-stretch-preserved
 loop-stretch-preserved c =
@@ -29,7 +30,13 @@ pub note-requires-clause-places : goal.note-requires-clause-places
 note-requires-clause-places c = λ stretch low high.
     let has = word_in_stretch c.args.start (c.args.start + c.args.n) stretch (omega (arith, c.requires.some)) low
     (omega (arith, high, c.div_ceil-past.ensures)) in
-    subst (λ (words : WordsView). 0 < place_of words.places stretch) (sym c.self-2.view_is)
-    (subst (λ (n : ℕ). 0 < place_of c.loop-stretch.self.places n) has.lies
-    (c.loop-stretch.invariant.here has.word has.low has.high
-    (omega (arith, has.lies, high, c.loop-stretch-test.false))))
+    let placed : 0 < place_of c.if-has_none.self.places stretch =
+    elim c.if-has_none.branch [
+      | then-has_none w ↦ subst (λ (words : WordsView). 0 < place_of words.places stretch) (sym w.self-is)
+      (subst (λ (n : ℕ). 0 < place_of w.give.new.self.places n) has.lies
+      (w.give.ensures.here has.word (omega (arith, has.lies, low)) (omega (arith, has.lies, high))))
+      | else-has_none+else-loop-stretch-test w ↦ subst (λ (words : WordsView). 0 < place_of words.places stretch) (sym w.self-is)
+      (subst (λ (n : ℕ). 0 < place_of w.loop-stretch.self.places n) has.lies
+      (w.loop-stretch.invariant.here has.word has.low has.high (omega (arith, has.lies, high, w.loop-stretch-test.false))))
+    ] in
+    subst (λ (words : WordsView). 0 < place_of words.places stretch) (sym c.self-2.view_is) placed
