@@ -8,7 +8,6 @@ use Rattle.std.proofs.lemmas.Fmt.{IsAscii-decimal, decimal_digit, decimal_step, 
 use Rattle.std.proofs.lemmas.Str.{IsAscii-append}
 use Rattle.std.proofs.lemmas.Str.Ascii.{IsAscii-cons}
 use Rattle.std.proofs.lemmas.List.{drop-drop, drop-set-lt, drop-set-add, drop_at, get_or-drop, length-drop, length-set}
-use Rattle.std.proofs.lemmas.List.{take-take}
 use Rattle.std.proofs.Math.Seq.{take-append-add}
 use Rattle.std.proofs.Math.ListN.{get_or, set}
 use Rattle.ms_report.proofs.ColumnLemmas.{spaces_are_ascii}
@@ -167,9 +166,3 @@ done_text number last from more bytes line is =
       line.long,
       line.high,
     )
-
--- What is left of a text that a piece was appended to, where it is cut within the piece.
-pub piece_cut : (text piece : List ℕ) (many size : ℕ) → many ≤ size
-    → take (length text + many) (text ++ take size piece) ≡ text ++ take many piece
-piece_cut text piece many size within =
-    take-append-add text (take size piece) many ∙ ap (λ (l : List ℕ). text ++ l) (take-take many size piece within)

@@ -10,7 +10,7 @@
 ghost use Rattle.std.specs.Prelude.{◌≡◌, ◌+◌, ◌≤◌, ◌-◌, ◌++◌, OnOk, IsAscii, string_bytes, codes, decimal, drop, length, take};
 ghost use Rattle.ms_report.specs.DoneLine.{IsDoneLine};
 
-use crate::line::push_ascii;
+use crate::line::push_cut;
 use itoa::write_digits;
 use std::alloc::AllocError;
 use std::marker::Model;
@@ -105,8 +105,5 @@ fn push_piece(text: &mut String, bytes: &[u8], from: usize, end: usize) -> Resul
     ensures { OnOk result (string_bytes text.new
         ≡ string_bytes text.old ++ take (end - from) (drop from bytes.now)) }
 {
-    let past = text.len() + (end - from);
-    push_ascii(text, &bytes[from..from + PIECE])?;
-    text.truncate(past);
-    Ok(())
+    push_cut(text, &bytes[from..from + PIECE], end - from)
 }

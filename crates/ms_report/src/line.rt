@@ -6,7 +6,7 @@
 //! Kept true: what stands before the bytes written so far is blank, and these are ASCII. A line is
 //! appended to a text in one go, and takes memory then alone.
 ghost use Rattle.std.specs.Prelude.{◌≡◌, ◌≤◌, ◌+◌, ◌++◌, OnOk, [], IsAscii, string_bytes, decimal};
-ghost use Rattle.std.specs.Prelude.{codes, length};
+ghost use Rattle.std.specs.Prelude.{codes, length, take};
 ghost use Rattle.ms_report.specs.Layout.{right_in};
 
 use itoa::write_digits;
@@ -114,4 +114,18 @@ pub(crate) fn push_ascii(text: &mut String, bytes: &[u8]) -> Result<(), AllocErr
     ensures { OnOk result (string_bytes text.new ≡ string_bytes text.old ++ bytes.now) }
 {
     text.push_str(unsafe { from_utf8_unchecked(bytes) })
+}
+
+/// Appends the first bytes of a piece, which is ASCII: the piece is appended whole and cut, since a
+/// copy of constant length calls nothing.
+#[inline(always)]
+pub(crate) fn push_cut(text: &mut String, piece: &[u8], len: usize) -> Result<(), AllocError>
+    requires within { len ≤ length piece.now }
+    requires ascii { IsAscii piece.now }
+    ensures { OnOk result (string_bytes text.new ≡ string_bytes text.old ++ take len piece.now) }
+{
+    let past = text.len() + len;
+    push_ascii(text, piece)?;
+    text.truncate(past);
+    Ok(())
 }

@@ -6,13 +6,14 @@
 //!
 //! Kept true: a line is the bytes that `ms_base/specs/ReplyText.antt` gives. Takes memory for the
 //! text alone.
-ghost use Rattle.std.specs.Prelude.{◌≡◌, ◌++◌, OnOk, string_bytes, codes, decimal};
+ghost use Rattle.std.specs.Prelude.{◌≡◌, ◌≤◌, ◌++◌, OnOk, IsAscii, string_bytes, codes, decimal, take};
 ghost use Rattle.ms_base.specs.ReplyText.{name_of, reply_line};
 ghost use Rattle.ms_report.specs.ReplyLines.{answer_text};
 
 use crate::columns::push_both;
 use crate::detailed::push_detailed;
 use crate::done_line::DoneLine;
+use crate::line::push_cut;
 use crate::refused::Refusals;
 use ms_base::{Refusal, Reply, Settings};
 use ms_loaders::{Answer, Detail};
@@ -93,27 +94,31 @@ fn push_refusal(
         ++ (decimal line ++ (codes " refused " ++ (name_of refusal ++ codes "\n")))) }
 {
     done.push_number(text, line)?;
-    text.push_str(refused(refusal))
+    let (piece, len) = refused(refusal);
+    push_cut(text, piece, len)
 }
 
-/// Tells what follows the number on the line of a refusal: its name, without its numbers.
-fn refused(refusal: Refusal) -> &'static str
-    ensures { result.now ≡ codes " refused " ++ (name_of refusal ++ codes "\n") }
+/// Tells what follows the number on the line of a refusal, its name without its numbers: a piece,
+/// and how many of its bytes that is.
+fn refused(refusal: Refusal) -> (&'static [u8; 24], usize)
+    ensures text { take result.1 result.0.now ≡ codes " refused " ++ (name_of refusal ++ codes "\n") }
+    ensures within { result.1 ≤ 24 }
+    ensures ascii { IsAscii result.0.now }
 {
     match refusal {
-        Refusal::ZeroWords => " refused ZeroWords\n",
-        Refusal::TooLarge => " refused TooLarge\n",
-        Refusal::CommitLimit { .. } => " refused CommitLimit\n",
-        Refusal::ReserveLimit { .. } => " refused ReserveLimit\n",
-        Refusal::NotLive => " refused NotLive\n",
-        Refusal::OutOfRange { .. } => " refused OutOfRange\n",
-        Refusal::OutOfMemory => " refused OutOfMemory\n",
-        Refusal::NoLoader => " refused NoLoader\n",
-        Refusal::LoaderExists => " refused LoaderExists\n",
-        Refusal::NoBlock => " refused NoBlock\n",
-        Refusal::BlockExists => " refused BlockExists\n",
-        Refusal::IdsUsedUp => " refused IdsUsedUp\n",
-        Refusal::Unsettled { .. } => " refused Unsettled\n",
-        Refusal::NoRoom { .. } => " refused NoRoom\n",
+        Refusal::ZeroWords => (b" refused ZeroWords\n     ", 19),
+        Refusal::TooLarge => (b" refused TooLarge\n      ", 18),
+        Refusal::CommitLimit { .. } => (b" refused CommitLimit\n   ", 21),
+        Refusal::ReserveLimit { .. } => (b" refused ReserveLimit\n  ", 22),
+        Refusal::NotLive => (b" refused NotLive\n       ", 17),
+        Refusal::OutOfRange { .. } => (b" refused OutOfRange\n    ", 20),
+        Refusal::OutOfMemory => (b" refused OutOfMemory\n   ", 21),
+        Refusal::NoLoader => (b" refused NoLoader\n      ", 18),
+        Refusal::LoaderExists => (b" refused LoaderExists\n  ", 22),
+        Refusal::NoBlock => (b" refused NoBlock\n       ", 17),
+        Refusal::BlockExists => (b" refused BlockExists\n   ", 21),
+        Refusal::IdsUsedUp => (b" refused IdsUsedUp\n     ", 19),
+        Refusal::Unsettled { .. } => (b" refused Unsettled\n     ", 19),
+        Refusal::NoRoom { .. } => (b" refused NoRoom\n        ", 16),
     }
 }
