@@ -1,6 +1,6 @@
 //! The places of an arena's stretches but that of the newest: of a few in a list, of many in a table.
 //!
-//!     few      | 70: 1 | 3: 2 | 71: 3 |  room  |      32 at most, looked at from the last one on
+//!     few      | 70: 1 | 3: 2 | 71: 3 |  room  |      16 at most, looked at from the last one on
 //!     many     stretch  0   1   2   3   ..  70  71          once there may be more
 //!              place  | 0 | 0 | 0 | 2 | .. | 1 | 3 |  room for all stretches of the space  |
 //!
@@ -15,7 +15,7 @@ use std::alloc::{AllocError, Global};
 use std::marker::Model;
 
 /// How many stretches the list has at most.
-const FEW: usize = 32;
+const FEW: usize = 16;
 
 /// How many stretches the space has, whose words are numbered below 2^27.
 const STRETCHES: usize = 65536;
@@ -23,7 +23,7 @@ const STRETCHES: usize = 65536;
 /// Stretches with their places.
 #[derive(Drop)]
 enum Table {
-    /// Of at most 32.
+    /// Of at most 16.
     Few(Vec<Placed>),
     /// Of any number: the place of each, 0 where it has none, and further on.
     Many(Vec<usize>),
