@@ -214,10 +214,28 @@ fn take_lowest<A: Allocator>(tree: &mut Tree<A>) -> Option<Box<Fork<A>, A>>
 fn put_alone<A: Allocator>(tree: &mut Tree<A>, mut spare: Box<Fork<A>, A>)
     ensures { blocks_of tree.new ≡ spare.value.block ∷ [] }
 {
-    spare.left = Tree::Empty;
-    spare.right = Tree::Empty;
+    clear(&mut spare.left);
+    clear(&mut spare.right);
     spare.height = 1;
     *tree = Tree::Forked(spare);
+}
+
+/// Lets go what a tree has. Where it has nothing, as below most spare forks, nothing is called.
+#[inline(always)]
+fn clear<A: Allocator>(tree: &mut Tree<A>)
+    ensures { blocks_of tree.new ≡ [] }
+{
+    if !tree.is_empty() {
+        let_go(tree);
+    }
+}
+
+/// Lets go all blocks of a tree.
+#[inline(never)]
+fn let_go<A: Allocator>(tree: &mut Tree<A>)
+    ensures { blocks_of tree.new ≡ [] }
+{
+    *tree = Tree::Empty;
 }
 
 /// A side of a fork.
