@@ -9,7 +9,7 @@ use Rattle.std.specs.List.{AllByRecursion}
 use Rattle.std.specs.Option.{option_map}
 use Rattle.std.proofs.lemmas.Bool.{cases_eq, cases_lt, le-leb, lt-leb}
 use Rattle.std.proofs.lemmas.Grind.{get_or-set_at}
-use Rattle.std.proofs.lemmas.List.{append-nil, get_or-set_other, length-set, take_all}
+use Rattle.std.proofs.lemmas.List.{append-nil, get_or-set_other, length-set, take_all, take_at}
 use Rattle.std.proofs.lemmas.Nat.{shr-shr, shr_le}
 use Rattle.std.proofs.lemmas.Nat.Bits.{bit_at-zero, bit_at-trailing_zeros, bit_at_above, bit_at_and}
 use Rattle.std.proofs.lemmas.Nat.Bits.{bit_at_clear_other, bit_at_set_same, bit_at_set_other}
@@ -482,3 +482,9 @@ tells_none trees none = λ class tree there. (
   λ zero_is. none_each trees class tree none there,
   λ one. absurd (omega (arith, one, bit_at-zero class)),
 )
+
+-- Trees that were lent come back whole.
+pub lent_back : {A : Type 0} (was some len : ℕ) (old new : List (Tree A)) → AreByClass was old → AreByClass some new
+    → len ≡ length old → take len (new ++ drop (length new) old) ≡ new
+lent_back was some len old new whole anew long =
+    take_at new (drop (length new) old) len (anew.there ∙ sym whole.there ∙ sym long)

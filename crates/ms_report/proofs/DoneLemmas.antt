@@ -7,6 +7,7 @@ use Rattle.std.proofs.lemmas.Bool.Decides.{nat_tests}
 use Rattle.std.proofs.lemmas.Fmt.{IsAscii-decimal, decimal_digit, decimal_step, length-decimal-le}
 use Rattle.std.proofs.lemmas.Str.{IsAscii-append}
 use Rattle.std.proofs.lemmas.Str.Ascii.{IsAscii-cons}
+use Rattle.std.proofs.lemmas.List.{take-append-le}
 use Rattle.std.proofs.lemmas.List.{drop-drop, drop-set-lt, drop-set-add, drop_at, get_or-drop, length-drop, length-set}
 use Rattle.std.proofs.Math.Seq.{take-append-add}
 use Rattle.std.proofs.Math.ListN.{get_or, set}
@@ -148,15 +149,17 @@ done_is_ascii number from bytes line small =
     (IsAscii-cons 10 (replicate 12 32) (omega arith) (spaces_are_ascii 12))))))
 
 -- What it is.
-pub done_text : (number last from more : ℕ) (bytes : List ℕ) → IsDoneLine last from bytes → last ≡ number
-    → take (20 + more - from) (drop from bytes) ≡ decimal number ++ take more (codes " ok\n" ++ replicate 12 32)
-done_text number last from more bytes line is =
-    ap (take (20 + more - from)) (line.digits ∙ ap (λ (rest : List ℕ). decimal last ++ rest) line.word)
+pub done_text : (number last from end : ℕ) (bytes : List ℕ) → IsDoneLine last from bytes → last ≡ number → 20 ≤ end
+    → end ≤ 24 → take (end - from) (drop from bytes) ≡ decimal number ++ take (end - 20) (codes " ok\n")
+done_text number last from end bytes line is past within =
+    ap (take (end - from)) (line.digits ∙ ap (λ (rest : List ℕ). decimal last ++ rest) line.word)
     ∙ ap (λ (n : ℕ). take n (decimal last ++ (codes " ok\n" ++ replicate 12 32))) ends
-    ∙ take-append-add (decimal last) (codes " ok\n" ++ replicate 12 32) more
-    ∙ ap (λ (n : ℕ). decimal n ++ take more (codes " ok\n" ++ replicate 12 32)) is
+    ∙ take-append-add (decimal last) (codes " ok\n" ++ replicate 12 32) (end - 20)
+    ∙ ap (λ (word : List ℕ). decimal last ++ word)
+    (take-append-le (end - 20) (codes " ok\n") (replicate 12 32) (omega (arith, within)))
+    ∙ ap (λ (n : ℕ). decimal n ++ take (end - 20) (codes " ok\n")) is
   where
-    ends : 20 + more - from ≡ length (decimal last) + more
+    ends : end - from ≡ length (decimal last) + (end - 20)
     ends = omega (
       arith,
       ap length line.digits,
@@ -165,4 +168,5 @@ done_text number last from more bytes line is =
       length-drop from bytes,
       line.long,
       line.high,
+      past,
     )

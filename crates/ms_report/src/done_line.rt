@@ -64,8 +64,7 @@ impl DoneLine {
         ensures { OnOk result (string_bytes text.new
             ≡ string_bytes text.old ++ (decimal number ++ codes " ok\n")) }
     {
-        count_on(&mut self.bytes, &mut self.from, &mut self.number, number);
-        push_piece(text, &self.bytes, self.from, END)
+        self.push_up_to(END, text, number)
     }
 
     /// Appends a number to a text.
@@ -73,8 +72,19 @@ impl DoneLine {
     pub(crate) fn push_number(&mut self, text: &mut String, number: u32) -> Result<(), AllocError>
         ensures { OnOk result (string_bytes text.new ≡ string_bytes text.old ++ decimal number) }
     {
+        self.push_up_to(NUMBER_END, text, number)
+    }
+
+    /// Appends the line of a number to a text, up to a place past the number.
+    #[inline(always)]
+    fn push_up_to(&mut self, end: usize, text: &mut String, number: u32) -> Result<(), AllocError>
+        requires past { 20 ≤ end }
+        requires within { end ≤ 24 }
+        ensures { OnOk result (string_bytes text.new
+            ≡ string_bytes text.old ++ (decimal number ++ take (end - 20) (codes " ok\n"))) }
+    {
         count_on(&mut self.bytes, &mut self.from, &mut self.number, number);
-        push_piece(text, &self.bytes, self.from, NUMBER_END)
+        push_piece(text, &self.bytes, self.from, end)
     }
 }
 

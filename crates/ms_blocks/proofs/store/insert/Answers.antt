@@ -1,14 +1,13 @@
-use Rattle.std.proofs.Common.{◌∙◌, ap, arith, length, sym}
-use Rattle.std.proofs.lemmas.List.{take_at}
+use Rattle.std.proofs.Common.{ap, arith, length}
 use Rattle.ms_blocks.specs.Classes.{all_of}
+use Rattle.ms_blocks.proofs.ClassLemmas.{lent_back}
 use Rattle.ms_blocks.proofs.RankLemmas.{length_with}
 use Rattle.ms_blocks.proofs.store.insert.Goals as goal
 
 pub returns-in-Some-clause-store : goal.returns-in-Some-clause-store
 returns-in-Some-clause-store g c =
     let was = rw c.in-Many.is at c.requires.store in
-    rw (take_at c.insert_in.new.trees _ c.in-Many.trees.len
-    (c.insert_in.ensures.trees.there ∙ sym was.0.there ∙ sym c.in-Many.trees.ok.0)) (
+    rw (lent_back _ _ c.in-Many.trees.len _ c.insert_in.new.trees was.0 c.insert_in.ensures.trees c.in-Many.trees.ok.0) (
       c.insert_in.ensures.trees,
       omega (
         arith,

@@ -1,6 +1,6 @@
-use Rattle.std.proofs.Common.{ap, arith, length, sym, ◌∙◌}
-use Rattle.std.proofs.lemmas.List.{take_at}
+use Rattle.std.proofs.Common.{ap, arith, length, ◌∙◌}
 use Rattle.ms_blocks.specs.Classes.{all_of}
+use Rattle.ms_blocks.proofs.ClassLemmas.{lent_back}
 use Rattle.ms_blocks.proofs.RankLemmas.{length_without, without_fit-none}
 use Rattle.ms_blocks.proofs.store.take.Goals as goal
 
@@ -8,8 +8,7 @@ pub returns-in_err-fork-in-Many-clause-store : goal.returns-in_err-fork-in-Many-
 returns-in_err-fork-in-Many-clause-store g c =
     let was = rw c.in-Many.is at c.requires.store in
     let none = rw c.as_mut_slice.ensures.value at c.in_err-fork-in-Many.ensures.found in
-    rw (take_at c.take_in.new.trees _ c.in-Many.trees.len
-    (c.take_in.ensures.trees.there ∙ sym was.0.there ∙ sym c.in-Many.trees.ok.0)) (
+    rw (lent_back _ _ c.in-Many.trees.len _ c.take_in.new.trees was.0 c.take_in.ensures.trees c.in-Many.trees.ok.0) (
       c.take_in.ensures.trees,
       omega (
         arith,
@@ -23,8 +22,7 @@ pub returns-in-Ok-clause-store : goal.returns-in-Ok-clause-store
 returns-in-Ok-clause-store g c =
     let was = rw c.in-Many.is at c.requires.store in
     let found = rw c.as_mut_slice.ensures.value at c.in_ok-fork-in-Many.ensures.found in
-    rw (take_at c.take_in.new.trees _ c.in-Many.trees.len
-    (c.take_in.ensures.trees.there ∙ sym was.0.there ∙ sym c.in-Many.trees.ok.0)) (
+    rw (lent_back _ _ c.in-Many.trees.len _ c.take_in.new.trees was.0 c.take_in.ensures.trees c.in-Many.trees.ok.0) (
       c.take_in.ensures.trees,
       omega (
         arith,

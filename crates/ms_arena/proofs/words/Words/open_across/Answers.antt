@@ -33,10 +33,10 @@ note-requires-clause-places c = λ stretch low high.
     let placed : 0 < place_of c.if-has_none.self.places stretch =
     elim c.if-has_none.branch [
       | then-has_none w ↦ subst (λ (words : WordsView). 0 < place_of words.places stretch) (sym w.self-is)
-      (subst (λ (n : ℕ). 0 < place_of w.give.new.self.places n) has.lies
-      (w.give.ensures.here has.word (omega (arith, has.lies, low)) (omega (arith, has.lies, high))))
+          (subst (λ (n : ℕ). 0 < place_of w.give.new.self.places n) has.lies
+          (w.give.ensures.here has.word (omega (arith, has.lies, low)) (omega (arith, has.lies, high))))
       | else-has_none+else-loop-stretch-test w ↦ subst (λ (words : WordsView). 0 < place_of words.places stretch) (sym w.self-is)
-      (subst (λ (n : ℕ). 0 < place_of w.loop-stretch.self.places n) has.lies
-      (w.loop-stretch.invariant.here has.word has.low has.high (omega (arith, has.lies, high, w.loop-stretch-test.false))))
+          (subst (λ (n : ℕ). 0 < place_of w.loop-stretch.self.places n) has.lies
+          (w.loop-stretch.invariant.here has.word has.low has.high (omega (arith, has.lies, high, w.loop-stretch-test.false))))
     ] in
     subst (λ (words : WordsView). 0 < place_of words.places stretch) (sym c.self-2.view_is) placed

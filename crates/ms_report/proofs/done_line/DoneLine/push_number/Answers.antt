@@ -1,14 +1,5 @@
--- What is appended is what the line has up to its number's end.
-use Rattle.std.proofs.Common.{◌∙◌, append-nil, arith, decimal}
-use Rattle.ms_report.proofs.DoneLemmas.{done_is_ascii, done_text}
+use Rattle.std.proofs.Common.{append-nil, decimal}
 use Rattle.ms_report.proofs.done_line.DoneLine.push_number.Goals as goal
 
-pub push_piece-requires-clause-ascii : goal.push_piece-requires-clause-ascii
-push_piece-requires-clause-ascii c =
-    done_is_ascii c.count_on.new.last c.count_on.new.from c.count_on.new.bytes c.count_on.ensures.line
-    (omega (arith, c.count_on.ensures.number, c.ranges.number.fits))
-
 pub returns : goal.returns
-returns c =
-    rw (done_text c.args.number c.count_on.new.last c.count_on.new.from 0 c.count_on.new.bytes c.count_on.ensures.line
-    c.count_on.ensures.number ∙ append-nil (decimal c.args.number)) at c.push_piece.ensures
+returns c = rw (append-nil (decimal c.args.number)) at c.push_up_to.ensures

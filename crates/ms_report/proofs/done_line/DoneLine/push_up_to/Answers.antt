@@ -1,7 +1,7 @@
--- What is appended is what the line has from its first digit on.
+-- What is appended is what the line has from its first digit on, up to the place.
 use Rattle.std.proofs.Common.{arith}
 use Rattle.ms_report.proofs.DoneLemmas.{done_is_ascii, done_text}
-use Rattle.ms_report.proofs.done_line.DoneLine.push_to.Goals as goal
+use Rattle.ms_report.proofs.done_line.DoneLine.push_up_to.Goals as goal
 
 pub push_piece-requires-clause-ascii : goal.push_piece-requires-clause-ascii
 push_piece-requires-clause-ascii c =
@@ -10,5 +10,5 @@ push_piece-requires-clause-ascii c =
 
 pub returns : goal.returns
 returns c =
-    rw (done_text c.args.number c.count_on.new.last c.count_on.new.from 4 c.count_on.new.bytes c.count_on.ensures.line
-    c.count_on.ensures.number) at c.push_piece.ensures
+    rw (done_text c.args.number c.count_on.new.last c.count_on.new.from c.args.end c.count_on.new.bytes
+    c.count_on.ensures.line c.count_on.ensures.number c.requires.past c.requires.within) at c.push_piece.ensures
