@@ -83,6 +83,7 @@ fn push_value(text: &mut String, number: u64, value: u64) -> Result<(), AllocErr
 }
 
 /// Appends the line that names a refusal.
+#[inline(always)]
 fn push_refusal(
     text: &mut String,
     done: &mut DoneLine,

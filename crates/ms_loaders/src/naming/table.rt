@@ -129,7 +129,7 @@ impl Table {
     /// is near. It slides only once so many names were asked for as a quarter of its places, so that
     /// it costs no more than they did; those that are refused count, or many of them would have the
     /// row stay behind for good. All names stay.
-    #[inline(never)]
+    #[inline(always)]
     fn grow(&mut self, name: usize, many: bool) -> Result<(), AllocError>
         requires { name < 2 ^ 32 }
         ensures { StayNamed self.old self.new }
@@ -155,7 +155,9 @@ impl Table {
         Ok(())
     }
 
-    /// Makes the row so long.
+    /// Makes the row so long. Out of line, as `slide` is: most names that have no place in the row
+    /// get none.
+    #[inline(never)]
     fn lengthen(&mut self, places: usize) -> Result<(), AllocError>
         requires longer { length self.old.row ≤ places }
         requires few { self.old.first + places ≤ 2 ^ 32 }
@@ -168,6 +170,7 @@ impl Table {
 
     /// Has the row begin so many names further on, and as long as it was; the blocks of the names
     /// before are others then.
+    #[inline(never)]
     fn slide(&mut self, names: usize) -> Result<(), AllocError>
         requires within { names ≤ length self.old.row }
         requires few { self.old.first + names + length self.old.row ≤ 2 ^ 32 }
