@@ -6,7 +6,7 @@ use Rattle.std.specs.Prelude.{nat_eq, slice_index_or}
 use Rattle.std.specs.Map.{lookup}
 use Rattle.std.proofs.lemmas.List.{take_more}
 use Rattle.ms_arena.specs.declared.places.Placed.{Placed}
-use Rattle.ms_arena.specs.Others.{entries_onto, place_listed}
+use Rattle.ms_arena.specs.Others.{AreGroups, entries_onto, place_listed}
 
 -- One more at the list's end comes first.
 onto_more : (list : List Placed) (placed : Placed) (entries : List (ℕ × ℕ))
@@ -43,18 +43,28 @@ taken_comes list at none within other =
     ap (λ (l : List Placed). lookup (nat_eq other) (entries_onto l [])) (take_more list at none within)
     ∙ more_comes (take at list) (slice_index_or list at none) other
 
--- A table in which a place of the list was set has what the list has one place further.
-pub set_on : (list : List Placed) (at : ℕ) (none : Placed) (old new : List ℕ) → at < length list
-    → ((stretch : ℕ) → slice_index_or old stretch 0 ≡ place_listed (take at list) stretch)
-    → ((other : ℕ) → slice_index_or new other 0 ≡ cond (nat_eq other (slice_index_or list at none).stretch)
-    (slice_index_or list at none).place (slice_index_or old other 0))
-    → (stretch : ℕ) → slice_index_or new stretch 0 ≡ place_listed (take (at + 1) list) stretch
+-- Places of which one of the list was set are what the list has one place further.
+pub set_on : (list : List Placed) (at : ℕ) (none : Placed) (old new : ℕ → ℕ) → at < length list
+    → ((stretch : ℕ) → old stretch ≡ place_listed (take at list) stretch)
+    → ((other : ℕ) → new other ≡ cond (nat_eq other (slice_index_or list at none).stretch)
+    (slice_index_or list at none).place (old other))
+    → (stretch : ℕ) → new stretch ≡ place_listed (take (at + 1) list) stretch
 set_on list at none old new within so_far set stretch =
     let placed : Placed = slice_index_or list at none in
     set stretch
     ∙ ap (cond (nat_eq stretch placed.stretch) placed.place) (so_far stretch)
     ∙ sym (ap (λ (found : Option ℕ). unwrap_or found 0) (taken_comes list at none within stretch)
     ∙ told (nat_eq stretch placed.stretch) placed.place (lookup (nat_eq stretch) (entries_onto (take at list) [])) 0)
+
+-- Groups stay what they are where each has the number that it had.
+pub same_groups : (old new places : List ℕ) → ((group : ℕ) → slice_index_or new group 0 ≡ slice_index_or old group 0)
+    → AreGroups old places → AreGroups new places
+same_groups old new places same are = record {
+  none = are.none;
+  below = λ group. rw (same group) (are.below group);
+  own = λ group other. rw (same group, same other) (are.own group other);
+  whole = are.whole;
+}
 
 -- What a look at the last place of a list tells: the place of the stretch, or that it stands before it.
 look : (list : List Placed) (left stretch : ℕ) (none : Placed) → 0 < left → left ≤ length list

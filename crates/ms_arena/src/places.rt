@@ -22,7 +22,7 @@ use std::marker::Model;
 const LARGE: usize = 32;
 
 /// How many stretches a root chunk has, of 2^19 words.
-pub(crate) const ROOT: usize = 256;
+const ROOT: usize = 256;
 
 /// How many root chunks the space has, whose words are numbered below 2^27.
 const ROOTS: usize = 256;
