@@ -17,14 +17,14 @@ def text_of(lines):
     return ("\n".join(lines) + "\n").encode()
 
 
-def answered(bench, words, text):
+def answered(bench, words, text, most_memory=MOST_MEMORY):
     """Runs a trace on one processor within the bounds, and gives its answers and what it took."""
     with OneProcessor():
         ended = bench.run(words, text, limits={resource.RLIMIT_CPU: MOST_SECONDS}, seconds=10 * MOST_SECONDS)
     figures = f"{ended.seconds:.2f} processor seconds, {ended.memory // MEGABYTE} MB"
     expect(ended.status == 0, f"status {ended.status} after {figures}", ended.errors)
     expect_ended(ended, 0)
-    expect(ended.seconds < MOST_SECONDS and ended.memory < MOST_MEMORY, f"it took {figures}")
+    expect(ended.seconds < MOST_SECONDS and ended.memory < most_memory, f"it took {figures}")
     return answers_of(ended.output), figures
 
 
@@ -227,6 +227,20 @@ def the_largest_block_comes_and_goes(bench):
     return figures
 
 
+def blocks_that_lie_far_apart(bench):
+    """2,000 loaders take turns at 29 blocks of 1,000 words, each far from the loader's others: no place costs kilobytes."""
+    loaders, rounds = 2000, 29
+    lines = [f"new {name} hidden" for name in range(loaders)]
+    lines += [f"alloc {name} {number} 1000" for number in range(rounds) for name in range(loaders)]
+    lines.append("report")
+    answers, figures = answered(bench, (), text_of(lines), most_memory=128 * MEGABYTE)
+    expect_all(answers, b"ok")
+    report, = reports_of(answers)
+    expect_sums(report)
+    expect(report.spaces[0].numbers["live"] == 1000 * loaders * rounds, report.spaces[0])
+    return figures
+
+
 def phases_of_two_lines(bench, workers):
     """30,000 phases in each of which two workers have a line, while 1,000 loaders stand by."""
     lines = [f"new {name} standard" for name in range(1000)] + [f"alloc {name} 1 2" for name in range(1000)] + ["sync"]
@@ -252,6 +266,7 @@ def tests():
     yield Test("a pool of small parts", a_pool_of_small_parts)
     yield Test("a limit among small parts", a_limit_among_small_parts)
     yield Test("the largest block comes and goes", the_largest_block_comes_and_goes)
+    yield Test("blocks that lie far apart", blocks_that_lie_far_apart)
     for workers in (1, 8):
         yield Test(f"all 65,536 loader names, {workers} at work", all_loader_names, (workers,))
     for workers in (1, 2, 8):
