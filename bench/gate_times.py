@@ -1,8 +1,8 @@
-"""Tells what each part of a gate costs: python3 bench/gate_times.py FILE, started beside `rt ci`, until no check has run for a minute.
+"""Tells what each part of a gate costs: python3 bench/gate_times.py FILE, started beside `rt ci`, until none of its checks has run for a minute.
 
-It looks at the machine's processes five times a second and adds up the processor seconds of each check, by its command line: a crate's
-proof, the seed of its edits, its tests, an edit, a build of a program. FILE gets a line for each: seconds of processor, seconds by the
-clock, crate, part. What a process took after the last look at it is not counted.
+It looks at the machine's processes five times a second and adds up the processor seconds of each check that was begun in this repository, by
+its command line: a crate's proof, the seed of its edits, its tests, an edit, a build of a program. FILE gets a line for each: seconds of
+processor, seconds by the clock, crate, part. Checks of other folders aren't counted, nor what a process took after the last look at it.
 """
 import os
 import re
@@ -10,7 +10,8 @@ import sys
 import time
 
 HERE = os.path.dirname(os.path.abspath(__file__))
-CRATES = os.path.join(os.path.dirname(HERE), "crates")
+TOP = os.path.dirname(HERE)
+CRATES = os.path.join(TOP, "crates")
 TICKS = os.sysconf("SC_CLK_TCK")
 
 
@@ -23,11 +24,21 @@ def words_of(pid):
         return []
 
 
+def fields_of(pid):
+    """What the system tells of a process, from its state on."""
+    with open(f"/proc/{pid}/stat", encoding="utf-8", errors="replace") as file:
+        return file.read().rpartition(")")[2].split()
+
+
+def is_from_here(pid):
+    """Whether a process was begun in this repository: its parent stands there."""
+    place = os.path.realpath(f"/proc/{fields_of(pid)[1]}/cwd")
+    return place == TOP or place.startswith(TOP + os.sep)
+
+
 def seconds_of(pid):
     """The processor seconds that a process and its ended children took so far."""
-    with open(f"/proc/{pid}/stat", encoding="utf-8", errors="replace") as file:
-        fields = file.read().rpartition(")")[2].split()
-    return sum(int(it) for it in fields[11:15]) / TICKS
+    return sum(int(it) for it in fields_of(pid)[11:15]) / TICKS
 
 
 def edit_name(crate, number):
@@ -56,11 +67,13 @@ def main(file):
             words = words_of(pid)
             if len(words) < 2 or os.path.basename(words[0]) != "rattle" or "--crate-name" not in words:
                 continue
-            last = time.monotonic()
             try:
+                if not is_from_here(pid):
+                    continue
                 taken = seconds_of(pid)
             except (OSError, IndexError):
                 continue
+            last = time.monotonic()
             begun = known.get((pid, tuple(words)), (0, last, 0, ()))[1]
             known[pid, tuple(words)] = taken, begun, last - begun, part_of(words)
         time.sleep(0.2)
