@@ -1,8 +1,8 @@
-"""Tells what each part of a gate costs: python3 bench/gate_times.py FILE, started beside `rt ci`, until none of its checks has run for a minute.
+"""Tells what each part of a gate costs: python3 bench/gate_times.py FILE, started beside `rt ci`, until no check has run for a minute.
 
-It looks at the machine's processes five times a second and adds up the processor seconds of each check that was begun in this repository, by
-its command line: a crate's proof, the seed of its edits, its tests, an edit, a build of a program. FILE gets a line for each: seconds of
-processor, seconds by the clock, crate, part. Checks of other folders aren't counted, nor what a process took after the last look at it.
+It looks at the machine's processes five times a second and adds up the processor seconds of each check that was begun in this repository,
+by its command line: a crate's proof, the seed of its edits, its tests, an edit, a build of a program. FILE gets a line for each: seconds of
+processor, seconds by the clock, crate, part. What a process took after the last look at it is not counted.
 """
 import os
 import re
