@@ -198,7 +198,7 @@ module _ (old : SeatState) (loaders : List (ℕ × LoaderView)) (manned : IsMann
   asked space name block words answer new others its =
       subst (IsManned new.knows) (sym its.changed)
       (manned_after space old new old.knows.limits.policy loaders name block words its.was its.is answer its.found
-      its.allocates its.served its.rest manned)
+      its.allocates its.served its.rest its.sound manned)
 
   stay : (space : Space) (name block words : ℕ) (answer : Result Block Refusal) (new : SeatState)
       (others : List (ℕ × LoaderView)) → AllocatesIn lock_calls space loaders name block words old answer others new

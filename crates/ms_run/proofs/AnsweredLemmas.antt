@@ -10,7 +10,7 @@ use Rattle.ms_base.specs.declared.step.Step.TheVariants.{New, Alloc, Calloc, Wri
 use Rattle.ms_base.specs.declared.step.Reply.{Reply}
 use Rattle.ms_base.specs.declared.step.Reply.TheVariants.{Ok as Done, At, Value, Refused}
 use Rattle.ms_base.specs.Run.Alone.{OwnReply}
-use Rattle.ms_base.specs.Names.{AreNamed, named}
+use Rattle.ms_base.specs.Names.{named}
 use Rattle.ms_base.specs.Request.{loader_of}
 use Rattle.ms_base.proofs.entries.LookupLemmas.{named_changed_same, named_without_other}
 use Rattle.ms_pool.specs.Ledger.{Ledger, opened_in}
@@ -82,7 +82,8 @@ module _ (old : SeatState) (loaders : List (ℕ × LoaderView)) (manned : IsMann
   writes name block index value others its =
       subst (λ (l : List (ℕ × LoaderView)). OfOne name old loaders (Write name block index value) Done old l)
       (sym its.changed) (record {
-        manned = written_keeps loaders name its.was its.is its.found block index value its.owners its.so old.knows manned;
+        manned = written_keeps loaders name its.was its.is its.found block index value its.owners its.sound its.so old.knows
+            manned;
         own = (false, own_written loaders name block its.was its.is its.found index value its.so);
         rest = others_stay loaders name its.is;
         made = made_none old _ refl;
@@ -104,7 +105,7 @@ module _ (old : SeatState) (loaders : List (ℕ × LoaderView)) (manned : IsMann
   frees name block others its =
       subst (λ (l : List (ℕ × LoaderView)). OfOne name old loaders (Free name block) Done old l)
       (sym its.changed) (record {
-        manned = freed_keeps_seats loaders name its.was its.is its.found block its.owners its.so old.knows manned;
+        manned = freed_keeps_seats loaders name its.was its.is its.found block its.owners its.sound its.so old.knows manned;
         own = (false, own_freed_in loaders name block its.was its.is its.found its.so);
         rest = others_stay loaders name its.is;
         made = made_none old _ refl;
@@ -175,15 +176,15 @@ module _ (old : SeatState) (loaders : List (ℕ × LoaderView)) (manned : IsMann
   })
 
   -- A loader's end.
-  unloads : (name : ℕ) (new : SeatState) (others : List (ℕ × LoaderView)) → AreNamed loaders
+  unloads : (name : ℕ) (new : SeatState) (others : List (ℕ × LoaderView))
       → ClosesLoader lock_calls loaders name old others new
       → OfOne name old loaders (Unload name) Done new others
-  unloads name new others names its =
+  unloads name new others its =
       let v = its.loader in
       let closes = closes_of v old new (counts_some loaders name v its.found old.knows manned) its.closed in
       subst (λ (l : List (ℕ × LoaderView)). OfOne name old loaders (Unload name) Done new l) (sym its.gone) (record {
         manned = manned_closed loaders name v its.found old new closes manned;
-        own = (false, unloaded_reply loaders name v names its.found);
+        own = (false, unloaded_reply loaders name v manned.names its.found);
         rest = λ other differs. named_without_other loaders name other (λ e. differs (sym e));
         made = subst (λ (loader : Option LoaderView). HasMade old new (Once (OfLoader loader IsClosing))) (sym its.found)
             (made_one old new its.closed.event (Once (IsClosing v))
@@ -226,41 +227,41 @@ may_serve seat loaders its = record {
 
 -- So each step is answered.
 pub answered : (old : SeatState) (loaders : List (ℕ × LoaderView)) (step : Step) (reply : Reply) (new : SeatState)
-    (others : List (ℕ × LoaderView)) → IsManned old.knows loaders → AreNamed loaders
+    (others : List (ℕ × LoaderView)) → IsManned old.knows loaders
     → Served lock_calls loaders step reply old others new
     → IsAnswer old loaders step reply new others
-answered old loaders (New name kind) Done new others manned names its =
+answered old loaders (New name kind) Done new others manned its =
     of_one name _ _ _ _ _ _ refl (makes old loaders manned name kind new others its)
-answered old loaders (New name kind) (Refused refusal) new others manned names (its, same) =
+answered old loaders (New name kind) (Refused refusal) new others manned (its, same) =
     rw same (of_one name _ _ _ _ _ _ refl (makes_none old loaders manned name kind refusal new its))
-answered old loaders (Alloc name block words) (At start) new others manned names its =
+answered old loaders (Alloc name block words) (At start) new others manned its =
     of_one name _ _ _ _ _ _ refl (allocates_at old loaders manned NonClass name block words start new others its)
-answered old loaders (Alloc name block words) (Refused refusal) new others manned names its =
+answered old loaders (Alloc name block words) (Refused refusal) new others manned its =
     of_one name _ _ _ _ _ _ refl (allocates_none old loaders manned NonClass name block words refusal new others its)
-answered old loaders (Calloc name block words) (At start) new others manned names its =
+answered old loaders (Calloc name block words) (At start) new others manned its =
     of_one name _ _ _ _ _ _ refl (allocates_at old loaders manned Class name block words start new others its)
-answered old loaders (Calloc name block words) (Refused refusal) new others manned names its =
+answered old loaders (Calloc name block words) (Refused refusal) new others manned its =
     of_one name _ _ _ _ _ _ refl (allocates_none old loaders manned Class name block words refusal new others its)
-answered old loaders (Write name block index value) Done new others manned names (its, same) =
+answered old loaders (Write name block index value) Done new others manned (its, same) =
     rw same (of_one name _ _ _ _ _ _ refl (writes old loaders manned name block index value others its))
-answered old loaders (Write name block index value) (Refused refusal) new others manned names (its, same) =
+answered old loaders (Write name block index value) (Refused refusal) new others manned (its, same) =
     rw same (of_one name _ _ _ _ _ _ refl (not_written old loaders manned name block index value refusal others its))
-answered old loaders (Read name block index) (Value value) new others manned names (its, same) =
+answered old loaders (Read name block index) (Value value) new others manned (its, same) =
     rw same (of_one name _ _ _ _ _ _ refl (reads old loaders manned name block index value others its))
-answered old loaders (Read name block index) (Refused refusal) new others manned names (its, same) =
+answered old loaders (Read name block index) (Refused refusal) new others manned (its, same) =
     rw same (of_one name _ _ _ _ _ _ refl (not_read old loaders manned name block index refusal others its))
-answered old loaders (Free name block) Done new others manned names (its, same) =
+answered old loaders (Free name block) Done new others manned (its, same) =
     rw same (of_one name _ _ _ _ _ _ refl (frees old loaders manned name block others its))
-answered old loaders (Free name block) (Refused refusal) new others manned names (its, same) =
+answered old loaders (Free name block) (Refused refusal) new others manned (its, same) =
     rw same (of_one name _ _ _ _ _ _ refl (not_freed old loaders manned name block refusal others its))
-answered old loaders (Unload name) Done new others manned names its =
-    of_one name _ _ _ _ _ _ refl (unloads old loaders manned name new others names its)
-answered old loaders (Unload name) (Refused refusal) new others manned names (its, same) =
+answered old loaders (Unload name) Done new others manned its =
+    of_one name _ _ _ _ _ _ refl (unloads old loaders manned name new others its)
+answered old loaders (Unload name) (Refused refusal) new others manned (its, same) =
     rw same (of_one name _ _ _ _ _ _ refl (not_unloaded old loaders manned name refusal others its))
-answered old loaders Purge Done new others manned names (its, same) =
+answered old loaders Purge Done new others manned (its, same) =
     rw same (purges old loaders manned its.0 new its.1)
-answered old loaders Purge (Refused refusal) new others manned names its = absurd its
-answered old loaders (Write name block index value) _ new others manned names its = absurd its.0
-answered old loaders (Read name block index) _ new others manned names its = absurd its.0
-answered old loaders (Free name block) _ new others manned names its = absurd its.0
-answered old loaders _ _ new others manned names its = absurd its
+answered old loaders Purge (Refused refusal) new others manned its = absurd its
+answered old loaders (Write name block index value) _ new others manned its = absurd its.0
+answered old loaders (Read name block index) _ new others manned its = absurd its.0
+answered old loaders (Free name block) _ new others manned its = absurd its.0
+answered old loaders _ _ new others manned its = absurd its

@@ -1,10 +1,11 @@
--- A pool that comes out of its lock and the loaders of all shares may be settled, and no account is
--- left: each share's seat serves its loaders, and each owner is served once. For `gather`.
+-- A pool that comes out of its lock and the loaders of all shares belong together: each share's seat
+-- serves its loaders, and each owner is served once. For `gather`.
 use Rattle.std.proofs.Common.{◌≡◌, ℕ, ◌+◌, ◌≤◌, Bool, true, false, cond, ◌||◌, inl, inr, List, [], ◌∷◌, ◌++◌, map}
 use Rattle.std.proofs.Common.{length, refl, sym, ap, ◌∙◌, subst, eq-eqb, ne_eqb, zero-add, arith}
 use Rattle.std.specs.Prelude.{◌==◌}
 use Rattle.std.specs.List.{All, AllByRecursion, sum_by, filter}
 use Rattle.std.specs.List.Sorted.{IsPermutation}
+use Rattle.std.specs.Map.{values_of}
 use Rattle.std.proofs.lemmas.Bool.{cases_lt, cases_eq, le-leb}
 use Rattle.std.proofs.lemmas.List.{append_assoc}
 use Rattle.std.proofs.lemmas.List.Sums.{sum_by-cons}
@@ -13,11 +14,12 @@ use Rattle.ms_base.specs.declared.kind.Space.{Space}
 use Rattle.ms_base.specs.declared.kind.Space.TheVariants.{NonClass, Class}
 use Rattle.ms_base.specs.declared.span.Chunk.{Chunk}
 use Rattle.ms_base.specs.Committed.{is_among}
+use Rattle.ms_base.specs.Names.{AreNamed}
 use Rattle.ms_pool.specs.Account.{AccountState}
 use Rattle.ms_pool.specs.Ledger.{Loan, Ledger, Serves, IsSoundLedger, chunks_of, is_owned_by, opened_in}
-use Rattle.ms_loaders.specs.Loader.{LoaderView}
-use Rattle.ms_loaders.specs.System.{accounts_of, owners_of}
-use Rattle.ms_loaders.specs.Settles.{MaySettle, open_accounts, accounts_in}
+use Rattle.ms_loaders.specs.Loader.{LoaderView, IsSoundView}
+use Rattle.ms_loaders.specs.System.{accounts_of, owners_of, AreTogether}
+use Rattle.ms_loaders.specs.Settles.{MaySettle}
 use Rattle.ms_shared.specs.declared.lock_rule.SeatView.{SeatView}
 use Rattle.ms_shared.specs.Entries.{Entry, Has, AreRecords, once_given, one_if as entry_if, times as entries_of}
 use Rattle.ms_shared.specs.SeatView.{SeatState, ServesBy, Gathers, opened_by}
@@ -178,6 +180,18 @@ owner_holds owner (one ∷ before) after loan same none =
 given_once : (owner given : ℕ) → 1 ≤ owner → owner ≤ given → once_given owner given ≡ 1
 given_once owner given low up = rw (le-leb 1 owner low) (rw (le-leb owner given up) refl)
 
+-- Loaders are sound by their values, and by their entries.
+abbrev IsSoundEntry : ℕ × LoaderView → Type 0
+IsSoundEntry entry = IsSoundView entry.1
+
+values_all : (loaders : Loaders) → AllByRecursion IsSoundView (values_of loaders) → AllByRecursion IsSoundEntry loaders
+values_all [] all = tt
+values_all (entry ∷ loaders) all = (all.0, values_all loaders all.1)
+
+all_values : (loaders : Loaders) → AllByRecursion IsSoundEntry loaders → AllByRecursion IsSoundView (values_of loaders)
+all_values [] all = tt
+all_values (entry ∷ loaders) all = (all.0, all_values loaders all.1)
+
 module _ (pool : Ledger) (shares : List Share) (loaders : Loaders) (sound : IsSoundLedger pool)
     (gathers : Gathers (map seat_of shares) pool)
     (all_manned : All (λ (share : Share). IsManned share.seat.knows share.loaders) shares)
@@ -258,5 +272,24 @@ module _ (pool : Ledger) (shares : List Share) (loaders : Loaders) (sound : IsSo
         (no_others [] pool.loans refl (recursion_from_All _ pool.loans sound.owners));
   }
 
-  pub no_more : open_accounts pool ≤ accounts_in loaders
-  no_more = omega (arith, as_many NonClass, as_many Class)
+  -- And they belong together.
+  pub are_together : AreNamed loaders → AreTogether pool loaders
+  are_together names = record {
+    ledger_sound = sound;
+    loaders_sound =
+        All-from_recursion IsSoundView (values_of loaders)
+        (all_values loaders
+        (recursion_from_All IsSoundEntry loaders
+        (joined_all IsSoundEntry [] shares loaders joined (All-nil IsSoundEntry)
+        (each (λ share its. All-from_recursion IsSoundEntry share.loaders
+        (values_all share.loaders (recursion_from_All IsSoundView (values_of share.loaders) its.manned.sound))) shares
+        ours))));
+    names = names;
+    served = record {
+      served = may_settle.served;
+      distinct = distinct;
+      no_other = may_settle.no_other (omega (arith, as_many NonClass, as_many Class));
+      opened = as_many NonClass;
+      class_opened = as_many Class;
+    };
+  }

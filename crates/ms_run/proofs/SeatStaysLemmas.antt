@@ -4,8 +4,11 @@ use Rattle.std.proofs.Common.{◌≡◌, ◌≢◌, ◌-◌, ℕ, ◌⊎◌, Boo
 use Rattle.std.proofs.Common.{[], ◌∷◌, ◌++◌, map, refl, sym, ap, ◌∙◌, subst, inl, inr, arith, append-nil}
 use Rattle.std.specs.Prelude.{◌==◌}
 use Rattle.std.specs.List.{AllByRecursion, filter}
+use Rattle.std.specs.Ordering.{nat_cmp}
+use Rattle.std.specs.BTreeMap.{is_at}
 use Rattle.std.proofs.lemmas.List.Elements.{recursion_from_All, All-from_recursion}
 use Rattle.std.proofs.lemmas.Bool.{both_ways}
+use Rattle.std.proofs.lemmas.Map.Views.{All-values-set_value}
 use Rattle.ms_base.specs.declared.kind.Space.{Space}
 use Rattle.ms_base.specs.declared.kind.Space.TheVariants.{NonClass, Class}
 use Rattle.ms_base.specs.declared.policy.Policy.{Policy}
@@ -21,7 +24,7 @@ use Rattle.ms_base.specs.Place.{placed, current}
 use Rattle.ms_base.specs.Asks.{asks_growth, wanted_level, total_asked, may_enlarge}
 use Rattle.ms_base.specs.Level.{level_that_holds}
 use Rattle.ms_base.specs.State.{ArenaState}
-use Rattle.ms_base.proofs.entries.EntryLemmas.{Split, split_at}
+use Rattle.ms_base.proofs.entries.EntryLemmas.{Split, split_at, rises_with_changed}
 use Rattle.ms_pool.specs.Account.{AccountState}
 use Rattle.ms_pool.specs.Ledger.{Loan, Ledger, chunks_of, is_owned_by}
 use Rattle.ms_pool.specs.Calls.{GrewFrom}
@@ -31,7 +34,7 @@ use Rattle.ms_pool.proofs.ledger.TookLemmas.{took_keeps}
 use Rattle.ms_pool.proofs.ledger.GrewLemmas.{grow_refused_raises}
 use Rattle.ms_arena.specs.Arena.{ArenaView, account_of}
 use Rattle.ms_arena.specs.Alloc.{TakesNew, GrowsCurrent, AfterGrow, AsksChunk, FindsPlace, Allocates}
-use Rattle.ms_loaders.specs.Loader.{LoaderView, account_in, owner_in, AllocatesBlock}
+use Rattle.ms_loaders.specs.Loader.{LoaderView, account_in, owner_in, AllocatesBlock, IsSoundView}
 use Rattle.ms_loaders.specs.System.{accounts_of, owners_of, AreDistinct}
 use Rattle.ms_shared.specs.declared.lock_rule.SeatView.{SeatView}
 use Rattle.ms_shared.specs.Entries.{Entry, Has, refreshed, fresh}
@@ -258,8 +261,8 @@ pub manned_after : (space : Space) (old new : SeatState) (policy : Policy) (load
     → ServesBy new.knows (account_in space is)
     → LeavesRest (λ (seat : SeatState). ServesBy seat.knows) (λ seat. opened_by seat.knows) (λ seat. seat.knows.limits)
     (owner_in space was) old new
-    → IsManned old.knows loaders → IsManned new.knows (with_changed loaders name is)
-manned_after space old new policy loaders name block words was is answer found allocates own rest its = record {
+    → IsSoundView is → IsManned old.knows loaders → IsManned new.knows (with_changed loaders name is)
+manned_after space old new policy loaders name block words was is answer found allocates own rest sound its = record {
   served = All-from_recursion (ServesBy new.knows) (accounts_of (with_changed loaders name is))
       (subst (λ (l : List AccountState). AllByRecursion (ServesBy new.knows) l) (sym now)
       (served_in (ServesBy old.knows) (ServesBy new.knows) space (accounts_of split.before) (accounts_of split.after)
@@ -276,6 +279,8 @@ manned_after space old new policy loaders name block words was is answer found a
       (own_is_among space loaders name was found)
       (block_stays space policy was is block words old new answer allocates) its.no_other);
   opened = λ one. ap (λ (f : Space → ℕ). f one) rest.counted ∙ its.opened one ∙ sym (length_changed loaders name is);
+  sound = All-values-set_value (is_at (nat_cmp name)) IsSoundView loaders is its.sound sound;
+  names = rises_with_changed loaders name is its.names;
 }
   where
     split : Split loaders name was

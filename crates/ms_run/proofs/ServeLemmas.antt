@@ -35,6 +35,8 @@ purged_manned loaders old new gone event served counted manned = record {
       (λ one. ap (λ (l : Ledger). chunks_of l one) event.called.1) event.known.served
       (subst (λ (entries : List Entry). Has entries owner chunks) entries here));
   opened = λ space. ap (λ (count : Space → ℕ). count space) counted ∙ manned.opened space;
+  sound = manned.sound;
+  names = manned.names;
 }
   where
     none : event.after.given - event.before.given ≡ 0

@@ -6,7 +6,9 @@ use Rattle.std.specs.Prelude.{IsTrue}
 use Rattle.std.specs.Ordering.{nat_cmp}
 use Rattle.std.specs.BTreeMap.{is_at}
 use Rattle.std.specs.List.{All}
+use Rattle.std.specs.Map.{values_of}
 use Rattle.std.proofs.lemmas.Map.Made.{lookup-map_values}
+use Rattle.std.proofs.lemmas.Map.Views.{All-values-set_value}
 use Rattle.ms_base.specs.declared.kind.Space.{Space}
 use Rattle.ms_base.specs.declared.kind.Space.TheVariants.{NonClass, Class}
 use Rattle.ms_base.specs.declared.span.Chunk.{Chunk}
@@ -16,15 +18,15 @@ use Rattle.ms_base.specs.declared.refusal.Refusal.{Refusal}
 use Rattle.ms_base.specs.declared.refusal.Refusal.TheVariants.{OutOfRange, NoBlock}
 use Rattle.ms_base.specs.Run.Alone.{OwnLoader, OwnReply}
 use Rattle.ms_base.specs.Committed.{is_among}
-use Rattle.ms_base.specs.Names.{named, with_new, with_changed}
+use Rattle.ms_base.specs.Names.{AreNamed, named, with_new, with_changed}
 use Rattle.ms_base.specs.Spaces.{by_space, space_at}
 use Rattle.ms_base.specs.State.{LoaderState, arena_of}
 use Rattle.ms_base.specs.Transition.{with_freed}
-use Rattle.ms_base.proofs.entries.EntryLemmas.{Split, split_at}
+use Rattle.ms_base.proofs.entries.EntryLemmas.{Split, split_at, rises_with_changed}
 use Rattle.ms_base.proofs.entries.LookupLemmas.{named_changed_same, named_changed_other}
 use Rattle.ms_pool.specs.Account.{AccountState}
 use Rattle.ms_loaders.specs.Loader.{LoaderView, with_state, account_in, HasWord, WritesWord, FreesBlock, LacksWord}
-use Rattle.ms_loaders.specs.Loader.{LacksName}
+use Rattle.ms_loaders.specs.Loader.{LacksName, IsSoundView}
 use Rattle.ms_loaders.specs.System.{states_of, accounts_of, AreDistinct}
 use Rattle.ms_loaders.specs.Used.{used_by, used_at}
 use Rattle.ms_shared.specs.SeatView.{ServesBy}
@@ -140,8 +142,9 @@ own_not_read loaders name block index refusal was found lacks =
 
 -- Loaders with the same accounts have the same seats.
 keeps_seats : (old new : List (ℕ × LoaderView)) → accounts_of new ≡ accounts_of old → length new ≡ length old
+    → (All IsSoundView (values_of old) → All IsSoundView (values_of new)) → (AreNamed old → AreNamed new)
     → KeepsSeats old new
-keeps_seats old new same count seat manned = record {
+keeps_seats old new same count sound named seat manned = record {
   served = subst (All (ServesBy seat)) (sym same) manned.served;
   distinct = subst AreDistinct (sym (ap (map owner_of) same)) manned.distinct;
   no_other = λ owner chunks has. elim (manned.no_other owner chunks has) [
@@ -150,6 +153,8 @@ keeps_seats old new same count seat manned = record {
         inr (subst (λ (accounts : List AccountState). IsTrue (is_among (map owner_of accounts) owner)) (sym same) among)
   ];
   opened = λ space. manned.opened space ∙ sym count;
+  sound = sound manned.sound;
+  names = named manned.names;
 }
   where
     owner_of : AccountState → ℕ
@@ -171,10 +176,13 @@ module _ (loaders : List (ℕ × LoaderView)) (name : ℕ) (was is : LoaderView)
         ∙ ap (λ (l : List Chunk). record { owner = by_space space was.owner was.class_owner; space = space; chunks = l })
         chunks
 
-    pub keeps_with : is ≡ with_state was is.state
+    pub keeps_with : is ≡ with_state was is.state → IsSoundView is
         → ((space : Space) → (arena_of space is.state).chunks ≡ (arena_of space was.state).chunks)
         → KeepsSeats loaders (with_changed loaders name is)
-    keeps_with same chunks = keeps_seats loaders (with_changed loaders name is) accounts (length_changed loaders name is)
+    keeps_with same sound chunks =
+        keeps_seats loaders (with_changed loaders name is) accounts (length_changed loaders name is)
+        (λ all. All-values-set_value (is_at (nat_cmp name)) IsSoundView loaders is all sound)
+        (rises_with_changed loaders name is)
       where
         split : Split loaders name was
         split = split_at loaders name was found
@@ -187,14 +195,14 @@ module _ (loaders : List (ℕ × LoaderView)) (name : ℕ) (was is : LoaderView)
             (account_same Class same (chunks Class))
             ∙ sym (ap accounts_of split.is ∙ accounts_split split.before split.after name was)
 
-    pub written_keeps : (block index value : ℕ) → is ≡ with_state was is.state
+    pub written_keeps : (block index value : ℕ) → is ≡ with_state was is.state → IsSoundView is
         → WritesWord was.state block index value is.state → KeepsSeats loaders (with_changed loaders name is)
-    written_keeps block index value same writes =
-        keeps_with same (λ space. write_keeps space was.state is.state block index value writes)
+    written_keeps block index value same sound writes =
+        keeps_with same sound (λ space. write_keeps space was.state is.state block index value writes)
 
-    pub freed_keeps_seats : (block : ℕ) → is ≡ with_state was is.state → FreesBlock was.state block is.state
-        → KeepsSeats loaders (with_changed loaders name is)
-    freed_keeps_seats block same frees = keeps_with same (λ space. free_keeps space was.state is.state block frees)
+    pub freed_keeps_seats : (block : ℕ) → is ≡ with_state was is.state → IsSoundView is
+        → FreesBlock was.state block is.state → KeepsSeats loaders (with_changed loaders name is)
+    freed_keeps_seats block same sound frees = keeps_with same sound (λ space. free_keeps space was.state is.state block frees)
 
     -- And the words in use stay.
     used_with : used_by is.state ≡ used_by was.state

@@ -4,13 +4,11 @@ use Rattle.std.specs.Prelude.{replicate, Some, None, Vec, slice_get, ◌++◌}
 use Rattle.std.specs.List.{All, count_by, filter}
 use Rattle.std.specs.declared.alloc.Global.{Global}
 use Rattle.ms_base.specs.Committed.{is_among}
-use Rattle.ms_base.specs.Names.{AreNamed, named}
+use Rattle.ms_base.specs.Names.{named}
 use Rattle.ms_base.specs.Request.{loader_of}
 use Rattle.ms_trace.specs.declared.trace.Line.{Line}
 use Rattle.ms_loaders.specs.Loader.{LoaderView}
 use Rattle.ms_loaders.specs.System.{owners_of}
-use Rattle.ms_loaders.specs.Settles.{MaySettle, open_accounts, accounts_in}
-use Rattle.ms_pool.specs.Ledger.{Ledger}
 use Rattle.ms_shared.specs.declared.lock_rule.SeatView.{SeatView}
 use Rattle.ms_shared.specs.SeatView.{SeatState, LockState}
 use Rattle.ms_shared.specs.MeterRule.{MeterState}
@@ -28,7 +26,6 @@ Loaded = List (ℕ × LoaderView)
 pub record AreBeside (from : SeatView) (loaders : Loaded) (to : SeatView) (others : Loaded) : Type 0 where
   pub manned : IsManned from loaders
   pub to_manned : IsManned to others
-  pub names : AreNamed loaders
   pub apart : (number : ℕ) → count_by (λ other. other == number) (owners_of loaders)
       + count_by (λ other. other == number) (owners_of others) ≤ 1
 
@@ -48,12 +45,6 @@ pub record IsSameSeat (old new : SeatState) : Type 0 where
 abbrev pub AreSpare : ℕ → List SeatState → Type 0
 AreSpare number [] = Unit {0}
 AreSpare number (seat ∷ seats) = (seat.number ≡ number) × (seat.events ≡ []) × AreSpare (suc number) seats
-
--- A pool and its loaders may be dealt: it counts just the loaders' accounts, and serves them.
-pub record MayBeDealt (pool : Ledger) (loaders : Loaded) : Type 0 where
-  pub fits : MaySettle pool loaders
-  pub all : open_accounts pool ≡ accounts_in loaders
-  pub names : AreNamed loaders
 
 -- Each of so many shares has a seat of the meter, to which nothing was added, and no other has one.
 pub record HaveMeters (meter : MeterState) (count : ℕ) (shares : List Share) : Type 0 where

@@ -14,10 +14,11 @@ ghost use Rattle.std.specs.Prelude.{vec_capacity, ◌<◌};
 ghost use Rattle.std.specs.Prelude.{◌≢◌, ℕ, IsTrue, Some, slice_get};
 ghost use Rattle.std.specs.Option.{is_some};
 ghost use Rattle.ms_base.specs.declared.kind.Space.TheVariants.{NonClass, Class};
-ghost use Rattle.ms_base.specs.Names.{AreNamed, named};
+ghost use Rattle.ms_base.specs.Names.{named};
 ghost use Rattle.ms_base.specs.Request.{loader_of};
 ghost use Rattle.ms_run.specs.Turn.{shares_in, place_in};
 ghost use Rattle.ms_loaders.specs.Loader.{account_in};
+ghost use Rattle.ms_loaders.specs.System.{AreTogether};
 ghost use Rattle.ms_loaders.specs.Used.{used_in};
 ghost use Rattle.ms_shared.specs.SeatView.{ServesBy, new_seats, opened_by, with_account};
 ghost use Rattle.ms_shared.specs.SeatView.{without_account};
@@ -25,7 +26,7 @@ ghost use Rattle.ms_run.specs.Metering.{used_over, meter_of};
 ghost use Rattle.ms_run.specs.Shares.{AreDealt, AreSteps, tasks_of, names_in, name_with, place_for};
 ghost use Rattle.ms_run.specs.Dealing.{AreCrews, AreListed, AreEmpty, AreAdded, IsHanded};
 ghost use Rattle.ms_run.specs.Dealing.{AreHanded, AreSeats};
-ghost use Rattle.ms_run.specs.Dealing.{AreDealtTo, HaveMeters, MayBeDealt, IsSameSeat};
+ghost use Rattle.ms_run.specs.Dealing.{AreDealtTo, HaveMeters, IsSameSeat};
 
 use crate::gathering::put_loader;
 use crate::share::{Share, Task};
@@ -53,7 +54,7 @@ pub fn deal(
     pool: Pool,
     loaders: Loaders,
 ) -> Result<(SharedPool, Vec<Share>, UsedMeter), AllocError>
-    requires may { MayBeDealt pool loaders }
+    requires together { AreTogether pool loaders }
     requires steps { AreSteps lines.now }
     ensures dealt { IfOk result (λ made. AreDealt (place_for (place_in turn.now) lines.now)
         made.0 made.1.items lines.now loaders) }
@@ -65,8 +66,6 @@ pub fn deal(
     let count = turn.shares();
     let (shared, seats) = lock(alloc, pool, count)?;
     let (shares, meter) = deal_metered(alloc, turn, lines, &shared, seats, loaders)?;
-    // That each place is within the shares is learnt here.
-    let _ = turn.place(None);
     Ok((shared, shares, meter))
 }
 
@@ -81,7 +80,6 @@ fn deal_metered(
 ) -> Result<(Vec<Share>, UsedMeter), AllocError>
     requires count { vec_len seats ≡ shares_in turn.now }
     requires seats { AreSeats shared.now seats.items loaders }
-    requires names { AreNamed loaders }
     ensures dealt { IfOk result (λ made.
         AreDealtTo (place_for (place_in turn.now) lines.now) shared.now (vec_len seats) lines.now
         loaders
@@ -125,7 +123,6 @@ fn deal_to(
     requires count { vec_len seats ≡ shares_in turn.now }
     requires seats { AreSeats shared.now seats.items loaders }
     requires meters { vec_len meters ≡ vec_len seats }
-    requires names { AreNamed loaders }
     ensures dealt { IfOk result (λ shares.
         AreDealtTo (place_for (place_in turn.now) lines.now) shared.now (vec_len seats) lines.now
         loaders

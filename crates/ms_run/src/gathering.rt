@@ -1,21 +1,20 @@
 //! Gathering the shares of a phase: the pool comes out of its lock, the loaders come together, and
-//! both are settled.
+//! both are one system again.
 //!
-//! Kept true: each seat counts just the accounts of its share's loaders, so settling is never
-//! refused, and no name is in two shares. The seats of the meter come out as they are. Takes memory
+//! Kept true: each seat counts just the accounts of its share's loaders, so the parts belong
+//! together, and no name is in two shares. No loader that stands by is looked at. The seats of the meter come out as they are. Takes memory
 //! for seats and for places of loaders; nothing waits.
-ghost use Rattle.std.specs.Prelude.{◌≡◌, ◌≤◌, [], IsOk, IfOk, IfErr, OnOk, None, map, vec_len};
+ghost use Rattle.std.specs.Prelude.{◌≡◌, [], IsOk, IfOk, IfErr, OnOk, None, map, vec_len};
 ghost use Rattle.std.specs.List.{All};
 ghost use Rattle.ms_base.specs.declared.refusal.Refusal.TheVariants as Refusal;
 ghost use Rattle.ms_base.specs.Good.{IsGood};
-ghost use Rattle.ms_base.specs.Names.{named, with_new};
+ghost use Rattle.ms_base.specs.Names.{AreNamed, named, with_new};
 ghost use Rattle.ms_loaders.specs.Loaders.{InsertRefused};
-ghost use Rattle.ms_loaders.specs.Settles.{MaySettle, open_accounts, accounts_in};
-ghost use Rattle.ms_loaders.specs.System.{machine_of};
 ghost use Rattle.ms_shared.specs.SeatView.{SeatState, Gathers, IsHistory};
 ghost use Rattle.ms_run.specs.Joined.{HaveOtherNames, IsJoined, AreJoined, IsWantOrUnsettled};
 ghost use Rattle.ms_run.specs.Joined.{IsMadeFrom};
 ghost use Rattle.ms_run.specs.Joined.{seat_of};
+ghost use Rattle.ms_run.specs.Manned.{IsManned};
 ghost use Rattle.ms_run.specs.Metering.{used_words_of, used_over, meter_of};
 ghost use Rattle.ms_run.specs.Shares.{Place, AreApart, IsGathered, StandOver};
 
@@ -49,8 +48,7 @@ pub fn gather(
     let pool = open(shared, seats)?;
     // What holds of every pool is learnt here.
     let _ = pool.committed();
-    let system = settle(alloc, pool, loaders)?;
-    Ok((system, meters))
+    Ok((System::from_parts(alloc, pool, loaders), meters))
 }
 
 /// Gives the pool out of its lock, to which all seats are given back.
@@ -71,31 +69,16 @@ fn open(shared: SharedPool, seats: Vec<PoolSeat>) -> Result<Pool, RunFault>
     }
 }
 
-/// Settles the pool with all loaders, which have all its accounts.
-fn settle(alloc: Global, pool: Pool, loaders: Loaders) -> Result<System, RunFault>
-    requires fits { MaySettle pool loaders }
-    requires all { open_accounts pool ≤ accounts_in loaders }
-    ensures settles { IsOk result }
-    ensures machine { IfOk result (λ system. system ≡ machine_of pool loaders) }
-    ensures good { IfOk result IsGood }
-{
-    match System::settle(alloc, pool, loaders) {
-        Ok(system) => Ok(system),
-        Err((refusal, pool, loaders)) => {
-            drop((pool, loaders));
-            Err(fault_of(refusal))
-        }
-    }
-}
-
 /// Takes both seats and the loaders out of the shares, and puts the loaders together.
 fn take_apart(
     alloc: Global,
     shares: Vec<Share>,
 ) -> Result<(Vec<PoolSeat>, Loaders, Vec<MeterSeat>), RunFault>
-    requires { (place : Place) × AreApart place shares.items }
+    requires apart { (place : Place) × AreApart place shares.items }
+    requires manned { All (λ share. IsManned share.seat.knows share.loaders) shares.items }
     ensures seats { IfOk result (λ parts. parts.0.items ≡ map seat_of shares.items) }
     ensures loaders { IfOk result (λ parts. AreJoined [] shares.items parts.1) }
+    ensures named { IfOk result (λ parts. AreNamed parts.1) }
     ensures meters { IfOk result (λ parts. parts.2.items ≡ map meter_of shares.items) }
     ensures wanting { IfErr result (λ fault. fault ≡ RunFault.OutOfMemory) }
 {
@@ -112,8 +95,11 @@ fn take_apart(
 
 /// Puts two lists of loaders together: the fewer come to the others.
 fn join(whole: Loaders, part: Loaders) -> Result<Loaders, RunFault>
-    requires { HaveOtherNames whole part }
+    requires others { HaveOtherNames whole part }
+    requires named { AreNamed whole }
+    requires part_named { AreNamed part }
     ensures joined { IfOk result (λ joined. IsJoined whole part joined) }
+    ensures named { IfOk result AreNamed }
     ensures wanting { IfErr result (λ fault. fault ≡ RunFault.OutOfMemory) }
 {
     if whole.len() < part.len() {
@@ -124,12 +110,13 @@ fn join(whole: Loaders, part: Loaders) -> Result<Loaders, RunFault>
 
 /// Moves the loaders of a part to the others, one by one. Takes memory for each.
 fn insert_all(mut whole: Loaders, mut part: Loaders) -> Result<Loaders, RunFault>
-    requires { HaveOtherNames whole part }
+    requires others { HaveOtherNames whole part }
+    requires named { AreNamed whole }
+    requires part_named { AreNamed part }
     ensures joined { IfOk result (λ joined. IsJoined whole part joined) }
+    ensures named { IfOk result AreNamed }
     ensures wanting { IfErr result (λ fault. fault ≡ RunFault.OutOfMemory) }
 {
-    // That names rise is learnt here.
-    let _ = part.len();
     while let Some((name, loader)) = part.pop_first() {
         if let Err(refusal) = put_loader(name, loader, &mut whole) {
             return Err(fault_of(refusal));

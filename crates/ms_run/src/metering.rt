@@ -5,7 +5,7 @@
 //! line itself.
 ghost use Rattle.std.specs.Prelude.{◌≡◌, ◌≢◌, ◌+◌, ℕ, Bool, Some};
 ghost use Rattle.ms_base.specs.Run.Alone.{OwnReply};
-ghost use Rattle.ms_base.specs.Names.{AreNamed, named};
+ghost use Rattle.ms_base.specs.Names.{named};
 ghost use Rattle.ms_base.specs.Request.{loader_of};
 ghost use Rattle.ms_loaders.specs.System.{states_of};
 ghost use Rattle.ms_loaders.specs.Used.{used_at, used_in};
@@ -41,7 +41,7 @@ pub fn answer_metered<R: Wait>(
 {
     match step {
         Step::Unload { loader } => {
-            meter.sub(seat, used_by(loaders, loader));
+            meter.sub(seat, loaders.used_by(loader));
             return answer_unload(alloc, pool, loaders, loader);
         }
         Step::Alloc { loader, .. } => {
@@ -74,10 +74,10 @@ fn answer_rise<R: Wait>(
     ensures touches { Touches loaders.old step result loaders.new }
     ensures moved { IsMoved seat.old (used_in loaders.old) seat.new (used_in loaders.new) }
 {
-    let before = used_by(loaders, name);
+    let before = loaders.used_by(name);
     let reply = answer(alloc, pool, loaders, step);
     // A difference modulo 2^64, as the meter counts.
-    let rise = used_by(loaders, name).wrapping_sub(before);
+    let rise = loaders.used_by(name).wrapping_sub(before);
     if rise != 0 {
         meter.add(seat, rise);
     }
@@ -99,11 +99,7 @@ fn answer_unload<R: Wait>(
     ensures touches { Touches loaders.old (Step.Unload name) result loaders.new }
     ensures used { used_in loaders.new + used_at (named loaders.old name) ≡ used_in loaders.old }
 {
-    // That names rise is learnt here, of the loaders before and after.
-    let _ = loaders.len();
-    let reply = answer(alloc, pool, loaders, Step::Unload { loader: name });
-    let _ = loaders.len();
-    reply
+    answer(alloc, pool, loaders, Step::Unload { loader: name })
 }
 
 /// Answers a step that leaves the words in use as they are.
@@ -121,11 +117,7 @@ fn answer_still<R: Wait>(
     ensures touches { Touches loaders.old step result loaders.new }
     ensures used { used_in loaders.new ≡ used_in loaders.old }
 {
-    // That names rise is learnt here, of the loaders before and after.
-    let _ = loaders.len();
-    let reply = answer(alloc, pool, loaders, step);
-    let _ = loaders.len();
-    reply
+    answer(alloc, pool, loaders, step)
 }
 
 /// Answers a step over the lock. The replies to a loader's steps are its own; the other loaders
@@ -150,17 +142,5 @@ fn answer<R: Wait>(
     ensures used { MovesNoTop step → (name : ℕ)
         → used_at (named loaders.new name) ≡ used_at (named loaders.old name) }
 {
-    // That names rise is learnt here.
-    let _ = loaders.len();
     serve(alloc, pool, loaders, step)
-}
-
-/// Tells the words in use of the loader of a name, 0 where there is none.
-fn used_by(loaders: &Loaders, name: u16) -> u64
-    ensures used { result ≡ used_at (named loaders.now name) }
-    ensures names { AreNamed loaders.now }
-{
-    // That names rise is learnt here.
-    let _ = loaders.len();
-    loaders.used_by(name)
 }

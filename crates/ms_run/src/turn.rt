@@ -10,7 +10,6 @@ ghost use Rattle.ms_base.specs.Request.{loader_of};
 ghost use Rattle.ms_trace.specs.declared.trace.Line.{Line as LineOf};
 ghost use Rattle.ms_run.specs.Turn.{IsTurn, shares_in, place_in, worker_by, AreFirst, IsNumbered};
 ghost use Rattle.ms_run.specs.Turn.{Assigns};
-ghost use Rattle.ms_run.specs.Shares.{AreWithin};
 
 use ms_base::{Settings, Step};
 use ms_trace::{Command, Line};
@@ -130,7 +129,6 @@ impl Turn {
     pub fn place(&self, name: Option<u16>) -> usize
         ensures place { result ≡ place_in self.now name }
         ensures within { result < shares_in self.now }
-        ensures all_within { AreWithin (place_in self.now) (shares_in self.now) }
     {
         let worker = worker_at(self.first.as_slice(), self.phase, self.workers, name);
         entry(self.places.as_slice(), worker).min(self.active.len() - 1)

@@ -1,5 +1,5 @@
-//! The row of a system: blocks are freed, a loader is unloaded, nodes are purged; it is taken apart
-//! and settled, and refused with a loader held back.
+//! The row of a system: blocks are freed, a loader is unloaded, nodes are purged; it is taken apart,
+//! put together and settled, and refused with a loader held back.
 use crate::pools::account_lines;
 use crate::row::{line, mark};
 use crate::systems::filled::{HIDDEN, filled};
@@ -55,9 +55,10 @@ fn tell_steps(rt: &HostRuntime, system: &mut System) {
     tell_system(rt, system);
 }
 
-/// Takes a system apart, and settles it again.
+/// Takes a system apart, and puts it together again: as it came apart, and by settling.
 fn settled(alloc: Global, system: System) -> Option<System> {
     let (pool, loaders) = system.into_parts();
+    let (pool, loaders) = System::from_parts(alloc, pool, loaders).into_parts();
     System::settle(alloc, pool, loaders).ok()
 }
 

@@ -47,13 +47,23 @@ impl System {
         // What holds of every pool and of every loader is learnt here.
         let _ = pool.committed();
         loaders.learn();
+        Ok(System::from_parts(alloc, pool, loaders))
+    }
+
+    /// Puts a pool and the loaders over it together that are known to belong together, as those are
+    /// that `into_parts` gives: it looks at none. Takes no memory. This project's choice.
+    pub fn from_parts(alloc: Global, pool: Pool, loaders: Loaders) -> System
+        requires { AreTogether pool loaders }
+        ensures machine { result ≡ machine_of pool loaders }
+        ensures good { IsGood result }
+    {
         let policy = pool.policy();
-        Ok(System {
+        System {
             alloc,
             policy,
             pool,
             loaders,
-        })
+        }
     }
 
     /// Takes a system apart: the pool serves the loaders' accounts, and no other account is open.

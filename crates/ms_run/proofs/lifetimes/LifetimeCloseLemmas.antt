@@ -4,23 +4,25 @@ use Rattle.std.proofs.Common.{◌≡◌, ◌≢◌, ◌+◌, ◌<◌, ℕ, true,
 use Rattle.std.proofs.Common.{sym, ap, ◌∙◌, subst, ◌⊎◌, inl, inr, ⊎_elim, IsTrue, arith}
 use Rattle.std.specs.List.{AllByRecursion}
 use Rattle.std.specs.Ordering.{nat_cmp, match_ordering, is_eq}
+use Rattle.std.specs.BTreeMap.{is_at}
 use Rattle.std.specs.declared.cmp.Ordering.TheVariants.{Less, Equal, Greater}
 use Rattle.std.proofs.lemmas.Bool.{cases_eq}
 use Rattle.std.proofs.lemmas.List.{length-append, map-append}
 use Rattle.std.proofs.lemmas.List.Sums.{sum_by-append}
 use Rattle.std.proofs.lemmas.List.Elements.{recursion_from_All, All-from_recursion}
+use Rattle.std.proofs.lemmas.Map.Views.{All-map-remove_entry}
 use Rattle.ms_base.specs.declared.kind.Space.{Space}
 use Rattle.ms_base.specs.declared.kind.Space.TheVariants.{NonClass, Class}
 use Rattle.ms_base.specs.Committed.{is_among}
 use Rattle.ms_base.specs.Names.{named, with_new, without}
-use Rattle.ms_base.proofs.entries.EntryLemmas.{Split, split_at}
+use Rattle.ms_base.proofs.entries.EntryLemmas.{Split, split_at, rises_without}
 use Rattle.ms_base.proofs.entries.LookupLemmas.{at_itself}
 use Rattle.ms_pool.specs.Account.{AccountState}
 use Rattle.ms_pool.specs.Ledger.{Ledger, chunks_of, others_than}
 use Rattle.ms_pool.specs.Calls.{ClosedBoth}
 use Rattle.ms_pool.proofs.ledger.FewerLemmas.{none_left, none_still}
 use Rattle.ms_pool.proofs.ledger.LedgerCloseLemmas.{both_closed_keeps_others}
-use Rattle.ms_loaders.specs.Loader.{LoaderView, account_in}
+use Rattle.ms_loaders.specs.Loader.{LoaderView, account_in, IsSoundView}
 use Rattle.ms_loaders.specs.System.{accounts_of, owners_of}
 use Rattle.ms_loaders.proofs.sums.FitLemmas.{owner_of}
 use Rattle.ms_loaders.proofs.steps.ServedLemmas.{accounts_split, times, is_it, it_is, times_split, all_parts}
@@ -140,6 +142,8 @@ module _ (loaders : List (ℕ × LoaderView)) (name : ℕ) (v : LoaderView) (fou
       distinct = λ number. omega (arith, its.distinct number, counts number, counts_now number);
       no_other = none_now;
       opened = λ space. omega (arith, closes.counted space, its.opened space, long);
+      sound = All-map-remove_entry (is_at (nat_cmp name)) (λ (e : ℕ × LoaderView). e.1) IsSoundView loaders its.sound;
+      names = rises_without loaders name its.names;
     }
 
 -- A name that was just made and is taken out again leaves what was.

@@ -3,10 +3,12 @@ use Rattle.std.proofs.Common.{◌≡◌, ◌+◌, ◌≤◌, ℕ, true, None, Li
 use Rattle.std.proofs.Common.{inl, inr, ⊎_elim, arith}
 use Rattle.std.specs.Prelude.{Ok, Err}
 use Rattle.std.specs.List.{AllByRecursion}
+use Rattle.std.specs.Ordering.{nat_cmp}
 use Rattle.std.proofs.lemmas.Bool.{ne_eqb, cases_lt, cases_eq}
 use Rattle.std.proofs.lemmas.List.{length-append, map-append}
 use Rattle.std.proofs.lemmas.List.Sums.{sum_by-append}
 use Rattle.std.proofs.lemmas.List.Elements.{recursion_from_All, All-from_recursion}
+use Rattle.std.proofs.lemmas.Map.Views.{All-values-insert_entry}
 use Rattle.ms_base.specs.declared.kind.Kind.{Kind}
 use Rattle.ms_base.specs.declared.kind.Space.{Space}
 use Rattle.ms_base.specs.declared.kind.Space.TheVariants.{NonClass, Class}
@@ -14,15 +16,17 @@ use Rattle.ms_base.specs.declared.refusal.Refusal.{Refusal}
 use Rattle.ms_base.specs.Committed.{is_among}
 use Rattle.ms_base.specs.Names.{named, with_new}
 use Rattle.ms_base.proofs.entries.EntryLemmas.{Gap, gap_at}
+use Rattle.ms_base.proofs.entries.NameLemmas.{rises_with_new}
 use Rattle.ms_pool.specs.Account.{AccountState}
 use Rattle.ms_pool.specs.Ledger.{Ledger}
 use Rattle.ms_pool.specs.Calls.{OpenedBoth, new_account}
 use Rattle.ms_pool.proofs.ledger.ClosedLemmas.{both_opened_keeps}
-use Rattle.ms_loaders.specs.Loader.{LoaderView, new_loader}
+use Rattle.ms_loaders.specs.Loader.{LoaderView, new_loader, IsSoundView}
 use Rattle.ms_loaders.specs.System.{accounts_of, owners_of}
 use Rattle.ms_loaders.proofs.sums.FitLemmas.{owner_of}
 use Rattle.ms_loaders.proofs.steps.ServedLemmas.{accounts_split, times, is_it, one_if, times_split, all_joined}
 use Rattle.ms_loaders.proofs.steps.CloseLemmas.{accounts_joined, few}
+use Rattle.ms_loaders.proofs.events.OpenCallLemmas.{new_is_sound}
 use Rattle.ms_shared.specs.SeatView.{SeatState, ServesBy, OverLock, opened_by, view_after}
 use Rattle.ms_run.specs.Manned.{IsManned}
 use Rattle.ms_run.proofs.lifetimes.LifetimeLemmas.{IsNew, NoOther, no_other_then, all_served, below_given, among_new}
@@ -47,6 +51,8 @@ manned_refused old new loaders refusal event others counted its = record {
       (λ owner more. let same : event.after.given ≡ event.before.given = ap (λ (l : Ledger). l.given) event.called.2 in
       let low = more.0 in let up = more.1 in absurd (omega arith)));
   opened = λ space. counted space ∙ its.opened space;
+  sound = its.sound;
+  names = its.names;
 }
 
 -- Both accounts opened: the seat serves a loader that is made of them.
@@ -161,6 +167,9 @@ module _ (old new : SeatState) (loaders : List (ℕ × LoaderView)) (name : ℕ)
     distinct = λ number. subst (λ (owners : List ℕ). times number owners ≤ 1) (sym owners_now) (distinct_now number);
     no_other = none_now;
     opened = λ space. counted space ∙ ap (λ (n : ℕ). n + 1) (its.opened space) ∙ sym long;
+    sound = All-values-insert_entry nat_cmp name v IsSoundView loaders its.sound
+        (new_is_sound kind (first_of pool) (second_of pool));
+    names = rises_with_new loaders name v its.names;
   }
     where
       both : (b a : List AccountState) → AllByRecursion (ServesBy old.knows) (b ++ a)

@@ -8,7 +8,7 @@ use Rattle.std.proofs.lemmas.List.{length-append}
 use Rattle.std.proofs.lemmas.List.Elements.{recursion_from_All, All-from_recursion}
 use mathlib.Core.Logic.{dite}
 use native.Mathlib.Decide.{ℕ_discrete}
-use Rattle.ms_base.specs.Names.{AreNamed, named}
+use Rattle.ms_base.specs.Names.{named}
 use Rattle.ms_trace.specs.declared.trace.Line.{Line}
 use Rattle.ms_shared.specs.Entries.{fresh}
 use Rattle.ms_shared.specs.SeatView.{SeatState, LockState}
@@ -27,7 +27,6 @@ pub record IsDealing (place : Place) (shared : LockState) (count : ℕ) (lines :
   pub fresh : first.events ≡ []
   pub spare : AreSpare (suc (length shares)) rest
   pub manned : IsManned first.knows left
-  pub names : AreNamed left
   pub free : All (λ (seat : SeatState). (seat.id ≡ shared.id) × IsManned seat.knows []) rest
   pub count_is : length shares + length rest + 1 ≡ count
   pub each : AreSharesFrom place shared lines loaders 1 shares
@@ -89,7 +88,6 @@ dealing_on place shared count lines loaders first first' left left' seat others 
       fresh = same.events ∙ its.fresh;
       spare = subst (λ (n : ℕ). AreSpare (suc n) rest) more its.spare.2;
       manned = crews.beside.manned;
-      names = crews.beside.names;
       free = All-from_recursion (λ (s : SeatState). (s.id ≡ shared.id) × IsManned s.knows []) rest
           (recursion_from_All (λ (s : SeatState). (s.id ≡ shared.id) × IsManned s.knows []) (next ∷ rest) its.free).1;
       count_is = omega (arith, its.count_is, long);
@@ -158,17 +156,16 @@ dealing_ends place shared count lines loaders first left rest shares shares' sha
 
 pub dealing_starts : (place : Place) (shared : LockState) (count : ℕ) (lines : List Line) (loaders : Loaded)
     (seats : List SeatState)
-    (first : SeatState) (rest : List SeatState) (shares : List Share) → AreSeats shared seats loaders → AreNamed loaders
+    (first : SeatState) (rest : List SeatState) (shares : List Share) → AreSeats shared seats loaders
     → first ≡ get_or seats 0 first → rest ≡ drop 1 seats → length seats ≡ count → shares ≡ []
     → IsDealing place shared count lines loaders first loaders rest shares
-dealing_starts place shared count lines loaders seats first rest shares its names first_is rest_are count_is nothing =
+dealing_starts place shared count lines loaders seats first rest shares its first_is rest_are count_is nothing =
     rw nothing (record {
       own = ap (λ (s : SeatState). s.id) same.0 ∙ its.own;
       number = ap (λ (s : SeatState). s.number) same.0 ∙ its.spare.0;
       fresh = ap (λ (s : SeatState). s.events) same.0 ∙ its.spare.1;
       spare = subst (AreSpare 1) (sym same.1) its.spare.2;
       manned = subst (λ (s : SeatState). IsManned s.knows loaders) (sym same.0) its.manned;
-      names = names;
       free = subst (λ (l : List SeatState). All (λ (s : SeatState). (s.id ≡ shared.id) × IsManned s.knows []) l)
           (sym same.1) its.free;
       count_is = omega (arith, ap length its.are, ap length same.1, count_is);

@@ -1,23 +1,27 @@
 -- A loader handed on from seat to seat by its two accounts: each seat serves its own loaders before and
 -- after, and no owner is of both. For `hand_on`.
 use Rattle.std.proofs.Common.{◌≡◌, ◌≢◌, ◌≤◌, ◌+◌, ℕ, true, Some, None, List, [], ◌∷◌, ◌++◌, map, length, refl, sym, ap}
-use Rattle.std.proofs.Common.{◌∙◌, subst, ◌⊎◌, inl, inr, ⊎_elim, arith, ◌<◌, IsTrue, false}
+use Rattle.std.proofs.Common.{◌∙◌, subst, ◌⊎◌, inl, inr, ⊎_elim, arith, ◌<◌, IsTrue, false, Option, IfSome}
 use Rattle.std.specs.List.{AllByRecursion}
 use Rattle.std.specs.Option.{is_some}
+use Rattle.std.specs.Ordering.{nat_cmp}
+use Rattle.std.specs.BTreeMap.{is_at}
 use Rattle.std.proofs.lemmas.List.{length-append, map-append}
 use Rattle.std.proofs.lemmas.List.Sums.{sum_by-append}
 use Rattle.std.proofs.lemmas.List.Elements.{recursion_from_All, All-from_recursion}
 use Rattle.std.proofs.lemmas.Option.{none-some}
+use Rattle.std.proofs.lemmas.Map.Views.{All-map-remove_entry, All-values-insert_entry, IfSome-lookup_from_All}
 use Rattle.ms_base.specs.declared.kind.Space.{Space}
 use Rattle.ms_base.specs.declared.kind.Space.TheVariants.{NonClass, Class}
 use Rattle.ms_base.specs.declared.span.Chunk.{Chunk}
 use Rattle.ms_base.specs.Committed.{is_among}
 use Rattle.ms_base.specs.Names.{AreNamed, named, with_new, without}
 use Rattle.ms_base.proofs.entries.EntryLemmas.{Split, split_at, Gap, gap_at, rises_without}
+use Rattle.ms_base.proofs.entries.NameLemmas.{rises_with_new}
 use Rattle.ms_base.proofs.entries.LookupLemmas.{named_new_same, named_new_other, named_without_other}
 use Rattle.ms_base.proofs.events.SeenEntryLemmas.{named_without_same}
 use Rattle.ms_pool.specs.Account.{AccountState}
-use Rattle.ms_loaders.specs.Loader.{LoaderView, account_in}
+use Rattle.ms_loaders.specs.Loader.{LoaderView, account_in, IsSoundView}
 use Rattle.ms_loaders.specs.System.{accounts_of, owners_of}
 use Rattle.ms_shared.specs.declared.lock_rule.SeatView.{SeatView}
 use Rattle.ms_shared.specs.Entries.{Has, only, all_but}
@@ -134,6 +138,10 @@ module _ (name : ℕ) (v : LoaderView) (loaders others : Loaded) (from to : Seat
   left_opened NonClass = omega (arith, its.manned.opened NonClass, long)
   left_opened Class = omega (arith, its.manned.opened Class, long)
 
+  v_sound : IsSoundView v
+  v_sound = subst (λ (o : Option LoaderView). IfSome o IsSoundView) found
+      (IfSome-lookup_from_All IsSoundView (is_at (nat_cmp name)) loaders its.manned.sound)
+
   module _ (none : named others name ≡ None) where
     gap : Gap others name
     gap = gap_at others name none
@@ -246,6 +254,9 @@ module _ (name : ℕ) (v : LoaderView) (loaders others : Loaded) (from to : Seat
         distinct = λ number. omega (arith, apart_still number);
         no_other = left_no_other;
         opened = left_opened;
+        sound = All-map-remove_entry (is_at (nat_cmp name)) (λ (e : ℕ × LoaderView). e.1) IsSoundView loaders
+            its.manned.sound;
+        names = rises_without loaders name its.manned.names;
       };
       to_manned = record {
         served = All-from_recursion (ServesBy most) (accounts_of (with_new others name v))
@@ -253,8 +264,9 @@ module _ (name : ℕ) (v : LoaderView) (loaders others : Loaded) (from to : Seat
         distinct = λ number. omega (arith, apart_still number);
         no_other = made_no_other;
         opened = made_opened;
+        sound = All-values-insert_entry nat_cmp name v IsSoundView others its.to_manned.sound v_sound;
+        names = rises_with_new others name v its.to_manned.names;
       };
-      names = rises_without loaders name its.names;
       apart = apart_still;
     }
 

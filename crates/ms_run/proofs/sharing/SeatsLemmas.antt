@@ -10,12 +10,11 @@ use Rattle.ms_base.specs.declared.kind.Space.{Space}
 use Rattle.ms_base.specs.declared.kind.Space.TheVariants.{NonClass, Class}
 use Rattle.ms_base.specs.declared.span.Chunk.{Chunk}
 use Rattle.ms_base.specs.Committed.{is_among}
-use Rattle.ms_base.specs.Names.{AreNamed}
 use Rattle.ms_base.specs.State.{Limits}
 use Rattle.ms_pool.specs.Account.{AccountState}
 use Rattle.ms_pool.specs.Ledger.{Loan, Ledger, Serves, chunks_of, is_owned_by}
-use Rattle.ms_loaders.specs.System.{accounts_of, owners_of}
-use Rattle.ms_loaders.specs.Settles.{MaySettle, open_accounts, accounts_in}
+use Rattle.ms_loaders.specs.Loader.{IsSoundView}
+use Rattle.ms_loaders.specs.System.{accounts_of, owners_of, AreTogether}
 use Rattle.ms_shared.specs.declared.lock_rule.SeatView.{SeatView}
 use Rattle.ms_shared.specs.Entries.{Has, fresh, IsRecord}
 use Rattle.ms_shared.specs.SeatView.{SeatState, LockState, ServesBy, opened_by, knows_all, knows_limits, seat_with}
@@ -32,6 +31,8 @@ none_manned limits = record {
   distinct = λ number. omega arith;
   no_other = λ owner chunks here. absurd here;
   opened = λ space. nothing space;
+  sound = All-from_recursion IsSoundView [] tt;
+  names = λ k h. absurd (omega arith);
 }
   where
     nothing : (space : Space) → opened_by (knows_limits limits) space ≡ 0
@@ -63,18 +64,19 @@ lent_to owners owner (loan ∷ loans) all =
       | false ↦ λ past. lent_to owners owner loans all.1
     ] refl
 
-pub all_manned : (pool : Ledger) (loaders : Loaded) → MaySettle pool loaders → open_accounts pool ≡ accounts_in loaders
-    → IsManned (knows_all pool) loaders
-all_manned pool loaders may all = record {
+pub all_manned : (pool : Ledger) (loaders : Loaded) → AreTogether pool loaders → IsManned (knows_all pool) loaders
+all_manned pool loaders together = record {
   served = All-from_recursion (ServesBy (knows_all pool)) (accounts_of loaders)
-      (serves_all pool (accounts_of loaders) (recursion_from_All (Serves pool) (accounts_of loaders) may.served));
-  distinct = may.distinct;
+      (serves_all pool (accounts_of loaders) (recursion_from_All (Serves pool) (accounts_of loaders) together.served.served));
+  distinct = together.served.distinct;
   no_other =
       λ owner chunks here. ⊎_elim (λ none. inl (sym (its owner chunks here).chunks_are ∙ none)) (λ among. inr among)
       (lent_to (owners_of loaders) owner pool.loans
       (recursion_from_All (λ (loan : Loan). IsTrue (is_among (owners_of loaders) loan.owner)) pool.loans
-      (may.no_other (omega (arith, all)))));
+      together.served.no_other));
   opened = λ space. counted space;
+  sound = together.loaders_sound;
+  names = together.names;
 }
   where
     its : (owner : ℕ) (chunks : List Chunk) → Has (fresh pool 0 pool.given) owner chunks → IsRecord pool owner chunks
@@ -82,8 +84,8 @@ all_manned pool loaders may all = record {
         has_record pool (fresh pool 0 pool.given) owner chunks (fresh_records pool 0 pool.given (omega arith)) here
 
     counted : (space : Space) → opened_by (knows_all pool) space ≡ length loaders
-    counted NonClass = omega (arith, all, may.opened, may.class_opened)
-    counted Class = omega (arith, all, may.opened, may.class_opened)
+    counted NonClass = together.served.opened
+    counted Class = together.served.class_opened
 
 spare_free : (shared : LockState) (limits : Limits) (first count : ℕ)
     → AllByRecursion (λ (seat : SeatState). (seat.id ≡ shared.id) × IsManned seat.knows [])
@@ -98,25 +100,24 @@ spare_numbers shared limits first (suc count) = (refl, refl, spare_numbers share
 
 pub seats_are : (shared : LockState) (count : ℕ) (seats : List SeatState) (pool : Ledger) (loaders : Loaded)
     → seats ≡ new_seats shared.id count pool
-    → MaySettle pool loaders → open_accounts pool ≡ accounts_in loaders → AreSeats shared seats loaders
-seats_are shared count seats pool loaders are may all = record {
+    → AreTogether pool loaders → AreSeats shared seats loaders
+seats_are shared count seats pool loaders are together = record {
   first = seat_with shared.id (0, []) (knows_all pool);
   others = spare_seats shared.id pool.limits 1 (count - 1);
   are = are;
   own = refl;
   spare = (refl, refl, spare_numbers shared pool.limits 1 (count - 1));
-  manned = all_manned pool loaders may all;
+  manned = all_manned pool loaders together;
   free = All-from_recursion (λ (seat : SeatState). (seat.id ≡ shared.id) × IsManned seat.knows [])
       (spare_seats shared.id pool.limits 1 (count - 1)) (spare_free shared pool.limits 1 (count - 1));
 }
 
 -- Beside a seat that serves nothing.
 pub beside_none : (from to : SeatView) (loaders : Loaded) → IsManned from loaders
-    → AreNamed loaders → IsManned to [] → AreBeside from loaders to []
-beside_none from to loaders manned names to_manned = record {
+    → IsManned to [] → AreBeside from loaders to []
+beside_none from to loaders manned to_manned = record {
   manned = manned;
   to_manned = to_manned;
-  names = names;
   apart = λ number. omega (arith, manned.distinct number);
 }
 

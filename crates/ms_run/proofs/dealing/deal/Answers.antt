@@ -4,12 +4,13 @@ use Rattle.ms_run.specs.Shares.{AreWithin, place_for}
 use Rattle.ms_run.proofs.sharing.StandByLemmas.{within_still}
 use Rattle.ms_run.proofs.sharing.SeatsLemmas.{seats_are, seats_count}
 use Rattle.ms_run.proofs.sharing.DealLemmas.{are_dealt}
+use Rattle.ms_run.proofs.TurnLemmas.{place_within}
 use Rattle.ms_run.proofs.dealing.deal.Goals as goal
 
 pub deal_metered-requires-clause-seats : goal.deal_metered-requires-clause-seats
 deal_metered-requires-clause-seats c =
     seats_are c.in_ok-shared.shared c.shares-count.result c.in_ok-shared.seats.items c.args.pool c.args.loaders c.in_ok-shared.ensures.seats
-    c.requires.may.fits c.requires.may.all
+    c.requires.together
 
 pub returns-clause-dealt : goal.returns-clause-dealt
 returns-clause-dealt c =
@@ -24,7 +25,7 @@ returns-clause-dealt c =
     (subst (AreWithin (place_for (place_in c.args.turn.now) c.args.lines.now))
     (sym (counted ∙ c.shares-count.ensures.count))
     (within_still (place_in c.args.turn.now) c.args.lines.now _ c.shares-count.ensures.turn.some
-    c.place.ensures.all_within))
+    (place_within c.args.turn.now c.shares-count.ensures.turn.some)))
     (c.in_ok-shared.ensures.lock ∙ sym counted)
 
 pub returns-clause-count : goal.returns-clause-count

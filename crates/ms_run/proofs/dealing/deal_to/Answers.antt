@@ -16,7 +16,7 @@ loop-seat-init c = (
   dealing_starts (place_for (place_in c.args.turn.now) c.args.lines.now) c.args.shared.now
       (vec_len c.args.seats) c.args.lines.now c.args.loaders
       c.args.seats.items c.remove-seat.result _ _
-      c.requires.seats c.requires.names c.remove-seat.ensures.value
+      c.requires.seats c.remove-seat.ensures.value
       (c.into_iter-seat-iterator.ensures.into_iter_gives.0 ∙ c.remove-seat.ensures.items)
       (sym c.args.seats.ok.0) c.in_ok-shares.ensures.items,
   omega (arith, c.len.ensures, c.in_ok-shares.ensures.capacity),
@@ -40,7 +40,7 @@ share_beside-requires c =
     record {
       own = c.loop-seat.invariant.0.own;
       to_own = free.0;
-      beside = beside_none _ _ _ c.loop-seat.invariant.0.manned c.loop-seat.invariant.0.names free.1;
+      beside = beside_none _ _ _ c.loop-seat.invariant.0.manned free.1;
     }
 
 pub push_reserved-requires : goal.push_reserved-requires

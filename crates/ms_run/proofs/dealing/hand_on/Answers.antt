@@ -36,7 +36,7 @@ returns-clause-crews c = record {
 
 pub returns-clause-handed : goal.returns-clause-handed
 returns-clause-handed c =
-    handed_names _ c.in-Some.loader _ _ _ _ c.requires.crews.beside.names (sym c.remove.ensures.found ∙ c.in-Some.is)
+    handed_names _ c.in-Some.loader _ _ _ _ c.requires.crews.beside.manned.names (sym c.remove.ensures.found ∙ c.in-Some.is)
     c.remove.ensures.rest c.in-Ok.ensures.inserted
 
 pub returns-clause-used : goal.returns-clause-used

@@ -7,7 +7,7 @@ use Rattle.ms_run.specs.Joined.{seat_of}
 use Rattle.ms_run.specs.Metering.{used_words_of}
 use Rattle.ms_run.specs.Shares.{IsGathered}
 use Rattle.ms_run.proofs.sharing.GatherLemmas.{all_gathered, views_gathered}
-use Rattle.ms_run.proofs.PhaseSettleLemmas.{may_settle, no_more}
+use Rattle.ms_run.proofs.PhaseSettleLemmas.{are_together, may_settle}
 use Rattle.ms_run.proofs.metered.MeterSumLemmas.{used_machine, used_gathered}
 use Rattle.ms_run.proofs.gathering.gather.Goals as goal
 
@@ -16,28 +16,21 @@ open-requires-clause-own c =
     let own = λ (seat : SeatState). seat.id ≡ c.args.shared.id in
     subst (All own) (sym c.in_ok-seats.ensures.seats) (All-map own seat_of c.args.shares.items c.requires.stand.own)
 
-pub settle-requires-clause-fits : goal.settle-requires-clause-fits
-settle-requires-clause-fits c =
-    may_settle _ c.args.shares.items _ c.committed.ensures.sound
+pub from_parts-requires : goal.from_parts-requires
+from_parts-requires c =
+    are_together _ c.args.shares.items _ c.committed.ensures.sound
     (subst (λ (seats : List SeatState). Gathers seats c.in_ok-pool.pool) c.in_ok-seats.ensures.seats
     c.in_ok-pool.ensures.gathered)
-    c.requires.stand.manned c.in_ok-seats.ensures.loaders
-
-pub settle-requires-clause-all : goal.settle-requires-clause-all
-settle-requires-clause-all c =
-    no_more _ c.args.shares.items _ c.committed.ensures.sound
-    (subst (λ (seats : List SeatState). Gathers seats c.in_ok-pool.pool) c.in_ok-seats.ensures.seats
-    c.in_ok-pool.ensures.gathered)
-    c.requires.stand.manned c.in_ok-seats.ensures.loaders
+    c.requires.stand.manned c.in_ok-seats.ensures.loaders c.in_ok-seats.ensures.named
 
 pub returns-clause-gathered : goal.returns-clause-gathered
 returns-clause-gathered c = λ place apart.
-    subst (IsGathered place c.args.shares.items) (ap (λ (m : Machine). m.loaders) (sym c.in_ok-system.ensures.machine))
+    subst (IsGathered place c.args.shares.items) (ap (λ (m : Machine). m.loaders) (sym c.from_parts.ensures.machine))
     (all_gathered place c.args.shares.items c.in_ok-seats.loaders c.in_ok-seats.ensures.loaders apart)
 
 pub returns-clause-used : goal.returns-clause-used
 returns-clause-used c =
-    ap used_words_of c.in_ok-system.ensures.machine ∙ used_machine c.in_ok-pool.pool c.in_ok-seats.loaders
+    ap used_words_of c.from_parts.ensures.machine ∙ used_machine c.in_ok-pool.pool c.in_ok-seats.loaders
     ∙ used_gathered c.args.shares.items c.in_ok-seats.loaders c.in_ok-seats.ensures.loaders
 
 pub returns-clause-history : goal.returns-clause-history
@@ -45,7 +38,7 @@ returns-clause-history c = record {
   last = c.in_ok-pool.pool;
   ends = record {
     loaders = c.in_ok-seats.loaders;
-    machine = c.in_ok-system.ensures.machine;
+    machine = c.from_parts.ensures.machine;
     fits = may_settle _ c.args.shares.items _ c.committed.ensures.sound
         (subst (λ (seats : List SeatState). Gathers seats c.in_ok-pool.pool) c.in_ok-seats.ensures.seats
         c.in_ok-pool.ensures.gathered)

@@ -1,11 +1,13 @@
 use Rattle.std.proofs.Common.{ap, length, arith, subst, sym, refl}
+use Rattle.ms_base.specs.Names.{AreNamed}
+use Rattle.ms_base.proofs.entries.NameLemmas.{rises_with_new}
 use Rattle.ms_run.specs.Joined.{IsJoined}
 use Rattle.ms_run.proofs.sharing.GatherLemmas.{Loaders, joined_none, joined_more, rest_named, others_more, only_want}
 use Rattle.ms_run.proofs.sharing.GatherLemmas.{may_be_told}
 use Rattle.ms_run.proofs.gathering.insert_all.Goals as goal
 
 pub loop-name-init : goal.loop-name-init
-loop-name-init c = ((λ new joined. joined), c.len.ensures.names, c.requires)
+loop-name-init c = ((λ new joined. joined), c.requires.part_named, c.requires.others, c.requires.named)
 
 pub loop-name-smaller : goal.loop-name-smaller
 loop-name-smaller c = omega (arith, ap length c.in-Some.ensures.first)
@@ -18,6 +20,7 @@ loop-name-preserved c =
           joined)),
       rest_named _ _ c.in-Some.name c.in-Some.loader first was.1,
       others_more c.loop-name.whole _ _ _ c.in-Some.name c.in-Some.loader first was.1 made.inserted was.2,
+      subst AreNamed (sym made.inserted) (rises_with_new c.loop-name.whole c.in-Some.name c.in-Some.loader was.3),
     )
 
 pub fault_of-requires : goal.fault_of-requires

@@ -12,5 +12,5 @@ swapped whole part (Err fault) joined = tt
 pub returns-then-len-clause-joined : goal.returns-then-len-clause-joined
 returns-then-len-clause-joined c = swapped c.args.whole c.args.part c.insert_all.result c.insert_all.ensures.joined
 
-pub insert_all-requires : goal.insert_all-requires
-insert_all-requires c = other_names c.args.whole c.args.part c.requires
+pub insert_all-requires-clause-others : goal.insert_all-requires-clause-others
+insert_all-requires-clause-others c = other_names c.args.whole c.args.part c.requires.others

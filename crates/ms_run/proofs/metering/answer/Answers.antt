@@ -8,7 +8,7 @@ pub returns : goal.returns
 returns g c =
     let its =
     answered c.args.pool.now c.args.loaders.now c.args.step c.serve.result c.serve.new.source c.serve.new.loaders
-    c.requires c.len.ensures.names c.serve.ensures in record {
+    c.requires c.serve.ensures in record {
       lock = its.made.lock;
       manned = its.manned;
       own = its.own;

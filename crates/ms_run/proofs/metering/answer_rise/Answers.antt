@@ -10,21 +10,21 @@ pub returns-then-rise-ne0-clause-moved : goal.returns-then-rise-ne0-clause-moved
 returns-then-rise-ne0-clause-moved g c =
     let sum =
     used_moved c.args.loaders.now c.answer-reply.new.loaders (loader_of c.args.step) c.args.name c.requires.names
-    c.used_by-before.ensures.names c.used_by.ensures.names c.answer-reply.ensures.others in
+    c.requires.manned.names c.answer-reply.ensures.manned.names c.answer-reply.ensures.others in
     moved_up c.args.seat.now c.add.new.seat (used_in c.args.loaders.now) (used_in c.answer-reply.new.loaders)
     c.used_by-before.result c.used_by.result
-    c.used_by-before.type_inv (omega (arith, sum, c.used_by-before.ensures.used, c.used_by.ensures.used)) c.add.ensures
+    c.used_by-before.type_inv (omega (arith, sum, c.used_by-before.ensures, c.used_by.ensures)) c.add.ensures
 
 pub returns-else-rise-ne0-clause-moved : goal.returns-else-rise-ne0-clause-moved
 returns-else-rise-ne0-clause-moved g c =
     let sum =
     used_moved c.args.loaders.now c.answer-reply.new.loaders (loader_of c.args.step) c.args.name c.requires.names
-    c.used_by-before.ensures.names c.used_by.ensures.names c.answer-reply.ensures.others in
+    c.requires.manned.names c.answer-reply.ensures.manned.names c.answer-reply.ensures.others in
     let same : used_in c.answer-reply.new.loaders ≡ used_in c.args.loaders.now = omega (
       arith,
       sum,
-      c.used_by-before.ensures.used,
-      c.used_by.ensures.used,
+      c.used_by-before.ensures,
+      c.used_by.ensures,
       c.used_by-before.type_inv,
       c.used_by.type_inv,
       c.if-rise-ne0.false,

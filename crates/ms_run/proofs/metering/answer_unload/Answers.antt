@@ -4,6 +4,6 @@ use Rattle.ms_run.proofs.metering.answer_unload.Goals as goal
 
 pub returns-clause-used : goal.returns-clause-used
 returns-clause-used g c =
-    used_gone c.args.loaders.now c.answer-reply.new.loaders c.args.name c.answer-reply.result c.len.ensures.names
-    c.len-2.ensures.names
-    c.answer-reply.ensures.others (c.answer-reply.ensures.own c.args.name refl)
+    used_gone c.args.loaders.now c.answer.new.loaders c.args.name c.answer.result c.requires.names
+    c.answer.ensures.manned.names
+    c.answer.ensures.others (c.answer.ensures.own c.args.name refl)
