@@ -241,17 +241,19 @@ def blocks_that_lie_far_apart(bench):
     return figures
 
 
-def phases_of_two_lines(bench, workers):
-    """30,000 phases in each of which two workers have a line, while 1,000 loaders stand by."""
-    lines = [f"new {name} standard" for name in range(1000)] + [f"alloc {name} 1 2" for name in range(1000)] + ["sync"]
-    for number in range(30000):
-        lines += [f"write {number % 1000} 1 0 {number}", f"read {(number + 1) % 1000} 1 0", "sync"]
+def phases_of_two_lines(bench, workers, loaders, phases):
+    """Phases in each of which two workers have a line, while all other loaders stand by."""
+    names = range(loaders)
+    lines = [f"new {name} standard" for name in names] + [f"alloc {name} 1 2" for name in names] + ["sync"]
+    begun = len(lines)
+    for number in range(phases):
+        lines += [f"write {number % loaders} 1 0 {number}", f"read {(number + 1) % loaders} 1 0", "sync"]
     lines.append("report")
     answers, figures = answered(bench, ["--workers", str(workers)], text_of(lines))
     expect(len(answers) == len(lines), "not each line is answered")
-    for number, answer in enumerate(answers[2002:-1:3]):
-        expect(answer.reply == b"value %d" % max(number + 1 - 1000, 0), "a word is read otherwise", number, answer)
-    expect_all(answers[2001:-1:3] + answers[2003:-1:3], b"ok")
+    for number, answer in enumerate(answers[begun + 1:-1:3]):
+        expect(answer.reply == b"value %d" % max(number + 1 - loaders, 0), "a word is read otherwise", number, answer)
+    expect_all(answers[begun:-1:3] + answers[begun + 2:-1:3], b"ok")
     expect_sums(reports_of(answers)[0])
     return figures
 
@@ -272,4 +274,7 @@ def tests():
     for workers in (1, 2, 8):
         yield Test(f"45,000 phases of one line, {workers} at work", phases_of_one_line, (workers,))
     for workers in (1, 2, 8):
-        yield Test(f"30,000 phases of two lines, {workers} at work", phases_of_two_lines, (workers,))
+        yield Test(f"30,000 phases of two lines, {workers} at work", phases_of_two_lines, (workers, 1000, 30000))
+    for workers in (1, 2, 8):
+        yield Test(f"22,000 phases of two lines beside 16,000 loaders, {workers} at work", phases_of_two_lines,
+                   (workers, 16000, 22000))

@@ -1,6 +1,5 @@
-//! `calls` makes the library's calls while an allocator refuses growths, a row at a time, and tells
-//! what it finds. The words on the command line are the names of rows. Some make a call that takes
-//! memory:
+//! `calls` makes the library's calls while an allocator refuses growths, and tells what it finds, a
+//! row for each word of the command line. Some rows make a call that takes memory:
 //!
 //!     carve before .. free Span { .. }   the state, once all is prepared
 //!     carve answer ok ()                 what the call answers
@@ -22,9 +21,8 @@
 //!     replay answer fault NoThread
 //!     replay again 1 Ok                  where memory or a thread was wanted: the call once more
 //!
-//! Where a growth is refused outside a row's call, or before its mark, the status is 3; where a
-//! word names no row, or there is no word, it is 5. It promises nothing: the system tests compare
-//! what it tells with a run in which nothing was refused.
+//! A growth refused outside a row's call, or before its mark, is status 3; a word that names no row,
+//! or no word, 5. It promises nothing: the system tests compare it with a run without a refusal.
 #![tactic(auto)]
 
 mod arenas;

@@ -22,8 +22,8 @@ pub record IsAllowed (options : Options) : Type 0 where
   pub granules_few : options.settings.max_granules ≤ 40960
   pub class_few : options.settings.class_nodes ≤ 16
 
--- Nothing was asked for: one worker, 64 nodes, 8192 granules, policy balanced, no class space, no addresses,
--- basic reports.
+-- Nothing was asked for: one worker, 64 nodes, 8192 granules, policy balanced, no class space, no
+-- addresses, basic reports.
 pub record IsDefault (options : Options) : Type 0 where
   pub workers : options.settings.workers ≡ 1
   pub nodes : options.settings.nodes ≡ 64

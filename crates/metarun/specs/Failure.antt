@@ -10,8 +10,8 @@ use Rattle.ms_run.specs.declared.fault.RunFault.TheVariants as run
 use Rattle.metarun.specs.declared.failure.Failure.{Failure}
 use Rattle.metarun.specs.declared.failure.Failure.TheVariants.{Fault, OutOfMemory, NoThread, Unsettled, Input, Output}
 
--- The exit status: 1 for a faulty trace, 3 for want of memory or of a thread, 4 for accounts left open
--- at a phase's end, 5 for a device.
+-- The exit status: 1 for a faulty trace, 3 for want of memory or of a thread, 4 for accounts left
+-- open at a phase's end, 5 for a device.
 abbrev pub status_of : Failure → ℕ
 status_of (Fault fault) = 1
 status_of OutOfMemory = 3

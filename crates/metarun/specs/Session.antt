@@ -23,8 +23,9 @@ use Rattle.ms_run.specs.Peaks.{ArePeaks}
 use Rattle.ms_run.specs.Replay.{Advances, IsDetailed, IsReplay}
 use Rattle.metarun.specs.declared.options.Options.{Options}
 
--- What follows the reply to a command, before which these replies were given: where a report is asked for
--- that of the machine, with as much detail as the options say, and with the peaks of all states passed.
+-- What follows the reply to a command, before which these replies were given: where a report is
+-- asked for that of the machine, with as much detail as the options say, and with the peaks of all
+-- states passed.
 abbrev pub Follows : Options → List Reply → Command → Course → List ℕ → Type 0
 Follows options before Report course text =
     (peaks : Peaks) × ArePeaks (passed course) peaks
@@ -32,8 +33,8 @@ Follows options before Report course text =
     (Some (details_of course.state)) (Some peaks))
 Follows options before _ course text = text ≡ []
 
--- The output for the lines of a trace that come after those replies: the machine runs from old to new, and
--- each command has its reply's line, a report after it.
+-- The output for the lines of a trace that come after those replies: the machine runs from old to
+-- new, and each command has its reply's line, a report after it.
 abbrev pub Outputs : Options → List Reply → Course → List Line → List ℕ → Course → Type 0
 Outputs options before old [] output new = (output ≡ []) × (new ≡ old)
 Outputs options before old (line ∷ lines) output new =
@@ -43,10 +44,11 @@ Outputs options before old (line ∷ lines) output new =
     × (output ≡ reply_line options.addresses line.number reply ++ report ++ rest)
     × Outputs options (before ++ reply ∷ []) mid lines rest new
 
--- The output is what a session with these options writes for the text: the text reads as a trace, which
--- is answered phase by phase, the lines of each in some order one run of the machine, each line by the worker
--- whose turn it is, and a report by the totals of the state reached, with details where the options ask for them; with one worker the machine
--- runs through all commands in their order from the empty state.
+-- The output is what a session with these options writes for the text: the text reads as a trace,
+-- which is answered phase by phase, the lines of each in some order one run of the machine, each
+-- line by the worker whose turn it is, and a report by the totals of the state reached, with
+-- details where the options ask for them; with one worker the machine runs through all commands in
+-- their order from the empty state.
 pub record IsOutput (options : Options) (text output : List ℕ) : Type 0 where
   pub trace : Trace
   pub answers : List Answer
@@ -57,7 +59,8 @@ pub record IsOutput (options : Options) (text output : List ℕ) : Type 0 where
   pub run : options.settings.workers ≡ 1
       → (last : Course) × Outputs options [] (begun (empty_machine (limits_of options.settings))) trace.lines output last
 
--- The text is all that a reader had to give, where it tells its bytes, and then nothing is left to read.
+-- The text is all that a reader had to give, where it tells its bytes, and then nothing is left to
+-- read.
 pub record IsWhole (input left : Option (List ℕ)) (text : List ℕ) : Type 0 where
   pub all : IfSome input (λ bytes. bytes ≡ text)
   pub ended : IsAtEnd left
@@ -70,7 +73,8 @@ pub record IsAnswered (options : Options) (input left old new : Option (List ℕ
   pub output : IsOutput options text written
   pub out : Appends old new written
 
--- There is a text, all of the input, and the output has grown by the beginning of what a session writes for it.
+-- There is a text, all of the input, and the output has grown by the beginning of what a session
+-- writes for it.
 pub record IsCutShort (options : Options) (input left old new : Option (List ℕ)) : Type 0 where
   pub text : List ℕ
   pub written : List ℕ
@@ -79,7 +83,7 @@ pub record IsCutShort (options : Options) (input left old new : Option (List ℕ
   pub output : IsOutput options text written
   pub out : Appends old new (take count written)
 
--- What a session leaves on an output where a device fails: the output as it was, which it is unless all of
--- the input was read, or with the beginning of what it writes for that.
+-- What a session leaves on an output where a device fails: the output as it was, which it is unless
+-- all of the input was read, or with the beginning of what it writes for that.
 abbrev pub IsBrokenOff : Options → Option (List ℕ) → Option (List ℕ) → Option (List ℕ) → Option (List ℕ) → Type 0
 IsBrokenOff options input left old new = Keeps old new ⊎ IsCutShort options input left old new

@@ -5,7 +5,8 @@ use Rattle.metarun.specs.Asked.{AreAsked}
 use Rattle.metarun.specs.Session.{IsAnswered, IsBrokenOff}
 use Rattle.metarun.specs.declared.options.Options.{Options}
 
--- A session with the options that were asked for wrote its output for the text that was there to be read.
+-- A session with the options that were asked for wrote its output for the text that was there to be
+-- read.
 pub record IsObeyed (words : List Text) (input left old new : Option (List ℕ)) : Type 0 where
   pub options : Options
   pub asked : AreAsked words options

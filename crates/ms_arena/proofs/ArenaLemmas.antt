@@ -1,5 +1,5 @@
--- What an arena's live blocks are where one is placed, written or freed, from what the arena below says of it. The
--- functions of `arena` use these.
+-- What an arena's live blocks are where one is placed, written or freed, from what the arena below
+-- says of it. The functions of `arena` use these.
 use Rattle.std.proofs.Common.{◌≡◌, ◌≢◌, ◌≤◌, ◌<◌, ◌+◌, ℕ, Bool, true, false, cond, Option, Some, None, List, [], ◌∷◌}
 use Rattle.std.proofs.Common.{◌++◌, length, map, replicate, refl, sym, ap, ◌∙◌, subst, inl, inr, arith, option_map}
 use Rattle.std.specs.Prelude.{◌^◌, nat_le, slice_set, IfErr, IsErrAnd, Result}

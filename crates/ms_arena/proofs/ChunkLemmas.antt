@@ -1,5 +1,5 @@
--- What an account knows of its chunks, at one place: the chunk's bounds, that no other starts there,
--- how far it reaches once it grew; and a bound on the words in use.
+-- What an account knows of its chunks, at one place: the chunk's bounds, that no other starts
+-- there, how far it reaches once it grew; and a bound on the words in use.
 use Rattle.std.proofs.Common.{◌≡◌, ◌≤◌, ◌<◌, ◌+◌, ◌-◌, ◌*◌, ◌/◌, ◌^◌, ℕ, zero, suc, Bool, true, false, not, Some, List}
 use Rattle.std.proofs.Common.{[], ◌∷◌, length, map, refl, sym, ap, ◌∙◌, subst, arith, inl, inr, sum, take}
 use Rattle.std.specs.Prelude.{nat_le, slice_get, ◌==◌, if◌then◌else◌}

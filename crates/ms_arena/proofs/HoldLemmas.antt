@@ -1,5 +1,5 @@
--- What live blocks an arena holds, whoever keeps the list of them: where one is placed, written or freed. The
--- functions of `arena`, and loaders, use these.
+-- What live blocks an arena holds, whoever keeps the list of them: where one is placed, written or
+-- freed. The functions of `arena`, and loaders, use these.
 use Rattle.std.proofs.Common.{◌≡◌, ◌≢◌, ◌≤◌, ◌<◌, ◌+◌, ◌⊎◌, ℕ, true, false, Some, List, [], ◌∷◌, ◌++◌, length, map, replicate}
 use Rattle.std.proofs.Common.{set, get_or, sym, ap, ◌∙◌, subst, inl, inr, arith, length-append}
 use Rattle.std.proofs.Common.{get_or-set_same, get_or-set_other}
@@ -190,7 +190,8 @@ pub holds_written : (old new : RawView) (runs : List (ℕ × ℕ)) (word value :
 holds_written old new runs word value same writes holds =
     holds_alike old new runs same (λ word there. rw (writes.places word) there) holds
 
--- The words of the blocks that are held, and that with free blocks they are no more than are in use.
+-- The words of the blocks that are held, and that with free blocks they are no more than are in
+-- use.
 pub record IsWithin (raw : RawView) (runs : List (ℕ × ℕ)) : Type 0 where
   pub total : raw.total ≡ sum_by (λ (run : ℕ × ℕ). run.1) runs
   pub fit : raw.total + kept_of raw.books ≤ used_of raw.books
@@ -210,7 +211,8 @@ held_within raw runs chunks holds = record {
       used_small raw.space raw.books runs chunks holds.sound,
     )
 
--- The words of a run, by what is said of each word: they stay, are all 0, or are the same but for one.
+-- The words of a run, by what is said of each word: they stay, are all 0, or are the same but for
+-- one.
 abbrev pub contents_by : (ℕ → ℕ) → ℕ × ℕ → List ℕ
 contents_by value run = map (λ (index : ℕ). value (run.0 + index)) (range_with_len 0 run.1)
 

@@ -66,7 +66,8 @@ same_groups old new places same are = record {
   whole = are.whole;
 }
 
--- What a look at the last place of a list tells: the place of the stretch, or that it stands before it.
+-- What a look at the last place of a list tells: the place of the stretch, or that it stands before
+-- it.
 look : (list : List Placed) (left stretch : ℕ) (none : Placed) → 0 < left → left ≤ length list
     → lookup (nat_eq stretch) (entries_onto (take left list) [])
     ≡ cond (nat_eq stretch (slice_index_or list (left - 1) none).stretch)

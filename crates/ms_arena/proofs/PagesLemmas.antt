@@ -1,5 +1,5 @@
--- Pages at places of their own: what is written in one leaves the words of the others, and where a page
--- has no place there is room for one more. The functions of `pages` use these.
+-- Pages at places of their own: what is written in one leaves the words of the others, and where a
+-- page has no place there is room for one more. The functions of `pages` use these.
 use Rattle.std.proofs.Common.{◌≡◌, ◌≢◌, ℕ, ◌+◌, ◌-◌, ◌*◌, ◌/◌, ◌%◌, ◌<◌, ◌≤◌, Bool, true, false, cond, List, [], ◌∷◌}
 use Rattle.std.proofs.Common.{◌++◌, length, get_or, refl, sym}
 use Rattle.std.proofs.Common.{ap, ◌∙◌, inl, inr, arith, get_or-set_other}

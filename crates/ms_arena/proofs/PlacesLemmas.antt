@@ -1,5 +1,5 @@
--- Stretches that have places keep them, and a run of words is in each of its stretches. The functions of `places`
--- and `words` use these.
+-- Stretches that have places keep them, and a run of words is in each of its stretches. The
+-- functions of `places` and `words` use these.
 use Rattle.std.proofs.Common.{◌≡◌, ℕ, ◌+◌, ◌-◌, ◌*◌, ◌/◌, ◌<◌, ◌≤◌, cond, Option, Some, None, ap, arith}
 use Rattle.std.proofs.Common.{inl, inr}
 use Rattle.std.specs.Prelude.{nat_eq}

@@ -10,8 +10,8 @@ use Rattle.ms_arena.specs.declared.totals.ArenaTotals.{ArenaTotals}
 abbrev pub live_of : ArenaView → ℕ
 live_of arena = sum_by (λ (run : ℕ × ℕ). run.1) (live_runs arena)
 
--- The totals are the sums over chunks, tops and free blocks, beside so many live words; waste is what is in
--- use and neither live nor a free block.
+-- The totals are the sums over chunks, tops and free blocks, beside so many live words; waste is
+-- what is in use and neither live nor a free block.
 pub record AreSumsOf (totals : ArenaTotals) (books : ArenaState) (live : ℕ) : Type 0 where
   pub chunks : totals.chunks ≡ length books.chunks
   pub capacity : totals.capacity ≡ capacity_of books.chunks

@@ -83,7 +83,8 @@ pub record Leaves (old : BooksView) (n : ℕ) (result : Result ℕ Refusal) (new
   pub space : new.space ≡ old.space
   pub unchanged : OnErr result (new ≡ old)
 
--- The current chunk may be asked to grow: so that its top rises by a block at least, and not too far.
+-- The current chunk may be asked to grow: so that its top rises by a block at least, and not too
+-- far.
 pub record MayGrow (state : ArenaState) (chunk : Chunk) (total : ℕ) : Type 0 where
   pub current_is : current state ≡ Some chunk
   pub more : current_top state + 2 ≤ total
@@ -128,16 +129,16 @@ pub record PlacesFree (old : List (ℕ × ℕ)) (n start : ℕ) (new : List (ℕ
   pub enough : n ≤ words
   pub after : new ≡ with_rest (without old start) (start + n) (words - n)
 
--- Once tops have risen, the sum that is kept is theirs and has grown by so many words at most; there
--- are as many tops, and room for as many.
+-- Once tops have risen, the sum that is kept is theirs and has grown by so many words at most;
+-- there are as many tops, and room for as many.
 pub record StayCounted {Z : Type 0} (most : ℕ) (old : Vec ℕ Z) (was : ℕ) (new : Vec ℕ Z) (now : ℕ) : Type 0 where
   pub used : now ≡ sum new.items
   pub few : now ≤ was + most
   pub len : vec_len new ≡ vec_len old
   pub capacity : vec_capacity new ≡ vec_capacity old
 
--- The chunk that was current may retire: it has a top, its front is not far, and its committed rest,
--- if it has two words, may be a free block.
+-- The chunk that was current may retire: it has a top, its front is not far, and its committed
+-- rest, if it has two words, may be a free block.
 pub record MayRetireAt (tops : List ℕ) (kept : List (ℕ × ℕ)) (chunk : Chunk) (top : ℕ) : Type 0 where
   pub last : 0 < length tops
   pub top_is : slice_index tops (length tops - 1) ≡ top
@@ -167,15 +168,15 @@ pub record AsksFor (state : ArenaState) (kind : Kind) (space : Space) (n : ℕ) 
   pub asks : IsTrue (asks_growth kind space state (Some chunk) n)
   pub ends : chunk.start + total < 2 ^ 32
 
--- A place for a block of n words may be looked for: the source serves the account of the books, which
--- may place it.
+-- A place for a block of n words may be looked for: the source serves the account of the books,
+-- which may place it.
 pub record MayLook {S : Type 0} (serves : S → AccountState → Type 0) (source : S) (books : BooksView)
     (n : ℕ) : Type 0 where
   pub served : serves source (account_in books)
   pub may : MayPlace books 0 n
 
--- One was looked for: the source serves the account still, and leaves the rest; the books keep to what
--- a placement leaves.
+-- One was looked for: the source serves the account still, and leaves the rest; the books keep to
+-- what a placement leaves.
 pub record HasLooked {S : Type 0} (serves : S → AccountState → Type 0) (opened : S → Space → ℕ)
     (limits : S → Limits) (old : BooksView) (n : ℕ) (before : S) (result : Result ℕ Refusal) (new : BooksView)
     (after : S) : Type 0 where
@@ -183,8 +184,8 @@ pub record HasLooked {S : Type 0} (serves : S → AccountState → Type 0) (open
   pub rest : LeavesRest serves opened limits old.owner before after
   pub leaves : Leaves old n result new
 
--- What is said of an arena, the answer to a request for n words and the arena then, is so whatever blocks
--- are live.
+-- What is said of an arena, the answer to a request for n words and the arena then, is so whatever
+-- blocks are live.
 abbrev pub ForAllLive : BooksView → Kind → ℕ → Result ℕ Refusal → ArenaState
     → (ArenaView → Result Block Refusal → ArenaView → Type 0) → Type 0
 ForAllLive old kind n result new relation = (live : List (ℕ × List ℕ)) → let arena = arena_over old kind live in

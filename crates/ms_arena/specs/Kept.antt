@@ -3,8 +3,8 @@ use Rattle.std.specs.Prelude.{◌≡◌, ℕ, ◌^◌, ◌%◌, List, [], ◌∷
 use Rattle.ms_base.specs.Names.{with_new}
 use Rattle.ms_blocks.specs.FreeBlocks.{MayBeKept, words_in}
 
--- The runs that are kept, in rising order of start, how many more there is room for, and how many came
--- since the others were put in order.
+-- The runs that are kept, in rising order of start, how many more there is room for, and how many
+-- came since the others were put in order.
 pub record KeptView : Type 0 where
   pub kept : List (ℕ × ℕ)
   pub room : ℕ

@@ -7,8 +7,8 @@ use Rattle.ms_arena.specs.declared.others.Table.{Table}
 use Rattle.ms_arena.specs.declared.others.Table.TheVariants.{Few, Many}
 use Rattle.ms_arena.specs.declared.places.Placed.{Placed}
 
--- Each stretch of a list with its place, where the first that is found counts; or the numbers of groups, and the places
--- by number; and for how many stretches more there is room.
+-- Each stretch of a list with its place, where the first that is found counts; or the numbers of
+-- groups, and the places by number; and for how many stretches more there is room.
 pub record OthersView : Type 0 where
   pub entries : List (ℕ × ℕ)
   pub numbers : List ℕ
@@ -29,8 +29,8 @@ abbrev pub place_grouped : List ℕ → List ℕ → ℕ → ℕ
 place_grouped numbers places stretch =
     slice_index_or places (32 * slice_index_or numbers (stretch / 32) 0 + stretch % 32) 0
 
--- What is kept true of groups: those of no number have no place, there are places for each number, and no two groups
--- have one.
+-- What is kept true of groups: those of no number have no place, there are places for each number,
+-- and no two groups have one.
 pub record AreGroups (numbers places : List ℕ) : Type 0 where
   pub none : (at : ℕ) → at < 32 → slice_index_or places at 0 ≡ 0
   pub below : (group : ℕ) → 32 * slice_index_or numbers group 0 + 32 ≤ length places

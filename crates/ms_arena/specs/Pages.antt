@@ -1,5 +1,6 @@
--- A list of words of which most are 0, kept as pages of 512 words: each has its place in a store from its
--- first write on, and its words count as 0 until it is written and once it is cleared (our choice).
+-- A list of words of which most are 0, kept as pages of 512 words: each has its place in a store
+-- from its first write on, and its words count as 0 until it is written and once it is cleared (our
+-- choice).
 use Rattle.std.specs.Prelude.{◌≡◌, ℕ, ◌+◌, ◌-◌, ◌*◌, ◌/◌, ◌%◌, ◌<◌, ◌≤◌, Bool, true, false, cond, List, length}
 use Rattle.std.specs.Prelude.{nat_lt, slice_index, slice_index_or}
 use Rattle.std.specs.List.{count_by}
@@ -33,8 +34,8 @@ word_at words at = word_in words.store (page_at words.pages (at / 512)) (at % 51
 abbrev pub is_placed : Page → Bool
 is_placed page = nat_lt 0 page.place
 
--- What is kept true: the store has the pages with a place and no others, each at its own, and there is
--- room in both for as many as said.
+-- What is kept true: the store has the pages with a place and no others, each at its own, and there
+-- is room in both for as many as said.
 pub record ArePages (words : PagesView) (pages_capacity store_capacity : ℕ) : Type 0 where
   pub stored : length words.store ≡ 512 * count_by is_placed words.pages
   pub below : (number : ℕ) → (page_at words.pages number).place ≤ count_by is_placed words.pages

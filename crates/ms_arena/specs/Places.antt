@@ -17,8 +17,8 @@ place_in (Some newest) others stretch = cond (nat_eq newest.stretch stretch) new
 abbrev pub place_of : PlacesView → ℕ → ℕ
 place_of places stretch = place_in places.newest places.others stretch
 
--- The place of a stretch once those from one up to another were given the places from one on, in a row; the others
--- have the place that they had.
+-- The place of a stretch once those from one up to another were given the places from one on, in a
+-- row; the others have the place that they had.
 abbrev pub place_given : ℕ → ℕ → ℕ → ℕ → ℕ → ℕ
 place_given first past place stretch former =
     cond (nat_le first stretch) (cond (nat_lt stretch past) (place + (stretch - first)) former) former

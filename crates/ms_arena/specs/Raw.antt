@@ -14,8 +14,8 @@ use Rattle.ms_arena.specs.Arena.{ArenaView}
 use Rattle.ms_arena.specs.Books.{AwaitsBlock, BooksView}
 use Rattle.ms_arena.specs.Words.{WordsView, StayWords, Opens, IsThere, value_at}
 
--- Its owner's number, its space, its loader's kind; its chunks, tops and free blocks; how many blocks are
--- live, how many words they have together, modulo 2^64; and the words by number.
+-- Its owner's number, its space, its loader's kind; its chunks, tops and free blocks; how many
+-- blocks are live, how many words they have together, modulo 2^64; and the words by number.
 pub record RawView : Type 0 where
   pub owner : ℕ
   pub space : Space
@@ -102,8 +102,8 @@ pub record RunIsThere (words : WordsView) (run : ℕ × ℕ) : Type 0 where
   pub each : (word : ℕ) → run.0 ≤ word → word < run.0 + run.1 → IsThere words word
   pub ends : run.0 + run.1 < 2 ^ 64
 
--- These runs are its live blocks: its books are sound with them, they are counted with their words, and
--- each word of them is there.
+-- These runs are its live blocks: its books are sound with them, they are counted with their words,
+-- and each word of them is there.
 pub record Holds (raw : RawView) (runs : List (ℕ × ℕ)) : Type 0 where
   pub sound : IsSound raw.books runs
   pub counted : raw.count ≡ length runs

@@ -1,10 +1,12 @@
--- The words of an arena's blocks by their numbers in the space, kept stretch by stretch: each stretch that a
--- block reached into has a place in a list of words of which most are 0 (our choice).
+-- The words of an arena's blocks by their numbers in the space, kept stretch by stretch: each
+-- stretch that a block reached into has a place in a list of words of which most are 0 (our
+-- choice).
 use Rattle.std.specs.Prelude.{◌≡◌, ◌≢◌, ℕ, ◌+◌, ◌-◌, ◌*◌, ◌/◌, ◌%◌, ◌^◌, ◌<◌, ◌≤◌, cond, nat_lt}
 use Rattle.ms_arena.specs.Pages.{PagesView, word_at}
 use Rattle.ms_arena.specs.Places.{PlacesView, place_of}
 
--- The places of stretches, the list, how many places were given, and for how many more there is room.
+-- The places of stretches, the list, how many places were given, and for how many more there is
+-- room.
 pub record WordsView : Type 0 where
   pub places : PlacesView
   pub list : PagesView
@@ -15,7 +17,8 @@ pub record WordsView : Type 0 where
 abbrev pub place_at : WordsView → ℕ → ℕ
 place_at words word = place_of words.places (word / 2048)
 
--- A word of a place by its offset there, and a word by its number; it is 0 where its stretch has no place.
+-- A word of a place by its offset there, and a word by its number; it is 0 where its stretch has no
+-- place.
 abbrev pub value_in : PagesView → ℕ → ℕ → ℕ
 value_in list place offset = cond (nat_lt 0 place) (word_at list (2048 * (place - 1) + offset)) 0
 
@@ -58,8 +61,8 @@ pub record Writes (old : WordsView) (word value : ℕ) (new : WordsView) : Type 
   pub others : (other : ℕ) → other ≢ word → value_at new other ≡ value_at old other
   pub places : (other : ℕ) → place_at new other ≡ place_at old other
 
--- What is kept true: places are those given, no two stretches have one, and the list has them all, and both have
--- room for as many more as said.
+-- What is kept true: places are those given, no two stretches have one, and the list has them all,
+-- and both have room for as many more as said.
 pub record AreWords (places : PlacesView) (room given ready : ℕ) : Type 0 where
   pub below : (stretch : ℕ) → place_of places stretch ≤ given
   pub own : (stretch other : ℕ) → 0 < place_of places stretch → place_of places stretch ≡ place_of places other

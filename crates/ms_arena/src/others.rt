@@ -1,4 +1,5 @@
-//! The places of an arena's stretches but that of the newest: of a few in a list, of many in groups.
+//! The places of an arena's stretches but that of the newest: of a few in a list, of many in
+//! groups.
 //!
 //!     few      | 70: 1 | 3: 2 | 71: 3 |  room  |      16 at most, looked at from the last one on
 //!     many     group     0   1   2   ..             32 stretches each, once there may be more

@@ -272,8 +272,9 @@ impl Pages {
     }
 }
 
-/// Makes room for so many words in a store. One of which an eighth was written stays one piece, which
-/// the system may move by its pages; else what was written is copied, and no room that was not.
+/// Makes room for so many words in a store. One of which an eighth was written stays one piece,
+/// which the system may move by its pages; else what was written is copied, and no room that was
+/// not.
 fn make_longer(alloc: Global, store: &mut Vec<u64>, words: usize) -> Result<(), AllocError>
     ensures room { OnOk result (words ≤ vec_capacity store.new) }
     ensures words { store.new.items ≡ store.old.items }

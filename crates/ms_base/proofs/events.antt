@@ -1,6 +1,6 @@
--- Steps that are spread over events: their serial order is a run; for `laws::events` of ms_loaders. By a
--- walk: StageLemmas says how the serial order's machine differs from the other, name by name; each kind
--- of event is one lemma; SerialLemmas puts them together.
+-- Steps that are spread over events: their serial order is a run; for `laws::events` of ms_loaders.
+-- By a walk: StageLemmas says how the serial order's machine differs from the other, name by name;
+-- each kind of event is one lemma; SerialLemmas puts them together.
 pub mod SeenEntryLemmas
 pub mod KeptEventLemmas
 pub mod GrownEventLemmas

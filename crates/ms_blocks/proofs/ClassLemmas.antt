@@ -1,5 +1,5 @@
--- Blocks by rank in trees of one class each: where a block goes, and which one fits first, in the trees' blocks one
--- after the other. Used by the functions of `classes`.
+-- Blocks by rank in trees of one class each: where a block goes, and which one fits first, in the
+-- trees' blocks one after the other. Used by the functions of `classes`.
 use Rattle.std.proofs.Common.{◌≡◌, ◌≢◌, ℕ, ◌+◌, ◌<◌, ◌≤◌, true, false, List, [], ◌∷◌, ◌++◌, Option, Some, None, refl}
 use Rattle.std.proofs.Common.{ap, ap₂, sym, subst, subst₂, ◌∙◌, arith, zero, suc, get_or, length, take, drop, inl, inr}
 use Rattle.std.proofs.Common.{bit_and, bit_or, w64, Bool, cond, ◌*◌, ◌-◌, ◌/◌, ◌%◌, ◌^◌}
@@ -152,7 +152,8 @@ fit_in_front left rest words None is behind = (
       (without_fit-none rest words (behind refl)),
 )
 
--- The first fit is taken from a tree where none before it fits, and where none fits in it, none behind it does.
+-- The first fit is taken from a tree where none before it fits, and where none fits in it, none
+-- behind it does.
 pub record TakesAmong {A : Type 0} (trees : List (Tree A)) (at words : ℕ) (rest : Tree A) (taken : Option Block)
     : Type 0 where
   pub found : first_fit (all_of trees) words ≡ taken
@@ -197,7 +198,8 @@ ranked_at (first ∷ trees) zero tree ranked there =
 ranked_at (first ∷ trees) (suc at) tree ranked there =
     ranked_at trees at tree (ranked_parts (blocks_of first) (all_of trees) ranked).1 there
 
--- None before a class fits where none from that of the words on does: those of lower classes are too small.
+-- None before a class fits where none from that of the words on does: those of lower classes are
+-- too small.
 none_before : {A : Type 0} (trees : List (Tree A)) (class at words : ℕ) → AreClassed class trees
     → ((k : ℕ) → k < at → class_of words ≤ class + k → NoneFitsAt trees k words)
     → first_fit (all_of (take at trees)) words ≡ None
@@ -410,7 +412,8 @@ one_where_some bit words blocks taken tells two is = elim (cases_lt 0 bit) [
       absurd (cc)
 ]
 
--- Where no tree before a class fits, none before the next one that has a block does, nor any at all where none has.
+-- Where no tree before a class fits, none before the next one that has a block does, nor any at all
+-- where none has.
 none_up_to : {A : Type 0} (trees : List (Tree A)) (some class words at : ℕ) → AreByClass some trees
     → class ≡ class_of words → NoneFitsAt trees class words
     → ((other : ℕ) → class < other → other < at → bit_at some other ≡ 0)

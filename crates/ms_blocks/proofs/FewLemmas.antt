@@ -1,5 +1,5 @@
--- A ranked row: where a block goes there, and which one fits first, told by how many rank before it or are too small.
--- Used by the functions of `few`.
+-- A ranked row: where a block goes there, and which one fits first, told by how many rank before it
+-- or are too small. Used by the functions of `few`.
 use Rattle.std.proofs.Common.{◌≡◌, ℕ, ◌<◌, ◌≤◌, true, false, List, [], ◌∷◌, Some, None, refl, ap, arith, zero, suc}
 use Rattle.std.proofs.Common.{length, inl, inr, subst, sym, take}
 use Rattle.std.specs.Prelude.{nat_le, nat_lt, slice_index_or}

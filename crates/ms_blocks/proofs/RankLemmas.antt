@@ -1,5 +1,6 @@
 -- Blocks in the order of best fit: where a block goes, and which one fits first, in a list that is
--- joined of a tree's left side, its block in the middle, and its right side. Used by the tree's functions.
+-- joined of a tree's left side, its block in the middle, and its right side. Used by the tree's
+-- functions.
 use Rattle.std.proofs.Common.{◌≡◌, ◌≢◌, ℕ, ◌<◌, ◌≤◌, true, false, List, [], ◌∷◌, ◌++◌, Option, Some, None, refl, ap}
 use Rattle.std.proofs.Common.{sym, ◌∙◌, ◌+◌, arith, length}
 use Rattle.std.specs.Prelude.{nat_le, if◌then◌else◌}

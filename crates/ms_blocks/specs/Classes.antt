@@ -1,5 +1,5 @@
--- Blocks by rank, in trees by size: one for each number of words below 32, and above that for ranges of sizes, the last
--- with all from 458,752 on (this project's choice).
+-- Blocks by rank, in trees by size: one for each number of words below 32, and above that for
+-- ranges of sizes, the last with all from 458,752 on (this project's choice).
 use Rattle.std.specs.Prelude.{◌≡◌, ◌≢◌, ℕ, ◌+◌, ◌<◌, List, [], ◌∷◌, ◌++◌, length, min, slice_get, Some}
 use Rattle.std.specs.Prelude.{None, nat_lt, ◌/◌, if◌then◌else◌}
 use Rattle.std.specs.Int.{bit_at}

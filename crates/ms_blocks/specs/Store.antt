@@ -10,7 +10,8 @@ abbrev pub blocks_in : {A : Type 0} → Store A → List Block
 blocks_in (Few row) = row.items
 blocks_in (Many trees some spare) = all_of trees.items
 
--- Trees have the blocks of their classes, and where the spare forks stand there are places for the trees' too.
+-- Trees have the blocks of their classes, and where the spare forks stand there are places for the
+-- trees' too.
 abbrev pub IsStore : {A : Type 0} → Store A → Type 0
 IsStore (Few row) = Unit {0}
 IsStore (Many trees some spare) =

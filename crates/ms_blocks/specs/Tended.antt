@@ -11,7 +11,8 @@ use Rattle.ms_blocks.specs.Store.{HasRoom, IsStore, blocks_in}
 abbrev pub kept_blocks : {A : Type 0} → Inside A → KeptBlocks
 kept_blocks f = record { kept = by_start (blocks_in f.store); room = f.room }
 
--- The blocks are in rank, their runs lie apart, they are counted and summed, and none has more words than the bound.
+-- The blocks are in rank, their runs lie apart, they are counted and summed, and none has more
+-- words than the bound.
 pub record AreTended (blocks : List Block) (count total most : ℕ) : Type 0 where
   pub ranked : IsRanked blocks
   pub differ : StartsDiffer blocks

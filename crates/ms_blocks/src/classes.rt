@@ -71,7 +71,8 @@ pub fn take_in<A: Allocator>(
     }
 }
 
-/// Takes the first block of a class that has so many words, with its fork, where none before it has.
+/// Takes the first block of a class that has so many words, with its fork, where none before it
+/// has.
 fn take_at<A: Allocator>(
     trees: &mut [Tree<A>],
     some: &mut u64,

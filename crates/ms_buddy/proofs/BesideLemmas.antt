@@ -37,7 +37,8 @@ clear_one words new half rest m cleared are =
 pub no_halves : (times level start at m : ℕ) → times ≡ 0 → count_of_number m (halves_beside times level start at) ≡ 0
 no_halves times level start at m e = ap (count_of_number m) (none_beside times level start at e) ∙ number-none m
 
--- The halves beside the way from a level on are the other half there and those from the next level on.
+-- The halves beside the way from a level on are the other half there and those from the next level
+-- on.
 pub next_beside : (level at lent m : ℕ) → level < lent → lent ≤ highest_level → at < 524288
     → count_of_number m (beside (holder_of level (span_at at lent)) (span_at at lent))
     ≡ one_at (buddy_of (number_of (span_at at (level + 1)))) m

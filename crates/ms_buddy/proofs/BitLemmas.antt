@@ -130,7 +130,8 @@ one_if b = cond b 1 0
 abbrev none_if : Bool → ℕ
 none_if b = cond b 0 1
 
--- A word has a bit exactly where the second row says so: with no bit at all, with one more, and with one less.
+-- A word has a bit exactly where the second row says so: with no bit at all, with one more, and
+-- with one less.
 pub none_filled : (n m : ℕ) → IsFilled (replicate n 0) (replicate m 0)
 none_filled n m row = no_bit m row ∙ sym (ap (λ (w : ℕ). none_if (w == 0)) (zero_word n row))
 

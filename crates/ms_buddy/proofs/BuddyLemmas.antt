@@ -1,4 +1,5 @@
--- A part whose buddy's bit is clear doesn't merge with it. For the way down to the leaf that is released.
+-- A part whose buddy's bit is clear doesn't merge with it. For the way down to the leaf that is
+-- released.
 use Rattle.std.proofs.Common.{◌≡◌, ◌<◌, ◌≤◌, ℕ, ◌+◌, ◌-◌, ◌*◌, ◌/◌, ◌%◌, true, false, refl}
 use Rattle.std.proofs.Common.{sym, ap, ◌∙◌, arith}
 use Rattle.std.specs.Prelude.{◌==◌}

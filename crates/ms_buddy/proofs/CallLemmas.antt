@@ -1,4 +1,5 @@
--- What the calls of a tree do to what is kept true of it: the bits tell which leaf is meant, and the places follow.
+-- What the calls of a tree do to what is kept true of it: the bits tell which leaf is meant, and
+-- the places follow.
 use Rattle.std.proofs.Common.{◌≡◌, ◌<◌, ◌≤◌, ℕ, zero, suc, ◌+◌, ◌*◌, ◌-◌, ◌/◌, ◌%◌, ◌^◌, Bool, true, false, List, [], ◌∷◌, Option}
 use Rattle.std.proofs.Common.{Some, None, length, refl, sym, ap, subst, ◌∙◌, inl, inr, arith}
 use Rattle.std.specs.Prelude.{Result, Ok, Err, OnOk, OnErr, ◌==◌, ◌&&◌, ◌||◌, nat_le, nat_lt, slice_set, IsTrue}
@@ -76,7 +77,8 @@ pub record IsAsked (node : Node) (words : List ℕ) (part : Span) : Type 0 where
   pub low : part.level ≤ highest_level
   pub aligned : part.start % size_of part.level ≡ 0
 
--- The part of a level that holds it is a free leaf where its bit is set, and then it is the one found there.
+-- The part of a level that holds it is a free leaf where its bit is set, and then it is the one
+-- found there.
 pub holder_listed : (node : Node) (words : List ℕ) (part : Span) (free : ℕ) → InRoot node words part
     → free ≤ highest_level → bit_of words (number_of (span_at part.start free)) ≡ 1
     → list_any (is_same (holder_of free part)) (free_in 0 0 node) ≡ true
@@ -337,7 +339,8 @@ pub ok_holds : {A B : Type 0} (result : Result A B) (P : Type 0) → is_err resu
 ok_holds (Ok value) P e h = h
 ok_holds (Err refusal) P e h = absurd (cc (e))
 
--- What is kept true once a part was lent: of a root with a place for it, whose bits tell the leaf that it lies in.
+-- What is kept true once a part was lent: of a root with a place for it, whose bits tell the leaf
+-- that it lies in.
 pub record Lends (lent : List LentLeaf) (places : ℕ) (counts words filled : List ℕ) (part : Span) (owner front free : ℕ)
     : Type 0 where
   pub kept : IsKept lent places counts words filled

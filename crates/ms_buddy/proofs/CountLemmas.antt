@@ -1,5 +1,5 @@
--- How many free leaves of each level there are, and of each number, as one is parted, and as halves merge. The
--- walks that change a tree use these.
+-- How many free leaves of each level there are, and of each number, as one is parted, and as halves
+-- merge. The walks that change a tree use these.
 use Rattle.std.proofs.Common.{◌≡◌, ◌<◌, ◌≤◌, ℕ, suc, ◌+◌, ◌-◌, true, false, cond, ◌&&◌, ◌||◌, List, [], ◌∷◌, ◌++◌}
 use Rattle.std.proofs.Common.{refl, sym, ap, subst, ◌∙◌, arith}
 use Rattle.std.specs.Prelude.{◌==◌, nat_lt, IsTrue}

@@ -1,4 +1,5 @@
--- A part is one of the free leaves exactly where its bit is set. For telling whether a part is free.
+-- A part is one of the free leaves exactly where its bit is set. For telling whether a part is
+-- free.
 use Rattle.std.proofs.Common.{◌≡◌, ◌≤◌, ℕ, ◌+◌, Bool, true, false, cond, ◌&&◌, ◌||◌, List, [], ◌∷◌}
 use Rattle.std.proofs.Common.{refl, sym, ap, ◌∙◌, inl, inr, arith, eq-eqb, eqb-true, ne_eqb}
 use Rattle.std.specs.Prelude.{◌==◌, nat_lt}

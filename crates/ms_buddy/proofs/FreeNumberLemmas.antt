@@ -1,5 +1,5 @@
--- The numbers of a tree's free leaves: none comes twice, so that they are told by bits, and what the bits are as a leaf is
--- parted or joined. The calls of the tree use these.
+-- The numbers of a tree's free leaves: none comes twice, so that they are told by bits, and what
+-- the bits are as a leaf is parted or joined. The calls of the tree use these.
 use Rattle.std.proofs.Common.{◌≡◌, ◌<◌, ◌≤◌, ℕ, ◌+◌, ◌-◌, true, false, cond, List, [], ◌∷◌}
 use Rattle.std.proofs.Common.{refl, sym, ap, ◌∙◌, inl, inr, arith, eqb-true}
 use Rattle.std.specs.Prelude.{◌==◌, IsTrue}

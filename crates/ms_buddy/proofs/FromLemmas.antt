@@ -1,4 +1,5 @@
--- The lowest free leaf from an offset on, as the lowest of each level's, and those that come after it.
+-- The lowest free leaf from an offset on, as the lowest of each level's, and those that come after
+-- it.
 use Rattle.std.proofs.Common.{◌≡◌, ◌<◌, ◌≤◌, ℕ, ◌+◌, Bool, true, false, cond, List, [], ◌∷◌, Option, Some, None}
 use Rattle.std.proofs.Common.{refl, sym, ap, subst, ◌∙◌, inl, inr, arith}
 use Rattle.std.specs.Prelude.{◌==◌, ◌&&◌, ◌||◌, nat_le, nat_lt, IfSome, IfNone}

@@ -1,5 +1,5 @@
--- Levels of free leaves as bits of a number: those of two numbers together, of one level, and of none. For the pool,
--- which puts the levels of many roots together.
+-- Levels of free leaves as bits of a number: those of two numbers together, of one level, and of
+-- none. For the pool, which puts the levels of many roots together.
 use Rattle.std.proofs.Common.{◌≡◌, ◌<◌, ℕ, ◌^◌, ◌||◌, ap, ◌∙◌, inl, inr, arith, max, bit_or, true}
 use Rattle.std.specs.Prelude.{◌==◌}
 use Rattle.std.specs.Int.{bit_at}

@@ -1,4 +1,5 @@
--- Numbers of parts: which those of a level are, and that no two parts have one. For the set of free leaves.
+-- Numbers of parts: which those of a level are, and that no two parts have one. For the set of free
+-- leaves.
 use Rattle.std.proofs.Common.{◌≡◌, ◌<◌, ◌≤◌, ℕ, ◌+◌, ◌-◌, ◌*◌, ◌/◌, ◌%◌, ◌^◌, refl, sym, ap, subst, ◌∙◌, inl, inr, arith}
 use Rattle.std.proofs.lemmas.Bool.{cases_lt}
 use Rattle.std.proofs.lemmas.Nat.{pow-add, div-add-mod', div_below, le-div}

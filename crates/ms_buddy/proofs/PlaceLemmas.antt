@@ -1,4 +1,5 @@
--- What is lent from places on: what stands at one is a leaf, and what is put there changes that leaf alone.
+-- What is lent from places on: what stands at one is a leaf, and what is put there changes that
+-- leaf alone.
 use Rattle.std.proofs.Common.{◌≡◌, ◌<◌, ◌≤◌, ℕ, zero, suc, ◌+◌, ◌*◌, Bool, true, false, List, [], ◌∷◌, ◌++◌}
 use Rattle.std.proofs.Common.{Option, Some, None, length, refl, sym, ap, subst, ◌∙◌, arith}
 use Rattle.std.specs.Prelude.{◌==◌, ◌&&◌, ◌||◌, nat_le, nat_lt, slice_set, IsTrue}

@@ -1,4 +1,5 @@
--- To which level a part merges: its buddies are free below it, and there the buddy isn't. For releasing.
+-- To which level a part merges: its buddies are free below it, and there the buddy isn't. For
+-- releasing.
 use Rattle.std.proofs.Common.{◌≡◌, ◌<◌, ◌≤◌, ℕ, zero, suc, ◌+◌, ◌*◌, ◌-◌, ◌%◌, ◌^◌, Bool, true, false, List, [], ◌∷◌, refl, sym, ap, subst, ◌∙◌}
 use Rattle.std.proofs.Common.{inl, inr, arith}
 use Rattle.std.specs.Prelude.{◌==◌, ◌&&◌, ◌||◌, nat_lt}

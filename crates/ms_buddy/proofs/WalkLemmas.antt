@@ -93,7 +93,8 @@ pub find-none : {X : Type 0} (test : X → Bool) (xs : List X) → NonePass test
 find-none test [] none = refl
 find-none test (x ∷ xs) none = rw none.0 (find-none test xs none.1)
 
--- A part that starts below an offset is none of those from it on, one from it on none of those below.
+-- A part that starts below an offset is none of those from it on, one from it on none of those
+-- below.
 same_above : (part other : Span) (middle high : ℕ) → part.start < middle → LiesIn middle high other
     → is_same part other ≡ false
 same_above part other middle high h lies =

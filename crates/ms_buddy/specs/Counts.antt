@@ -4,7 +4,8 @@ use Rattle.std.specs.Prelude.{◌≡◌, ℕ, zero, suc, ◌+◌, ◌-◌, ◌/�
 use Rattle.std.specs.List.{count_by}
 use Rattle.ms_base.specs.declared.span.Span.{Span}
 
--- How many parts have a level. The word stands for a long one: a proof looks into it where it has to.
+-- How many parts have a level. The word stands for a long one: a proof looks into it where it has
+-- to.
 unfoldable pub count_at_level : ℕ → List Span → ℕ
 count_at_level level parts = count_by (λ part. part.level == level) parts
 
@@ -15,7 +16,8 @@ one_at level other = cond (level == other) 1 0
 abbrev pub one_between : ℕ → ℕ → ℕ → ℕ
 one_between low high other = cond (nat_lt low other && nat_lt other high) 1 0
 
--- The number of a part: the root has 1, and the halves of a part have twice its number, and one more.
+-- The number of a part: the root has 1, and the halves of a part have twice its number, and one
+-- more.
 unfoldable pub number_of : Span → ℕ
 number_of part = (root_words + part.start) / size_of part.level
 
@@ -46,8 +48,8 @@ buddy_of number = cond (number % 2 == 0) (number + 1) (number - 1)
 abbrev pub beside : Span → Span → List Span
 beside leaf part = halves_beside (part.level - leaf.level) leaf.level leaf.start part.start
 
--- A free leaf was parted for a lent part within it: it is gone, and of each level below it, down to that of the part,
--- there is one more, the half that stays free. Turned round it is a merge.
+-- A free leaf was parted for a lent part within it: it is gone, and of each level below it, down to
+-- that of the part, there is one more, the half that stays free. Turned round it is a merge.
 pub record IsParted (before : List Span) (leaf part : Span) (after : List Span) : Type 0 where
   pub low : part.level ≤ highest_level
   pub order : leaf.level ≤ part.level

@@ -18,7 +18,8 @@ AreFreeBits words free = (number : ℕ) → bit_of words number ≡ count_of_num
 abbrev pub IsFilled : List ℕ → List ℕ → Type 0
 IsFilled words filled = (row : ℕ) → bit_of filled row ≡ cond (get_or words row 0 == 0) 0 1
 
--- What is kept true of a node of the root: how many free leaves it has of each level, and the bits of these.
+-- What is kept true of a node of the root: how many free leaves it has of each level, and the bits
+-- of these.
 pub record IsKeptTree (node : Node) (counts words filled : List ℕ) : Type 0 where
   pub tree : IsTree 0 node
   pub counted : AreCounts counts (free_in 0 0 node)
@@ -61,7 +62,8 @@ pub record MayJoin (words : List ℕ) (leaf part : Span) : Type 0 where
   pub come : (number : ℕ) → bit_of words number + count_of_number number (leaf ∷ [])
       ≤ 1 + count_of_number number (beside leaf part)
 
--- The root is split in such a way that these leaves are lent; where it is split at all there is a place for each.
+-- The root is split in such a way that these leaves are lent; where it is split at all there is a
+-- place for each.
 pub record IsKept (lent : List LentLeaf) (places : ℕ) (counts words filled : List ℕ) : Type 0 where
   pub node : Node
   pub tree : IsKeptTree node counts words filled

@@ -30,7 +30,8 @@ abbrev pub AreOthers : {A : Type 0} → Option (Box (List (Option Lending)) A) �
 AreOthers None = ⊤
 AreOthers (Some others) = length others.value ≡ 4095
 
--- What a place has, by its two numbers: nothing where the second is 0, else the level is what is left of it by 16, and the front how often it has 16.
+-- What a place has, by its two numbers: nothing where the second is 0, else the level is what is
+-- left of it by 16, and the front how often it has 16.
 abbrev pub lending_in : ℕ → ℕ → Option Lending
 lending_in owner zero = None
 lending_in owner (suc n) = Some (record { level = suc n % 16; owner = owner; front = suc n / 16 })

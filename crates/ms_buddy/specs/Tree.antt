@@ -6,8 +6,9 @@ use Rattle.ms_base.specs.Level.{root_words, size_of, highest_level}
 use Rattle.ms_base.specs.Part.{IsPart}
 use Rattle.ms_buddy.specs.Leaves.{LentLeaf}
 
--- A part of a root: a free leaf, a leaf that is lent to an owner with a front, or split in its halves. No code
--- has it: it is there for each root, and says how the lent leaves and the free ones lie together.
+-- A part of a root: a free leaf, a leaf that is lent to an owner with a front, or split in its
+-- halves. No code has it: it is there for each root, and says how the lent leaves and the free ones
+-- lie together.
 pub data Node : Type 0 where
   Free : Node
   Lent : (owner front : ℕ) → Node

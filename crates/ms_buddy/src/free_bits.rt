@@ -106,7 +106,8 @@ impl FreeBits {
         self.put(number, false);
     }
 
-    /// Tells the level of the free leaf that holds the part of a level at an offset, where one does.
+    /// Tells the level of the free leaf that holds the part of a level at an offset, where one
+    /// does.
     pub(crate) fn holder(&self, level: u8, at: u64) -> Option<u8>
         requires low { level ≤ 12 }
         requires in_root { at < ROOT_WORDS }

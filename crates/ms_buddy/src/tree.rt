@@ -143,8 +143,8 @@ impl<A: Allocator> SplitTree<A> {
         self.counts[level.number() as usize]
     }
 
-    /// Tells whether a lent leaf can become its parent, as `enlarge` asks: it is no root, the leader,
-    /// and its buddy is one free leaf. Looks at one bit. Takes no memory. After HotSpot,
+    /// Tells whether a lent leaf can become its parent, as `enlarge` asks: it is no root, the
+    /// leader, and its buddy is one free leaf. Looks at one bit. Takes no memory. After HotSpot,
     /// rootChunkArea.cpp.
     pub fn can_enlarge(&self, span: Span) -> bool
         requires { IsTrue (is_lent self.now span) }
@@ -279,8 +279,8 @@ impl<A: Allocator> SplitTree<A> {
 
     /// Lends the part of that level at an offset in words, 0 to 524287, to an owner, with a front
     /// in words from 1 to the part's size. The other lent leaves stay. Refuses with `NoRoom` and
-    /// the level where the part does not lie in one free leaf, and with `OutOfMemory` where
-    /// the allocator refuses the table of places, which a root has from the first time on that it is
+    /// the level where the part does not lie in one free leaf, and with `OutOfMemory` where the
+    /// allocator refuses the table of places, which a root has from the first time on that it is
     /// split. A refusal changes nothing. After HotSpot, rootChunkArea.cpp.
     pub fn carve(
         &mut self,

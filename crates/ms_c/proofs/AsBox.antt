@@ -1,5 +1,5 @@
--- A slot that holds a system, and the parts of a box, own what a box at the same types owns: this file
--- alone names the type that the walks are at.
+-- A slot that holds a system, and the parts of a box, own what a box at the same types owns: this
+-- file alone names the type that the walks are at.
 use mir.Syntax.{impl, tnil, dnil}
 use Rattle.std.proofs.Common.{◌≡◌, [], refl, subst, Some, None, IsSome, Bool, not, T}
 use denote.Signature.{Slot as Place, plain}

@@ -119,7 +119,8 @@ pub or_true : (a b : Bool) → b ≡ true → (a || b) ≡ true
 or_true true b e = refl
 or_true false b e = e
 
--- What passes from first up to end, of the numbers below n, is all that passes there, where nothing does from n on.
+-- What passes from first up to end, of the numbers below n, is all that passes there, where nothing
+-- does from n on.
 pub filter-window : (p : ℕ → Bool) (first end n : ℕ) → ((k : ℕ) → n ≤ k → first ≤ k → k < end → p k ≡ false)
     → filter (λ k. p k && (nat_le first k && nat_lt k end)) (range_with_len 0 n)
     ≡ filter p (range_with_len first (end - first))

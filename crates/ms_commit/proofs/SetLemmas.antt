@@ -170,7 +170,8 @@ length-without_range members first count =
           (λ k. refl) members,
     )
 
--- The members of a set in a range, counted by going over the set, are those counted by going over the range.
+-- The members of a set in a range, counted by going over the set, are those counted by going over
+-- the range.
 pub count_within-filter : (p : ℕ → Bool) (n first count : ℕ) → ((k : ℕ) → first ≤ k → k < first + count → k < n)
     → length (filter (is_in_range first count) (filter p (range_with_len 0 n)))
     ≡ length (filter p (range_with_len first count))

@@ -1,5 +1,5 @@
--- That the words about sets mean what they say, by the members; how a set of granules is that of the
--- model; and what becomes of the granules of either space.
+-- That the words about sets mean what they say, by the members; how a set of granules is that of
+-- the model; and what becomes of the granules of either space.
 use Rattle.std.specs.Prelude.{◌≡◌, ℕ, ◌+◌, ◌*◌, ◌/◌, ◌<◌, not, ◌==◌, ◌&&◌, ◌||◌, List, ◌++◌, length, IsTrue}
 use Rattle.std.specs.Ordering.{nat_cmp}
 use Rattle.std.specs.BTreeSet.{insert_key}

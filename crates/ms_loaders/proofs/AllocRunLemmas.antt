@@ -1,5 +1,5 @@
--- What an allocation asked of the pool, as granules that came: none, those of a chunk that grew, or of one
--- that is new. `System::allocate_with_run` uses these.
+-- What an allocation asked of the pool, as granules that came: none, those of a chunk that grew, or
+-- of one that is new. `System::allocate_with_run` uses these.
 use Rattle.std.proofs.Common.{◌≡◌, ℕ, ◌||◌, Bool, true, false, Some, Ok}
 use Rattle.std.proofs.Common.{List, [], ◌∷◌, refl, sym, ap, ◌∙◌}
 use Rattle.std.specs.Prelude.{slice_get}
@@ -31,7 +31,8 @@ now_is : (space : Space) (mid : Ledger) → committed_of space (recommitted mid)
 now_is NonClass mid = refl
 now_is Class mid = refl
 
--- A pool in which a chunk of a space came or grew: what is committed of it now, and of the other space.
+-- A pool in which a chunk of a space came or grew: what is committed of it now, and of the other
+-- space.
 abbrev pub CommitsIn : Space → Ledger → Ledger → List Chunk → Chunk → Type 0
 CommitsIn space old new mid is =
     Commits (state_in space old) (held_in space new) (state_in space new).slots (committed_of space new)

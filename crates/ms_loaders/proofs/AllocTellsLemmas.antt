@@ -1,4 +1,5 @@
--- What an allocation tells of granules, whatever it asked of the pool. For `System::allocate_with_run`.
+-- What an allocation tells of granules, whatever it asked of the pool. For
+-- `System::allocate_with_run`.
 use Rattle.std.proofs.Common.{◌≡◌, ◌≤◌, ◌<◌, ℕ, zero, suc, ◌+◌, ◌-◌, ◌/◌, Bool, true, false, Some, Ok}
 use Rattle.std.proofs.Common.{List, [], ◌∷◌, ◌++◌, length, length-append, refl, sym, ap, ◌∙◌, subst, inl, inr, arith}
 use Rattle.std.specs.List.{Contains}

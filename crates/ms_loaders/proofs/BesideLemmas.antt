@@ -1,4 +1,5 @@
--- An allocation under a name beside the row is one under a name of the table. `allocate_in` uses this.
+-- An allocation under a name beside the row is one under a name of the table. `allocate_in` uses
+-- this.
 use Rattle.std.proofs.Common.{◌≡◌, ℕ, cond, Some, Result, Ok, Err, List, sym, ap, ◌∙◌, inl, inr}
 use Rattle.std.specs.Prelude.{nat_eq}
 use Rattle.std.specs.Map.{lookup}

@@ -1,5 +1,5 @@
--- A space where a chunk came or grew: which granules came, and which of the run. `System::allocate_with_run`
--- uses these.
+-- A space where a chunk came or grew: which granules came, and which of the run.
+-- `System::allocate_with_run` uses these.
 use Rattle.std.proofs.Common.{◌≡◌, ◌≤◌, ℕ, ◌+◌, ◌*◌, Bool, true, false, not, ◌&&◌, ◌||◌, List, [], ◌∷◌}
 use Rattle.std.proofs.Common.{◌++◌, length, map, refl, sym, ap, ◌∙◌, subst, inl, inr, arith}
 use Rattle.std.specs.List.{All, AllByRecursion, list_any, list_all, flat_map, filter}
@@ -201,7 +201,8 @@ module _ (pool : PoolState) (held : List Chunk) (slots committed : List ℕ) (el
       ∙ count_with_front pool held slots is c.sound its_part its_front.some its_front.within c.sound_after.slots its_slot
       c.as_before adds
 
-  -- Where a policy gives back, a granule within the chunk that no front replaced met was not committed.
+  -- Where a policy gives back, a granule within the chunk that no front replaced met was not
+  -- committed.
   pub was_not : keeps pool.limits.policy ≡ false → (k : ℕ) → is.start ≤ k * granule
       → k * granule + granule ≤ is.start + size_of is.level
       → list_any (λ (one : Chunk). meets_front granule one k) mid ≡ false → has_committed pool k ≡ false

@@ -1,5 +1,5 @@
--- Whose a word is, from its owner: the loans of the word's owner have it, and so has the account of that
--- number, which is one of a loader's. `System::holder` uses these.
+-- Whose a word is, from its owner: the loans of the word's owner have it, and so has the account of
+-- that number, which is one of a loader's. `System::holder` uses these.
 use Rattle.std.proofs.Common.{◌≡◌, ◌&&◌, ℕ, Bool, true, false, cond, Some, None, List, [], ◌∷◌, map, refl, sym, ap, ◌∙◌}
 use Rattle.std.proofs.Common.{inl, inr, subst}
 use Rattle.std.specs.Prelude.{◌==◌, ◌||◌, IsTrue, IfSome, IfNone, Option}

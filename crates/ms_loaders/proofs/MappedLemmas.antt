@@ -1,5 +1,5 @@
--- Entries whose values are mapped: the names stay, and each change of the entries is one of the mapped
--- ones. For a loader's blocks and a system's loaders.
+-- Entries whose values are mapped: the names stay, and each change of the entries is one of the
+-- mapped ones. For a loader's blocks and a system's loaders.
 use Rattle.std.proofs.Common.{◌≡◌, ℕ, true, false, cond, Some, None, List, [], ◌∷◌, map, refl, ap, ◌∙◌, option_map}
 use Rattle.std.specs.Ordering.{nat_cmp, match_ordering}
 use Rattle.std.specs.declared.cmp.Ordering.TheVariants.{Less, Equal, Greater}

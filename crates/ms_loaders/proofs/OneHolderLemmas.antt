@@ -1,5 +1,5 @@
--- At most one loader holds a word: chunks that are held in a space share none, and a word lies in one
--- space. `System::holder` uses this.
+-- At most one loader holds a word: chunks that are held in a space share none, and a word lies in
+-- one space. `System::holder` uses this.
 use Rattle.std.proofs.Common.{◌≡◌, ◌&&◌, ℕ, ◌==◌, ◌+◌, Bool, true, not, List, [], ◌∷◌, ◌++◌, map, sym}
 use Rattle.std.proofs.Common.{◌∙◌, ◌⊎◌, inl, inr, arith}
 use Rattle.std.specs.Prelude.{nat_lt}

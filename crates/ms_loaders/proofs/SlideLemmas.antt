@@ -1,5 +1,5 @@
--- A row of names that slides on: the blocks of the names that it leaves are among the others then. The functions
--- of `naming/table` use these.
+-- A row of names that slides on: the blocks of the names that it leaves are among the others then.
+-- The functions of `naming/table` use these.
 use Rattle.std.proofs.Common.{◌≡◌, ◌≢◌, ◌+◌, ◌-◌, ◌<◌, ◌≤◌, ℕ, cond, Some, None, Option, List, [], ◌∷◌, refl, sym, ap}
 use Rattle.std.proofs.Common.{true, false, Bool, IsTrue, IsFalse, true≢false, append-nil, get_or-drop, drop_of_length-le}
 use Rattle.std.proofs.Common.{◌∙◌, ◌++◌, arith, take, drop, length, inl, inr}
@@ -113,8 +113,8 @@ pub fits_again : (first count : ℕ) (new old : List Block) → length new ≡ l
 fits_again first count new old same is fits =
     omega (arith, same, is, fits, ap length (written_back count new old same is))
 
--- Where a name had a block in the row, which is cleared there, and goes from the others, it has none; all others
--- have what they had.
+-- Where a name had a block in the row, which is cleared there, and goes from the others, it has
+-- none; all others have what they had.
 anew : (is : Bool) (new old : Block) (now others : Option Block) → new ≡ cond is no_block old
     → now ≡ cond is None others → unless_none new now ≡ cond is None (unless_none old others)
 anew true new old now others cleared gone = ap (λ b. unless_none b now) cleared ∙ gone

@@ -1,5 +1,5 @@
--- A step that is served over the pool itself is a transition of the machine, and pool and loaders stay
--- together. For system.rt.
+-- A step that is served over the pool itself is a transition of the machine, and pool and loaders
+-- stay together. For system.rt.
 use Rattle.std.proofs.Common.{◌≡◌, ◌≢◌, ◌<◌, ◌+◌, ℕ, suc, Some, List, ◌∷◌, Ok, Err, Result, length}
 use Rattle.std.proofs.Common.{refl, sym, ap, ◌∙◌, subst, arith}
 use Rattle.std.specs.Prelude.{OnOk, IfErr, ◌↔◌}

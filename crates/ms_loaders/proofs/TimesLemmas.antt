@@ -1,4 +1,5 @@
--- Lists that have the same elements, by how often each stands in them: a test keeps the same of both.
+-- Lists that have the same elements, by how often each stands in them: a test keeps the same of
+-- both.
 use Rattle.std.proofs.Common.{◌≡◌, ◌≤◌, ℕ, Bool, true, false, cond, ◌&&◌, List, [], ◌∷◌, ◌++◌, refl, sym, ap, ◌∙◌}
 use Rattle.std.proofs.Common.{subst, arith}
 use Rattle.std.specs.List.{sum_by, filter}

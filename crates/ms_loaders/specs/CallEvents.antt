@@ -40,14 +40,15 @@ TotalsAreEvents =
     → AreTogether old loaders → Totalled old account totals new
     → IsEvent old loaders (telling account.space) (told (sums_in totals)) new loaders
 
--- The loader is there under its name: from its opening to its closing, between the calls of one step
--- too, though the program's map has it a little later and gives it up a little sooner.
+-- The loader is there under its name: from its opening to its closing, between the calls of one
+-- step too, though the program's map has it a little later and gives it up a little sooner.
 pub record IsThere (ledger : Ledger) (loaders : List (ℕ × LoaderView)) (name : ℕ) (loader : LoaderView) : Type 0 where
   pub together : AreTogether ledger loaders
   pub found : named loaders name ≡ Some loader
 
--- A call of `Pool::close_both` for a loader's accounts. The loader has neither live nor free blocks:
--- an unload drops its books before, which is the local event of it, and one just made has none.
+-- A call of `Pool::close_both` for a loader's accounts. The loader has neither live nor free
+-- blocks: an unload drops its books before, which is the local event of it, and one just made has
+-- none.
 pub record IsCloseCall (old : Ledger) (loaders : List (ℕ × LoaderView)) (name : ℕ) (loader : LoaderView)
     (new : Ledger) : Type 0 where
   pub there : IsThere old loaders name loader
@@ -98,8 +99,8 @@ AnswersAs (Ok span) (lent chunk) = span ≡ span_of chunk
 AnswersAs (Err refusal) (refused other) = other ≡ refusal
 AnswersAs _ _ = ⊥
 
--- A call for a loader's account is the event: the loader has the chunks then that the call leaves to
--- the account.
+-- A call for a loader's account is the event: the loader has the chunks then that the call leaves
+-- to the account.
 pub record IsAnswered (space : Space) (old : Ledger) (loaders : List (ℕ × LoaderView)) (name : ℕ) (loader : LoaderView)
     (event : Event) (result : Result Span Refusal) (account : AccountState) (new : Ledger) : Type 0 where
   pub answer : Answer

@@ -1,4 +1,5 @@
--- The run of granules that an allocation tells, beside those that it committed (this project's choice).
+-- The run of granules that an allocation tells, beside those that it committed (this project's
+-- choice).
 use Rattle.std.specs.Prelude.{◌≡◌, ℕ, ◌+◌, ◌-◌, ◌/◌, Bool, ◌&&◌, ◌==◌, nat_le, nat_lt, List, length, slice_get, Some}
 use Rattle.std.specs.Prelude.{IsTrue, IsFalse, if◌then◌else◌}
 use Rattle.ms_base.specs.declared.kind.Space.{Space}
@@ -18,8 +19,8 @@ is_in_run run k = nat_le run.first k && nat_lt k (run.first + run.granules)
 abbrev pub has_granule : Space → Machine → ℕ → Bool
 has_granule space m k = is_among (committed_in space m) k
 
--- No granule goes, and none of the other space comes. Each that came lies in the run, each of the run is
--- committed then, and so many came; where a policy gives back, each of the run came.
+-- No granule goes, and none of the other space comes. Each that came lies in the run, each of the
+-- run is committed then, and so many came; where a policy gives back, each of the run came.
 pub record TellsRun (space : Space) (old : Machine) (run : GranuleRun) (new : Machine) : Type 0 where
   pub elsewhere : committed_in (other_space space) new ≡ committed_in (other_space space) old
   pub stay : (k : ℕ) → IsTrue (has_granule space old k) → IsTrue (has_granule space new k)

@@ -13,8 +13,8 @@ use Rattle.ms_loaders.specs.declared.details.LoaderDetails.{LoaderDetails}
 use Rattle.ms_loaders.specs.declared.details.Details.{Details}
 use Rattle.ms_loaders.specs.declared.totals.Totals.{Totals}
 
--- The sums over one arena: its chunks, their words and those of their fronts, and the words in use, by what
--- they are.
+-- The sums over one arena: its chunks, their words and those of their fronts, and the words in use,
+-- by what they are.
 pub record ArenaSums : Type 0 where
   pub chunks : ℕ
   pub capacity : ℕ
@@ -36,7 +36,8 @@ pub record DetailSums : Type 0 where
   pub loaders : List LoaderSums
   pub roots : List RootPlaces
 
--- The sums over a loader's arena in a space; waste is what is in use and neither live nor a free block.
+-- The sums over a loader's arena in a space; waste is what is in use and neither live nor a free
+-- block.
 abbrev pub arena_sums : Space → LoaderState → ArenaSums
 arena_sums space loader = record {
   chunks = length (arena_of space loader).chunks;
@@ -57,8 +58,8 @@ loader_sums entry = record {
   class_space = arena_sums Class entry.1;
 }
 
--- Those of each loader of a machine, in order of name, and the places of each reserved root, those of
--- the class space last.
+-- Those of each loader of a machine, in order of name, and the places of each reserved root, those
+-- of the class space last.
 abbrev pub details_of : Machine → DetailSums
 details_of m = record {
   loaders = map loader_sums m.loaders;

@@ -1,4 +1,5 @@
--- The names of a loader's blocks; how an allocation enters one, and what it does to names, arena and source.
+-- The names of a loader's blocks; how an allocation enters one, and what it does to names, arena
+-- and source.
 use Rattle.std.specs.Prelude.{◌≡◌, ℕ, ◌⊎◌, List, Some, None, Result, Ok, Err, IfOk, OnErr}
 use Rattle.ms_base.specs.declared.policy.Policy.{Policy}
 use Rattle.ms_base.specs.declared.span.Block.{Block}

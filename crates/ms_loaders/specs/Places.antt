@@ -1,5 +1,5 @@
--- Entries at numbers, 256 places to a page, and the list of them; pages end where nothing stands further on
--- (our choice).
+-- Entries at numbers, 256 places to a page, and the list of them; pages end where nothing stands
+-- further on (our choice).
 use Rattle.std.specs.Prelude.{◌≡◌, ℕ, ◌-◌, ◌*◌, ◌/◌, ◌%◌, ◌<◌, ◌≤◌, zero, suc, cond, nat_eq, List, [], ◌∷◌}
 use Rattle.std.specs.Prelude.{Option, Some, None, IfSome, length, slice_index_or}
 
@@ -50,7 +50,8 @@ value_of (Some entry) = Some entry.1
 abbrev pub ArePlaced : {X : Type 0} → (ℕ → Option (ℕ × X)) → Type 0
 ArePlaced at = (number : ℕ) → IfSome (at number) (λ entry. entry.0 ≡ number)
 
--- What is kept true: each entry stands at its name, none below the first number, and they are counted.
+-- What is kept true: each entry stands at its name, none below the first number, and they are
+-- counted.
 pub record AreKept {X : Type 0} (pages : List (List (Option (ℕ × X)))) (first count : ℕ) : Type 0 where
   pub placed : ArePlaced (placed_at pages)
   pub none_below : (k : ℕ) → k < first → placed_at pages k ≡ None

@@ -1,5 +1,5 @@
--- What a step of the machine makes of a source of accounts and of the loaders over it, by the calls that
--- it makes, as the source states them (this project's choice).
+-- What a step of the machine makes of a source of accounts and of the loaders over it, by the calls
+-- that it makes, as the source states them (this project's choice).
 use Rattle.std.specs.Prelude.{◌≡◌, ◌<◌, ℕ, ◌⊎◌, List, Some, None, Result, Ok, Err, OnErr}
 use Rattle.ms_base.specs.declared.kind.Kind.{Kind}
 use Rattle.ms_base.specs.declared.kind.Space.{Space}
@@ -59,8 +59,8 @@ pub record MakesInVain {S : Type 0} (calls : SourceCalls S) (old : List (ℕ × 
   pub closed : calls.closed_both middle (account_in NonClass (new_loader accounts.0 accounts.1 kind))
       (account_in Class (new_loader accounts.0 accounts.1 kind)) after
 
--- Why no loader is made, in the order of the checks: the name is used; no account is opened; memory is
--- wanting.
+-- Why no loader is made, in the order of the checks: the name is used; no account is opened; memory
+-- is wanting.
 abbrev pub MakesNone : {S : Type 0} → SourceCalls S → List (ℕ × LoaderView) → ℕ → Kind → S → Refusal → S → Type 0
 MakesNone calls old name kind before refusal after =
     ((refusal ≡ LoaderExists) × ((loader : LoaderView) × (named old name ≡ Some loader)) × (after ≡ before))
@@ -130,13 +130,15 @@ AllocatesNone calls space old name block words before refusal new after =
     (FindsNone old name refusal new × (after ≡ before))
     ⊎ AllocatesIn calls space old name block words before (Err refusal) new after
 
--- Why a loader's block isn't found, or its word isn't: no loader has the name, or the loader says why.
+-- Why a loader's block isn't found, or its word isn't: no loader has the name, or the loader says
+-- why.
 abbrev pub IsLacking : List (ℕ × LoaderView) → ℕ → (LoaderState → Refusal → Type 0) → Refusal
     → List (ℕ × LoaderView) → Type 0
 IsLacking old name why refusal new =
     FindsNone old name refusal new ⊎ LooksAt old name (λ loader. why loader refusal) new
 
--- What each step is answered, with the source and the loaders before and after: no other reply is given.
+-- What each step is answered, with the source and the loaders before and after: no other reply is
+-- given.
 abbrev pub AnswersNew : {S : Type 0} → SourceCalls S → List (ℕ × LoaderView) → ℕ → Kind → S → Reply
     → List (ℕ × LoaderView) → S → Type 0
 AnswersNew calls old name kind before Done new after = MakesLoader calls old name kind before new after

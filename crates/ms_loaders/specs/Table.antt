@@ -4,8 +4,8 @@ use Rattle.std.specs.Prelude.{nat_eq, nat_lt, slice_index_or}
 use Rattle.std.specs.Map.{lookup}
 use Rattle.ms_base.specs.declared.span.Block.{Block}
 
--- From which name on the list has the blocks of names in a row, of no words where a name has none there; and the
--- blocks of other names, in any order.
+-- From which name on the list has the blocks of names in a row, of no words where a name has none
+-- there; and the blocks of other names, in any order.
 pub record TableView : Type 0 where
   pub first : ℕ
   pub row : List Block

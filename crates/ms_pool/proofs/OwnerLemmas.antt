@@ -1,5 +1,5 @@
--- To whom a word is lent: of all loans only those of the word's own root can have it, and of these one has
--- it where a lent leaf covers its offset. `holder` uses this.
+-- To whom a word is lent: of all loans only those of the word's own root can have it, and of these
+-- one has it where a lent leaf covers its offset. `holder` uses this.
 use Rattle.std.proofs.Common.{◌≡◌, ◌≤◌, ◌<◌, ℕ, zero, suc, ◌+◌, ◌*◌, ◌/◌, ◌%◌, Bool, true, false, cond, Some, None, Option}
 use Rattle.std.proofs.Common.{List, [], ◌∷◌, get_or, length, map, refl, ap, ◌∙◌, arith}
 use Rattle.std.specs.Prelude.{nat_le, nat_lt, ◌&&◌}

@@ -1,5 +1,5 @@
--- The pool as its callers see it: what holds of it before and after each call. TookLemmas, GrewLemmas,
--- ClosedLemmas and HeldLoanLemmas have what callers need; the others are their parts.
+-- The pool as its callers see it: what holds of it before and after each call. TookLemmas,
+-- GrewLemmas, ClosedLemmas and HeldLoanLemmas have what callers need; the others are their parts.
 pub mod LoanLemmas
 pub mod SoundLemmas
 pub mod FoundLemmas

@@ -1,5 +1,5 @@
--- A chunk of the pool that grows in its place. The first two words stand for long ones: a proof looks
--- into them where it has to.
+-- A chunk of the pool that grows in its place. The first two words stand for long ones: a proof
+-- looks into them where it has to.
 use Rattle.std.specs.Prelude.{◌≡◌, ◌≤◌, ℕ, ◌*◌, ◌&&◌, ◌==◌, nat_le, cond, Bool, List, Option, Some, None, map}
 use Rattle.std.specs.Prelude.{if◌then◌else◌}
 use Rattle.ms_base.specs.declared.span.Chunk.{Chunk}

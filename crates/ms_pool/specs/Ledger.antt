@@ -1,5 +1,5 @@
--- The pool as its callers see it: what is lent to whom, which nodes are reserved, which granules are
--- committed, and what was counted.
+-- The pool as its callers see it: what is lent to whom, which nodes are reserved, which granules
+-- are committed, and what was counted.
 use Rattle.std.specs.Prelude.{ℕ, ◌+◌, ◌-◌, ◌<◌, ◌≤◌, ◌^◌, ◌==◌, not, cond, nat_lt, Bool, List, [], ◌∷◌, length, map}
 use Rattle.std.specs.List.{All, filter}
 use Rattle.std.specs.List.Sorted.{IsStrictlyIncreasing, IsPermutation}

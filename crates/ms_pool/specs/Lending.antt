@@ -18,7 +18,8 @@ abbrev pub chunk_at : Policy → Span → ℕ → Chunk
 chunk_at policy span words =
     record { start = span.start; level = span.level; front = front_for policy (size_of span.level) words }
 
--- What a chunk may be asked for: a wanted level, the most that serves, and words that the latter has.
+-- What a chunk may be asked for: a wanted level, the most that serves, and words that the latter
+-- has.
 pub record MayTake (wanted most words : ℕ) : Type 0 where
   pub levels : wanted ≤ most
   pub some : 1 ≤ words
@@ -36,7 +37,8 @@ pub record Adds (policy : Policy) (wanted most words : ℕ) (old : AccountState)
 abbrev pub parent_of : Chunk → Span
 parent_of chunk = record { start = chunk.start; level = chunk.level - 1 }
 
--- The chunk once it reaches so many words in all: as it was, with a greater front, or as its parent.
+-- The chunk once it reaches so many words in all: as it was, with a greater front, or as its
+-- parent.
 abbrev pub reaching : Policy → Chunk → ℕ → Chunk
 reaching policy chunk total =
     if nat_le total chunk.front then chunk

@@ -1,5 +1,5 @@
--- The map of a root chunk: what becomes of each of its places (after HotSpot's VM.metaspace vsmap; the
--- places are this project's choice).
+-- The map of a root chunk: what becomes of each of its places (after HotSpot's VM.metaspace vsmap;
+-- the places are this project's choice).
 use Rattle.std.specs.Prelude.{◌≡◌, ◌<◌, ℕ, ◌+◌, ◌*◌, Bool, false, not, ◌&&◌, ◌||◌, if◌then◌else◌, List, [], ◌∷◌, get_or, map}
 use Rattle.std.specs.List.{list_any, flat_map, range_with_len}
 use Rattle.ms_base.specs.declared.span.Chunk.{Chunk}
@@ -30,8 +30,8 @@ meets_lent chunks start words = list_any (λ chunk. meet chunk.start (size_of ch
 abbrev pub meets_free : List Span → ℕ → ℕ → Bool
 meets_free parts start words = list_any (λ part. meet part.start (size_of part.level) start words) parts
 
--- What a place is: whether a chunk that is lent has a word of it, a free part has one, and a committed
--- granule has one.
+-- What a place is: whether a chunk that is lent has a word of it, a free part has one, and a
+-- committed granule has one.
 abbrev pub place_by : Bool → Bool → Bool → Place
 place_by lent free committed =
     if lent then (if committed then (if free then LentPartly else LentWholly) else LentUncommitted)
@@ -46,8 +46,8 @@ abbrev pub is_committed_in : PoolState → ℕ → Bool
 is_committed_in pool start =
     list_any (is_among pool.committed) (granules_meeting (granule_of pool.limits.policy) start place_words)
 
--- What a place of a root is, by the chunks that are lent there, the root's free parts and the committed
--- granules.
+-- What a place of a root is, by the chunks that are lent there, the root's free parts and the
+-- committed granules.
 abbrev pub place_in : PoolState → ℕ → ℕ → Place
 place_in pool root number =
     place_by (meets_lent pool.held (place_start root number) place_words)
@@ -77,14 +77,16 @@ map_in told = record { root = told.root; places = told.places }
 abbrev pub place_of : ℕ → ℕ × ℕ
 place_of number = (number * place_words, place_words)
 
--- What is told of the places of a root by the leaves of its tree: whether each meets a lent one, and a free one.
+-- What is told of the places of a root by the leaves of its tree: whether each meets a lent one,
+-- and a free one.
 pub record AreFound (leaves : List LentLeaf) (is_lent is_free : List Bool) : Type 0 where
   pub lent : (number : ℕ) → number < root_places
       → get_or is_lent number false ≡ meets_lent (map chunk_of leaves) (number * place_words) place_words
   pub free : (number : ℕ) → number < root_places
       → get_or is_free number false ≡ meets_free (free_of leaves) (number * place_words) place_words
 
--- What a free leaf changes of it: a place that lies in the leaf isn't lent, and one that meets it is free.
+-- What a free leaf changes of it: a place that lies in the leaf isn't lent, and one that meets it
+-- is free.
 pub record AreNoted (part : Span) (was_lent was_free is_lent is_free : List Bool) : Type 0 where
   pub lent : (number : ℕ) → number < root_places
       → get_or is_lent number false ≡ (get_or was_lent number false && not (lies_in (place_of number) (words_of part)))

@@ -2,8 +2,8 @@
 -- project's choice).
 use Rattle.std.specs.Prelude.{ℕ, ◌+◌, ◌%◌, ◌^◌, ◌<◌}
 
--- How often `take` met the commit limit and the reserve limit, `grow` the commit limit and a want of
--- room, and an account was refused a number, each modulo 2^64.
+-- How often `take` met the commit limit and the reserve limit, `grow` the commit limit and a want
+-- of room, and an account was refused a number, each modulo 2^64.
 pub record Tallies : Type 0 where
   pub take_commit : ℕ
   pub take_reserve : ℕ

@@ -1,4 +1,5 @@
--- The line that says that a command is done, as it is made anew and as it is counted on. Used by `done_line`.
+-- The line that says that a command is done, as it is made anew and as it is counted on. Used by
+-- `done_line`.
 use Rattle.std.proofs.Common.{◌≡◌, ◌<◌, ◌≤◌, ◌+◌, ◌-◌, ◌^◌, ◌%◌, ◌/◌, ◌∙◌, ◌++◌, ◌∷◌, [], ℕ, List, Bool, true, false}
 use Rattle.std.proofs.Common.{ap, arith, codes, decimal, drop, length, length-append, refl, replicate, sym, take}
 use Rattle.std.specs.Prelude.{nat_lt, slice_index_or, slice_set}

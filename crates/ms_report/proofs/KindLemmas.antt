@@ -1,5 +1,5 @@
--- Loaders one after the other: sums over those of a kind, and what each holds. `sum_one` and `push_all` use
--- these.
+-- Loaders one after the other: sums over those of a kind, and what each holds. `sum_one` and
+-- `push_all` use these.
 use Rattle.std.proofs.Common.{◌≡◌, ◌<◌, ◌+◌, ℕ, true, false, List, [], ◌∷◌, ◌++◌, length, map, take, drop, get_or}
 use Rattle.std.proofs.Common.{codes, decimal, if◌then◌else◌, is_ok, Result, Ok, Err, OnOk, refl, sym, ap, ◌∙◌, arith}
 use Rattle.std.specs.List.{filter}

@@ -1,4 +1,5 @@
--- Texts that grow by spaces, and by the lines of levels. The loops of `push_spaces` and `push_levels` use these.
+-- Texts that grow by spaces, and by the lines of levels. The loops of `push_spaces` and
+-- `push_levels` use these.
 use Rattle.std.proofs.Common.{◌≡◌, ◌∙◌, ◌+◌, ◌-◌, ◌<◌, ◌≤◌, ℕ, List, ◌++◌, Result, OnOk, Ok, Err, refl, sym, ap, arith}
 use Rattle.std.proofs.Common.{append_assoc, append-nil, drop, drop-cons, drop_of_length-le, get_or, length}
 use Rattle.std.proofs.Common.{add-one, replicate, take}
@@ -29,7 +30,8 @@ put_last (Ok x) whole text new piece rest so_far piece_is is =
     is ∙ ap (λ (last : List ℕ). text ++ last) piece_is ∙ sym so_far
 put_last (Err e) whole text new piece rest so_far piece_is is = tt
 
--- The lines from a level on are its own and those of the later ones, and past the last there are none.
+-- The lines from a level on are its own and those of the later ones, and past the last there are
+-- none.
 pub level_more : (level : ℕ) (held free : List ℕ) → level < length held → level < length free
     → level_lines level (drop level held) (drop level free)
     ≡ table_line level_table (level_texts level (get_or held level 0) (get_or free level 0))

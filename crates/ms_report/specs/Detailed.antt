@@ -1,5 +1,5 @@
--- The text of a full report: the fixed text, then the parts Settings, Usage, Kinds, Loaders, Refused, Peaks
--- and Map (this project's choice).
+-- The text of a full report: the fixed text, then the parts Settings, Usage, Kinds, Loaders,
+-- Refused, Peaks and Map (this project's choice).
 use Rattle.std.specs.Prelude.{ℕ, ◌/◌, ◌%◌, ◌==◌, List, [], ◌∷◌, ◌++◌, Option, Some, None, codes, if◌then◌else◌}
 use Rattle.std.specs.Fmt.{decimal}
 use Rattle.ms_base.specs.declared.settings.Settings.{Settings}

@@ -1,5 +1,5 @@
--- What each loader holds in each space: the part Loaders of a full report (after HotSpot's VM.metaspace,
--- with this project's numbers).
+-- What each loader holds in each space: the part Loaders of a full report (after HotSpot's
+-- VM.metaspace, with this project's numbers).
 use Rattle.std.specs.Prelude.{ℕ, ◌==◌, List, [], ◌∷◌, ◌++◌, codes, if◌then◌else◌}
 use Rattle.std.specs.Fmt.{decimal}
 use Rattle.ms_base.specs.declared.kind.Space.{Space}

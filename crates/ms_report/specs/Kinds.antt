@@ -1,5 +1,5 @@
--- How much the loaders of each kind hold: the part Kinds of a full report (after HotSpot's VM.metaspace,
--- with this project's numbers).
+-- How much the loaders of each kind hold: the part Kinds of a full report (after HotSpot's
+-- VM.metaspace, with this project's numbers).
 use Rattle.std.specs.Prelude.{ℕ, ◌+◌, ◌*◌, ◌≤◌, ◌^◌, Bool, true, false, List, [], ◌∷◌, ◌++◌, length, codes}
 use Rattle.std.specs.List.{filter, sum_by}
 use Rattle.std.specs.Fmt.{decimal}

@@ -8,7 +8,8 @@ use Rattle.ms_loaders.specs.declared.peaks.Peaks.{Peaks}
 use Rattle.ms_report.specs.Layout.{left_in, number_line, right_in}
 use Rattle.ms_report.specs.Sizes.{size_in}
 
--- The line of a number of things that have so many words each: its label, the number, the size that they make.
+-- The line of a number of things that have so many words each: its label, the number, the size that
+-- they make.
 abbrev pub sized_line : List ℕ → ℕ → ℕ → List ℕ
 sized_line label number words =
     codes "  " ++ left_in 12 label ++ right_in 12 (decimal number) ++ size_in (number * words) ++ codes "\n"

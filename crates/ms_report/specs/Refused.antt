@@ -1,4 +1,5 @@
--- How many command lines were refused, by name: the part Refused of a full report (this project's choice).
+-- How many command lines were refused, by name: the part Refused of a full report (this project's
+-- choice).
 use Rattle.std.specs.Prelude.{ℕ, ◌+◌, ◌<◌, Bool, false, List, [], ◌∷◌, ◌++◌, codes, cond, nat_eq}
 use Rattle.std.specs.List.{count_by}
 use Rattle.std.specs.Cmp.Lexicographic.{pointwise}

@@ -16,7 +16,8 @@ policy_text Never = codes "none"
 abbrev pub policy_line : Policy → List ℕ
 policy_line policy = codes "  " ++ left_in 12 (codes "policy") ++ right_in 12 (policy_text policy) ++ codes "\n"
 
--- The numbers with their labels: the words of a granule, the limits, the nodes of the class space, the workers.
+-- The numbers with their labels: the words of a granule, the limits, the nodes of the class space,
+-- the workers.
 abbrev pub setting_rows : Settings → List (List ℕ × ℕ)
 setting_rows settings =
     (codes "granule", granule_of settings.policy)

@@ -12,7 +12,8 @@ use Rattle.ms_report.specs.declared.usage.Words.{Words}
 abbrev pub limit_of : Settings → ℕ
 limit_of settings = settings.max_granules * granule_of settings.policy
 
--- A part's share of a whole in tenths of a per cent, cut off; none where there is nothing to divide by.
+-- A part's share of a whole in tenths of a per cent, cut off; none where there is nothing to divide
+-- by.
 abbrev pub share_of : ℕ → ℕ → Option ℕ
 share_of part whole = if whole == 0 then None else Some (part * 1000 / whole)
 

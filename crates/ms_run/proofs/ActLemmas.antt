@@ -1,5 +1,5 @@
--- A step over the lock as events of its seat, and what is said as acts. For the lemmas of `answer`, and
--- for `working`.
+-- A step over the lock as events of its seat, and what is said as acts. For the lemmas of `answer`,
+-- and for `working`.
 use Rattle.std.proofs.Common.{◌≡◌, ℕ, List, [], ◌∷◌, ◌++◌, refl, sym, ap, ◌∙◌, subst, append-nil, append_assoc}
 use Rattle.ms_base.specs.declared.kind.Space.TheVariants.{NonClass, Class}
 use Rattle.ms_base.specs.declared.step.Step.{Step}

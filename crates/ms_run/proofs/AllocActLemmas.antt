@@ -1,5 +1,5 @@
--- An allocation over the lock, arena by arena: its events, and that it is whole at the one where it is
--- done. For the lemmas of `answer`.
+-- An allocation over the lock, arena by arena: its events, and that it is whole at the one where it
+-- is done. For the lemmas of `answer`.
 use Rattle.std.proofs.Common.{◌≡◌, ℕ, Bool, true, false, Option, Some, None, Result, Ok, Err, List, [], ◌∷◌, inl, inr}
 use Rattle.std.proofs.Common.{refl, sym, ap, ◌∙◌, subst}
 use Rattle.ms_base.specs.declared.kind.Space.{Space}

@@ -1,5 +1,5 @@
--- A step over the lock, from what it is over any source: the seat and its loaders after it, its events,
--- and that the reply is its loader's own. For `answer` in metering.rt.
+-- A step over the lock, from what it is over any source: the seat and its loaders after it, its
+-- events, and that the reply is its loader's own. For `answer` in metering.rt.
 use Rattle.std.proofs.Common.{◌≡◌, ◌≢◌, ◌<◌, ℕ, Bool, true, false, Option, Some, None, Result, Ok, Err, List, []}
 use Rattle.std.proofs.Common.{inl, inr, refl, sym, ap, ◌∙◌, subst}
 use Rattle.ms_base.specs.declared.kind.Kind.{Kind}

@@ -1,5 +1,5 @@
--- Each step over the lock: a loader's words and blocks, its end, a purge, and all steps together. For
--- `answer` in metering.rt.
+-- Each step over the lock: a loader's words and blocks, its end, a purge, and all steps together.
+-- For `answer` in metering.rt.
 use Rattle.std.proofs.Common.{◌≡◌, ◌≢◌, ℕ, Bool, false, Option, Some, List, inl, inr, refl, sym, ap, ◌∙◌, subst}
 use Rattle.std.proofs.lemmas.Bool.{cases_eq}
 use Rattle.ms_base.specs.declared.kind.Space.TheVariants.{NonClass, Class}

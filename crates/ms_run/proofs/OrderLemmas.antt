@@ -1,4 +1,5 @@
--- One order of whole steps, from the one history of events that workers' acts made. For `run_phase`.
+-- One order of whole steps, from the one history of events that workers' acts made. For
+-- `run_phase`.
 use Rattle.std.proofs.Common.{◌≡◌, ◌<◌, ◌==◌, ℕ, true, false, not, cond, Option, Some, None, Result, Ok, Err}
 use Rattle.std.proofs.Common.{List, [], ◌∷◌, map, length, inl, inr, refl, sym, ap, ◌∙◌, subst, arith}
 use Rattle.std.specs.Prelude.{slice_index_or}
@@ -153,8 +154,8 @@ spread_works old (act ∷ acts) new works = (
   spread_works works.0 acts new works.2,
 )
 
--- What was said at one place came of acts, over the loaders of that place, and the events of that number
--- are those of the acts.
+-- What was said at one place came of acts, over the loaders of that place, and the events of that
+-- number are those of the acts.
 pub record HasPart (place : Place) (said : List Said) (log : List Logged) (before after : List (ℕ × LoaderView))
     (at : ℕ) : Type 0 where
   pub acts : List Act

@@ -1,5 +1,5 @@
--- A phase put together from its parts: how its lines and loaders were dealt to shares, how each share
--- was worked, and how replies and loaders came together again. Used by `run_phase`.
+-- A phase put together from its parts: how its lines and loaders were dealt to shares, how each
+-- share was worked, and how replies and loaders came together again. Used by `run_phase`.
 use Rattle.std.proofs.Common.{◌≡◌, ◌<◌, ◌==◌, ℕ, Some, None, Option, List, [], ◌∷◌, map, length, refl, sym, ap, ◌∙◌}
 use Rattle.std.proofs.Common.{subst, arith, slice_get, ◌++◌, ◌+◌, ◌%◌}
 use Rattle.std.specs.List.{AllByRecursion}

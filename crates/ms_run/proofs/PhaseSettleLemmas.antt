@@ -1,5 +1,5 @@
--- A pool that comes out of its lock and the loaders of all shares belong together: each share's seat
--- serves its loaders, and each owner is served once. For `gather`.
+-- A pool that comes out of its lock and the loaders of all shares belong together: each share's
+-- seat serves its loaders, and each owner is served once. For `gather`.
 use Rattle.std.proofs.Common.{◌≡◌, ℕ, ◌+◌, ◌≤◌, Bool, true, false, cond, ◌||◌, inl, inr, List, [], ◌∷◌, ◌++◌, map}
 use Rattle.std.proofs.Common.{length, refl, sym, ap, ◌∙◌, subst, eq-eqb, ne_eqb, zero-add, arith}
 use Rattle.std.specs.Prelude.{◌==◌}

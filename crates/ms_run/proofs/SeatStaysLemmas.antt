@@ -1,5 +1,5 @@
--- What an allocation over the lock leaves a seat: it serves the loaders still, and no other owner gets a
--- first chunk.
+-- What an allocation over the lock leaves a seat: it serves the loaders still, and no other owner
+-- gets a first chunk.
 use Rattle.std.proofs.Common.{◌≡◌, ◌≢◌, ◌-◌, ℕ, ◌⊎◌, Bool, true, false, cond, Option, Some, None, Result, Ok, Err, List}
 use Rattle.std.proofs.Common.{[], ◌∷◌, ◌++◌, map, refl, sym, ap, ◌∙◌, subst, inl, inr, arith, append-nil}
 use Rattle.std.specs.Prelude.{◌==◌}

@@ -1,5 +1,5 @@
--- A write, a read or a free of a block tells what its loader's own requests know of it, and leaves the
--- loader's accounts and words in use; for blocks.rt.
+-- A write, a read or a free of a block tells what its loader's own requests know of it, and leaves
+-- the loader's accounts and words in use; for blocks.rt.
 use Rattle.std.proofs.Common.{◌≡◌, ◌≢◌, ℕ, false, inl, inr, Some, None, List, [], ◌∷◌, ◌++◌, map, length, option_map}
 use Rattle.std.proofs.Common.{refl, sym, ap, ◌∙◌, subst}
 use Rattle.std.specs.Prelude.{IsTrue}
@@ -44,8 +44,8 @@ pub named_states : (loaders : List (ℕ × LoaderView)) (name : ℕ)
     → named (states_of loaders) name ≡ option_map state_of (named loaders name)
 named_states loaders name = lookup-map_values state_of (is_at (nat_cmp name)) loaders
 
--- What a loader's own requests know of it, where it is there, where it is not, where it stayed and where it
--- changed.
+-- What a loader's own requests know of it, where it is there, where it is not, where it stayed and
+-- where it changed.
 pub own_found : (loaders : List (ℕ × LoaderView)) (name : ℕ) (was : LoaderView) → named loaders name ≡ Some was
     → own_in (states_of loaders) name ≡ Some (own_state was.state)
 own_found loaders name was found = ap own_of (named_states loaders name ∙ ap (option_map state_of) found)

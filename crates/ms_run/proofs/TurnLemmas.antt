@@ -1,5 +1,5 @@
--- Loaders numbered by their first lines, and the workers that they come to by turns; for turn.rt and
--- replaying.rt.
+-- Loaders numbered by their first lines, and the workers that they come to by turns; for turn.rt
+-- and replaying.rt.
 use Rattle.std.proofs.Common.{◌≡◌, ◌≤◌, ◌<◌, ◌+◌, ◌%◌, ℕ, zero, suc, Bool, true, false, not, cond, ◌||◌, Option, Some}
 use Rattle.std.proofs.Common.{None, List, [], ◌∷◌, ◌++◌, length, slice_get, refl, sym, ap, ◌∙◌, subst, arith, eq-eqb}
 use Rattle.std.proofs.Common.{length-append, get_or-set_same, ◌⊎◌, inl, inr, take, drop, get_or, replicate}

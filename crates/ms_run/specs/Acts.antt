@@ -45,8 +45,8 @@ pub record IsGrowing (account : AccountState) (answer : Result Span Refusal) (ev
   pub served : Serves event.0 account
   pub grew : Grew event.0 account start total enlarges answer event.1
 
--- Both accounts of a new loader are opened; those of a loader, which the pool serves, are closed; and
--- the pool is purged.
+-- Both accounts of a new loader are opened; those of a loader, which the pool serves, are closed;
+-- and the pool is purged.
 abbrev pub IsOpening : Kind → LoaderView → Event → Type 0
 IsOpening kind loader event =
     (accounts : AccountState × AccountState) × (loader ≡ new_loader accounts.0 accounts.1 kind)
@@ -80,8 +80,8 @@ abbrev pub GrewSeen : GrowRelation Ledger
 GrewSeen old account start total enlarges (Ok span) new = Grew old account start total enlarges (Ok span) new
 GrewSeen old account start total enlarges (Err refusal) new = new ≡ old
 
--- An allocation as a whole, by the loader's own relation: its books before and after, its answer, and the
--- pool before and after.
+-- An allocation as a whole, by the loader's own relation: its books before and after, its answer,
+-- and the pool before and after.
 pub record IsAllocation (space : Space) (old new : LoaderView) (name words : ℕ) (answer : Result ℕ Refusal)
     (before after : Ledger) : Type 0 where
   pub made : Result Block Refusal
@@ -91,8 +91,8 @@ pub record IsAllocation (space : Space) (old new : LoaderView) (name words : ℕ
 abbrev pub LacksGrowth : AccountState → Event → Type 0
 LacksGrowth account event = (refusal : Refusal) × IsGrowing account (Err refusal) event
 
--- Its events: none, whatever the pool is; or one, at which it is done, for the loader's account; or a
--- growth refused, and then one at which it is done.
+-- Its events: none, whatever the pool is; or one, at which it is done, for the loader's account; or
+-- a growth refused, and then one at which it is done.
 abbrev pub Asks : Space → LoaderView → LoaderView → ℕ → ℕ → Result ℕ Refusal → List Event → Type 0
 Asks space old new name words answer [] = (pool : Ledger) → IsAllocation space old new name words answer pool pool
 Asks space old new name words answer (event ∷ []) =
@@ -117,8 +117,8 @@ LacksLoader kind refusal (event ∷ other ∷ []) =
     (refusal ≡ OutOfMemory) × (loader : LoaderView) × IsOpening kind loader event × IsClosing loader other
 LacksLoader kind refusal _ = ⊥
 
--- The events that a step with this reply is, for accounts of the loader that it names. An Unload that
--- is served is one closing, a Purge one purge, and what needs no pool is none.
+-- The events that a step with this reply is, for accounts of the loader that it names. An Unload
+-- that is served is one closing, a Purge one purge, and what needs no pool is none.
 abbrev pub Makes : List (ℕ × LoaderView) → Step → Reply → List (ℕ × LoaderView) → List Event → Type 0
 Makes old (New name kind) Done new events = Once (OfLoader (named new name) (IsOpening kind)) events
 Makes old (New name kind) (Refused refusal) new events = LacksLoader kind refusal events
@@ -168,8 +168,8 @@ pub record ChangesLoader (old : List (ℕ × LoaderView)) (name : ℕ) (is_so : 
   pub sound : IsSoundView is
   pub so : is_so was.state is.state
 
--- What a step changes of loaders where the pool has no part in it: a refused one, one that reads and a
--- purge nothing, one that writes or frees just that; an allocation leaves a sound loader.
+-- What a step changes of loaders where the pool has no part in it: a refused one, one that reads
+-- and a purge nothing, one that writes or frees just that; an allocation leaves a sound loader.
 abbrev pub Touches : List (ℕ × LoaderView) → Step → Reply → List (ℕ × LoaderView) → Type 0
 Touches old step (Refused refusal) new = new ≡ old
 Touches old (Alloc name block words) reply new = (is : LoaderView) × (named new name ≡ Some is) × IsSoundView is
@@ -181,8 +181,8 @@ Touches old (Free name block) reply new = ChangesLoader old name (λ was is. Fre
 Touches old Purge reply new = new ≡ old
 Touches old _ reply new = ⊤
 
--- The reply to a step is its own loader's, by what that loader was and is then; the loaders that the
--- step doesn't name stay.
+-- The reply to a step is its own loader's, by what that loader was and is then; the loaders that
+-- the step doesn't name stay.
 pub record IsOwnStep (old : List (ℕ × LoaderView)) (said : Said) (new : List (ℕ × LoaderView)) : Type 0 where
   pub own : (name : ℕ) → loader_of said.0 ≡ Some name
       → (refused : Bool) × OwnReply (own_in (states_of old) name) said.0 refused said.1 (own_in (states_of new) name)
@@ -199,8 +199,8 @@ pub record IsAct (old : List (ℕ × LoaderView)) (act : Act) (new : List (ℕ �
 abbrev pub seen : Ledger → Ledger
 seen pool = record pool { opened = 0; class_opened = 0; tallies = no_tallies }
 
--- The one event at which a step is done. A New that lacks memory is done where accounts were opened in
--- vain.
+-- The one event at which a step is done. A New that lacks memory is done where accounts were opened
+-- in vain.
 abbrev pub OpensInVain : Step → Reply → Event → Type 0
 OpensInVain (New name kind) (Refused refusal) event =
     (refusal ≡ OutOfMemory) × (loader : LoaderView) × IsOpening kind loader event
@@ -209,8 +209,8 @@ OpensInVain _ _ event = ⊥
 abbrev pub IsDoneBy : List (ℕ × LoaderView) → Step → Reply → List (ℕ × LoaderView) → Event → Type 0
 IsDoneBy old step reply new event = Makes old step reply new (event ∷ []) ⊎ OpensInVain step reply event
 
--- A worker's step as a whole, on its own loaders and over what is seen of the pool: it leaves the pool,
--- or is done by one event.
+-- A worker's step as a whole, on its own loaders and over what is seen of the pool: it leaves the
+-- pool, or is done by one event.
 pub record IsStep (before : Ledger) (old : List (ℕ × LoaderView)) (said : Said) (after : Ledger)
     (new : List (ℕ × LoaderView)) : Type 0 where
   pub loaders : IsOwnStep old said new

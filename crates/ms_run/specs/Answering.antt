@@ -13,8 +13,8 @@ use Rattle.ms_shared.specs.declared.lock_rule.SeatView.{SeatView}
 use Rattle.ms_run.specs.Own.{own_in}
 use Rattle.ms_run.specs.Manned.{IsManned}
 
--- The reply to a loader's step is its own, the other loaders stay, a purge is done; the seat then serves
--- the loaders that there are.
+-- The reply to a loader's step is its own, the other loaders stay, a purge is done; the seat then
+-- serves the loaders that there are.
 pub record IsAnswered (loaders : List (ℕ × LoaderView)) (step : Step) (reply : Reply) (seat : SeatView)
     (after : List (ℕ × LoaderView)) : Type 0 where
   pub manned : IsManned seat after

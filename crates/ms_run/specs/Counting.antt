@@ -22,16 +22,16 @@ used_around (Calloc loader block words) loaders = used_if (named loaders loader)
 used_around (Unload loader) loaders = used_if (named loaders loader)
 used_around _ loaders = 0
 
--- The system is good; where they are counted, the words in use are its. Peaks are kept for full reports, and
--- only where words are counted.
+-- The system is good; where they are counted, the words in use are its. Peaks are kept for full
+-- reports, and only where words are counted.
 pub record IsCounted (counts : Bool) (detail : Detail) (run : Metered) : Type 0 where
   pub good : IsGood run.system
   pub used : IsTrue counts → run.used ≡ used_words_of run.system
   pub kept : AreKept detail run.peaks
   pub counting : is_full detail ≡ true → IsTrue counts
 
--- A run that took this course: its system is in the last state, and the peaks that it keeps are those of
--- all states.
+-- A run that took this course: its system is in the last state, and the peaks that it keeps are
+-- those of all states.
 pub record HasTaken (course : Course) (run : Metered) : Type 0 where
   pub state : run.system ≡ course.state
   pub peaks : ArePeaksIfKept (passed course) run.peaks

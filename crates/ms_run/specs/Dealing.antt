@@ -71,7 +71,8 @@ pub record AreHandedAt (place : Place) (at : ℕ) (loaders after others : Loaded
   pub here : (name : ℕ) → place (Some name) ≡ at → (named others name ≡ named loaders name) × (named after name ≡ None)
   pub apart : (name : ℕ) → place (Some name) ≢ at → (named others name ≡ None) × (named after name ≡ named loaders name)
 
--- The first seat serves all loaders, and the others nothing. They are numbered, and none has an event.
+-- The first seat serves all loaders, and the others nothing. They are numbered, and none has an
+-- event.
 pub record AreSeats (shared : LockState) (seats : List SeatState) (loaders : Loaded) : Type 0 where
   pub first : SeatState
   pub others : List SeatState

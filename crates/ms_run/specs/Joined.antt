@@ -38,7 +38,8 @@ pub record IsMachineOf (pool : Ledger) (state : Machine) : Type 0 where
   pub machine : state ≡ machine_of pool loaders
   pub fits : MaySettle pool loaders
 
--- A state whose pool the one history of all shares' events makes of a first one, with their loaders.
+-- A state whose pool the one history of all shares' events makes of a first one, with their
+-- loaders.
 pub record IsMadeFrom (first : Ledger) (shares : List Share) (state : Machine) : Type 0 where
   pub last : Ledger
   pub ends : IsMachineOf last state

@@ -12,8 +12,9 @@ use Rattle.ms_shared.specs.declared.lock_rule.SeatView.{SeatView}
 use Rattle.ms_shared.specs.SeatView.{ServesBy, opened_by}
 use Rattle.ms_shared.specs.Entries.{Has}
 
--- The seat serves the loaders' accounts, whose owners differ, and no other owner that holds a chunk; in
--- each space it counts as many open accounts as there are loaders. These are sound, and their names rise.
+-- The seat serves the loaders' accounts, whose owners differ, and no other owner that holds a
+-- chunk; in each space it counts as many open accounts as there are loaders. The loaders are sound,
+-- and their names rise.
 pub record IsManned (seat : SeatView) (loaders : List (ℕ × LoaderView)) : Type 0 where
   pub served : All (ServesBy seat) (accounts_of loaders)
   pub distinct : AreDistinct (owners_of loaders)
@@ -23,6 +24,7 @@ pub record IsManned (seat : SeatView) (loaders : List (ℕ × LoaderView)) : Typ
   pub sound : All IsSoundView (values_of loaders)
   pub names : AreNamed loaders
 
--- A change of loaders that any seat serves after it as before: whatever seat served them serves them.
+-- A change of loaders that any seat serves after it as before: whatever seat served them serves
+-- them.
 abbrev pub KeepsSeats : List (ℕ × LoaderView) → List (ℕ × LoaderView) → Type 0
 KeepsSeats old new = (seat : SeatView) → IsManned seat old → IsManned seat new

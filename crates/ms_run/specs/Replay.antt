@@ -32,14 +32,14 @@ use Rattle.ms_run.specs.Workers.{IsByTurn}
 use Rattle.ms_run.specs.declared.fault.RunFault.{RunFault}
 use Rattle.ms_run.specs.declared.fault.RunFault.TheVariants.{Unsettled}
 
--- A step is answered by a transition of the machine, to which the course goes on; where none is asked, all
--- is well and nothing changes.
+-- A step is answered by a transition of the machine, to which the course goes on; where none is
+-- asked, all is well and nothing changes.
 abbrev pub Advances : Option Step → Course → Reply → Course → Type 0
 Advances (Some asked) old reply new = Transition old.state asked reply new.state × (new.before ≡ passed old)
 Advances None old reply new = (reply ≡ Done) × (new ≡ old)
 
--- Totals are those of the state that was reached, and so are their details where they have any. Peaks, where
--- they have any, are those of all states passed.
+-- Totals are those of the state that was reached, and so are their details where they have any.
+-- Peaks, where they have any, are those of all states passed.
 pub record AreOf (course : Course) (totals : Totals) : Type 0 where
   pub sums : sums_in totals ≡ sums_of course.state
   pub details : IfSome totals.details (λ details. details_in details ≡ details_of course.state)
@@ -87,8 +87,9 @@ AreSaid (line ∷ lines) (answer ∷ answers) (s ∷ said) =
     × AreSaid lines answers said
 AreSaid _ _ _ = ⊥
 
--- Workers said it, each what its loaders or a purge were asked. All that was said has one order, in which
--- each worker's lines stand as they were said, and in that order it is one run of the machine.
+-- Workers said it, each what its loaders or a purge were asked. All that was said has one order, in
+-- which each worker's lines stand as they were said, and in that order it is one run of the
+-- machine.
 pub record IsOneRun (worker : Option ℕ → ℕ) (old : Machine) (said : List Said) (new : Machine) : Type 0 where
   pub order : List Said
   pub permutes : IsPermutation order said
@@ -98,8 +99,8 @@ pub record IsOneRun (worker : Option ℕ → ℕ) (old : Machine) (said : List S
 
 -- A phase from one good state to another with the same limits. The replies to each loader's lines
 -- are its own: they follow from its lines and from which of them were refused for want, and leave
--- what the new state has of it. Each purge is done. All of it, in some order that keeps each worker's
--- lines, is one run of the machine.
+-- what the new state has of it. Each purge is done. All of it, in some order that keeps each
+-- worker's lines, is one run of the machine.
 pub record IsPhase (worker : Option ℕ → ℕ) (old : Machine) (lines : List Line) (answers : List Answer)
     (new : Machine) : Type 0 where
   pub said : List Said
@@ -110,16 +111,17 @@ pub record IsPhase (worker : Option ℕ → ℕ) (old : Machine) (lines : List L
   pub good : IsGood new
   pub limits : new.limits ≡ old.limits
 
--- A line that asks no step ends a phase: it is answered Ok, and a report by the totals of the course.
+-- A line that asks no step ends a phase: it is answered Ok, and a report by the totals of the
+-- course.
 pub record IsEnd (course : Course) (line : Line) (answer : Answer) : Type 0 where
   pub no_step : step_of line.command ≡ None
   pub number : answer.line ≡ line.number
   pub done : answer.reply ≡ Done
   pub report : Reports line.command course answer.report
 
--- The first lines of a trace are answered phase by phase, each by the workers whose turn it is in the phase
--- of that number; the course goes on at the end of each phase. A line that asks no step ends a phase, and the
--- next one has the next number.
+-- The first lines of a trace are answered phase by phase, each by the workers whose turn it is in
+-- the phase of that number; the course goes on at the end of each phase. A line that asks no step
+-- ends a phase, and the next one has the next number.
 pub data Replays (trace : List Line) (workers : ℕ) (first : Machine) : ℕ → List Line → List Answer → Course → Type 0 where
   starts : Replays trace workers first 0 [] [] (begun first)
   runs : (phase : ℕ) (worker : Option ℕ → ℕ) (lines later : List Line) (answers others : List Answer)
@@ -131,8 +133,8 @@ pub data Replays (trace : List Line) (workers : ℕ) (first : Machine) : ℕ →
       → Replays trace workers first phase lines answers course → IsEnd course line answer
       → Replays trace workers first (suc phase) (lines ++ line ∷ []) (answers ++ answer ∷ []) course
 
--- From a course on that was taken, the lines are answered as a phase, or part by part of one, by the workers
--- that it has, up to a good state.
+-- From a course on that was taken, the lines are answered as a phase, or part by part of one, by
+-- the workers that it has, up to a good state.
 pub record GoesOn (worker : Option ℕ → ℕ) (old : Course) (lines : List Line) (answers : List Answer)
     (new : Course) : Type 0 where
   pub replays : (trace : List Line) (workers : ℕ) (first : Machine) (phase : ℕ) (before : List Line) (said : List Answer)

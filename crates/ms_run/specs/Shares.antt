@@ -26,8 +26,8 @@ use Rattle.ms_run.specs.declared.share.Share.{Share}
 abbrev pub said_in : List Task → List Reply → List Said
 said_in tasks replies = zip (map (λ (task : Task). task.step) tasks) replies
 
--- A share is ready: its seat is of the lock, has made no event, and serves its loaders; there is room
--- for all replies, and none is there yet.
+-- A share is ready: its seat is of the lock, has made no event, and serves its loaders; there is
+-- room for all replies, and none is there yet.
 pub record IsReady (shared : LockState) (share : Share) : Type 0 where
   pub own : share.seat.id ≡ shared.id
   pub fresh : share.seat.events ≡ []
@@ -65,8 +65,8 @@ AllWorked [] [] = Unit {0}
 AllWorked (share ∷ shares) (done ∷ others) = IsWorked share done × AllWorked shares others
 AllWorked _ _ = ⊥
 
--- Where the lines of each loader go in a phase, by the loader's name, and those of a purge: to which
--- share, by its place.
+-- Where the lines of each loader go in a phase, by the loader's name, and those of a purge: to
+-- which share, by its place.
 abbrev pub Place : Type 0
 Place = Option ℕ → ℕ
 

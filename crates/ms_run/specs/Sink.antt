@@ -44,8 +44,8 @@ abbrev pub AreOfPhases : Settings → Detail → List Line → List Answer → T
 AreOfPhases settings detail lines answers =
     IsReplay (limits_of settings) settings.workers lines answers × All (IsDetailed detail) answers
 
--- Answers are those to a trace: answered phase by phase by so many workers, with one of them as one run of the
--- machine in the order of the lines, and reports have the details that are asked for.
+-- Answers are those to a trace: answered phase by phase by so many workers, with one of them as one
+-- run of the machine in the order of the lines, and reports have the details that are asked for.
 pub record AreToTrace (settings : Settings) (detail : Detail) (lines : List Line) (answers : List Answer)
     : Type 0 where
   pub own : IsReplay (limits_of settings) settings.workers lines answers

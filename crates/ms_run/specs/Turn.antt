@@ -18,7 +18,8 @@ pub record TurnState : Type 0 where
 abbrev pub shares_in : TurnState → ℕ
 shares_in turn = length turn.active
 
--- The worker of a loader's lines, and of a purge, by the workers in phase 0, the phase and how many workers there are.
+-- The worker of a loader's lines, and of a purge, by the workers in phase 0, the phase and how many
+-- workers there are.
 abbrev pub worker_by : List ℕ → ℕ → ℕ → Option ℕ → ℕ
 worker_by first phase workers None = 0
 worker_by first phase workers (Some name) = (slice_index_or first name 0 + phase) % workers
@@ -59,8 +60,8 @@ AreFirst lines workers first =
     (number name : ℕ) → slice_get (loaders_in lines) number ≡ Some name
     → slice_index_or first name 0 ≡ number % workers
 
--- The loaders of lines have their workers, other names have none, and the worker is told that the next loader
--- comes to.
+-- The loaders of lines have their workers, other names have none, and the worker is told that the
+-- next loader comes to.
 pub record IsNumbered (lines : List Line) (workers : ℕ) (first : List ℕ) (next : ℕ) : Type 0 where
   pub loaders : AreFirst lines workers first
   pub others : (name : ℕ) → is_among (loaders_in lines) name ≡ false → slice_index_or first name 255 ≡ 255

@@ -24,8 +24,8 @@ abbrev pub loaders_in : List Line → List ℕ
 loaders_in [] = []
 loaders_in (line ∷ lines) = name_first (named_by line) (loaders_in lines)
 
--- Phases, workers, and the loaders of a trace are numbered from 0 on. In a phase of number k a purge is worker
--- 0's, and loader number j is worker (j + k) mod W's.
+-- Phases, workers, and the loaders of a trace are numbered from 0 on. In a phase of number k a
+-- purge is worker 0's, and loader number j is worker (j + k) mod W's.
 pub record IsByTurn (lines : List Line) (workers phase : ℕ) (worker : Option ℕ → ℕ) : Type 0 where
   pub purge : worker None ≡ 0
   pub loaders : (number name : ℕ) → slice_get (loaders_in lines) number ≡ Some name

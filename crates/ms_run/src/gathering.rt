@@ -2,8 +2,8 @@
 //! both are one system again.
 //!
 //! Kept true: each seat counts just the accounts of its share's loaders, so the parts belong
-//! together, and no name is in two shares. No loader that stands by is looked at. The seats of the meter come out as they are. Takes memory
-//! for seats and for places of loaders; nothing waits.
+//! together, and no name is in two shares. No loader that stands by is looked at. The seats of the
+//! meter come out as they are. Takes memory for seats and for places of loaders; nothing waits.
 ghost use Rattle.std.specs.Prelude.{◌≡◌, [], IsOk, IfOk, IfErr, OnOk, None, map, vec_len};
 ghost use Rattle.std.specs.List.{All};
 ghost use Rattle.ms_base.specs.declared.refusal.Refusal.TheVariants as Refusal;

@@ -1,5 +1,5 @@
--- The one history as the views of all seats change: one is replaced by one with the same strands, cut,
--- joined with another, or puts the pool back. For the rule of the lock.
+-- The one history as the views of all seats change: one is replaced by one with the same strands,
+-- cut, joined with another, or puts the pool back. For the rule of the lock.
 use Rattle.std.proofs.Common.{◌≡◌, ◌≢◌, ℕ, ◌<◌, List, [], ◌∷◌, ◌++◌, length, set, refl, sym, ap, ◌∙◌, subst}
 use Rattle.std.proofs.Common.{⊎_elim, arith}
 use mathlib.Core.Option.{some, some-ne-none}

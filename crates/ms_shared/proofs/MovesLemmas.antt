@@ -1,5 +1,5 @@
--- What each call on the pool changes is what the seat that has it may change: records of owners that
--- it serves, counts that it has, and tallies by one. For the calls over the lock.
+-- What each call on the pool changes is what the seat that has it may change: records of owners
+-- that it serves, counts that it has, and tallies by one. For the calls over the lock.
 use Rattle.std.proofs.Common.{◌≡◌, ◌≢◌, ℕ, ◌+◌, ◌<◌, ◌≤◌, ◌⊎◌, inl, inr, Bool, refl, sym, ap, subst, arith, eq-eqb}
 use Rattle.std.proofs.Common.{ne_eqb}
 use Rattle.std.specs.Prelude.{Result, Ok, Err}

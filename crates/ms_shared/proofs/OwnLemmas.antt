@@ -1,5 +1,5 @@
--- The sums that the pool tells count at least the caller's own: its chunks are some of those held. For
--- `totals`.
+-- The sums that the pool tells count at least the caller's own: its chunks are some of those held.
+-- For `totals`.
 use Rattle.std.proofs.Common.{◌≡◌, ℕ, ◌==◌, cond, get_or, ap, ◌∙◌, arith}
 use Rattle.std.specs.List.{count_by, sum_by}
 use Rattle.std.proofs.lemmas.List.FromFn.{get_or-map-range_with_len}

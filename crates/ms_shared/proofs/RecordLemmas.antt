@@ -1,5 +1,5 @@
--- Owners and the pool's records of them: where entries are joined, made anew, cut by an owner, or the
--- pool moves on. The lock's rule and its calls rest on these.
+-- Owners and the pool's records of them: where entries are joined, made anew, cut by an owner, or
+-- the pool moves on. The lock's rule and its calls rest on these.
 use Rattle.std.proofs.Common.{◌≡◌, ◌≢◌, ℕ, zero, suc, ◌+◌, ◌==◌, ◌<◌, ◌≤◌, ◌⊎◌, inl, inr, ⊎_elim, Bool, true, false}
 use Rattle.std.proofs.Common.{not, cond, List, [], ◌∷◌, ◌++◌, refl, ap, sym, ◌∙◌, subst, ne_eqb, eq-eqb, arith, nat_le}
 use Rattle.std.proofs.Common.{◌&&◌, lt_of_not-le, zero-add}

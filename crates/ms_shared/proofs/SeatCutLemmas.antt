@@ -1,5 +1,5 @@
--- Cutting and joining seats keep the rule of the lock, and it holds of a new lock. For `new`, `hand`
--- and `into_pool`.
+-- Cutting and joining seats keep the rule of the lock, and it holds of a new lock. For `new`,
+-- `hand` and `into_pool`.
 use Rattle.std.proofs.Common.{◌≡◌, ℕ, ◌+◌, ◌-◌, ◌%◌, ◌^◌, ◌<◌, [], ◌∷◌, ◌++◌, set, sym, refl, ap, ◌∙◌, arith, zero-add, Some, None}
 use Rattle.std.proofs.lemmas.List.{append-nil}
 use mathlib.Core.Option.{some, some-ne-none}

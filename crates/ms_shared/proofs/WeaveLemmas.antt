@@ -253,7 +253,8 @@ module _ {P V L S : Type 0} (seen : P → V) (step : V → L → S → V → L �
       ap (λ (h : L). h ∷ ys) (same 0 (omega arith))
       ∙ ap (λ (l : List L). x ∷ l) (same_list xs ys (omega arith) (λ k less. same (suc k) (omega arith)))
 
-  -- With no event left, what remains are steps without one: of the first n workers, one after another.
+  -- With no event left, what remains are steps without one: of the first n workers, one after
+  -- another.
   abbrev Ends : ℕ → Type 0
   Ends n = (view : V) (new : P) (teams after : List L) (plan : Plan) → view ≡ seen new
       → Goes [] teams after plan → n ≤ length teams → ((k : ℕ) → n ≤ k → k < length teams → plan k ≡ [])

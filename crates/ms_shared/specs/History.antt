@@ -1,5 +1,5 @@
--- Events on a pool, and one history of them: a list in which each has the number of the seat that made
--- it (this project's choice).
+-- Events on a pool, and one history of them: a list in which each has the number of the seat that
+-- made it (this project's choice).
 use Rattle.std.specs.Prelude.{◌≡◌, ℕ, zero, suc, ◌+◌, ◌<◌, ◌==◌, List, [], ◌∷◌, ◌++◌}
 use Rattle.ms_pool.specs.Ledger.{Ledger}
 use Rattle.ms_shared.specs.Entries.{one_if}

@@ -1,6 +1,6 @@
--- What each call over the lock answers, and what it leaves its seat: the pool's own relation for it,
--- on the pool that the seat found, and a tally of the seat raised where a limit refused it (this
--- project's choice).
+-- What each call over the lock answers, and what it leaves its seat: the pool's own relation for
+-- it, on the pool that the seat found, and a tally of the seat raised where a limit refused it
+-- (this project's choice).
 use Rattle.std.specs.Prelude.{◌≡◌, ◌==◌, ◌+◌, ◌<◌, ◌≤◌, ℕ, Bool, true, false, slice_get, slice_index, Some, Result, Ok}
 use Rattle.std.specs.Prelude.{Err, IfOk, IfErr}
 use Rattle.std.specs.List.{count_by}
@@ -57,8 +57,8 @@ TakeTells limits space words (Err (ReserveLimit nodes limit)) =
     (nodes ≡ limit) × (limit ≡ by_space space limits.nodes limits.class_nodes)
 TakeTells limits space words _ = Unit {0}
 
--- There is no room in place: the chunk that starts there is of this level, and smaller than what was
--- asked for in all.
+-- There is no room in place: the chunk that starts there is of this level, and smaller than what
+-- was asked for in all.
 pub record HasNoRoom (account : AccountState) (start total level : ℕ) : Type 0 where
   pub place : ℕ
   pub chunk : Chunk
@@ -93,8 +93,8 @@ pub record GrewOver (old : SeatState) (account : AccountState) (start total : �
 abbrev pub ClosedOver : SeatState → AccountState → SeatState → Type 0
 ClosedOver old account new = OverLock (λ before after. Closed before account after) old new
 
--- The sums tell at least the account's own chunks, by level, in words and in words of fronts, and the
--- open accounts that the seat counts.
+-- The sums tell at least the account's own chunks, by level, in words and in words of fronts, and
+-- the open accounts that the seat counts.
 pub record CountsOwn (seat : SeatState) (account : AccountState) (totals : PoolTotals) : Type 0 where
   pub lent : (level : ℕ) → level < level_count
       → count_by (λ chunk. chunk.level == level) account.chunks ≤ slice_index totals.lent level

@@ -1,5 +1,5 @@
--- The rule of a pool behind a lock: one word, which is 1 while a seat has the pool, and one slot for
--- it (this project's choice).
+-- The rule of a pool behind a lock: one word, which is 1 while a seat has the pool, and one slot
+-- for it (this project's choice).
 use Rattle.std.specs.Prelude.{◌≡◌, ◌≢◌, ℕ, ◌+◌, ◌-◌, ◌*◌, ◌%◌, ◌^◌, ◌<◌, ◌≤◌, ◌⊎◌, List, [], ◌∷◌, ◌++◌, length}
 use Rattle.std.specs.Prelude.{slice_index, Option, Some, None}
 use Rattle.std.specs.List.{sum_by}
@@ -46,8 +46,8 @@ pub record Fits (pool : Ledger) (view : LockView) : Type 0 where
   pub limits : 0 < view.parts → view.knows.limits ≡ pool.limits
   pub idle : view.parts ≡ 0 → IsIdle view
 
--- There is one history of events from the first pool to this one. Each seat made has one number, with
--- just its own events of it.
+-- There is one history of events from the first pool to this one. Each seat made has one number,
+-- with just its own events of it.
 pub record IsLogged (made : ℕ) (first pool : Ledger) (views : List LockView) : Type 0 where
   pub log : List Logged
   pub chain : Chain first (events_in log) pool
@@ -99,8 +99,8 @@ Seizes old new = (pool : Ledger) × (new ≡ (with_pool old.0 pool, (0, Some poo
 abbrev pub Tries : Step (Option Ledger) → Sat → ℕ → Sat → Type 0
 Tries step old found new = (found ≡ 0 → Seizes old new) × (found ≢ 0 → new ≡ old)
 
--- What a seat may make of the pool while it has it: the records of owners that it doesn't serve stay,
--- no number is taken back, and each tally stays or is raised by one.
+-- What a seat may make of the pool while it has it: the records of owners that it doesn't serve
+-- stay, no number is taken back, and each tally stays or is raised by one.
 pub record Moves (view : SeatView) (old new : Ledger) : Type 0 where
   pub given : old.given ≤ new.given
   pub others : (owner : ℕ) → times owner view.served ≡ 0 → chunks_of new owner ≡ chunks_of old owner
@@ -140,8 +140,8 @@ abbrev pub LetsGo : Step (Option Ledger) → Sat → ℕ → Sat → Type 0
 LetsGo step old stored new =
     (pool : Ledger) → old.1 ≡ (0, Some pool) ∷ [] → new ≡ (after old.0 (taken_of old.0) pool, [])
 
--- The first view, of all seats, and how it is cut: all that it knows goes with the first two parts and
--- the first number.
+-- The first view, of all seats, and how it is cut: all that it knows goes with the first two parts
+-- and the first number.
 abbrev pub first_view : ℕ → Ledger → LockView
 first_view made pool = record { parts = made * 2; strands = no_events 0 made; knows = knows_all pool; taken = None }
 

@@ -1,5 +1,5 @@
--- A meter: one word, which is the sum of what its seats added less what they took off (this project's
--- choice).
+-- A meter: one word, which is the sum of what its seats added less what they took off (this
+-- project's choice).
 use Rattle.std.specs.Prelude.{◌≡◌, ℕ, ◌+◌, ◌-◌, ◌%◌, ◌^◌, List, length, slice_index}
 use Rattle.std.specs.List.{sum_by}
 use mathlib.Core.Option.{some}
@@ -44,8 +44,8 @@ pub record IsMetered (made : ℕ) (state : State ℕ MeterView) : Type 0 where
   pub parts : parts_in state.views ≡ made
   pub idle : IdleIsEmpty state.views
 
--- What the steps on the word leave the seat with: its first operand more, its first operand less, or
--- what it had.
+-- What the steps on the word leave the seat with: its first operand more, its first operand less,
+-- or what it had.
 abbrev pub AddsAmount : Step ℕ → Me ℕ MeterView → ℕ → Me ℕ MeterView → Type 0
 AddsAmount step old found new = new ≡ (meter_view old.0.parts (added old.0.amount step.first), old.1)
 

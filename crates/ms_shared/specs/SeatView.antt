@@ -149,8 +149,8 @@ pub record HandsOn (from_old to_old : SeatView) (account : AccountState) (from_n
   pub counted : opened_by to_new account.space ≡ opened_by to_old account.space + 1
   pub from_counted : opened_by from_new account.space + 1 ≡ opened_by from_old account.space
 
--- A lock as its callers see it: which one it is, how many seats it was made with, and its pool as it
--- was then.
+-- A lock as its callers see it: which one it is, how many seats it was made with, and its pool as
+-- it was then.
 pub record LockState : Type 0 where
   pub id : TableId
   pub seats : ℕ
@@ -181,8 +181,8 @@ abbrev pub new_seats : TableId → ℕ → Ledger → List SeatState
 new_seats id made pool = seat_with id (0, []) (knows_all pool) ∷ spare_seats id pool.limits 1 (made - 1)
 
 -- All seats of a lock and the pool that it gives out: the records that seats know are the pool's,
--- each owner number given out is served by one seat, once, and counts and tallies are the sums of the
--- seats'.
+-- each owner number given out is served by one seat, once, and counts and tallies are the sums of
+-- the seats'.
 pub record Gathers (seats : List SeatState) (pool : Ledger) : Type 0 where
   pub served : All (λ seat. AreRecords pool seat.knows.served) seats
   pub once : (owner : ℕ) → sum_by (λ seat. times owner seat.knows.served) seats ≡ once_given owner pool.given
@@ -190,9 +190,9 @@ pub record Gathers (seats : List SeatState) (pool : Ledger) : Type 0 where
   pub tallies : (kind : TallyKind)
       → tally_of kind pool.tallies ≡ sum_by (λ seat. tally_of kind seat.knows.tallies) seats % 2 ^ 64
 
--- All seats of a lock and the pool that it gives out: one history of events leads from the lock's first
--- pool to this one. Each seat has just its own events of it, in their order, and each event is of one
--- seat.
+-- All seats of a lock and the pool that it gives out: one history of events leads from the lock's
+-- first pool to this one. Each seat has just its own events of it, in their order, and each event
+-- is of one seat.
 pub record IsHistory (first : Ledger) (seats : List SeatState) (pool : Ledger) : Type 0 where
   pub log : List Logged
   pub chain : Chain first (events_in log) pool
@@ -201,8 +201,8 @@ pub record IsHistory (first : Ledger) (seats : List SeatState) (pool : Ledger) :
   pub once : (number : ℕ) → number < length seats → sum_by (λ seat. one_if (seat.number == number)) seats ≡ 1
 
 -- A call over the lock is one event on the sound pool that the seat finds: by its relation the pool
--- becomes another sound one. The event is the seat's last one, and the seat knows then what its records, counts and
--- tallies have become.
+-- becomes another sound one. The event is the seat's last one, and the seat knows then what its
+-- records, counts and tallies have become.
 pub record OverLock (event : Ledger → Ledger → Type 0) (old new : SeatState) : Type 0 where
   pub before : Ledger
   pub after : Ledger

@@ -1,4 +1,5 @@
--- Texts that end with a newline, and a last line that has none: for `cut_last` and the one-pass readers.
+-- Texts that end with a newline, and a last line that has none: for `cut_last` and the one-pass
+-- readers.
 use Rattle.std.proofs.Common.{◌≡◌, ℕ, zero, suc, ◌+◌, ◌-◌, ◌<◌, ◌≤◌, Bool, true, false, cond, eqb, List, [], ◌∷◌}
 use Rattle.std.proofs.Common.{◌++◌, length, length-append, length-drop, append-nil, add-one, get_or, take, drop, refl, sym}
 use Rattle.std.proofs.Common.{◌∙◌, ap, arith, IsTrue}

@@ -48,7 +48,8 @@ number_read {greatest} {bytes} small passes =
     let low : digits_value 10 bytes ≤ greatest = grind (arith, nat_tests, parts.1) in
     record { value = digits_value 10 bytes; low = low; written = decimal-value bytes parts.0 (omega arith) }
 
--- A number of more than 64 bits is too large for each field, and what isn't all digits is no number.
+-- A number of more than 64 bits is too large for each field, and what isn't all digits is no
+-- number.
 long_form : (digits : Bool) (greatest : ℕ) (bytes : List ℕ) → digits ≡ all_ascii_digits bytes
     → (all_ascii_digits bytes ≡ true → is_number bytes ≡ true)
     → (is_number bytes ≡ true → all_ascii_digits bytes ≡ true) →

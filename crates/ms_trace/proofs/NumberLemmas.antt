@@ -86,7 +86,8 @@ below_two first rest (suc i) all one inside =
     rw add-one at (value_more (first ∷ rest) (suc i) (omega (arith, inside)) is_digit) in
     omega (arith, more, low, below_two first rest i all one (omega (arith, inside)), pow-suc 10 i)
 
--- Twenty digits that begin with a 1 are what `decimal` writes of their sum, where it has twenty too.
+-- Twenty digits that begin with a 1 are what `decimal` writes of their sum, where it has twenty
+-- too.
 pub written_long : (digits : List ℕ) (value : ℕ) → all_ascii_digits digits ≡ true
     → value ≡ digits_value 10 digits % 2 ^ 64 → length digits ≡ 20 → get_or digits 0 0 ≡ 49
     → 10 ^ 19 ≤ value → decimal value ≡ digits

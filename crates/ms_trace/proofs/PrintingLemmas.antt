@@ -164,7 +164,8 @@ rises_at items i last line inside is rises =
     subst (λ (line : Line). last < line.number) (sym is)
     (ltb-true last (get_or items i line).number (and_parts _ _ (and_parts _ _ front).0).0)
 
--- A line whose number is above the last one, and not too great, leaves the question to those after it.
+-- A line whose number is above the last one, and not too great, leaves the question to those after
+-- it.
 pub rises_past : (items : List Line) (i last : ℕ) (d : Line) → i < length items → last < (get_or items i d).number
     → (get_or items i d).number ≤ most_lines
     → rises_above last (drop i items) ≡ rises_above (get_or items i d).number (drop (i + 1) items)

@@ -1,5 +1,5 @@
--- The spelling of a valid command is cut into its fields, is no silent line, and is that of no other
--- command. So a line has no fault exactly where it is silent or spells a valid command.
+-- The spelling of a valid command is cut into its fields, is no silent line, and is that of no
+-- other command. So a line has no fault exactly where it is silent or spells a valid command.
 use Rattle.std.proofs.Common.{◌≡◌, ℕ, ◌⊎◌, inl, inr, ⊎_elim, IsTrue, get_or, length-append, ◌^◌, ◌<◌, ◌≤◌, Bool, not}
 use Rattle.std.proofs.Common.{true, false, cond, ltb, eqb, List, [], ◌∷◌, length, refl, sym, ◌∙◌, ap, arith, Option}
 use Rattle.std.proofs.Common.{Some, None, codes, ◌++◌, append_assoc}

@@ -1,5 +1,5 @@
-//! The row of a system: blocks are freed, a loader is unloaded, nodes are purged; it is taken apart,
-//! put together and settled, and refused with a loader held back.
+//! The row of a system: blocks are freed, a loader is unloaded, nodes are purged; it is taken
+//! apart, put together and settled, and refused with a loader held back.
 use crate::pools::account_lines;
 use crate::row::{line, mark};
 use crate::systems::filled::{HIDDEN, filled};

@@ -19,9 +19,9 @@ const SMALL_TOPS: usize = 64;
 const SMALL_PAGES: usize = 4;
 
 impl RawArena {
-    /// Tells whether many blocks are to come: a loader of one hidden class or of one reflection stub
-    /// takes a few, others take many. A hint for how much room to make at once, of which nothing is
-    /// promised. Takes no memory. This project's choice.
+    /// Tells whether many blocks are to come: a loader of one hidden class or of one reflection
+    /// stub takes a few, others take many. A hint for how much room to make at once, of which
+    /// nothing is promised. Takes no memory. This project's choice.
     pub fn expects_many(&self) -> bool {
         self.kind != Kind::Hidden && self.kind != Kind::Reflection
     }

@@ -1,4 +1,5 @@
--- The runs of blocks, all of them and those of a space; and a loader's arenas with another one in a space.
+-- The runs of blocks, all of them and those of a space; and a loader's arenas with another one in a
+-- space.
 use Rattle.std.proofs.Common.{◌≡◌, ℕ, Bool, true, false, cond, inl, inr, arith, List, [], ◌∷◌, ◌++◌, map, refl, ap, ◌∙◌}
 use Rattle.std.specs.Prelude.{nat_le, nat_lt}
 use Rattle.std.specs.List.{filter}

@@ -1,5 +1,5 @@
--- An arena stays sound where a run comes to or leaves its live blocks or its free blocks; a run that
--- comes meets none of those there, and one that leaves met none.
+-- An arena stays sound where a run comes to or leaves its live blocks or its free blocks; a run
+-- that comes meets none of those there, and one that leaves met none.
 use Rattle.std.proofs.Common.{◌≡◌, ◌≤◌, ℕ, Bool, true, false, Option, Some, None, List, [], ◌∷◌, ◌++◌, refl, sym, ap}
 use Rattle.std.proofs.Common.{◌∙◌, arith}
 use Rattle.std.specs.Prelude.{nat_le}

@@ -1,5 +1,5 @@
--- Entries in no order, as a hash map has them: by name they are a list in rising order that gives the
--- same at each name, and a change of the map is one of that list.
+-- Entries in no order, as a hash map has them: by name they are a list in rising order that gives
+-- the same at each name, and a change of the map is one of that list.
 use Rattle.std.proofs.Common.{◌≡◌, ℕ, cond, Option, Some, None, List, [], ◌∷◌, refl, sym, ap}
 use Rattle.std.proofs.Common.{◌∙◌, inl, inr, arith}
 use Rattle.std.specs.Prelude.{nat_eq}
@@ -35,7 +35,8 @@ pub by_name_is : {X : Type 0} (es named_es : List (ℕ × X)) → AreNamed named
 by_name_is es named_es rises same =
     same_entries (by_name es) named_es (rises_by_name es) rises (λ name. named_by_name es name ∙ same name)
 
--- A name has this value, or none, and all others have what they had, as a hash map's clauses say it.
+-- A name has this value, or none, and all others have what they had, as a hash map's clauses say
+-- it.
 abbrev pub Sets : {X : Type 0} → List (ℕ × X) → List (ℕ × X) → ℕ → Option X → Type 0
 Sets old new name value = (other : ℕ) → lookup (nat_eq other) new ≡ cond (nat_eq name other) value
     (lookup (nat_eq other) old)

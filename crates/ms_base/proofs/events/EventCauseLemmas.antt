@@ -1,4 +1,5 @@
--- Why a request is refused, and that it is refused so in a machine that has the same under its name.
+-- Why a request is refused, and that it is refused so in a machine that has the same under its
+-- name.
 use Rattle.std.proofs.Common.{◌≡◌, ℕ, Bool, true, false, Some, Result, Ok, Err, refl, sym, ◌∙◌, subst, inl, inr, length}
 use Rattle.std.proofs.Common.{if◌then◌else◌}
 use Rattle.std.specs.Prelude.{⊤}

@@ -1,5 +1,5 @@
--- Each spread is serial, by a walk over its moments from the last: before each there is a machine of
--- the serial order from which its steps are a run.
+-- Each spread is serial, by a walk over its moments from the last: before each there is a machine
+-- of the serial order from which its steps are a run.
 use Rattle.std.proofs.Common.{◌≡◌, ℕ, Bool, false, cond, Option, Some, None, List, [], ◌∷◌, ◌++◌, map, refl, sym, ap}
 use Rattle.std.proofs.Common.{◌∙◌, subst, inl, inr}
 use Rattle.std.specs.Prelude.{⊤, ◌==◌}

@@ -124,8 +124,8 @@ pub record IsSeen (name : ℕ) (stage : Stage) (m : Machine) (seen : List (ℕ �
   pub held : (space : Space) → chunks_held space seen ≡ chunks_held space m.loaders
   pub good : IsGood (record m { loaders = seen })
 
--- Such loaders before the event: a run from the machine that has them after it is one from the machine
--- that has these, with the step before it that counts as done.
+-- Such loaders before the event: a run from the machine that has them after it is one from the
+-- machine that has these, with the step before it that counts as done.
 pub record GoesBack (name : ℕ) (stage : Stage) (old new : Machine) (seen : List (ℕ × LoaderState))
     (done : List (Step × Reply)) : Type 0 where
   pub loaders : List (ℕ × LoaderState)

@@ -59,8 +59,8 @@ whole_and_free = refl
 no_class_space : taken (class_pool 0 [] 0 8192) 11 12 10 ≡ Err (ReserveLimit 0 0)
 no_class_space = refl
 
--- A boot loader's block of a whole root lies in the lower root; no node is added: two root chunks use
--- up one.
+-- A boot loader's block of a whole root lies in the lower root; no node is added: two root chunks
+-- use up one.
 first_root : taken (class_pool 1 [] 0 8192) 0 0 524288 ≡ Ok (chunk 67108864 0 524288)
 first_root = refl
 

@@ -108,7 +108,8 @@ purges : Happens (record (machine []) { committed = [] }) purging (counted 1)
     (record (machine []) { slots = []; committed = [] })
 purges = record { nodes_are = refl; after = refl }
 
--- A local event is refused as its request is, but never for owner numbers, which the pool alone knows.
+-- A local event is refused as its request is, but never for owner numbers, which the pool alone
+-- knows.
 no_loader : Happens alone (acting (Unload 2)) (replied (Refused NoLoader)) alone
 no_loader = (refl, refl)
 

@@ -1,5 +1,5 @@
--- A worked example: the moments of HistoryExamples follow one another, each event as it may happen, and
--- are a spread.
+-- A worked example: the moments of HistoryExamples follow one another, each event as it may happen,
+-- and are a spread.
 use Rattle.std.proofs.Common.{◌≡◌, ℕ, zero, suc, true, false, [], ◌∷◌, Some, refl, ap, ◌∙◌, inl, inr, arith}
 use Rattle.std.specs.Prelude.{◌==◌}
 use Rattle.std.proofs.lemmas.List.Elements.{All-from_recursion}
@@ -200,8 +200,8 @@ too_much_is_whole = inr (record {
   events_are = refl;
 })
 
--- And they are a spread: each loader's events are whole steps, the purge is one by itself, the totals
--- are nobody's, and the pool is asked as arenas do.
+-- And they are a spread: each loader's events are whole steps, the purge is one by itself, the
+-- totals are nobody's, and the pool is asked as arenas do.
 only_known : (name : ℕ) → AreWhole (parts_by name moments)
 only_known zero = record { steps = []; whole = All-from_recursion IsWhole [] tt; parts_are = refl }
 only_known (suc zero) =

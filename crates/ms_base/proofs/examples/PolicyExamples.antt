@@ -156,8 +156,8 @@ front_is_the_size : grown (pool Never [] (chunk 0 5 16384 ∷ []) (0 ∷ []) 2) 
     ≡ Ok (chunk 0 5 16384)
 front_is_the_size = refl
 
--- A whole root of which one granule is committed is committed enough for two words, and found first;
--- the other 63 granules are needed.
+-- A whole root of which one granule is committed is committed enough for two words, and found
+-- first; the other 63 granules are needed.
 abbrev partly_committed : ℕ → PoolState
 partly_committed = pool Never (0 ∷ []) [] (0 ∷ [])
 

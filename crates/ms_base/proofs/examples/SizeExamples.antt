@@ -66,7 +66,8 @@ slots_of_class_space = refl
 fronts : map (λ level. front_for Balanced (size_of level) 10) (0 ∷ 6 ∷ 7 ∷ 12 ∷ []) ≡ 8192 ∷ 8192 ∷ 4096 ∷ 128 ∷ []
 fronts = refl
 
--- Policy aggressive has granules of 2048 words: chunks of level 8 have one, those of 4096 words two.
+-- Policy aggressive has granules of 2048 words: chunks of level 8 have one, those of 4096 words
+-- two.
 fronts_of_small_granules : map (λ level. front_for Aggressive (size_of level) 10) (0 ∷ 6 ∷ 7 ∷ 8 ∷ 9 ∷ 12 ∷ [])
     ≡ 2048 ∷ 2048 ∷ 2048 ∷ 2048 ∷ 1024 ∷ 128 ∷ []
 fronts_of_small_granules = refl

@@ -1,5 +1,5 @@
--- With nothing held each root of a reserved slot is one free part, and no granule is committed under
--- the policies balanced and aggressive. The law on nothing held uses these.
+-- With nothing held each root of a reserved slot is one free part, and no granule is committed
+-- under the policies balanced and aggressive. The law on nothing held uses these.
 use Rattle.std.proofs.Common.{◌≡◌, ℕ, false, ◌&&◌, ◌||◌, List, [], ◌∷◌, refl, ap, ◌∙◌}
 use Rattle.std.specs.List.{filter, flat_map}
 use Rattle.std.proofs.lemmas.List.Elements.{filter_agree}

@@ -1,6 +1,6 @@
--- The free parts of a root are those of its own chunks, taken as if the root began at word 0, moved up
--- to where it begins; chunks outside of it don't matter. A pool that keeps a tree for each root uses
--- these.
+-- The free parts of a root are those of its own chunks, taken as if the root began at word 0, moved
+-- up to where it begins; chunks outside of it don't matter. A pool that keeps a tree for each root
+-- uses these.
 use Rattle.std.proofs.Common.{◌≡◌, ◌≤◌, ℕ, zero, suc, ◌+◌, ◌-◌, Bool, true, false, cond, ◌||◌, List, [], ◌∷◌, ◌++◌, map}
 use Rattle.std.proofs.Common.{refl, sym, ap, ◌∙◌, arith}
 use Rattle.std.proofs.Math.Bool.{or-false}

@@ -1,6 +1,6 @@
--- What the pool answers does not depend on the order of the held chunks, nor do its sums: a pool that
--- has its chunks by address uses these against a machine that has them by loader. Two lists that are
--- alike give the same answers; the sums want a permutation, which makes them alike
+-- What the pool answers does not depend on the order of the held chunks, nor do its sums: a pool
+-- that has its chunks by address uses these against a machine that has them by loader. Two lists
+-- that are alike give the same answers; the sums want a permutation, which makes them alike
 -- (`permuted_are_alike`).
 use Rattle.std.proofs.Common.{◌≡◌, ℕ, ◌+◌, ◌*◌, Bool, true, false, cond, not, ◌&&◌, ◌||◌, List, [], ◌∷◌, length, map}
 use Rattle.std.proofs.Common.{refl, sym, ap, ◌∙◌}

@@ -77,8 +77,8 @@ granules_from_first granule start words some_granule some =
     count : (start + words - 1) / granule + 1 - start / granule ≡ suc (more_granules granule start words)
     count = omega (arith, granules_rise granule start words some_granule some)
 
--- Where a policy gives back, a granule that meets a free part is committed exactly where the part is
--- smaller than a granule; where it does not, it is committed at least there.
+-- Where a policy gives back, a granule that meets a free part is committed exactly where the part
+-- is smaller than a granule; where it does not, it is committed at least there.
 pub committed_by_size : (pool : PoolState) (part : Span) (number : ℕ) → IsSoundPool pool
     → IsFreePart pool.held pool.slots part
     → meet part.start (size_of part.level) (number * granule_in pool) (granule_in pool) ≡ true

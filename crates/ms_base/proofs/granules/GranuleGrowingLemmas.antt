@@ -1,5 +1,5 @@
--- A held chunk that grows: what it commits, and that what grown answers is a part with a front by the
--- rule, within the limit. The laws on growing use these.
+-- A held chunk that grows: what it commits, and that what grown answers is a part with a front by
+-- the rule, within the limit. The laws on growing use these.
 use Rattle.std.proofs.Common.{◌≡◌, ◌≤◌, ◌<◌, ℕ, zero, suc, ◌+◌, ◌-◌, ◌*◌, ◌/◌, ◌%◌, Bool, true, false, cond, not, ◌&&◌}
 use Rattle.std.proofs.Common.{◌||◌, Some, List, [], ◌∷◌, length, refl, sym, ap, ◌∙◌, subst, arith, inl, inr}
 use Rattle.std.specs.Prelude.{◌==◌, nat_le, nat_lt, slice_get, slice_set, ◌⊎◌, Ok, Err, if◌then◌else◌}

@@ -1,5 +1,6 @@
--- Where no free part is large and committed enough, all granules that the picked chunk's front meets
--- are missing, under the policies balanced and aggressive; so one rule decides for all policies.
+-- Where no free part is large and committed enough, all granules that the picked chunk's front
+-- meets are missing, under the policies balanced and aggressive; so one rule decides for all
+-- policies.
 use Rattle.std.proofs.Common.{◌≡◌, ◌≤◌, ◌<◌, ℕ, zero, suc, ◌+◌, ◌-◌, ◌*◌, ◌/◌, Bool, true, false, cond, not, ◌&&◌, ◌||◌}
 use Rattle.std.proofs.Common.{List, [], ◌∷◌, length, refl, sym, ap, ◌∙◌, arith, inl, inr}
 use Rattle.std.specs.Prelude.{◌==◌, ◌⊎◌, nat_lt, nat_le, if◌then◌else◌}

@@ -1,5 +1,5 @@
--- The live and free blocks of all loaders together share no word: each lies in a front of a chunk of
--- its own loader, and chunks share none.
+-- The live and free blocks of all loaders together share no word: each lies in a front of a chunk
+-- of its own loader, and chunks share none.
 use Rattle.std.proofs.Common.{◌≡◌, ℕ, true, false, not, List, [], ◌∷◌, ◌++◌, map, refl, ◌∙◌}
 use Rattle.std.specs.Prelude.{nat_le}
 use Rattle.std.specs.List.{AllByRecursion, list_all, flat_map}

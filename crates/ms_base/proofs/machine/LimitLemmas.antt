@@ -1,5 +1,5 @@
--- A run whose states keep a limit of granules, and which never met one, is a run under that limit too
--- (`peak_suffices`): nothing but the commit limit and the good state asks for it.
+-- A run whose states keep a limit of granules, and which never met one, is a run under that limit
+-- too (`peak_suffices`): nothing but the commit limit and the good state asks for it.
 use Rattle.std.proofs.Common.{ℕ, ◌≤◌, List, [], ◌∷◌, IsTrue, ap, arith, inl, inr}
 use Rattle.ms_base.specs.declared.kind.Space.{Space}
 use Rattle.ms_base.specs.declared.kind.Space.TheVariants.{NonClass, Class}

@@ -1,5 +1,5 @@
--- Runs that are apart stay so in another order: they are where the pairs that meet, counted with each
--- run beside itself, are no more than the runs that meet themselves.
+-- Runs that are apart stay so in another order: they are where the pairs that meet, counted with
+-- each run beside itself, are no more than the runs that meet themselves.
 use Rattle.std.proofs.Common.{◌≡◌, ◌≤◌, ℕ, ◌+◌, Bool, true, false, cond, not, List, [], ◌∷◌, refl, sym, ap, ◌∙◌, arith}
 use Rattle.std.specs.List.{sum_by}
 use Rattle.std.specs.List.Sorted.{IsPermutation}

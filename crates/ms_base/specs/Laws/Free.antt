@@ -119,9 +119,9 @@ EnoughIsBySize =
 abbrev pub is_enough_at : PoolState → ℕ → ℕ → ℕ → Bool
 is_enough_at pool start level words = is_committed_enough pool words (part_at start level)
 
--- Where there is committed room for words at a level, a clear part of that level is committed enough
--- for them. The other way round holds under the policies balanced and aggressive: under policy none
--- the free part around it may not be committed from its start on.
+-- Where there is committed room for words at a level, a clear part of that level is committed
+-- enough for them. The other way round holds under the policies balanced and aggressive: under
+-- policy none the free part around it may not be committed from its start on.
 pub record HasCommittedRoomWhereClear (pool : PoolState) (m words : ℕ) : Type 0 where
   pub room :
       IsFalse (keeps pool.limits.policy) → (start : ℕ) → IsClearIn pool start m

@@ -1,4 +1,5 @@
--- What a limit of granules takes part in: a law over runs of the machine, the contract of a function of `laws`.
+-- What a limit of granules takes part in: a law over runs of the machine, the contract of a
+-- function of `laws`.
 use Rattle.std.specs.Prelude.{◌≡◌, ℕ, ◌+◌, ◌≤◌, Bool, true, false, List, [], ◌∷◌, length, IsTrue}
 use Rattle.ms_base.specs.declared.step.Step.{Step}
 use Rattle.ms_base.specs.declared.step.Reply.{Reply}
@@ -31,8 +32,8 @@ RunsBelow peak old (step ∷ steps) (reply ∷ replies) new =
 RunsBelow peak old [] (reply ∷ replies) new = ⊥
 RunsBelow peak old (step ∷ steps) [] new = ⊥
 
--- Under every limit of so many granules or more the same requests may be answered the same, by states
--- that differ in the limit alone: the peak tells a limit that suffices.
+-- Under every limit of so many granules or more the same requests may be answered the same, by
+-- states that differ in the limit alone: the peak tells a limit that suffices.
 abbrev pub PeakSuffices : Type 0
 PeakSuffices =
     (old new : Machine) (peak limit : ℕ) (steps : List Step) (replies : List Reply)

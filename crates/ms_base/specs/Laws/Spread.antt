@@ -30,8 +30,8 @@ pub record IsSerial (old : Machine) (moments : List Moment) (new : Machine) : Ty
   pub kept : All IsKeptAt moments
   pub run : Run old (steps_of (serial moments)) (replies_of (serial moments)) new
 
--- Each spread is serial: however steps are spread over events, their replies and the state are those
--- of whole steps, one after another.
+-- Each spread is serial: however steps are spread over events, their replies and the state are
+-- those of whole steps, one after another.
 abbrev pub SpreadsAreSerial : Type 0
 SpreadsAreSerial =
     (old new : Machine) (moments : List Moment) → IsGood old → Follow old moments new → IsSpread moments

@@ -41,8 +41,8 @@ PackingHolds =
     → words_in runs ≤ words_in areas
 
 -- The sums of a space of a machine, each within the next: live and free blocks are in use, words in
--- use lie within fronts, fronts are committed and within their chunks, and what is committed or lent
--- is reserved, in 64 nodes at most, of the class space in 16.
+-- use lie within fronts, fronts are committed and within their chunks, and what is committed or
+-- lent is reserved, in 64 nodes at most, of the class space in 16.
 pub record IsBounded (space : Space) (m : Machine) : Type 0 where
   pub blocks : live_words space m + kept_words space m ≤ used_words space m
   pub used : used_words space m ≤ fronts_of (pool_of space m).held
@@ -100,8 +100,8 @@ GrowingCommitsTheMissing =
     → IsPart chunk.start chunk.level → chunk.front ≤ size_of chunk.level
     → length (committed_now (with_chunk_grown pool place chunk)) ≡ length pool.committed + granules_missing pool chunk
 
--- A chunk grows well where it stays or grows in place, is a part with a front that reaches the words
--- asked for, and what it lacks is within the limit of granules.
+-- A chunk grows well where it stays or grows in place, is a part with a front that reaches the
+-- words asked for, and what it lacks is within the limit of granules.
 pub record GrowsWell (pool : PoolState) (was chunk : Chunk) (total : ℕ) : Type 0 where
   pub changes : (chunk ≡ was) ⊎ IsGrown was chunk
   pub placed : IsPart chunk.start chunk.level
@@ -122,9 +122,9 @@ TakingKeepsTheLimit =
     → words ≤ size_of m
     → taken pool p m words ≡ Ok chunk → committed_count pool + granules_missing pool chunk ≤ pool.limits.granules
 
--- One rule for all policies: where the reserve limit is not met, the commit limit is met exactly where
--- the missing granules of the chunk that would be lent pass it; and where it is met these are the
--- granules needed.
+-- One rule for all policies: where the reserve limit is not met, the commit limit is met exactly
+-- where the missing granules of the chunk that would be lent pass it; and where it is met these are
+-- the granules needed.
 pub record IsByMissing (pool : PoolState) (p m words : ℕ) : Type 0 where
   pub met : meets_commit_limit pool p m words
       ≡ nat_lt pool.limits.granules (committed_count pool + granules_missing pool (chunk_picked pool p m words))

@@ -60,8 +60,8 @@ pub record IsAskable (p m words : ℕ) : Type 0 where
   pub some : 1 ≤ words
   pub fits : words ≤ size_of m
 
--- A chunk of a space is taken, as the searches pick it: it is the loader's last there, its top 0, and
--- the committed granules follow.
+-- A chunk of a space is taken, as the searches pick it: it is the loader's last there, its top 0,
+-- and the committed granules follow.
 pub record Takes (old : Machine) (space : Space) (name p m words : ℕ) (chunk : Chunk) (new : Machine) : Type 0 where
   pub loader : LoaderState
   pub has : HasLoader old name loader
@@ -119,8 +119,8 @@ pub record GrowsNone (old : Machine) (space : Space) (name start total : ℕ) (m
   pub cause : grown (pool_of space old) was total may_enlarge ≡ Err refusal
   pub after : new ≡ old
 
--- Both accounts of a loader are closed that has neither live nor free blocks: its chunks go with it,
--- and the committed granules follow.
+-- Both accounts of a loader are closed that has neither live nor free blocks: its chunks go with
+-- it, and the committed granules follow.
 pub record Closes (old : Machine) (name : ℕ) (new : Machine) : Type 0 where
   pub loader : LoaderState
   pub has : HasLoader old name loader

@@ -117,8 +117,8 @@ pub record GoesOnAfter (space : Space) (name : ℕ) (step : Step) (reply : Reply
   pub goes_on : GoesOn space name step reply rest
   pub events_are : events ≡ asked ++ rest
 
--- An allocation is at most one growth, at most one chunk taken where no growth was had, and then its
--- local event.
+-- An allocation is at most one growth, at most one chunk taken where no growth was had, and then
+-- its local event.
 abbrev pub SpreadsAlloc : Space → ℕ → Step → Reply → List (Event × Answer) → Type 0
 SpreadsAlloc space name step reply events =
     GrowsFirst space name step reply events ⊎ GoesOnAfter space name step reply events
@@ -207,8 +207,8 @@ IsAskedFor m (growing space name start total enlarges) n = AsksGrowth m space na
 IsAskedFor m (taking space name p most words) n = AsksChunk m space name p most words n
 IsAskedFor m _ n = ⊤
 
--- The moments are a spread of steps: the events of each loader's name by themselves are whole steps,
--- one after the other; each other event is by itself; and the pool is asked as arenas do.
+-- The moments are a spread of steps: the events of each loader's name by themselves are whole
+-- steps, one after the other; each other event is by itself; and the pool is asked as arenas do.
 pub record IsSpread (moments : List Moment) : Type 0 where
   pub each : (name : ℕ) → AreWhole (parts_by name moments)
   pub others : All (λ (moment : Moment).

@@ -1,5 +1,5 @@
--- A loader with no name, whose arenas are new: it is the new one, and they hold nothing. `Loader::new` and
--- `Loader::renew` use these.
+-- A loader with no name, whose arenas are new: it is the new one, and they hold nothing.
+-- `Loader::new` and `Loader::renew` use these.
 use Rattle.std.proofs.Common.{◌≡◌, ℕ, List, [], ◌∷◌, ◌++◌, false, inl, inr, refl, ◌∙◌, ap, sym, subst, arith, rules}
 use Rattle.std.specs.List.{list_all, list_any, zip}
 use Rattle.std.proofs.lemmas.Bool.{and_left, both_ways}

@@ -1,5 +1,6 @@
--- A block by where it lies: an entry of a hash map that has it gives its name, and the name that stands
--- for it is a live block's there. `Table::name_of`, `Loader::name_of` and `System::free_block` use these.
+-- A block by where it lies: an entry of a hash map that has it gives its name, and the name that
+-- stands for it is a live block's there. `Table::name_of`, `Loader::name_of` and
+-- `System::free_block` use these.
 use Rattle.std.proofs.Common.{◌≡◌, ◌||◌, ◌&&◌, ℕ, ◌==◌, true, false, Some, None, Option, List, [], ◌∷◌, refl, sym, ap}
 use Rattle.std.proofs.Common.{◌∙◌, subst, inl, inr, option_map, cond}
 use Rattle.std.proofs.lemmas.Option.{same_Some}

@@ -1,5 +1,5 @@
--- The named blocks of a loader by space, as runs and with their contents: what one more, one less and a word
--- that is written make of them.
+-- The named blocks of a loader by space, as runs and with their contents: what one more, one less
+-- and a word that is written make of them.
 use Rattle.std.proofs.Common.{◌≡◌, ◌<◌, ◌≤◌, ◌+◌, ◌⊎◌, ℕ, inl, inr, true, false, cond, Some, List, [], ◌∷◌, ◌++◌}
 use Rattle.std.proofs.Common.{Bool, map, refl, sym, ap, ◌∙◌, subst, arith}
 use Rattle.std.specs.Prelude.{slice_set}

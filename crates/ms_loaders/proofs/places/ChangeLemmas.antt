@@ -1,5 +1,5 @@
--- The list of loaders by name where one comes, is changed or goes at its number, and what is kept true
--- then. The functions of `Loaders` use these.
+-- The list of loaders by name where one comes, is changed or goes at its number, and what is kept
+-- true then. The functions of `Loaders` use these.
 use Rattle.std.proofs.Common.{◌≡◌, ℕ, zero, suc, ◌+◌, ◌*◌, ◌-◌, ◌≤◌, cond, Option, Some, None, List, [], ◌∷◌, length}
 use Rattle.std.proofs.Common.{refl, sym, ap, ◌∙◌, inl, inr, arith, IfSome, true, false}
 use Rattle.std.specs.Ordering.{nat_cmp}

@@ -1,4 +1,5 @@
--- What is kept true of loaders at their numbers, after each change. The functions of `Loaders` use these.
+-- What is kept true of loaders at their numbers, after each change. The functions of `Loaders` use
+-- these.
 use Rattle.std.proofs.Common.{◌≡◌, ℕ, ◌+◌, ◌-◌, ◌<◌, ◌≤◌, cond, Option, Some, None, List, [], ◌∷◌, length}
 use Rattle.std.proofs.Common.{refl, sym, ap, ◌∙◌, inl, inr, arith, true, false, IfSome, subst}
 use Rattle.std.specs.Prelude.{nat_eq}

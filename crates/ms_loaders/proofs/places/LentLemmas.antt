@@ -1,5 +1,5 @@
--- A loader that was lent at its number: what is kept, and the list, whatever it is then, or where there is
--- none. `Loaders::get_mut` uses these.
+-- A loader that was lent at its number: what is kept, and the list, whatever it is then, or where
+-- there is none. `Loaders::get_mut` uses these.
 use Rattle.std.proofs.Common.{◌≡◌, ℕ, Option, Some, None, List, refl, sym, ap, ◌∙◌, subst}
 use Rattle.ms_base.specs.Names.{with_changed}
 use Rattle.ms_loaders.specs.Loader.{LoaderView}

@@ -1,5 +1,5 @@
--- Places by the page: what stands at a number where pages are added, walked and changed. The functions of
--- `places` and `walks` use these, and `Loaders`.
+-- Places by the page: what stands at a number where pages are added, walked and changed. The
+-- functions of `places` and `walks` use these, and `Loaders`.
 use Rattle.std.proofs.Common.{◌≡◌, ℕ, zero, suc, ◌+◌, ◌-◌, ◌*◌, ◌/◌, ◌%◌, ◌<◌, ◌≤◌, cond, Option, None}
 use Rattle.std.proofs.Common.{List, [], ◌∷◌, ◌++◌, length, refl, sym, ap, ◌∙◌, inl, inr, arith}
 use Rattle.std.specs.Prelude.{nat_eq, slice_index_or, slice_set}
@@ -115,7 +115,8 @@ placed_with pages number loader other =
     past_all : length pages ≤ number / 256 → with_it ≡ []
     past_all more = ap (λ page. page_with page (number % 256) loader) (get_or_past pages (number / 256) [] more)
 
--- A walk's rest: what is found next, and then the rest from there on; nothing where nothing is found.
+-- A walk's rest: what is found next, and then the rest from there on; nothing where nothing is
+-- found.
 skips : {E : Type 0} (at : ℕ → Option E) (from more count : ℕ) → ((k : ℕ) → from ≤ k → k < from + more → at k ≡ None)
     → placed_from at from (more + count) ≡ placed_from at (from + more) count
 skips at from zero count none =

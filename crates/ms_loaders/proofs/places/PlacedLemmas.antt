@@ -1,5 +1,5 @@
--- Entries that stand at their names, as a list: it rises, gives at each name what stands there, and an
--- entry that comes, is changed or goes is one change of that list. `Loaders` uses these.
+-- Entries that stand at their names, as a list: it rises, gives at each name what stands there, and
+-- an entry that comes, is changed or goes is one change of that list. `Loaders` uses these.
 use Rattle.std.proofs.Common.{◌≡◌, ℕ, zero, suc, ◌+◌, ◌<◌, ◌≤◌, false, Option, Some, None}
 use Rattle.std.proofs.Common.{refl, sym, ap, inl, inr, arith, IfSome, subst}
 use Rattle.std.specs.Ordering.{nat_cmp}

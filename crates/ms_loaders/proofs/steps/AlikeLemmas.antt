@@ -1,5 +1,5 @@
--- An allocation over one source is one over another where each answer of the first is an answer of the
--- second; and so one by the pool's own calls is one that knows nothing of tallies.
+-- An allocation over one source is one over another where each answer of the first is an answer of
+-- the second; and so one by the pool's own calls is one that knows nothing of tallies.
 use Rattle.std.proofs.Common.{ℕ, Bool, true, false, Option, Some, None, Result, Ok, Err, inl, inr, ap}
 use Rattle.ms_base.specs.declared.policy.Policy.{Policy}
 use Rattle.ms_base.specs.declared.kind.Space.{Space}

@@ -39,8 +39,8 @@ use Rattle.ms_loaders.proofs.steps.CauseLemmas.{alloc_answers_why}
 abbrev with_chunks : AccountState → List Chunk → AccountState
 with_chunks account chunks = record account { chunks = chunks }
 
--- What a call leaves of the pool for an account: the account is served with these chunks, and nothing
--- changes but its loans.
+-- What a call leaves of the pool for an account: the account is served with these chunks, and
+-- nothing changes but its loans.
 record LeavesServed (old new : Ledger) (account : AccountState) (chunks : List Chunk) : Type 0 where
   own : Serves new (with_chunks account chunks)
   keeps : Keeps account.owner old new
@@ -127,7 +127,8 @@ owner_stays : (space : Space) (was is : LoaderView) → KeepsOther space was is 
 owner_stays space was is keeps NonClass = keeps.owner
 owner_stays space was is keeps Class = keeps.class_owner
 
--- The account of a loader's arena is the loader's, and its chunks after an allocation are the loader's.
+-- The account of a loader's arena is the loader's, and its chunks after an allocation are the
+-- loader's.
 arena_account : (space : Space) (v : LoaderView) (arena : ArenaView) → IsArenaOf space v arena
     → account_of arena ≡ account_in space v
 arena_account space v arena its = λ i. record {

@@ -1,5 +1,5 @@
--- Pool and loaders stay together, and the machine makes its step, where a loader is made, refused for
--- want of memory, or unloaded, and where nodes are purged.
+-- Pool and loaders stay together, and the machine makes its step, where a loader is made, refused
+-- for want of memory, or unloaded, and where nodes are purged.
 use Rattle.std.proofs.Common.{◌≡◌, ◌≢◌, ◌≤◌, ◌<◌, ◌+◌, ℕ, Bool, true, false, cond, not, ◌||◌, None, List, [], ◌∷◌, ◌++◌}
 use Rattle.std.proofs.Common.{map, length, refl, sym, ap, ◌∙◌, subst, inl, inr, arith}
 use Rattle.std.specs.Prelude.{◌==◌}

@@ -1,5 +1,5 @@
--- What an allocation asked of the pool, by what it answers: nothing, a greater chunk or another one; or
--- a refusal, and why.
+-- What an allocation asked of the pool, by what it answers: nothing, a greater chunk or another
+-- one; or a refusal, and why.
 use Rattle.std.proofs.Common.{◌≡◌, ◌+◌, ◌-◌, ℕ, zero, suc, ◌⊎◌, Bool, true, false, not, ◌&&◌, Option, Some, None}
 use Rattle.std.proofs.Common.{Result, Ok, Err, List, [], ◌∷◌, ◌++◌, length, map, refl, sym, ap, ◌∙◌, subst, arith}
 use Rattle.std.proofs.Common.{if◌then◌else◌}

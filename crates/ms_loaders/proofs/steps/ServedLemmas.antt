@@ -103,7 +103,8 @@ pub all_joined : (P : AccountState → Type 0) (b a : List AccountState) (x y : 
 all_joined P [] a x y before first second after = (first, (second, after))
 all_joined P (z ∷ b) a x y before first second after = (before.0, all_joined P b a x y before.1 first second after)
 
--- A loader after its allocation in a space: its owners are the same, and its chunks of the other space.
+-- A loader after its allocation in a space: its owners are the same, and its chunks of the other
+-- space.
 pub record KeepsOther (space : Space) (was is : LoaderView) : Type 0 where
   pub owner : is.owner ≡ was.owner
   pub class_owner : is.class_owner ≡ was.class_owner
@@ -288,7 +289,8 @@ own_sound ledger loaders name v found its =
     subst (λ (o : Option LoaderView). IfSome o IsSoundView) found
     (IfSome-lookup_from_All IsSoundView (is_at (nat_cmp name)) loaders its.loaders_sound)
 
--- So pool and loaders are together still where one loader changed in a space, and the pool for it alone.
+-- So pool and loaders are together still where one loader changed in a space, and the pool for it
+-- alone.
 pub together_still : (space : Space) (old new : Ledger) (loaders : List (ℕ × LoaderView)) (name : ℕ)
     (was is : LoaderView) → named loaders name ≡ Some was → KeepsOther space was is → Serves new (account_in space is)
     → ((other : AccountState) → other.owner ≢ (account_in space was).owner → Serves old other → Serves new other)

@@ -207,8 +207,8 @@ module _ (old new : Ledger) (loaders : List (ℕ × LoaderView)) (name : ℕ) (v
       mid : Ledger
       mid = record old { loans = others_than v.class_owner (others_than v.owner old.loans) }
 
--- A loader that is refused once its accounts were opened: both are closed again, and two owner numbers
--- are used up.
+-- A loader that is refused once its accounts were opened: both are closed again, and two owner
+-- numbers are used up.
 module _ (old new : Ledger) (loaders : List (ℕ × LoaderView))
     (closed : new ≡ with_both_closed (with_both old) (first_account old) (second_account old))
     (sound : IsSoundLedger new)

@@ -1,5 +1,5 @@
--- A walk over loaders that adds up what each holds, and makes its row: what is added so far and what
--- is left come to the whole. `gather` uses these.
+-- A walk over loaders that adds up what each holds, and makes its row: what is added so far and
+-- what is left come to the whole. `gather` uses these.
 use Rattle.std.proofs.Common.{◌≡◌, ◌+◌, ◌<◌, ◌^◌, ℕ, List, [], ◌∷◌, ◌++◌, map, refl, ap, ◌∙◌, arith, inl, inr}
 use Rattle.std.specs.List.{filter, sum_by}
 use Rattle.std.specs.Map.{values_of}

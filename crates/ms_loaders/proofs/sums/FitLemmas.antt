@@ -1,5 +1,5 @@
--- The chunks that the pool has lent are those that the loaders hold, in another order; so the machine
--- that a pool and its loaders are is good, and its granules are the pool's.
+-- The chunks that the pool has lent are those that the loaders hold, in another order; so the
+-- machine that a pool and its loaders are is good, and its granules are the pool's.
 use Rattle.std.proofs.Common.{◌≡◌, ◌≢◌, ◌+◌, ℕ, Bool, true, false, cond, not, ◌&&◌, ◌||◌, List, [], ◌∷◌, ◌++◌, map, ◌-◌}
 use Rattle.std.proofs.Common.{refl, sym, ap, ◌∙◌, subst, inl, inr, arith, append-nil}
 use Rattle.std.specs.Prelude.{◌==◌}
@@ -116,7 +116,8 @@ not_again number numbers distinct =
       ap one_if (eq-eqb number number refl),
     ))
 
--- The loans of accounts whose owners differ are those accounts' chunks, where no other owner has one.
+-- The loans of accounts whose owners differ are those accounts' chunks, where no other owner has
+-- one.
 abbrev pub HasOwner : List ℕ → Loan → Type 0
 HasOwner owners loan = is_among owners loan.owner ≡ true
 

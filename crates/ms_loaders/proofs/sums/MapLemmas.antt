@@ -1,5 +1,5 @@
--- The maps of a pool are those of the machine: what loaders hold is what the pool has lent, in another
--- order. `System::maps` uses this.
+-- The maps of a pool are those of the machine: what loaders hold is what the pool has lent, in
+-- another order. `System::maps` uses this.
 use Rattle.std.proofs.Common.{◌≡◌, ℕ, List}
 use Rattle.ms_base.specs.declared.kind.Space.{Space}
 use Rattle.ms_base.specs.State.{chunks_held, pool_of}

@@ -1,5 +1,5 @@
--- The totals of a system are the sums over its machine: what loaders hold is what the pool has lent,
--- and can be counted. `System::totals` uses these.
+-- The totals of a system are the sums over its machine: what loaders hold is what the pool has
+-- lent, and can be counted. `System::totals` uses these.
 use Rattle.std.proofs.Common.{◌≡◌, ◌≤◌, ◌<◌, ◌-◌, ◌*◌, ◌^◌, ℕ, suc, List, [], ◌∷◌, length, map, refl, sym, ap, ◌∙◌}
 use Rattle.std.proofs.Common.{arith, length-append}
 use Rattle.std.specs.List.{AllByRecursion, sum_by}

@@ -1,5 +1,5 @@
--- The words in use and those committed, of both spaces: their sums over loaders, and that they can be
--- counted.
+-- The words in use and those committed, of both spaces: their sums over loaders, and that they can
+-- be counted.
 use Rattle.std.proofs.Common.{◌≡◌, ◌≤◌, ◌+◌, ◌*◌, ℕ, List, [], ◌∷◌, Some, None, length, refl, sym, ap, ◌∙◌, arith}
 use Rattle.std.specs.List.{sum_by}
 use Rattle.std.specs.Map.{values_of}

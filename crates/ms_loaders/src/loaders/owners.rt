@@ -55,8 +55,8 @@ impl Owners {
     }
 
     /// Makes room for the note of an owner number. Where the list is full, notes of loaders that
-    /// stand at their names no more are swept out first, and it is lengthened where not most of them
-    /// were: so each note is looked at once in three that come. Takes memory.
+    /// stand at their names no more are swept out first, and it is lengthened where not most of
+    /// them were: so each note is looked at once in three that come. Takes memory.
     #[inline(always)]
     pub(super) fn reserve(&mut self, owner: u32, places: &Places) -> Result<(), AllocError> {
         if !self.rises(owner) {

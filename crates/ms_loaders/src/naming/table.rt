@@ -126,9 +126,9 @@ impl Table {
     }
 
     /// Makes the row longer, or has it slide on, for a name that has no place in it, where the name
-    /// is near. It slides only once so many names were asked for as a quarter of its places, so that
-    /// it costs no more than they did; those that are refused count, or many of them would have the
-    /// row stay behind for good. All names stay.
+    /// is near. It slides only once so many names were asked for as a quarter of its places, so
+    /// that it costs no more than they did; those that are refused count, or many of them would
+    /// have the row stay behind for good. All names stay.
     #[inline(always)]
     fn grow(&mut self, name: usize, many: bool) -> Result<(), AllocError>
         requires { name < 2 ^ 32 }

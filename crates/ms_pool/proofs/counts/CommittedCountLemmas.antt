@@ -48,7 +48,8 @@ pub granules_below : (nodes : NodesState) (slots granule : ℕ) → slots ≡ 64
 granules_below nodes slots granule e f =
     ap (λ (n : ℕ). n * (1048576 / granule)) e ∙ ap (λ (g : ℕ). 64 * (1048576 / g)) f
 
--- What is not missing below the class space's slots is committed there, and the rest in the class space.
+-- What is not missing below the class space's slots is committed there, and the rest in the class
+-- space.
 pub record IsCountedBelow (nodes : NodesState) (count missing : ℕ) : Type 0 where
   pub fits : missing ≤ count
   pub below : count - missing ≡ length (granules_in NonClass nodes)

@@ -1,5 +1,5 @@
--- The free parts of a space by level: slot by slot of those that it may have, and how many there are
--- at most.
+-- The free parts of a space by level: slot by slot of those that it may have, and how many there
+-- are at most.
 use Rattle.std.proofs.Common.{◌≡◌, ◌<◌, ◌≤◌, ℕ, zero, suc, ◌+◌, ◌-◌, ◌*◌, ◌^◌, Bool, true, false, cond, List, [], ◌∷◌}
 use Rattle.std.proofs.Common.{◌++◌, length, get_or, map, refl, ap, ◌∙◌, arith}
 use Rattle.std.specs.Prelude.{◌==◌}

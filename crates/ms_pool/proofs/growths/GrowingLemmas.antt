@@ -1,5 +1,5 @@
--- What `grow` does, from what the code has found out: the chunk is one of the account's, and the one
--- that it becomes has its place.
+-- What `grow` does, from what the code has found out: the chunk is one of the account's, and the
+-- one that it becomes has its place.
 use Rattle.std.proofs.Common.{◌≡◌, ◌<◌, ◌≤◌, ◌^◌, ℕ, zero, suc, ◌+◌, ◌-◌, ◌*◌, Bool, true, false, ◌&&◌, ◌||◌, ◌==◌}
 use Rattle.std.proofs.Common.{Some, List, [], ◌∷◌, ◌++◌, length, get_or, map, refl, sym, ap, ap₂, subst, ◌∙◌, arith}
 use Rattle.std.proofs.Common.{eq-eqb, eqb-true, ltb-true, leb-true, inl, inr}

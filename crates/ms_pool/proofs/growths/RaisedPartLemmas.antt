@@ -1,4 +1,5 @@
--- What a pool keeps once a chunk has grown: what its callers see is the ledger with the chunk grown.
+-- What a pool keeps once a chunk has grown: what its callers see is the ledger with the chunk
+-- grown.
 use Rattle.std.proofs.Common.{◌≡◌, ◌≤◌, ℕ, ◌*◌, Bool, true, false, cond, ◌&&◌, ◌||◌, ◌==◌, List, [], ◌∷◌, refl, sym, ap}
 use Rattle.std.proofs.Common.{◌∙◌, arith, eqb-true, ◌+◌, ◌-◌, ◌/◌, subst}
 use Rattle.std.specs.List.{AllByRecursion, flat_map, list_any}

@@ -1,5 +1,5 @@
--- What `grow` knows, step by step: the chunk is found among the account's, the greater one is reached,
--- it has its place, and the account has it in place of the other.
+-- What `grow` knows, step by step: the chunk is found among the account's, the greater one is
+-- reached, it has its place, and the account has it in place of the other.
 use Rattle.std.proofs.Common.{◌≡◌, ◌<◌, ◌≤◌, ◌+◌, ℕ, Bool, Some, List, length, get_or, sym, subst, arith}
 use Rattle.std.specs.Prelude.{Ok, IfSome, slice_get, Result}
 use Rattle.ms_base.specs.declared.span.Chunk.{Chunk}

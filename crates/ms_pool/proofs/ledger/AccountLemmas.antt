@@ -1,5 +1,5 @@
--- Accounts that a sound ledger serves: their chunks are some of those held in their space, so they are
--- few, and a chunk that meets none held can be added to them.
+-- Accounts that a sound ledger serves: their chunks are some of those held in their space, so they
+-- are few, and a chunk that meets none held can be added to them.
 use Rattle.std.proofs.Common.{◌≡◌, ◌≤◌, ◌*◌, ℕ, Bool, true, false, cond, List, [], ◌∷◌, length, map, refl, sym, ◌∙◌}
 use Rattle.std.proofs.Common.{arith}
 use Rattle.std.specs.Prelude.{◌==◌}

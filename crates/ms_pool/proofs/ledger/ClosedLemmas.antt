@@ -1,5 +1,5 @@
--- Calls of open, close and purge, whatever they answer: all accounts but a closed one are served still,
--- and no other owner's chunks change.
+-- Calls of open, close and purge, whatever they answer: all accounts but a closed one are served
+-- still, and no other owner's chunks change.
 use Rattle.std.proofs.Common.{◌≡◌, ◌≢◌, ◌<◌, ◌+◌, ℕ, [], refl, sym, ap, ◌∙◌, subst, arith}
 use Rattle.std.specs.Prelude.{Result, Ok, Err, IfOk, MatchResult}
 use Rattle.ms_base.specs.declared.kind.Space.{Space}

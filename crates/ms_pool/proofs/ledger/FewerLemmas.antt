@@ -1,5 +1,5 @@
--- Some loans go: the others are held still, in order, and commit nothing more; and what an owner has
--- of the others.
+-- Some loans go: the others are held still, in order, and commit nothing more; and what an owner
+-- has of the others.
 use Rattle.std.proofs.Common.{◌≡◌, ◌≢◌, ◌≤◌, ℕ, Bool, true, false, cond, not, List, [], ◌∷◌, ◌++◌, length, map, refl}
 use Rattle.std.proofs.Common.{sym, ap, ◌∙◌, subst, arith}
 use Rattle.std.specs.Prelude.{◌==◌}

@@ -1,5 +1,5 @@
--- A call of grow, whatever it answers: all accounts are served still, and nothing changes but the chunks
--- of the call's account.
+-- A call of grow, whatever it answers: all accounts are served still, and nothing changes but the
+-- chunks of the call's account.
 use Rattle.std.proofs.Common.{◌≡◌, ℕ, Bool, Some, List, refl, sym, ap, ◌∙◌, subst}
 use Rattle.std.specs.Prelude.{Result, Ok, Err, IfOk, OnErr, slice_get, slice_set}
 use Rattle.ms_base.specs.declared.span.Chunk.{Chunk}

@@ -1,5 +1,5 @@
--- What an account holds, against what is held of its space. What counts chunks over a space rests on
--- this.
+-- What an account holds, against what is held of its space. What counts chunks over a space rests
+-- on this.
 use Rattle.std.proofs.Common.{◌≤◌, ℕ, List, ◌++◌, arith}
 use Rattle.std.specs.List.{sum_by}
 use Rattle.std.proofs.lemmas.List.Sorted.{sum_by-IsPermutation}

@@ -1,5 +1,5 @@
--- Opening accounts: the new account has nothing, and all others are served still; so it is where a tally
--- is raised.
+-- Opening accounts: the new account has nothing, and all others are served still; so it is where a
+-- tally is raised.
 use Rattle.std.proofs.Common.{◌≡◌, ◌≤◌, ◌<◌, ◌+◌, ℕ, Bool, true, false, cond, List, [], ◌∷◌, map, refl, sym, subst}
 use Rattle.std.proofs.Common.{arith}
 use Rattle.std.specs.Prelude.{◌==◌}

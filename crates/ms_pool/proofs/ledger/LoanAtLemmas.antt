@@ -1,4 +1,5 @@
--- A loan among loans in order, and the loans where its chunk is replaced by one with the same start.
+-- A loan among loans in order, and the loans where its chunk is replaced by one with the same
+-- start.
 use Rattle.std.proofs.Common.{◌≡◌, ◌≢◌, ◌≤◌, ℕ, zero, suc, Bool, true, false, cond, not, Some, List, [], ◌∷◌, ◌++◌, map}
 use Rattle.std.proofs.Common.{refl, sym, ap, ◌∙◌, subst, arith}
 use Rattle.std.specs.Prelude.{◌==◌, slice_get, slice_set}

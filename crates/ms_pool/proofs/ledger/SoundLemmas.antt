@@ -1,5 +1,5 @@
--- A ledger is sound where each space is but for its granules, these follow, and loans stand in order;
--- each call's lemma uses this.
+-- A ledger is sound where each space is but for its granules, these follow, and loans stand in
+-- order; each call's lemma uses this.
 use Rattle.std.proofs.Common.{◌≡◌, ◌≤◌, ◌<◌, ◌+◌, ◌^◌, ℕ, List, length, map, refl, sym, ap, ◌∙◌, arith}
 use Rattle.std.specs.List.{All}
 use Rattle.std.specs.List.Sorted.{IsStrictlyIncreasing}

@@ -1,5 +1,5 @@
--- What a request for a chunk is answered: a part that meets no chunk, with a front by the rule, in a
--- reserved slot or where one more may be reserved, and within the limit of granules.
+-- What a request for a chunk is answered: a part that meets no chunk, with a front by the rule, in
+-- a reserved slot or where one more may be reserved, and within the limit of granules.
 use Rattle.std.proofs.Common.{◌≡◌, ◌≤◌, ◌<◌, ◌+◌, ◌*◌, ℕ, Bool, true, false, not, ◌&&◌, [], length, sym, ap, ◌∙◌, subst}
 use Rattle.std.proofs.Common.{arith, inl, inr, max}
 use Rattle.std.specs.Prelude.{◌==◌, ◌⊎◌, Ok}

@@ -1,5 +1,5 @@
--- A call of take, whatever it answers: all accounts are served still, and nothing changes but the chunks
--- of the call's account.
+-- A call of take, whatever it answers: all accounts are served still, and nothing changes but the
+-- chunks of the call's account.
 use Rattle.ms_base.specs.Level.{highest_level}
 use Rattle.std.proofs.Common.{◌≡◌, ◌≤◌, ℕ, refl, sym, ap, ◌∙◌, subst}
 use Rattle.std.specs.Prelude.{Result, Ok, Err, IfOk, OnErr}

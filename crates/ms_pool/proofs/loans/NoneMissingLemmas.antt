@@ -53,7 +53,8 @@ each_passes p first (suc count) none k low high =
       | inr later ↦ more (omega (arith, low, later)) none
     ]
 
--- A test that follows from another adds nothing to it, and one that another implies takes nothing away.
+-- A test that follows from another adds nothing to it, and one that another implies takes nothing
+-- away.
 or_implied : (a b : Bool) → (b ≡ true → a ≡ true) → (a || b) ≡ a
 or_implied true b h = refl
 or_implied false true h = sym (h refl)

@@ -1,5 +1,5 @@
--- What the free leaves of a root's tree say of its places: a place is free where one meets it, and lent but
--- where it lies in one. `note` and `found_in` use these.
+-- What the free leaves of a root's tree say of its places: a place is free where one meets it, and
+-- lent but where it lies in one. `note` and `found_in` use these.
 use Rattle.std.proofs.Common.{◌≡◌, ◌≤◌, ◌<◌, ℕ, ◌+◌, ◌*◌, ◌/◌, Bool, true, false, not, ◌&&◌, ◌||◌}
 use Rattle.std.proofs.Common.{List, [], ◌∷◌, get_or, map, replicate, refl, sym, ap, ap₂, ◌∙◌}
 use Rattle.std.proofs.Common.{arith, inl, inr}
@@ -22,7 +22,8 @@ use Rattle.ms_base.proofs.free.PartLemmas.{parts_are_nested_or_apart}
 use Rattle.ms_buddy.specs.Leaves.{LentLeaf, chunk_of, free_of, words_of}
 use Rattle.ms_pool.specs.Mapping.{AreFound, AreNoted, meets_free, meets_lent, place_of, place_words, root_places}
 
--- The places that a free leaf meets are those from the one of its first word to the one of its last.
+-- The places that a free leaf meets are those from the one of its first word to the one of its
+-- last.
 abbrev pub is_from : ℕ → ℕ → ℕ → Bool
 is_from first end k = nat_le first k && nat_lt k end
 

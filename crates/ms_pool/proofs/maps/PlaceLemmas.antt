@@ -1,5 +1,5 @@
--- What a place of a root is in the pool, from the leaves of the root's tree and the nodes' granules.
--- `place_in` and `has_granule` use these.
+-- What a place of a root is in the pool, from the leaves of the root's tree and the nodes'
+-- granules. `place_in` and `has_granule` use these.
 use Rattle.std.proofs.Common.{◌≡◌, ◌≤◌, ◌<◌, ℕ, zero, suc, ◌+◌, ◌-◌, ◌*◌, ◌/◌, Bool, true, false, cond, not, ◌&&◌, ◌||◌}
 use Rattle.std.proofs.Common.{List, [], ◌∷◌, get_or, length, map, refl, sym, ap, ap₂, ◌∙◌, arith, le-leb, lt-ltb}
 use Rattle.std.specs.Prelude.{nat_lt}

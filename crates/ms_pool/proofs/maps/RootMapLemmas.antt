@@ -1,5 +1,5 @@
--- The maps of roots: place by place, and slot by slot of those that a space may have. `root_map` and
--- `push_maps` use these.
+-- The maps of roots: place by place, and slot by slot of those that a space may have. `root_map`
+-- and `push_maps` use these.
 use Rattle.std.proofs.Common.{◌≡◌, ◌<◌, ◌≤◌, ℕ, suc, ◌+◌, ◌-◌, ◌*◌, Bool, true, cond, map}
 use Rattle.std.proofs.Common.{List, [], ◌∷◌, ◌++◌, get_or, length, set}
 use Rattle.std.proofs.Common.{refl, sym, ap, ◌∙◌, arith, append_assoc}

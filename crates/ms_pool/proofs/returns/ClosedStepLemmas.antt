@@ -1,5 +1,5 @@
--- An account's chunks are taken back one after the other: before, at each and after all. The proof of
--- `close` uses them.
+-- An account's chunks are taken back one after the other: before, at each and after all. The proof
+-- of `close` uses them.
 use Rattle.std.proofs.Common.{◌≡◌, ◌≤◌, ℕ, ◌+◌, not, List, [], length, take, sym, ap, ◌∙◌, Some}
 use Rattle.std.specs.List.{slice_get}
 use Rattle.std.proofs.lemmas.List.{take_all}

@@ -1,5 +1,5 @@
--- Where loans go step by step, the granules may follow at each step or once at the end. The proofs of
--- `close` and `close_both` use them.
+-- Where loans go step by step, the granules may follow at each step or once at the end. The proofs
+-- of `close` and `close_both` use them.
 use Rattle.std.proofs.Common.{◌≡◌, ℕ, Bool, true, false, cond, ◌||◌, List, [], ◌∷◌, refl, sym, ap, ◌∙◌, inl, inr}
 use Rattle.std.specs.List.{filter, flat_map, list_any}
 use Rattle.std.proofs.lemmas.Bool.{or_cases, or_left, or_right}

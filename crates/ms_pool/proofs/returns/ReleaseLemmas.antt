@@ -1,5 +1,5 @@
--- What the pool is once a chunk is taken back, from its trees and nodes. The proof of `release` uses
--- them.
+-- What the pool is once a chunk is taken back, from its trees and nodes. The proof of `release`
+-- uses them.
 use Rattle.std.proofs.Common.{◌≡◌, ◌<◌, ◌≤◌, ℕ, ◌+◌, ◌*◌, ◌/◌, ◌%◌, Bool, true, false, cond, not, ◌||◌, ◌==◌, eqb-true}
 use Rattle.std.proofs.Common.{◌⊎◌, List, [], ◌∷◌, get_or, length, refl, sym, ap, subst, ◌∙◌, arith, inl, inr, Some}
 use Rattle.std.proofs.Common.{lt-ltb, le-ltb, le-leb}

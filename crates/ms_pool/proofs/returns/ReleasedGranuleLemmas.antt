@@ -1,5 +1,6 @@
 -- The granules once a chunk is taken back: those of the free part that results go, where it has a
--- granule's words or more, and no others; under policy none all stay. The proof of `release` uses them.
+-- granule's words or more, and no others; under policy none all stay. The proof of `release` uses
+-- them.
 use Rattle.std.proofs.Common.{◌≡◌, ◌<◌, ◌≤◌, ℕ, ◌+◌, ◌*◌, ◌/◌, ◌%◌, Bool, true, false, not, ◌&&◌, ◌||◌, List, refl, sym}
 use Rattle.std.proofs.Common.{ap, ap₂, subst, ◌∙◌, arith, le-leb}
 use Rattle.std.specs.Prelude.{nat_le, nat_lt}

@@ -1,5 +1,5 @@
--- The free part that results where a chunk is taken back: it is one of the free parts of the chunk's
--- space, and holds the chunk's words. The proof of `release` uses them.
+-- The free part that results where a chunk is taken back: it is one of the free parts of the
+-- chunk's space, and holds the chunk's words. The proof of `release` uses them.
 use Rattle.std.proofs.Common.{◌≡◌, ◌<◌, ◌≤◌, ℕ, ◌+◌, ◌*◌, ◌/◌, ◌%◌, Bool, true, false, cond, List, [], ◌∷◌, get_or}
 use Rattle.std.proofs.Common.{length, map, refl, sym, ap, subst, ◌∙◌, arith, inl, inr, Some, lt-ltb, le-leb, ltb-true}
 use Rattle.std.proofs.Common.{leb-true}

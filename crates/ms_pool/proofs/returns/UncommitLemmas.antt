@@ -1,5 +1,5 @@
--- The nodes once the granules of a free part are uncommitted, where a chunk was taken back. The proof
--- of `release` uses them.
+-- The nodes once the granules of a free part are uncommitted, where a chunk was taken back. The
+-- proof of `release` uses them.
 use Rattle.std.proofs.Common.{◌≡◌, ◌<◌, ◌≤◌, ℕ, ◌+◌, ◌*◌, ◌/◌, ◌%◌, true, false, not, List, refl, sym, ap, ◌∙◌, arith}
 use Rattle.std.proofs.Common.{inl, inr, lt-ltb, le-leb, ltb-true, leb-true}
 use Rattle.std.proofs.lemmas.Bool.{cases_lt}

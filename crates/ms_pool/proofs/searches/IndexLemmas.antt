@@ -1,5 +1,5 @@
--- The index of the trees: what a root's levels told anew do to it, and that it is exact over whole trees.
--- `Index` and `Trees` use these.
+-- The index of the trees: what a root's levels told anew do to it, and that it is exact over whole
+-- trees. `Index` and `Trees` use these.
 use Rattle.std.proofs.Common.{◌≡◌, ◌≢◌, ◌<◌, ◌≤◌, ℕ, suc, zero, ◌+◌, ◌*◌, ◌/◌, Bool, true, false, ◌||◌, ◌==◌, List, []}
 use Rattle.std.proofs.Common.{length, get_or, set, refl, sym, ap, subst, ◌∙◌, inl, inr, arith, bit_or}
 use Rattle.std.specs.Prelude.{replicate}

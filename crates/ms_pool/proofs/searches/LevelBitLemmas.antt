@@ -25,7 +25,8 @@ use Rattle.ms_pool.proofs.searches.SkipLemmas.{none_of_space}
 bit_clear : (levels level : ℕ) → bit_at levels level ≡ 0 → has_level levels level ≡ false
 bit_clear levels level e = ap (λ (b : ℕ). b == 1) e
 
--- No bit is set from a level on where none is left once they are moved down, nor below the lowest then.
+-- No bit is set from a level on where none is left once they are moved down, nor below the lowest
+-- then.
 bit_from : (levels from level : ℕ) → from ≤ level → bit_at levels level ≡ bit_at (levels / 2 ^ from) (level - from)
 bit_from levels from level low =
     let moved : level ≡ from + (level - from) = omega arith in

@@ -1,5 +1,5 @@
--- The free leaves of a level in a root, one after the other: the first that passes a test is found by
--- asking for the next one, from the start on and then past each that fails it.
+-- The free leaves of a level in a root, one after the other: the first that passes a test is found
+-- by asking for the next one, from the start on and then past each that fails it.
 use Rattle.std.proofs.Common.{◌≡◌, ◌<◌, ◌≤◌, ℕ, ◌+◌, ◌*◌, Bool, true, false, cond, not, ◌&&◌, ◌||◌, ◌==◌, List, [], ◌∷◌}
 use Rattle.std.proofs.Common.{◌++◌, get_or, map, refl, sym, ap, subst, ◌∙◌, arith, Option, Some, None}
 use Rattle.std.specs.Prelude.{nat_le}

@@ -1,5 +1,5 @@
--- The loans of the trees, split at one root: those of the roots before it, its own, and those of the
--- roots after it. What changes one tree changes its own loans alone.
+-- The loans of the trees, split at one root: those of the roots before it, its own, and those of
+-- the roots after it. What changes one tree changes its own loans alone.
 use Rattle.std.proofs.Common.{◌≡◌, ◌<◌, ◌≤◌, ℕ, zero, suc, ◌+◌, ◌*◌, List, [], ◌∷◌, ◌++◌, length, get_or, set, map}
 use Rattle.std.proofs.Common.{refl, sym, ap, ap₂, subst, ◌∙◌, arith, append_assoc}
 use Rattle.std.specs.List.{AllByRecursion}
@@ -89,7 +89,8 @@ at_root (t ∷ trees) first (suc i) root e within all =
       high = rest.high;
     }
 
--- A change of loans, one by one, that leaves those of other roots is a change of the root's own loans.
+-- A change of loans, one by one, that leaves those of other roots is a change of the root's own
+-- loans.
 pub changed_at_root : (trees : List (List LentLeaf)) (root : ℕ) (leaves : List LentLeaf)
     (change : List Loan → List Loan) → root < length trees → AllByRecursion AreLeaves trees
     → ((before after : List Loan) → change (before ++ after) ≡ change before ++ change after)

@@ -1,5 +1,5 @@
--- The first that a list of free parts has, in parts: over levels, over slots, and over the two roots
--- of a slot. The searches' loops use these.
+-- The first that a list of free parts has, in parts: over levels, over slots, and over the two
+-- roots of a slot. The searches' loops use these.
 use Rattle.std.proofs.Common.{◌≡◌, ◌<◌, ◌≤◌, ℕ, zero, suc, ◌+◌, ◌-◌, min, Bool, true, false, cond, not, ◌&&◌, List}
 use Rattle.std.proofs.Common.{[], ◌∷◌, ◌++◌, length, refl, sym, ap, ap₂, ne_eqb, ◌∙◌, arith, Option, Some, None, inl}
 use Rattle.std.proofs.Common.{inr}
@@ -170,8 +170,8 @@ none_clear : (pool : PoolState) (words : ℕ) (committed : Bool) (levels level :
 none_clear pool words committed levels level told fits clear =
     sym (first_at-is pool words committed level) ∙ told level fits clear
 
--- What is found from a level up to the most: the next level whose bit is set decides, or those after it;
--- where there is none, nothing is found.
+-- What is found from a level up to the most: the next level whose bit is set decides, or those
+-- after it; where there is none, nothing is found.
 abbrev pub found_from : PoolState → ℕ → Bool → ℕ → ℕ → Option Span
 found_from pool words committed most from =
     slice_get (flat_map (found_at pool words committed) (range_with_len from (most + 1 - from))) 0

@@ -1,5 +1,5 @@
--- Slots of whose roots none has a free leaf of the level are passed over: the loop over slots goes on
--- from the one that the index tells.
+-- Slots of whose roots none has a free leaf of the level are passed over: the loop over slots goes
+-- on from the one that the index tells.
 use Rattle.std.proofs.Common.{◌≡◌, ◌<◌, ◌≤◌, ℕ, zero, suc, ◌+◌, ◌-◌, ◌*◌, Bool, true, false, cond, not, ◌&&◌, ◌||◌}
 use Rattle.std.proofs.Common.{◌==◌, List, [], ◌∷◌, get_or, map, refl, ap, ◌∙◌, arith, Option, Some, None, sym}
 use Rattle.std.specs.List.{find, flat_map, list_any, range_with_len}
@@ -150,8 +150,8 @@ looked_to_first space lender words committed level slot kept start = record {
       ∙ ap (found_from space lender words committed level) (sym start);
 }
 
--- Where no root below the next slot has a free leaf of the level, that slot decides, or those after it;
--- where there is no next one, nothing is found.
+-- Where no root below the next slot has a free leaf of the level, that slot decides, or those after
+-- it; where there is no next one, nothing is found.
 pub decided_at : (space : Space) (lender : Lender) (words : ℕ) (committed : Bool) (level a slot : ℕ) → IsKept lender
     → 1 ≤ words → words ≤ size_of level
     → IsLookedTo space lender words committed level a → a ≤ slot → slot < end_slot space lender.nodes

@@ -1,4 +1,5 @@
--- A block that was made over the lock meets none of its loader's, in either space. For the lemmas of `answer`.
+-- A block that was made over the lock meets none of its loader's, in either space. For the lemmas
+-- of `answer`.
 use Rattle.std.proofs.Common.{◌≡◌, ◌+◌, ◌≤◌, ℕ, Bool, true, false, cond, Some, None, Result, Ok, Err, List}
 use Rattle.std.proofs.Common.{[], ◌∷◌, ◌++◌, refl, sym, ap, ◌∙◌, inl, inr, arith}
 use Rattle.std.specs.Prelude.{nat_le, nat_lt}

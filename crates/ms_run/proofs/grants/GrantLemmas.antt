@@ -1,5 +1,5 @@
--- What an allocation over the lock tells a loader: the answer is one that the loader's own lines allow,
--- or the allocation was refused for want.
+-- What an allocation over the lock tells a loader: the answer is one that the loader's own lines
+-- allow, or the allocation was refused for want.
 use Rattle.std.proofs.Common.{◌≡◌, ℕ, Bool, true, false, Option, Some, None, Result, Ok, Err, List}
 use Rattle.std.proofs.Common.{refl, sym, subst, inl, inr}
 use Rattle.ms_base.specs.declared.kind.Space.{Space}

@@ -1,5 +1,5 @@
--- What an allocation over the lock was answered: a block, or a refusal that is the request's own or for
--- want. For the lemmas of `answer`.
+-- What an allocation over the lock was answered: a block, or a refusal that is the request's own or
+-- for want. For the lemmas of `answer`.
 use Rattle.std.proofs.Common.{◌≡◌, ℕ, ◌⊎◌, Bool, true, false, Option, Some, None, Result, Ok, Err}
 use Rattle.std.proofs.Common.{refl, sym, subst, inl, inr}
 use Rattle.ms_base.specs.declared.kind.Space.{Space}
@@ -27,8 +27,8 @@ use Rattle.ms_shared.specs.LockCalls.{TakeTallies, TookOver, GrewOver}
 abbrev pub own_part : LoaderView → OwnLoader
 own_part loader = record { kind = loader.state.kind; blocks = loader.state.blocks }
 
--- What the arena was answered: a block of that many words, or a refusal that is the request's own or for
--- want.
+-- What the arena was answered: a block of that many words, or a refusal that is the request's own
+-- or for want.
 abbrev TellsArena : ℕ → Result Block Refusal → Type 0
 TellsArena words (Ok block) = IsAskable words × (block.words ≡ block_words words)
 TellsArena words (Err refusal) = PlaceRefused words refusal ⊎ (IsAskable words × IsAllocWant refusal)

@@ -1,5 +1,5 @@
--- A seat and its loaders where both accounts of a loader are closed. For `unload`, and for `new_loader`
--- where memory for the loader is refused.
+-- A seat and its loaders where both accounts of a loader are closed. For `unload`, and for
+-- `new_loader` where memory for the loader is refused.
 use Rattle.std.proofs.Common.{◌≡◌, ◌≢◌, ◌+◌, ◌<◌, ℕ, true, cond, Some, None, List, refl, [], ◌∷◌, ◌++◌, map, length}
 use Rattle.std.proofs.Common.{sym, ap, ◌∙◌, subst, ◌⊎◌, inl, inr, ⊎_elim, IsTrue, arith}
 use Rattle.std.specs.List.{AllByRecursion}

@@ -66,7 +66,8 @@ abbrev pub NoOther : List ℕ → SeatView → Type 0
 NoOther owners seat = (owner : ℕ) (chunks : List Chunk) → Has seat.served owner chunks
     → (chunks ≡ []) ⊎ IsTrue (is_among owners owner)
 
--- So it is after a call, by what the call leaves an owner that the seat served, and one that is new.
+-- So it is after a call, by what the call leaves an owner that the seat served, and one that is
+-- new.
 pub no_other_then : (before after : Ledger) (view : SeatView) (owners then : List ℕ) → IsKnown before view
     → NoOther owners view
     → ((owner : ℕ) → (chunks_of before owner ≡ []) ⊎ IsTrue (is_among owners owner)

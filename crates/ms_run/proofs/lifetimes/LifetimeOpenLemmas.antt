@@ -1,4 +1,5 @@
--- A seat and its loaders where both accounts of a loader are opened, or are refused. For `new_loader`.
+-- A seat and its loaders where both accounts of a loader are opened, or are refused. For
+-- `new_loader`.
 use Rattle.std.proofs.Common.{◌≡◌, ◌+◌, ◌≤◌, ℕ, true, None, List, [], ◌∷◌, ◌++◌, map, length, sym, ap, ◌∙◌, subst, ◌⊎◌}
 use Rattle.std.proofs.Common.{inl, inr, ⊎_elim, arith}
 use Rattle.std.specs.Prelude.{Ok, Err}

@@ -1,5 +1,5 @@
--- An allocation by the pool's calls, of which a refused growth isn't seen, is one over filled pools: it is
--- a step of the machine. For the run of the machine that an order of steps is.
+-- An allocation by the pool's calls, of which a refused growth isn't seen, is one over filled
+-- pools: it is a step of the machine. For the run of the machine that an order of steps is.
 use Rattle.std.proofs.Common.{◌≡◌, ℕ, Bool, Some, Result, Ok, Err, List, length, inl, inr, sym, ap, subst, arith}
 use Rattle.ms_base.specs.declared.kind.Space.{Space}
 use Rattle.ms_base.specs.declared.span.Block.{Block}

@@ -1,5 +1,5 @@
--- A worker's allocation is a transition of the machine of the pool and all loaders. For the run of the
--- machine that an order of steps is.
+-- A worker's allocation is a transition of the machine of the pool and all loaders. For the run of
+-- the machine that an order of steps is.
 use Rattle.std.proofs.Common.{◌≡◌, ℕ, Option, Some, None, Result, Ok, Err, List, refl, sym, ap, ◌∙◌, subst}
 use Rattle.std.proofs.lemmas.Option.{same_Some}
 use Rattle.ms_base.specs.declared.kind.Space.{Space}

@@ -1,5 +1,5 @@
--- A worker's step that is done at an event is a transition of the machine of the pool and all loaders.
--- For the run of the machine that an order of steps is.
+-- A worker's step that is done at an event is a transition of the machine of the pool and all
+-- loaders. For the run of the machine that an order of steps is.
 use Rattle.std.proofs.Common.{◌≡◌, ℕ, Option, Some, None, Err, List}
 use Rattle.std.proofs.Common.{inr, refl, sym, ap, ◌∙◌, subst}
 use Rattle.ms_base.specs.declared.kind.Kind.{Kind}

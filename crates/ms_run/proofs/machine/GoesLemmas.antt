@@ -1,5 +1,5 @@
--- A worker's step, over its own loaders and what is seen of the pool, is a transition of the machine of
--- the pool and all loaders. For the run of the machine that an order of steps is.
+-- A worker's step, over its own loaders and what is seen of the pool, is a transition of the
+-- machine of the pool and all loaders. For the run of the machine that an order of steps is.
 use Rattle.std.proofs.Common.{◌≡◌, ◌≢◌, ℕ, Bool, Option, Some, None, List, length, refl, sym, ap, ◌∙◌, subst}
 use Rattle.std.proofs.lemmas.Option.{same_Some}
 use Rattle.ms_base.specs.declared.kind.Kind.{Kind}

@@ -1,5 +1,5 @@
--- An order that keeps the elements of each place keeps those of each worker, where all of a worker's are
--- at one place. Used for the order of a phase's lines.
+-- An order that keeps the elements of each place keeps those of each worker, where all of a
+-- worker's are at one place. Used for the order of a phase's lines.
 use Rattle.std.proofs.Common.{◌≡◌, ◌≤◌, ◌<◌, ◌==◌, ◌||◌, ℕ, Bool, true, false, not, cond, List, [], ◌∷◌, refl, sym, ap}
 use Rattle.std.proofs.Common.{◌∙◌, arith, eq-eqb}
 use Rattle.std.specs.List.{AllByRecursion, filter, list_any}

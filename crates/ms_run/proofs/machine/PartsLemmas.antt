@@ -1,5 +1,5 @@
--- Two lists whose parts, by a number of each element, are the same have the same elements. That an order
--- of a phase's lines has all of them uses this.
+-- Two lists whose parts, by a number of each element, are the same have the same elements. That an
+-- order of a phase's lines has all of them uses this.
 use Rattle.std.proofs.Common.{◌≡◌, ◌<◌, ◌==◌, ℕ, Bool, true, false, cond, List, [], ◌∷◌, ◌++◌, refl, sym, ap, ◌∙◌, subst, append_assoc, eq-eqb}
 use Rattle.std.proofs.lemmas.Bool.{eqb-true}
 use Rattle.std.specs.List.{filter}

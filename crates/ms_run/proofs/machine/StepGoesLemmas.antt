@@ -1,4 +1,5 @@
--- Each step of an order of workers' steps is a transition of the machine of the pool and all loaders.
+-- Each step of an order of workers' steps is a transition of the machine of the pool and all
+-- loaders.
 use Rattle.std.proofs.Common.{◌≡◌, ℕ, Bool, Option, Some, None, Ok, Err, List, [], ◌∷◌, length, inl, inr, refl, sym, ap, ◌∙◌, subst, arith}
 use Rattle.ms_base.specs.declared.kind.Kind.{Kind}
 use Rattle.ms_base.specs.declared.kind.Space.{Space}

@@ -1,5 +1,5 @@
--- An order of workers' steps, which is a run of the whole, is a run of the machine of the pool and all
--- loaders. Used for a phase.
+-- An order of workers' steps, which is a run of the whole, is a run of the machine of the pool and
+-- all loaders. Used for a phase.
 use Rattle.std.proofs.Common.{◌≡◌, ◌≢◌, ◌<◌, ◌==◌, ℕ, Bool, true, false, cond, Option, Some, None, option_map, List, [], ◌∷◌, map, length}
 use Rattle.std.proofs.Common.{length-set, get_or-set_same, eq-eqb, refl, sym, ap, ◌∙◌, subst, arith}
 use Rattle.std.specs.Prelude.{⊤, slice_index_or, slice_set}
@@ -221,8 +221,8 @@ same_states place count parts all ending within here there rises ends =
     same name = sym ((here (place (Some name)) (within (Some name))).here name refl)
         ∙ (there (place (Some name)) (within (Some name))).here name refl
 
--- An order of steps of workers, from a pool and loaders that are together to others, is one run of the
--- machine, in which each worker's keep theirs, where all of a worker's are at one place.
+-- An order of steps of workers, from a pool and loaders that are together to others, is one run of
+-- the machine, in which each worker's keep theirs, where all of a worker's are at one place.
 module _ (place : Place) (first last : Ledger)
     (before after : List (List (ℕ × LoaderView))) (loaders ending : List (ℕ × LoaderView)) (said : List Said)
     (order : List (ℕ × Said)) (worker : Option ℕ → ℕ) (share : ℕ → ℕ) where

@@ -1,5 +1,5 @@
--- The words in use of loaders that are handed on and dealt to shares, and the seats of the meter that
--- the shares get. For `hand_on`, `hand_all` and `deal_to`.
+-- The words in use of loaders that are handed on and dealt to shares, and the seats of the meter
+-- that the shares get. For `hand_on`, `hand_all` and `deal_to`.
 use Rattle.std.proofs.Common.{◌≡◌, ◌+◌, ◌<◌, ℕ, Some, None, List, [], ◌∷◌, ◌++◌, map, length, refl, sym, ap, ◌∙◌, arith}
 use Rattle.std.proofs.Common.{get_or, drop}
 use Rattle.std.specs.List.{sum_by}
@@ -68,8 +68,8 @@ first_and_rest [] rest x some first rest_are = absurd (omega (arith, some))
 first_and_rest {X} (y ∷ xs) rest x some first rest_are =
     ap (λ (z : X). z ∷ xs) (sym first) ∙ ap (λ (l : List X). x ∷ l) (sym rest_are)
 
--- While shares are made: the loaders that are left and those dealt have in use what all had, and the
--- meter's seats that are left, one for each share to come, follow those dealt.
+-- While shares are made: the loaders that are left and those dealt have in use what all had, and
+-- the meter's seats that are left, one for each share to come, follow those dealt.
 pub record IsShared (loaders : Loaded) (given : List MeterSeatState) (left : Loaded) (meters : List MeterSeatState)
     (seats : List SeatState) (shares : List Share) : Type 0 where
   pub used : used_in left + used_over shares ≡ used_in loaders

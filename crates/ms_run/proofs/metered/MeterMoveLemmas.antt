@@ -1,5 +1,5 @@
--- How a seat of the meter follows the words in use, modulo 2^64: over no step, over several, and over one
--- that adds a difference or takes off what goes. For metering.rt and working.rt.
+-- How a seat of the meter follows the words in use, modulo 2^64: over no step, over several, and
+-- over one that adds a difference or takes off what goes. For metering.rt and working.rt.
 use Rattle.std.proofs.Common.{◌≡◌, ◌<◌, ℕ, ◌+◌, ◌-◌, ◌%◌, ◌^◌, refl, sym, ◌∙◌, subst, arith}
 use Rattle.ms_shared.specs.MeterRule.{MeterSeatState, added, taken_off}
 use Rattle.ms_run.specs.Moved.{IsMoved}

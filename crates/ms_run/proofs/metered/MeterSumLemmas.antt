@@ -1,4 +1,5 @@
--- The words in use of shares, and what their seats of the meter sum to. For `gather` and `run_phase`.
+-- The words in use of shares, and what their seats of the meter sum to. For `gather` and
+-- `run_phase`.
 use Rattle.std.proofs.Common.{◌≡◌, ℕ, ◌+◌, ◌%◌, List, [], ◌∷◌, ◌++◌, map, refl, sym, ap, ◌∙◌, subst, arith, replicate}
 use Rattle.std.proofs.Common.{zero, suc, ◌^◌}
 use Rattle.std.specs.List.{All, AllByRecursion, sum_by}

@@ -1,5 +1,5 @@
--- The words in use of a machine over one step: what the loader that the step names got or lost is what
--- their sum did. For alone.rt.
+-- The words in use of a machine over one step: what the loader that the step names got or lost is
+-- what their sum did. For alone.rt.
 use Rattle.std.proofs.Common.{◌≡◌, ◌≢◌, ◌<◌, ◌+◌, ◌-◌, ◌%◌, ◌^◌, ℕ, Bool, Some, List, [], ◌∷◌, refl, sym, ap}
 use Rattle.std.proofs.Common.{◌∙◌, subst, IsTrue, arith}
 use Rattle.std.specs.List.{sum_by}

@@ -1,5 +1,5 @@
--- The words in use of loaders of which one changes: what it gained or lost is what their sum did. For
--- metering.rt, and for alone.rt by StepUseLemmas.
+-- The words in use of loaders of which one changes: what it gained or lost is what their sum did.
+-- For metering.rt, and for alone.rt by StepUseLemmas.
 use Rattle.std.proofs.Common.{◌≡◌, ◌≢◌, ◌+◌, ℕ, Bool, true, false, cond, Option, Some, None, List, [], ◌∷◌, refl, sym}
 use Rattle.std.proofs.Common.{ap, ◌∙◌, inl, inr, subst, option_map, arith}
 use Rattle.std.specs.Ordering.{nat_cmp}

@@ -1,5 +1,5 @@
--- A transition of the machine answers the loader that it names by its own lines, and leaves the others;
--- for the lines that one worker answers.
+-- A transition of the machine answers the loader that it names by its own lines, and leaves the
+-- others; for the lines that one worker answers.
 use Rattle.std.proofs.Common.{◌≡◌, ◌≢◌, ℕ, Some, List}
 use Rattle.std.proofs.Common.{refl, sym, ap, ◌∙◌, subst, inl, inr}
 use Rattle.ms_base.specs.declared.step.Step.{Step}

@@ -57,8 +57,8 @@ pub stops_past : (lines : List Line) (at : ℕ) → length lines ≤ at → (nex
     → step_of next.command ≡ None
 stops_past lines at past next found = absurd (none-some next (sym (slice_get_past lines at past) ∙ found))
 
--- The first lines are answered phase by phase, by the workers whose turn it is, and by a run that has taken
--- this course; its state is good, and the turn is the open phase's.
+-- The first lines are answered phase by phase, by the workers whose turn it is, and by a run that
+-- has taken this course; its state is good, and the turn is the open phase's.
 pub record PhasesFirst (workers : ℕ) (first : Machine) (lines : List Line) (at : ℕ) (answers : List Answer)
     (run : Metered) (turn : TurnState) : Type 0 where
   pub within : at ≤ length lines

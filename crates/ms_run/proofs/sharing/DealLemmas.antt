@@ -18,8 +18,8 @@ use Rattle.ms_run.specs.Shares.{Place, IsReady, tasks_at, AreDealt, AreWithin}
 use Rattle.ms_run.specs.Dealing.{Loaded, AreCrews, AreHandedAt, AreSeats, IsSameSeat, AreSpare, IsShareAt}
 use Rattle.ms_run.specs.Dealing.{AreSharesFrom, AreDealtTo}
 
--- Shares are made of the places from 1 on, while the first seat has the loaders of place 0 and of all
--- that are to come.
+-- Shares are made of the places from 1 on, while the first seat has the loaders of place 0 and of
+-- all that are to come.
 pub record IsDealing (place : Place) (shared : LockState) (count : ℕ) (lines : List Line) (loaders : Loaded)
     (first : SeatState) (left : Loaded) (rest : List SeatState) (shares : List Share) : Type 0 where
   pub own : first.id ≡ shared.id

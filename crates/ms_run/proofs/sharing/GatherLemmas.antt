@@ -125,8 +125,8 @@ joined_more whole part rest mid new name loader is rises unused made joined =
     (joined_first whole rest mid new name loader (first_is name loader rest (subst AreNamed is rises)) unused made
     joined)
 
--- No name is in both: so it is the other way round, and once a loader has moved; and no insertion is
--- refused for its name.
+-- No name is in both: so it is the other way round, and once a loader has moved; and no insertion
+-- is refused for its name.
 pub other_names : (whole part : Loaders) → HaveOtherNames whole part → HaveOtherNames part whole
 other_names whole part differ name = elim (differ name) [ inl none ↦ inr none | inr none ↦ inl none ]
 
@@ -159,8 +159,8 @@ only_want whole part rest name loader refusal is differ refused = elim (differ n
 pub may_be_told : (refusal : Refusal) → refusal ≡ OutOfMemory → IsWantOrUnsettled refusal
 may_be_told refusal is = subst IsWantOrUnsettled (sym is) tt
 
--- The loaders of shares: each sum is theirs, what is true of each of theirs is true, and each has its
--- name.
+-- The loaders of shares: each sum is theirs, what is true of each of theirs is true, and each has
+-- its name.
 pub joined_sum : (f : ℕ × LoaderView → ℕ) (old : Loaders) (shares : List Share) (new : Loaders)
     → AreJoined old shares new
     → sum_by f new ≡ sum_by f old + sum_by (λ (share : Share). sum_by f share.loaders) shares

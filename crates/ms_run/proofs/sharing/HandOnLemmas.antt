@@ -1,5 +1,5 @@
--- A loader handed on from seat to seat by its two accounts: each seat serves its own loaders before and
--- after, and no owner is of both. For `hand_on`.
+-- A loader handed on from seat to seat by its two accounts: each seat serves its own loaders before
+-- and after, and no owner is of both. For `hand_on`.
 use Rattle.std.proofs.Common.{◌≡◌, ◌≢◌, ◌≤◌, ◌+◌, ℕ, true, Some, None, List, [], ◌∷◌, ◌++◌, map, length, refl, sym, ap}
 use Rattle.std.proofs.Common.{◌∙◌, subst, ◌⊎◌, inl, inr, ⊎_elim, arith, ◌<◌, IsTrue, false, Option, IfSome}
 use Rattle.std.specs.List.{AllByRecursion}

@@ -1,5 +1,5 @@
--- Lines dealt to lists of tasks by their places, and the lists that are taken. For `deal_lines`, `add_task`
--- and `deal_to`.
+-- Lines dealt to lists of tasks by their places, and the lists that are taken. For `deal_lines`,
+-- `add_task` and `deal_to`.
 use Rattle.std.proofs.Common.{◌≡◌, ◌≢◌, ◌<◌, ◌+◌, ℕ, zero, suc, Bool, true, false, cond, Option, Some, List, [], ◌∷◌}
 use Rattle.std.proofs.Common.{◌++◌, length, refl, sym, ap, ◌∙◌, subst, ◌⊎◌, inl, inr, ⊎_elim, arith, eq-eqb, ne_eqb}
 use Rattle.std.proofs.Common.{take, get_or, slice_get, Vec, Global, slice_set, append-nil}

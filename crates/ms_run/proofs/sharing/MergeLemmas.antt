@@ -1,5 +1,5 @@
--- Replies taken share by share, in the order of the lines: of each share so many are taken as it has
--- tasks among the lines so far. Used by `merge`.
+-- Replies taken share by share, in the order of the lines: of each share so many are taken as it
+-- has tasks among the lines so far. Used by `merge`.
 use Rattle.std.proofs.Common.{◌≡◌, ◌<◌, ◌≤◌, ◌+◌, ◌==◌, ℕ, Bool, true, false, cond, Some, None, List, [], ◌∷◌, ◌++◌}
 use Rattle.std.proofs.Common.{map, length, refl, sym, ap, ◌∙◌, subst, arith, slice_get, slice_set, get_or, take, drop}
 use Rattle.std.proofs.Common.{replicate, append-nil, append_assoc}

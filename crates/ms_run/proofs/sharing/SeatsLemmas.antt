@@ -1,5 +1,5 @@
--- The seats that loaders are dealt to: the first serves all loaders of the pool, the others none. For `deal`
--- and `deal_to`.
+-- The seats that loaders are dealt to: the first serves all loaders of the pool, the others none.
+-- For `deal` and `deal_to`.
 use Rattle.std.proofs.Common.{◌≡◌, ◌≤◌, ◌-◌, ℕ, zero, suc, true, false, cond, List, [], ◌∷◌, map, length, refl, sym, ap}
 use Rattle.std.proofs.Common.{◌∙◌, subst, ◌⊎◌, inl, inr, ⊎_elim, arith}
 use Rattle.std.specs.Prelude.{◌==◌, IsTrue}

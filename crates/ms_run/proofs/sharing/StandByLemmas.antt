@@ -1,5 +1,5 @@
--- Loaders that stand by: which names a share's tasks have, and that places which differ only for other
--- names deal and merge alike. For dealing.rt and phase.rt.
+-- Loaders that stand by: which names a share's tasks have, and that places which differ only for
+-- other names deal and merge alike. For dealing.rt and phase.rt.
 use Rattle.std.proofs.Common.{◌≡◌, ◌≢◌, ◌≤◌, ◌<◌, ◌+◌, ℕ, Bool, true, false, cond, ◌||◌, ◌&&◌, Option, Some, None, List}
 use Rattle.std.proofs.Common.{[], ◌∷◌, length, refl, sym, ap, ◌∙◌, subst, arith, eq-eqb, ne_eqb, drop, drop-cons, get_or, suc}
 use Rattle.std.specs.Prelude.{◌==◌}

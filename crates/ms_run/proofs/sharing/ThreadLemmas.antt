@@ -1,5 +1,5 @@
--- That a share may go to another thread, and that threads may look at the lock and the meter; and what
--- the threads' promises say of all shares.
+-- That a share may go to another thread, and that threads may look at the lock and the meter; and
+-- what the threads' promises say of all shares.
 use Rattle.std.proofs.Common.{◌≡◌, ◌<◌, ℕ, zero, suc, List, [], ◌∷◌, ◌++◌, length, map, get_or, refl, ap, sym, ◌∙◌}
 use Rattle.std.proofs.Common.{subst, arith}
 use Rattle.std.proofs.lemmas.List.{append-nil}

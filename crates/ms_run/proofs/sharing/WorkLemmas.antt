@@ -120,7 +120,8 @@ purged_more said step reply all one =
     IsDone s = s.0 ≡ Purge → s.1 ≡ Done
 
 -- The share is worked so far: the seat serves the loaders and made the tasks' events, so many tasks
--- have their reply, each loader's replies are its own, and the meter's seat moved as the words in use did.
+-- have their reply, each loader's replies are its own, and the meter's seat moved as the words in
+-- use did.
 pub record IsWorkedTo (share : Share) (pool : SeatState) (counted : MeterSeatState) (loaders : List (ℕ × LoaderView))
     (tasks : List Task) (index : ℕ) (replies : Vec Reply Global) : Type 0 where
   pub manned : IsManned pool.knows loaders

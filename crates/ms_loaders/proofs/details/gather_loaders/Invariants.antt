@@ -4,7 +4,8 @@ use Rattle.ms_loaders.specs.System.{states_of}
 use Rattle.ms_loaders.proofs.sums.DetailLemmas.{DetailsLead}
 use Rattle.ms_loaders.proofs.details.gather_loaders.Given as goal
 
--- The sums told so far and the loaders that are left come to the whole, and there is room for theirs.
+-- The sums told so far and the loaders that are left come to the whole, and there is room for
+-- theirs.
 abbrev pub invariant-loop-name : goal.invariant-loop-name
 invariant-loop-name l = record {
   rows : DetailsLead l.rows.items (states_of l.name-iterator) (states_of l.loaders);

@@ -7,8 +7,8 @@ use Rattle.ms_run.proofs.sharing.GatherLemmas.{AreOthers}
 use Rattle.ms_run.proofs.sharing.TakenApartLemmas.{AreTaken}
 use Rattle.ms_run.proofs.gathering.take_apart.Given as goal
 
--- Both seats and loaders of the shares so far, room for the seats that are left, and other names there;
--- names rise in the loaders so far, and the shares that are left are manned.
+-- Both seats and loaders of the shares so far, room for the seats that are left, and other names
+-- there; names rise in the loaders so far, and the shares that are left are manned.
 abbrev pub invariant-loop-share : goal.invariant-loop-share
 invariant-loop-share l =
     AreTaken l.seats.items l.meters.items l.loaders l.share-iterator.rest.items l.fn.shares.items

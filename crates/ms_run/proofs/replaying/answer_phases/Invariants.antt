@@ -8,8 +8,8 @@ use Rattle.ms_run.specs.Sink.{Puts}
 use Rattle.ms_run.proofs.replays.ReplayLemmas.{PhasesFirst}
 use Rattle.ms_run.proofs.replaying.answer_phases.Given as goal
 
--- the first lines are answered phase by phase, by turns, and their answers are put, reports with their details; the
--- running amount is the words in use, and peaks are kept for full reports
+-- the first lines are answered phase by phase, by turns, and their answers are put, reports with
+-- their details; the running amount is the words in use, and peaks are kept for full reports
 abbrev pub invariant-loop-at : goal.invariant-loop-at
 invariant-loop-at g l = record {
   phases : Puts g.S.AnswerSink.took (λ answers.

@@ -1,4 +1,5 @@
--- A line that spells a command adds it, a silent one adds nothing, and any other is cut off and kept, or has its fault.
+-- A line that spells a command adds it, a silent one adds nothing, and any other is cut off and
+-- kept, or has its fault.
 use Rattle.std.proofs.Common.{◌≡◌, ℕ, List, Option}
 use Rattle.std.proofs.lemmas.Result.{err_from_is_err_and}
 use Rattle.std.specs.Borrow.{Bor}

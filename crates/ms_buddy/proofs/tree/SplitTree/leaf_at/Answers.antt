@@ -1,4 +1,5 @@
--- A leaf of the level is free by its bit, or lent by what stands at its place, and one of some level there is.
+-- A leaf of the level is free by its bit, or lent by what stands at its place, and one of some
+-- level there is.
 use Rattle.std.proofs.Common.{◌≡◌, ◌≤◌, ◌<◌, ℕ, Some, true, false, sym, ap, subst, ◌∙◌, inl, inr, arith}
 use Rattle.std.specs.Prelude.{◌==◌}
 use Rattle.std.specs.List.{find}

@@ -1,4 +1,5 @@
--- A slot may go to another thread: it owns nothing, or a box of a system, all of whose parts may go.
+-- A slot may go to another thread: it owns nothing, or a box of a system, all of whose parts may
+-- go.
 use base.Shift.{Keyless}
 use mir.Raw.{raw}
 use denote.Memory.{lone}

@@ -1,4 +1,5 @@
--- Pointer and allocator go from a slot that holds a system into the parts, and what they own goes with them.
+-- Pointer and allocator go from a slot that holds a system into the parts, and what they own goes
+-- with them.
 use Rattle.ms_c.proofs.Walking.{List, [], ◌∷◌, ◌++◌, refl, proved_at, D, word, box_typed, box_out, box_in, id⊢, fact}
 use Rattle.ms_c.proofs.Walking.{ftrue, tables, Val, WpFn, ‵, raw, ◌⊛◌, prop, ◌$◌, ◌∵◌, !, qed, done, move, drop, use1}
 use Rattle.ms_c.proofs.Walking.{split, join, fsplit, fjoin, rewrite, regoal, suffices, whole, sub, agg, enter, of_opd}
