@@ -23,23 +23,23 @@ use Rattle.ms_buddy.specs.Leaves.{with_parent, without_leaf, words_of}
 use Rattle.ms_buddy.specs.Places.{IsFront, leaf_from, lending_at, lent_from}
 use Rattle.ms_buddy.specs.Tree.{Node, Free, Lent, Split, IsPlace, IsSplit, IsTree, MayBeLent, free_in, lent_in}
 use Rattle.ms_buddy.proofs.TreeHalvesLemmas.{holder_is, size_of-some}
-use Rattle.ms_buddy.proofs.BuddyLemmas.{number_of-holder, past}
-use Rattle.ms_buddy.proofs.CarveLemmas.{ends_in}
-use Rattle.ms_buddy.proofs.CarvedLemmas.{Carved, carved, clash}
-use Rattle.ms_buddy.proofs.CountLemmas.{number-one}
-use Rattle.ms_buddy.proofs.CoverLemmas.{covered, found_free, found_listed, free_or_lent, from_covers, it_covers, left, right, same, to_covers}
-use Rattle.ms_buddy.proofs.FoundLemmas.{alike}
-use Rattle.ms_buddy.proofs.FreeBitLemmas.{free_by_bit, listed}
-use Rattle.ms_buddy.proofs.FreeNumberLemmas.{free_places, root_place, starts_in_root}
+use Rattle.ms_buddy.proofs.bits.BuddyLemmas.{number_of-holder, past}
+use Rattle.ms_buddy.proofs.changes.CarveLemmas.{ends_in}
+use Rattle.ms_buddy.proofs.changes.CarvedLemmas.{Carved, carved, clash}
+use Rattle.ms_buddy.proofs.counts.CountLemmas.{number-one}
+use Rattle.ms_buddy.proofs.searches.CoverLemmas.{covered, found_free, found_listed, free_or_lent, from_covers, it_covers, left, right, same, to_covers}
+use Rattle.ms_buddy.proofs.searches.FoundLemmas.{alike}
+use Rattle.ms_buddy.proofs.bits.FreeBitLemmas.{free_by_bit, listed}
+use Rattle.ms_buddy.proofs.bits.FreeNumberLemmas.{free_places, root_place, starts_in_root}
 use Rattle.ms_buddy.proofs.KeptTreeLemmas.{are_leaves}
-use Rattle.ms_buddy.proofs.LeaderLemmas.{buddy_within, leads_of, lent_place, no_root_can}
-use Rattle.ms_buddy.proofs.EnlargedLemmas.{MayBecome}
-use Rattle.ms_buddy.proofs.ReleasedLemmas.{released}
-use Rattle.ms_buddy.proofs.NumberLemmas.{holder_fits, holder_place, number_below}
+use Rattle.ms_buddy.proofs.changes.LeaderLemmas.{buddy_within, leads_of, lent_place, no_root_can}
+use Rattle.ms_buddy.proofs.changes.EnlargedLemmas.{MayBecome}
+use Rattle.ms_buddy.proofs.changes.ReleasedLemmas.{released}
+use Rattle.ms_buddy.proofs.bits.NumberLemmas.{holder_fits, holder_place, number_below}
 use Rattle.ms_buddy.proofs.PlaceLemmas.{added, changed, found_there, is_there, stands}
 use Rattle.ms_buddy.proofs.SplitLemmas.{ActsAt, front_acts, parent_acts, without_acts}
-use Rattle.ms_buddy.proofs.TreeCountLemmas.{parted_counts}
-use Rattle.ms_buddy.proofs.TwinLemmas.{merge_is, none_beside_it}
+use Rattle.ms_buddy.proofs.counts.TreeCountLemmas.{parted_counts}
+use Rattle.ms_buddy.proofs.bits.TwinLemmas.{merge_is, none_beside_it}
 
 -- A part starts where a place does.
 pub at_place : (level at : ℕ) → level ≤ highest_level → at % size_of level ≡ 0 → 128 * (at / 128) ≡ at

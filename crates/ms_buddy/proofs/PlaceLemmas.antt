@@ -10,7 +10,7 @@ use Rattle.ms_base.specs.Level.{size_of}
 use Rattle.ms_buddy.specs.declared.places.Lending.{Lending}
 use Rattle.ms_buddy.specs.Leaves.{AreInOrder, LentLeaf, covers, is_lent, is_same, span_of, with_leaf}
 use Rattle.ms_buddy.specs.Places.{leaf_from, lending_at, lent_from}
-use Rattle.ms_buddy.proofs.CoverLemmas.{from_covers}
+use Rattle.ms_buddy.proofs.searches.CoverLemmas.{from_covers}
 use Rattle.ms_buddy.proofs.WalkLemmas.{all_weaker}
 use Rattle.ms_buddy.proofs.SplitLemmas.{ActsAt}
 

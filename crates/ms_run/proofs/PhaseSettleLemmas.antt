@@ -9,7 +9,7 @@ use Rattle.std.specs.Map.{values_of}
 use Rattle.std.proofs.lemmas.Bool.{cases_lt, cases_eq, le-leb}
 use Rattle.std.proofs.lemmas.List.{append_assoc}
 use Rattle.std.proofs.lemmas.List.Sums.{sum_by-cons}
-use Rattle.std.proofs.lemmas.List.Elements.{recursion_from_All, All-from_recursion, All-nil}
+use Rattle.std.proofs.lemmas.List.Elements.{All-from_recursion, All-map, All-nil, recursion_from_All}
 use Rattle.ms_base.specs.declared.kind.Space.{Space}
 use Rattle.ms_base.specs.declared.kind.Space.TheVariants.{NonClass, Class}
 use Rattle.ms_base.specs.declared.span.Chunk.{Chunk}
@@ -19,13 +19,13 @@ use Rattle.ms_pool.specs.Account.{AccountState}
 use Rattle.ms_pool.specs.Ledger.{Loan, Ledger, Serves, IsSoundLedger, chunks_of, is_owned_by, opened_in}
 use Rattle.ms_loaders.specs.Loader.{LoaderView, IsSoundView}
 use Rattle.ms_loaders.specs.System.{accounts_of, owners_of, AreTogether}
-use Rattle.ms_loaders.specs.Settles.{MaySettle}
 use Rattle.ms_shared.specs.declared.lock_rule.SeatView.{SeatView}
 use Rattle.ms_shared.specs.Entries.{Entry, Has, AreRecords, once_given, one_if as entry_if, times as entries_of}
 use Rattle.ms_shared.specs.SeatView.{SeatState, ServesBy, Gathers, opened_by}
 use Rattle.ms_shared.proofs.RecordLemmas.{has_record, has_times, once_given-le}
 use Rattle.ms_run.specs.declared.share.Share.{Share}
 use Rattle.ms_run.specs.Manned.{IsManned}
+use Rattle.ms_run.specs.Shares.{IsMannedShare}
 use Rattle.ms_run.specs.Joined.{AreJoined, seat_of}
 use Rattle.ms_run.proofs.sharing.GatherLemmas.{Loaders, joined_sum, joined_all}
 use Rattle.ms_loaders.proofs.steps.ServedLemmas.{times, one_if, is_it}
@@ -120,7 +120,7 @@ record IsSeated (pool : Ledger) (share : Share) : Type 0 where
   records : AreRecords pool share.seat.knows.served
 
 both_facts : (pool : Ledger) (shares : List Share)
-    → AllByRecursion (λ (share : Share). IsManned share.seat.knows share.loaders) shares
+    → AllByRecursion IsMannedShare shares
     → AllByRecursion (λ (share : Share). AreRecords pool share.seat.knows.served) shares
     → AllByRecursion (IsSeated pool) shares
 both_facts pool [] manned records = tt
@@ -180,7 +180,7 @@ owner_holds owner (one ∷ before) after loan same none =
 given_once : (owner given : ℕ) → 1 ≤ owner → owner ≤ given → once_given owner given ≡ 1
 given_once owner given low up = rw (le-leb 1 owner low) (rw (le-leb owner given up) refl)
 
--- Loaders are sound by their values, and by their entries.
+-- Loaders are sound by their entries, as by their values.
 abbrev IsSoundEntry : ℕ × LoaderView → Type 0
 IsSoundEntry entry = IsSoundView entry.1
 
@@ -188,15 +188,11 @@ values_all : (loaders : Loaders) → AllByRecursion IsSoundView (values_of loade
 values_all [] all = tt
 values_all (entry ∷ loaders) all = (all.0, values_all loaders all.1)
 
-all_values : (loaders : Loaders) → AllByRecursion IsSoundEntry loaders → AllByRecursion IsSoundView (values_of loaders)
-all_values [] all = tt
-all_values (entry ∷ loaders) all = (all.0, all_values loaders all.1)
-
 module _ (pool : Ledger) (shares : List Share) (loaders : Loaders) (sound : IsSoundLedger pool)
     (gathers : Gathers (map seat_of shares) pool)
-    (all_manned : All (λ (share : Share). IsManned share.seat.knows share.loaders) shares)
+    (all_manned : All IsMannedShare shares)
     (joined : AreJoined [] shares loaders) where
-  manned : AllByRecursion (λ (share : Share). IsManned share.seat.knows share.loaders) shares
+  manned : AllByRecursion IsMannedShare shares
   manned = recursion_from_All _ shares all_manned
 
   ours : AllByRecursion (IsSeated pool) shares
@@ -261,34 +257,21 @@ module _ (pool : Ledger) (shares : List Share) (loaders : Loaders) (sound : IsSo
     no_others (before ++ loan ∷ []) rest (append_assoc before (loan ∷ []) rest ∙ is) all.1,
   )
 
-  pub may_settle : MaySettle pool loaders
-  may_settle = record {
-    served = All-from_recursion (Serves pool) (accounts_of loaders) served;
-    distinct = distinct;
-    opened = omega (arith, as_many NonClass);
-    class_opened = omega (arith, as_many Class);
-    no_other =
-        λ few. All-from_recursion _ pool.loans
-        (no_others [] pool.loans refl (recursion_from_All _ pool.loans sound.owners));
-  }
-
-  -- And they belong together.
+  -- So pool and loaders belong together.
   pub are_together : AreNamed loaders → AreTogether pool loaders
   are_together names = record {
     ledger_sound = sound;
     loaders_sound =
-        All-from_recursion IsSoundView (values_of loaders)
-        (all_values loaders
-        (recursion_from_All IsSoundEntry loaders
+        All-map IsSoundView (λ (entry : ℕ × LoaderView). entry.1) loaders
         (joined_all IsSoundEntry [] shares loaders joined (All-nil IsSoundEntry)
         (each (λ share its. All-from_recursion IsSoundEntry share.loaders
         (values_all share.loaders (recursion_from_All IsSoundView (values_of share.loaders) its.manned.sound))) shares
-        ours))));
+        ours));
     names = names;
     served = record {
-      served = may_settle.served;
+      served = All-from_recursion (Serves pool) (accounts_of loaders) served;
       distinct = distinct;
-      no_other = may_settle.no_other (omega (arith, as_many NonClass, as_many Class));
+      no_other = All-from_recursion _ pool.loans (no_others [] pool.loans refl (recursion_from_All _ pool.loans sound.owners));
       opened = as_many NonClass;
       class_opened = as_many Class;
     };

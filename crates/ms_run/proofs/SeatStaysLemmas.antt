@@ -6,7 +6,7 @@ use Rattle.std.specs.Prelude.{◌==◌}
 use Rattle.std.specs.List.{AllByRecursion, filter}
 use Rattle.std.specs.Ordering.{nat_cmp}
 use Rattle.std.specs.BTreeMap.{is_at}
-use Rattle.std.proofs.lemmas.List.Elements.{recursion_from_All, All-from_recursion}
+use Rattle.std.proofs.lemmas.List.Elements.{recursion_from_All}
 use Rattle.std.proofs.lemmas.Bool.{both_ways}
 use Rattle.std.proofs.lemmas.Map.Views.{All-values-set_value}
 use Rattle.ms_base.specs.declared.kind.Space.{Space}
@@ -42,8 +42,8 @@ use Rattle.ms_shared.specs.SeatView.{SeatState, ServesBy, OverLock, opened_by}
 use Rattle.ms_shared.specs.LockCalls.{TookOver, GrewOver}
 use Rattle.ms_shared.proofs.RecordLemmas.{has_record}
 use Rattle.ms_run.specs.Manned.{IsManned}
-use Rattle.ms_loaders.proofs.steps.ServedLemmas.{KeepsOther, block_keeps, length_changed, served_in, owners_split}
-use Rattle.ms_loaders.proofs.steps.ServedLemmas.{all_parts, own_is_among, accounts_split}
+use Rattle.ms_loaders.proofs.steps.ServedLemmas.{KeepsOther, all_parts, all_still, block_keeps, length_changed}
+use Rattle.ms_loaders.proofs.steps.ServedLemmas.{accounts_split, own_is_among, owners_stay}
 use Rattle.ms_loaders.proofs.sums.FitLemmas.{chunk_of}
 
 -- All that the seat knows of an owner is that it holds no chunk.
@@ -263,14 +263,8 @@ pub manned_after : (space : Space) (old new : SeatState) (policy : Policy) (load
     (owner_in space was) old new
     → IsSoundView is → IsManned old.knows loaders → IsManned new.knows (with_changed loaders name is)
 manned_after space old new policy loaders name block words was is answer found allocates own rest sound its = record {
-  served = All-from_recursion (ServesBy new.knows) (accounts_of (with_changed loaders name is))
-      (subst (λ (l : List AccountState). AllByRecursion (ServesBy new.knows) l) (sym now)
-      (served_in (ServesBy old.knows) (ServesBy new.knows) space (accounts_of split.before) (accounts_of split.after)
-      was is keeps
-      (rw (ap owners_of split.is ∙ owners_split split.before split.after name was) at its.distinct) rest.others own
-      (rw (ap accounts_of split.is
-      ∙ accounts_split split.before split.after name was) at (recursion_from_All (ServesBy old.knows)
-      (accounts_of loaders) its.served))));
+  served = all_still (ServesBy old.knows) (ServesBy new.knows) space loaders name was is found keeps its.distinct
+      rest.others own its.served;
   distinct = subst AreDistinct (sym owners_same) its.distinct;
   no_other =
       subst (λ (owners : List ℕ). (owner : ℕ) (chunks : List Chunk) → Has new.knows.served owner chunks
@@ -283,18 +277,8 @@ manned_after space old new policy loaders name block words was is answer found a
   names = rises_with_changed loaders name is its.names;
 }
   where
-    split : Split loaders name was
-    split = split_at loaders name was found
-
     keeps : KeepsOther space was is
     keeps = block_keeps GrewOver TookOver policy space was is block words old new answer allocates
 
-    now : accounts_of (with_changed loaders name is)
-        ≡ accounts_of split.before ++ account_in NonClass is ∷ account_in Class is ∷ accounts_of split.after
-    now = ap accounts_of (split.changed is) ∙ accounts_split split.before split.after name is
-
     owners_same : owners_of (with_changed loaders name is) ≡ owners_of loaders
-    owners_same = ap owners_of (split.changed is) ∙ owners_split split.before split.after name is
-        ∙ ap (λ (n : ℕ). owners_of split.before ++ n ∷ is.class_owner ∷ owners_of split.after) keeps.owner
-        ∙ ap (λ (n : ℕ). owners_of split.before ++ was.owner ∷ n ∷ owners_of split.after) keeps.class_owner
-        ∙ sym (ap owners_of split.is ∙ owners_split split.before split.after name was)
+    owners_same = owners_stay space loaders name was is found keeps

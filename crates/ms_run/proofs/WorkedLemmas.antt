@@ -17,13 +17,12 @@ use Rattle.ms_loaders.specs.System.{states_of}
 use Rattle.ms_shared.specs.SeatView.{LockState, SeatState}
 use Rattle.ms_run.specs.Joined.{seat_of}
 use Rattle.ms_run.specs.Own.{Said, own_said, own_of, own_in, OwnRun}
-use Rattle.ms_run.specs.Manned.{IsManned}
 use Rattle.ms_run.proofs.TouchLemmas.{named_states, own_missing}
 use Rattle.ms_loaders.proofs.steps.UnloadLemmas.{state_of}
 use Rattle.std.specs.Prelude.{slice_index_or}
 use Rattle.ms_run.specs.declared.share.Task.{Task}
 use Rattle.ms_run.specs.declared.share.Share.{Share}
-use Rattle.ms_run.specs.Shares.{said_in, IsReady, IsWorked, AllWorked, Place, tasks_of, AreApart, HaveTasks}
+use Rattle.ms_run.specs.Shares.{AllWorked, AreApart, HaveTasks, IsMannedShare, IsReady, IsWorked, Place, said_in, tasks_of}
 use Rattle.ms_run.specs.Shares.{AreAnswered}
 
 -- The share that became one that is worked.
@@ -71,9 +70,9 @@ own_seats shared shares others ready all =
     from.worked.id ∙ (at_place (IsReady shared) shares at from.share ready from.is).own)
 
 pub all_manned : (shares others : List Share) → AllWorked shares others
-    → All (λ (share : Share). IsManned share.seat.knows share.loaders) others
+    → All IsMannedShare others
 all_manned shares others all =
-    each_place (λ (share : Share). IsManned share.seat.knows share.loaders) others
+    each_place IsMannedShare others
     (λ at done found. (worked_from shares others at done all found).worked.manned)
 
 -- Each has its tasks still, and a reply to each.

@@ -8,8 +8,7 @@ use Rattle.ms_loaders.specs.Loader.{LoaderView}
 use Rattle.ms_base.specs.State.{Machine}
 use Rattle.ms_pool.specs.Ledger.{Ledger}
 use Rattle.ms_shared.specs.SeatView.{SeatState, IsHistory}
-use Rattle.ms_loaders.specs.System.{machine_of}
-use Rattle.ms_loaders.specs.Settles.{MaySettle}
+use Rattle.ms_loaders.specs.System.{machine_of, AreTogether}
 use Rattle.ms_run.specs.Shares.{Place, AreApart, AreHere}
 use Rattle.ms_run.specs.declared.share.Share.{Share}
 
@@ -32,11 +31,11 @@ AreJoined old (share ∷ shares) new =
 abbrev pub seat_of : Share → SeatState
 seat_of share = share.seat
 
--- The state is this pool's and of loaders that it serves.
+-- The state is this pool's and of loaders that belong to it.
 pub record IsMachineOf (pool : Ledger) (state : Machine) : Type 0 where
   pub loaders : List (ℕ × LoaderView)
   pub machine : state ≡ machine_of pool loaders
-  pub fits : MaySettle pool loaders
+  pub together : AreTogether pool loaders
 
 -- A state whose pool the one history of all shares' events makes of a first one, with their
 -- loaders.

@@ -26,12 +26,16 @@ use Rattle.ms_run.specs.declared.share.Share.{Share}
 abbrev pub said_in : List Task → List Reply → List Said
 said_in tasks replies = zip (map (λ (task : Task). task.step) tasks) replies
 
+-- A share's seat serves its loaders.
+abbrev pub IsMannedShare : Share → Type 0
+IsMannedShare share = IsManned share.seat.knows share.loaders
+
 -- A share is ready: its seat is of the lock, has made no event, and serves its loaders; there is
 -- room for all replies, and none is there yet.
 pub record IsReady (shared : LockState) (share : Share) : Type 0 where
   pub own : share.seat.id ≡ shared.id
   pub fresh : share.seat.events ≡ []
-  pub manned : IsManned share.seat.knows share.loaders
+  pub manned : IsMannedShare share
   pub room : vec_len share.tasks ≤ vec_capacity share.replies
   pub none : share.replies.items ≡ []
 
@@ -42,14 +46,14 @@ IsReadyFor shared meter share = IsReady shared share × (share.meter.id ≡ mete
 -- So many shares have all seats of the lock, and each serves its loaders.
 pub record StandOver (shared : LockState) (count : ℕ) (shares : List Share) : Type 0 where
   pub own : All (λ (share : Share). share.seat.id ≡ shared.id) shares
-  pub manned : All (λ (share : Share). IsManned share.seat.knows share.loaders) shares
+  pub manned : All IsMannedShare shares
   pub all : shared.seats ≡ count
 
 -- A share is worked: each task has its reply, each loader's replies are its own, the seat made the
 -- tasks' events and no other, and the meter's seat moved as the words in use did.
 pub record IsWorked (share done : Share) : Type 0 where
   pub id : done.seat.id ≡ share.seat.id
-  pub manned : IsManned done.seat.knows done.loaders
+  pub manned : IsMannedShare done
   pub tasks : done.tasks.items ≡ share.tasks.items
   pub replies : vec_len done.replies ≡ vec_len share.tasks
   pub own : (name : ℕ)

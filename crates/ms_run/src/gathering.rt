@@ -14,9 +14,8 @@ ghost use Rattle.ms_shared.specs.SeatView.{SeatState, Gathers, IsHistory};
 ghost use Rattle.ms_run.specs.Joined.{HaveOtherNames, IsJoined, AreJoined, IsWantOrUnsettled};
 ghost use Rattle.ms_run.specs.Joined.{IsMadeFrom};
 ghost use Rattle.ms_run.specs.Joined.{seat_of};
-ghost use Rattle.ms_run.specs.Manned.{IsManned};
 ghost use Rattle.ms_run.specs.Metering.{used_words_of, used_over, meter_of};
-ghost use Rattle.ms_run.specs.Shares.{Place, AreApart, IsGathered, StandOver};
+ghost use Rattle.ms_run.specs.Shares.{Place, AreApart, IsGathered, IsMannedShare, StandOver};
 
 use crate::fault::RunFault;
 use crate::share::Share;
@@ -75,7 +74,7 @@ fn take_apart(
     shares: Vec<Share>,
 ) -> Result<(Vec<PoolSeat>, Loaders, Vec<MeterSeat>), RunFault>
     requires apart { (place : Place) × AreApart place shares.items }
-    requires manned { All (λ share. IsManned share.seat.knows share.loaders) shares.items }
+    requires manned { All IsMannedShare shares.items }
     ensures seats { IfOk result (λ parts. parts.0.items ≡ map seat_of shares.items) }
     ensures loaders { IfOk result (λ parts. AreJoined [] shares.items parts.1) }
     ensures named { IfOk result (λ parts. AreNamed parts.1) }

@@ -1,15 +1,14 @@
 -- Where a call of the pool raises a tally alone, pool and loaders stay together.
-use Rattle.std.proofs.Common.{◌≡◌, ℕ, List, refl, sym, subst, arith}
-use Rattle.std.proofs.lemmas.List.Elements.{recursion_from_All, All-from_recursion}
+use Rattle.std.proofs.Common.{◌≡◌, ℕ, List, refl, sym, subst}
 use Rattle.ms_base.specs.declared.kind.Space.{Space}
 use Rattle.ms_base.specs.declared.kind.Space.TheVariants.{NonClass, Class}
 use Rattle.ms_base.specs.Good.{IsSoundPool}
 use Rattle.ms_pool.specs.Tallies.{Tallies}
-use Rattle.ms_pool.specs.Ledger.{Ledger, IsSoundLedger, Serves, state_in}
+use Rattle.ms_pool.specs.Ledger.{Ledger, IsSoundLedger, state_in}
 use Rattle.ms_pool.specs.Calls.{tallied}
 use Rattle.ms_loaders.specs.Loader.{LoaderView}
-use Rattle.ms_loaders.specs.System.{accounts_of, AreTogether}
-use Rattle.ms_loaders.proofs.steps.CloseLemmas.{served_with}
+use Rattle.ms_loaders.specs.System.{AreTogether}
+use Rattle.ms_loaders.proofs.steps.CloseLemmas.{together_alike}
 
 -- The ledger is sound still.
 sound_tallied : (old : Ledger) (tallies : Tallies) → IsSoundLedger old → IsSoundLedger (tallied old tallies)
@@ -31,17 +30,5 @@ sound_tallied old tallies sound = record {
 pub together_tallied : (old new : Ledger) (loaders : List (ℕ × LoaderView)) (tallies : Tallies)
     → new ≡ tallied old tallies → AreTogether old loaders → AreTogether new loaders
 together_tallied old new loaders tallies is its =
-    subst (λ (l : Ledger). AreTogether l loaders) (sym is) (record {
-      ledger_sound = sound_tallied old tallies its.ledger_sound;
-      loaders_sound = its.loaders_sound;
-      names = its.names;
-      served = record {
-        served = All-from_recursion (Serves (tallied old tallies)) (accounts_of loaders)
-            (served_with old (tallied old tallies) refl (omega arith) (accounts_of loaders)
-            (recursion_from_All (Serves old) (accounts_of loaders) its.served.served));
-        distinct = its.served.distinct;
-        no_other = its.served.no_other;
-        opened = its.served.opened;
-        class_opened = its.served.class_opened;
-      };
-    })
+    subst (λ (l : Ledger). AreTogether l loaders) (sym is)
+    (together_alike old (tallied old tallies) loaders refl refl refl refl (sound_tallied old tallies its.ledger_sound) its)

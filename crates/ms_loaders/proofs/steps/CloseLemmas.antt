@@ -285,23 +285,31 @@ module _ (old : Ledger) (loaders : List (ℕ × LoaderView)) (name : ℕ) (kind 
       record (machine_of old loaders) { loaders = with_new (states_of loaders) name (empty_loader kind); given = n })
       (omega arith)
 
--- Nodes purged.
-pub together_purged : (old new : Ledger) (loaders : List (ℕ × LoaderView)) → new ≡ purged old → IsSoundLedger new
-    → AreTogether old loaders → AreTogether new loaders
-together_purged old new loaders is sound its = record {
+-- Pool and loaders stay together where loans and counts of accounts stay.
+pub together_alike : (old new : Ledger) (loaders : List (ℕ × LoaderView)) → new.loans ≡ old.loans → new.given ≡ old.given
+    → new.opened ≡ old.opened → new.class_opened ≡ old.class_opened → IsSoundLedger new → AreTogether old loaders
+    → AreTogether new loaders
+together_alike old new loaders loans given opened class_opened sound its = record {
   ledger_sound = sound;
   loaders_sound = its.loaders_sound;
   names = its.names;
   served = record {
     served = All-from_recursion (Serves new) (accounts_of loaders)
-        (served_with old new (ap (λ (l : Ledger). l.loans) is) (omega (arith, ap (λ (l : Ledger). l.given) is))
-        (accounts_of loaders) (recursion_from_All (Serves old) (accounts_of loaders) its.served.served));
+        (served_with old new loans (omega (arith, given)) (accounts_of loaders)
+        (recursion_from_All (Serves old) (accounts_of loaders) its.served.served));
     distinct = its.served.distinct;
-    no_other = subst (λ (l : Ledger). All (HasOwner (owners_of loaders)) l.loans) (sym is) its.served.no_other;
-    opened = ap (λ (l : Ledger). l.opened) is ∙ its.served.opened;
-    class_opened = ap (λ (l : Ledger). l.class_opened) is ∙ its.served.class_opened;
+    no_other = subst (All (HasOwner (owners_of loaders))) (sym loans) its.served.no_other;
+    opened = opened ∙ its.served.opened;
+    class_opened = class_opened ∙ its.served.class_opened;
   };
 }
+
+-- Nodes purged.
+pub together_purged : (old new : Ledger) (loaders : List (ℕ × LoaderView)) → new ≡ purged old → IsSoundLedger new
+    → AreTogether old loaders → AreTogether new loaders
+together_purged old new loaders is =
+    together_alike old new loaders (ap (λ (l : Ledger). l.loans) is) (ap (λ (l : Ledger). l.given) is)
+    (ap (λ (l : Ledger). l.opened) is) (ap (λ (l : Ledger). l.class_opened) is)
 
 pub machine_purged_is : (old new : Ledger) (loaders : List (ℕ × LoaderView)) → new ≡ purged old → IsSoundLedger new
     → AreTogether old loaders

@@ -155,6 +155,37 @@ served_in P Q Class b a was is keeps distinct each own all =
     (served_still P Q was.class_owner each a (omega (arith, distinct was.class_owner, count, it_is was.class_owner))
     parts.3)
 
+-- What holds of each account holds of each still where one loader changed in a space.
+pub all_still : (P Q : AccountState → Type 0) (space : Space) (loaders : List (ℕ × LoaderView)) (name : ℕ)
+    (was is : LoaderView) → named loaders name ≡ Some was → KeepsOther space was is → AreDistinct (owners_of loaders)
+    → ((other : AccountState) → other.owner ≢ (account_in space was).owner → P other → Q other)
+    → Q (account_in space is) → All P (accounts_of loaders) → All Q (accounts_of (with_changed loaders name is))
+all_still P Q space loaders name was is found keeps distinct each own all =
+    All-from_recursion Q (accounts_of (with_changed loaders name is))
+    (subst (λ (l : List AccountState). AllByRecursion Q l) (sym now)
+    (served_in P Q space (accounts_of split.before) (accounts_of split.after) was is keeps
+    (rw (ap owners_of split.is ∙ owners_split split.before split.after name was) at distinct) each own
+    (rw (ap accounts_of split.is
+    ∙ accounts_split split.before split.after name was) at (recursion_from_All P (accounts_of loaders) all))))
+  where
+    split : Split loaders name was
+    split = split_at loaders name was found
+
+    now : accounts_of (with_changed loaders name is)
+        ≡ accounts_of split.before ++ account_in NonClass is ∷ account_in Class is ∷ accounts_of split.after
+    now = ap accounts_of (split.changed is) ∙ accounts_split split.before split.after name is
+
+-- And the owners stay.
+pub owners_stay : (space : Space) (loaders : List (ℕ × LoaderView)) (name : ℕ) (was is : LoaderView)
+    → named loaders name ≡ Some was → KeepsOther space was is
+    → owners_of (with_changed loaders name is) ≡ owners_of loaders
+owners_stay space loaders name was is found keeps =
+    let split = split_at loaders name was found in
+    ap owners_of (split.changed is) ∙ owners_split split.before split.after name is
+    ∙ ap (λ (n : ℕ). owners_of split.before ++ n ∷ is.class_owner ∷ owners_of split.after) keeps.owner
+    ∙ ap (λ (n : ℕ). owners_of split.before ++ was.owner ∷ n ∷ owners_of split.after) keeps.class_owner
+    ∙ sym (ap owners_of split.is ∙ owners_split split.before split.after name was)
+
 -- No other owner is lent a chunk.
 grown_have : (owners : List ℕ) (loans : List Loan) (chunk : Chunk) → AllByRecursion (HasOwner owners) loans
     → AllByRecursion (HasOwner owners)
@@ -283,11 +314,16 @@ length_changed {X} (e ∷ es) name x =
       | false ↦ ap suc (length_changed es name x)
     ]
 
+-- Where all loaders are sound, so is one by its name.
+pub named_sound : (loaders : List (ℕ × LoaderView)) (name : ℕ) (v : LoaderView) → named loaders name ≡ Some v
+    → All IsSoundView (values_of loaders) → IsSoundView v
+named_sound loaders name v found all =
+    subst (λ (o : Option LoaderView). IfSome o IsSoundView) found
+    (IfSome-lookup_from_All IsSoundView (is_at (nat_cmp name)) loaders all)
+
 pub own_sound : (ledger : Ledger) (loaders : List (ℕ × LoaderView)) (name : ℕ) (v : LoaderView)
     → named loaders name ≡ Some v → AreTogether ledger loaders → IsSoundView v
-own_sound ledger loaders name v found its =
-    subst (λ (o : Option LoaderView). IfSome o IsSoundView) found
-    (IfSome-lookup_from_All IsSoundView (is_at (nat_cmp name)) loaders its.loaders_sound)
+own_sound ledger loaders name v found its = named_sound loaders name v found its.loaders_sound
 
 -- So pool and loaders are together still where one loader changed in a space, and the pool for it
 -- alone.
@@ -301,13 +337,8 @@ together_still space old new loaders name was is found keeps own each no_other o
   loaders_sound = All-values-set_value (is_at (nat_cmp name)) IsSoundView loaders is its.loaders_sound is_sound;
   names = rises_with_changed loaders name is its.names;
   served = record {
-    served = All-from_recursion (Serves new) (accounts_of (with_changed loaders name is))
-        (subst (λ (l : List AccountState). AllByRecursion (Serves new) l) (sym now)
-        (served_in (Serves old) (Serves new) space (accounts_of split.before) (accounts_of split.after) was is keeps
-        (rw (ap owners_of split.is ∙ owners_split split.before split.after name was) at its.served.distinct) each own
-        (rw (ap accounts_of split.is
-        ∙ accounts_split split.before split.after name was) at (recursion_from_All (Serves old)
-        (accounts_of loaders) its.served.served))));
+    served = all_still (Serves old) (Serves new) space loaders name was is found keeps its.served.distinct each own
+        its.served.served;
     distinct = subst AreDistinct (sym owners_same) its.served.distinct;
     no_other = subst (λ (owners : List ℕ). All (HasOwner owners) new.loans) (sym owners_same) no_other;
     opened = ap (λ (f : Space → ℕ). f NonClass) opened ∙ its.served.opened ∙ sym (length_changed loaders name is);
@@ -316,18 +347,8 @@ together_still space old new loaders name was is found keeps own each no_other o
   };
 }
   where
-    split : Split loaders name was
-    split = split_at loaders name was found
-
-    now : accounts_of (with_changed loaders name is)
-        ≡ accounts_of split.before ++ account_in NonClass is ∷ account_in Class is ∷ accounts_of split.after
-    now = ap accounts_of (split.changed is) ∙ accounts_split split.before split.after name is
-
     owners_same : owners_of (with_changed loaders name is) ≡ owners_of loaders
-    owners_same = ap owners_of (split.changed is) ∙ owners_split split.before split.after name is
-        ∙ ap (λ (n : ℕ). owners_of split.before ++ n ∷ is.class_owner ∷ owners_of split.after) keeps.owner
-        ∙ ap (λ (n : ℕ). owners_of split.before ++ was.owner ∷ n ∷ owners_of split.after) keeps.class_owner
-        ∙ sym (ap owners_of split.is ∙ owners_split split.before split.after name was)
+    owners_same = owners_stay space loaders name was is found keeps
 
 pub together_after : (space : Space) (old new : Ledger) (loaders : List (ℕ × LoaderView)) (name block words : ℕ)
     (was is : LoaderView) (answer : Result Block Refusal)

@@ -1,9 +1,7 @@
 -- What each kind of step leaves that is served over the pool: pool and loaders together, by one
 -- transition of the machine. For `served_goes`.
 use Rattle.std.proofs.Common.{◌≡◌, ℕ, inl, inr, None, List, Ok, Err, Result}
-use Rattle.std.proofs.Common.{refl, sym, ap, ◌∙◌, subst, arith}
-use Rattle.std.specs.List.{All}
-use Rattle.std.proofs.lemmas.List.Elements.{recursion_from_All, All-from_recursion}
+use Rattle.std.proofs.Common.{refl, sym, ap, ◌∙◌, subst}
 use Rattle.ms_base.specs.declared.kind.Kind.{Kind}
 use Rattle.ms_base.specs.declared.kind.Space.{Space}
 use Rattle.ms_base.specs.declared.kind.Space.TheVariants.{NonClass, Class}
@@ -18,12 +16,11 @@ use Rattle.ms_base.specs.Names.{named, with_new}
 use Rattle.ms_base.specs.Request.{alloc_in}
 use Rattle.ms_base.specs.Transition.{Transition}
 use Rattle.ms_pool.specs.Account.{AccountState}
-use Rattle.ms_pool.specs.Tallies.{Tallies}
 use Rattle.ms_pool.specs.Ledger.{Ledger, Serves, IsSoundLedger, opened_in, with_both_closed}
-use Rattle.ms_pool.specs.Calls.{Took, Grew, OpenedBoth, ClosedBoth, Purged, tallied}
+use Rattle.ms_pool.specs.Calls.{Took, Grew, OpenedBoth, ClosedBoth, Purged}
 use Rattle.ms_loaders.specs.Loader.{LoaderView, account_in, new_loader, IsSoundView, WritesWord, FreesBlock, HasWord}
 use Rattle.ms_loaders.specs.Loader.{LacksWord, LacksName}
-use Rattle.ms_loaders.specs.System.{accounts_of, owners_of, machine_of, AreTogether}
+use Rattle.ms_loaders.specs.System.{machine_of, AreTogether}
 use Rattle.ms_loaders.specs.Serving.{SourceCalls, calls_of, MakesLoader, MakesInVain, MakesNone, AllocatesIn}
 use Rattle.ms_loaders.specs.Serving.{AllocatesAt, AllocatesNone, ChangesOne, LooksAt, IsLacking, ClosesLoader}
 use Rattle.ms_loaders.proofs.steps.AllocStepLemmas.{reply_to, alloc_goes}
@@ -31,9 +28,10 @@ use Rattle.ms_loaders.proofs.steps.AlikeLemmas.{allocates_at_all}
 use Rattle.ms_loaders.proofs.steps.CallLemmas.{together_written, is_written, together_freed, is_freed, read_is_served}
 use Rattle.ms_loaders.proofs.steps.CallLemmas.{word_is_refused, free_is_refused}
 use Rattle.ms_loaders.proofs.steps.CauseLemmas.{alloc_finds_none}
-use Rattle.ms_loaders.proofs.steps.CloseLemmas.{with_both, first_account, second_account, served_with, together_made}
+use Rattle.ms_loaders.proofs.steps.CloseLemmas.{with_both, first_account, second_account, together_made}
 use Rattle.ms_loaders.proofs.steps.CloseLemmas.{machine_made, together_purged, machine_purged_is}
-use Rattle.ms_loaders.proofs.sums.FitLemmas.{HasOwner, machine_is_good}
+use Rattle.ms_loaders.proofs.sums.FitLemmas.{machine_is_good}
+use Rattle.ms_loaders.proofs.events.TalliedLemmas.{together_tallied}
 use Rattle.ms_loaders.proofs.steps.StepLemmas.{has_loader, lacks_loader}
 use Rattle.ms_loaders.proofs.steps.UnloadLemmas.{together_again, numbers_used, numbers_left, together_unloaded, is_unloaded}
 
@@ -47,24 +45,6 @@ pub record Goes (old : Ledger) (loaders : List (ℕ × LoaderView)) (step : Step
   pub together : AreTogether new others
   pub step_is : Transition (machine_of old loaders) step reply (machine_of new others)
   pub limits : new.limits ≡ old.limits
-
--- Where a tally is raised, pool and loaders stay together.
-together_tallied : (old new : Ledger) (loaders : List (ℕ × LoaderView)) (tallies : Tallies) → new ≡ tallied old tallies
-    → IsSoundLedger new → AreTogether old loaders → AreTogether new loaders
-together_tallied old new loaders tallies is sound its = record {
-  ledger_sound = sound;
-  loaders_sound = its.loaders_sound;
-  names = its.names;
-  served = record {
-    served = All-from_recursion (Serves new) (accounts_of loaders)
-        (served_with old new (ap (λ (l : Ledger). l.loans) is) (omega (arith, ap (λ (l : Ledger). l.given) is))
-        (accounts_of loaders) (recursion_from_All (Serves old) (accounts_of loaders) its.served.served));
-    distinct = its.served.distinct;
-    no_other = subst (λ (l : Ledger). All (HasOwner (owners_of loaders)) l.loans) (sym is) its.served.no_other;
-    opened = ap (λ (l : Ledger). l.opened) is ∙ its.served.opened;
-    class_opened = ap (λ (l : Ledger). l.class_opened) is ∙ its.served.class_opened;
-  };
-}
 
 module _ (old : Ledger) (loaders : List (ℕ × LoaderView)) (its : AreTogether old loaders) where
   -- Nothing changes.
@@ -121,12 +101,12 @@ module _ (old : Ledger) (loaders : List (ℕ × LoaderView)) (its : AreTogether 
         limits = ap (λ (l : Ledger). l.limits) closed;
       }
 
-  no_numbers : (name : ℕ) (kind : Kind) (refusal : Refusal) (new : Ledger) → IsSoundLedger new
+  no_numbers : (name : ℕ) (kind : Kind) (refusal : Refusal) (new : Ledger)
       → named loaders name ≡ None → OpenedBoth old (Err refusal) new
       → Goes old loaders (New name kind) (Refused refusal) new loaders
-  no_numbers name kind refusal new sound unused refused =
+  no_numbers name kind refusal new unused refused =
       subst (λ (r : Refusal). Goes old loaders (New name kind) (Refused r) new loaders) (sym refused.0) (record {
-        together = together_tallied old new loaders _ refused.2 sound its;
+        together = together_tallied old new loaders _ refused.2 its;
         step_is = (
           (lacks_loader old loaders name unused, refused.1),
           ap (λ (l : Ledger). machine_of l loaders) refused.2,
@@ -144,7 +124,7 @@ module _ (old : Ledger) (loaders : List (ℕ × LoaderView)) (its : AreTogether 
         refl,
       ))
   not_made name kind refusal new sound (inr (inl numbers)) =
-      no_numbers name kind refusal new sound numbers.0 numbers.1
+      no_numbers name kind refusal new numbers.0 numbers.1
   not_made name kind refusal new sound (inr (inr memory)) =
       subst (λ (r : Refusal). Goes old loaders (New name kind) (Refused r) new loaders) (sym memory.0)
       (in_vain name kind new sound memory.1)

@@ -2,25 +2,23 @@
 -- lent, and can be counted. `System::totals` uses these.
 use Rattle.std.proofs.Common.{◌≡◌, ◌≤◌, ◌<◌, ◌-◌, ◌*◌, ◌^◌, ℕ, suc, List, [], ◌∷◌, length, map, refl, sym, ap, ◌∙◌}
 use Rattle.std.proofs.Common.{arith, length-append}
-use Rattle.std.specs.List.{AllByRecursion, sum_by}
+use Rattle.std.specs.List.{sum_by}
 use Rattle.std.specs.Map.{values_of}
 use Rattle.std.proofs.lemmas.List.Elements.{recursion_from_All}
 use Rattle.std.proofs.lemmas.List.Sums.{sum_by-cons}
 use Rattle.ms_base.specs.declared.kind.Space.{Space}
 use Rattle.ms_base.specs.declared.kind.Space.TheVariants.{NonClass, Class}
-use Rattle.ms_base.specs.declared.span.Chunk.{Chunk}
-use Rattle.ms_base.specs.Level.{size_of, highest_level}
-use Rattle.ms_base.specs.Part.{IsPart, node_words}
+use Rattle.ms_base.specs.Part.{node_words}
 use Rattle.ms_base.specs.Policy.{granule_of}
 use Rattle.ms_base.specs.Spaces.{most_slots}
 use Rattle.ms_base.specs.State.{LoaderState, Machine, arena_of, chunks_held, pool_of}
 use Rattle.ms_base.specs.Good.{IsGood}
-use Rattle.ms_base.specs.Totals.{LoaderRow, PoolSums, SpaceSums, Sums, capacity_of, committed_words, pool_sums, row_of}
+use Rattle.ms_base.specs.Totals.{LoaderRow, PoolSums, SpaceSums, Sums, committed_words, pool_sums, row_of}
 use Rattle.ms_base.specs.Totals.{space_sums, sums_of}
-use Rattle.ms_base.proofs.free.HalvesLemmas.{size_falls}
 use Rattle.ms_base.proofs.free.OrderLemmas.{sums_alike}
 use Rattle.ms_base.proofs.machine.SumLemmas.{capacity_below, committed_below, used_below}
 use Rattle.ms_pool.specs.Ledger.{Ledger, state_in}
+use Rattle.ms_pool.proofs.ledger.AccountLemmas.{sized}
 use Rattle.ms_loaders.specs.Loader.{LoaderView}
 use Rattle.ms_loaders.specs.System.{states_of, machine_of, AreTogether}
 use Rattle.ms_loaders.specs.Collecting.{AreFew, AreInUse, chunks_in, space_made}
@@ -43,22 +41,11 @@ pub as_many : (loaders : List (ℕ × LoaderView)) → length loaders ≡ length
 as_many [] = refl
 as_many (e ∷ es) = ap suc (as_many es)
 
--- Each has 128 words at least, so they are few; and so are the words in use.
-sized : (held : List Chunk) → AllByRecursion (λ (chunk : Chunk). IsPart chunk.start chunk.level) held
-    → length held * 128 ≤ capacity_of held
-sized [] parts = omega arith
-sized (c ∷ held) parts =
-    omega (
-      arith,
-      sized held parts.1,
-      sum_by-cons (λ (chunk : Chunk). size_of chunk.level) c held,
-      size_falls c.level highest_level parts.0.0 (omega arith),
-    )
-
 few_slots : (space : Space) → most_slots space ≤ 64
 few_slots NonClass = omega arith
 few_slots Class = omega arith
 
+-- Each has 128 words at least, so they are few; and so are the words in use.
 pub are_few : (m : Machine) → IsGood m → AreFew m.loaders
 are_few m good = record {
   chunks = λ space. omega (

@@ -24,7 +24,7 @@ use Rattle.ms_pool.specs.declared.lender.Lender.{Lender}
 use Rattle.ms_pool.specs.declared.lent.Counted.{Counted}
 use Rattle.ms_pool.specs.declared.lent.Lent.{Lent}
 use Rattle.ms_pool.specs.Account.{AccountState, AreChunks}
-use Rattle.ms_pool.specs.Ledger.{Ledger, Loan, Serves, chunks_of, held_in, is_owned_by, others_than, with_closed}
+use Rattle.ms_pool.specs.Ledger.{Ledger, Loan, Serves, held_in, is_owned_by, others_than, with_closed}
 use Rattle.ms_pool.specs.Ledger.{with_grown, with_lent, with_loan}
 use Rattle.ms_pool.specs.Keeping.{IsCounted, IsKept, IsRunOf, ledger_of, loans_from}
 use Rattle.ms_pool.specs.Counting.{AreCounted, HasLeast, HasRoomFor, HaveLeast, MovesIn, counted_in}
@@ -33,8 +33,8 @@ use Rattle.ms_pool.proofs.counts.FreeCountLemmas.{few_slots}
 use Rattle.ms_pool.proofs.counts.LentCountLemmas.{least_of, least_one, moved, room_for}
 use Rattle.ms_pool.proofs.counts.PoolCountLemmas.{total-append, total-none}
 use Rattle.ms_pool.proofs.ledger.AccountLemmas.{LiesIn, own_lie_in}
-use Rattle.ms_pool.proofs.ledger.FewerLemmas.{owned_and_others}
 use Rattle.ms_pool.proofs.ledger.GrowLemmas.{GrownThere}
+use Rattle.ms_pool.proofs.ledger.HeldLoanLemmas.{own_sum}
 use Rattle.ms_pool.proofs.ledger.LoanLemmas.{chunks_in, chunks_in-with, chunks_in-with_elsewhere, owned_by}
 
 -- Both spaces.
@@ -177,19 +177,7 @@ own_total : (amount : Chunk → ℕ) (ledger : Ledger) (account : AccountState) 
     → total amount (held_in account.space ledger)
     ≡ total amount account.chunks + total amount (chunks_in account.space (others_than account.owner ledger.loans))
 unfolding total
-own_total amount ledger account served chunks = omega (
-  arith,
-  sum_by-IsPermutation amount own account.chunks served.chunks,
-  sum_by-IsPermutation amount (held_in account.space ledger) (own ++ others)
-      (owned_and_others account.space account.owner ledger.loans (own_lie_in ledger account served chunks)),
-  total-append amount own others,
-)
-  where
-    own : List Chunk
-    own = chunks_of ledger account.owner
-
-    others : List Chunk
-    others = chunks_in account.space (others_than account.owner ledger.loans)
+own_total amount ledger account served chunks = own_sum ledger account amount served chunks
 
 stay_elsewhere : (space other : Space) (owner : ℕ) (loans : List Loan)
     → ((start : ℕ) → is_in space start ≡ true → is_in other start ≡ false)

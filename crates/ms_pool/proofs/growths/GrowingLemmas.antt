@@ -33,7 +33,7 @@ use Rattle.ms_pool.specs.Ledger.{Ledger, IsSoundLedger, Loan, Serves, chunks_of,
 use Rattle.ms_pool.specs.Keeping.{IsKept, IsRunOf, ledger_of}
 use Rattle.ms_pool.specs.Growing.{HasNoMore, has_room, reached}
 use Rattle.ms_pool.specs.Releasing.{is_at, is_lent_in}
-use Rattle.ms_buddy.proofs.LeaderLemmas.{parent_size}
+use Rattle.ms_buddy.proofs.changes.LeaderLemmas.{parent_size}
 use Rattle.ms_pool.proofs.loans.OpenLemmas.{open_is_low, open_is_of_space}
 use Rattle.ms_pool.specs.Searching.{lacking}
 use Rattle.ms_pool.proofs.growths.ReachLemmas.{by_tests, grown_past, reached-is}

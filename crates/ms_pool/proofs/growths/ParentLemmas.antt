@@ -28,7 +28,7 @@ use Rattle.ms_pool.specs.declared.lender.Lender.{Lender}
 use Rattle.ms_pool.specs.Ledger.{held_in, state_in}
 use Rattle.ms_pool.specs.Keeping.{IsKept, ledger_of}
 use Rattle.ms_pool.specs.Releasing.{is_lent_in}
-use Rattle.ms_buddy.proofs.LeaderLemmas.{buddy_within, lent_place}
+use Rattle.ms_buddy.proofs.changes.LeaderLemmas.{buddy_within, lent_place}
 use Rattle.ms_pool.proofs.searches.FreeRootLemmas.{IsRootIn, at_tree, free_in_root}
 use Rattle.ms_pool.proofs.loans.OpenLemmas.{IsSlotThere, open_is_low, open_is_of_space}
 use Rattle.ms_pool.proofs.returns.ReleasedTreeLemmas.{leaf_there}

@@ -93,7 +93,7 @@ own_clear ledger account start level served chunks clear =
     ∙ own_pass_none test account.space account.owner ledger.loans (own_lie_in ledger account served chunks) clear
 
 -- Each chunk has 128 words at least, so they are few.
-sized : (held : List Chunk) → AllByRecursion (λ (chunk : Chunk). IsPart chunk.start chunk.level) held
+pub sized : (held : List Chunk) → AllByRecursion (λ (chunk : Chunk). IsPart chunk.start chunk.level) held
     → length held * 128 ≤ capacity_of held
 sized [] parts = omega arith
 sized (c ∷ held) parts =

@@ -1,6 +1,6 @@
 -- What an account holds, against what is held of its space. What counts chunks over a space rests
 -- on this.
-use Rattle.std.proofs.Common.{◌≤◌, ℕ, List, ◌++◌, arith}
+use Rattle.std.proofs.Common.{◌≡◌, ◌≤◌, ℕ, ◌+◌, List, ◌++◌, arith}
 use Rattle.std.specs.List.{sum_by}
 use Rattle.std.proofs.lemmas.List.Sorted.{sum_by-IsPermutation}
 use Rattle.std.proofs.lemmas.List.Sums.{sum_by-append}
@@ -11,11 +11,12 @@ use Rattle.ms_pool.proofs.ledger.LoanLemmas.{chunks_in}
 use Rattle.ms_pool.proofs.ledger.AccountLemmas.{own_lie_in}
 use Rattle.ms_pool.proofs.ledger.FewerLemmas.{owned_and_others}
 
--- A sum over an account's chunks is within that over its space.
-pub own_sum_within : (ledger : Ledger) (account : AccountState) (amount : Chunk → ℕ) → Serves ledger account
+-- A sum over a space is that over an account's chunks and that over the chunks of the others.
+pub own_sum : (ledger : Ledger) (account : AccountState) (amount : Chunk → ℕ) → Serves ledger account
     → AreChunks account.space account.chunks
-    → sum_by amount account.chunks ≤ sum_by amount (held_in account.space ledger)
-own_sum_within ledger account amount served chunks = omega (
+    → sum_by amount (held_in account.space ledger)
+    ≡ sum_by amount account.chunks + sum_by amount (chunks_in account.space (others_than account.owner ledger.loans))
+own_sum ledger account amount served chunks = omega (
   arith,
   sum_by-IsPermutation amount own account.chunks served.chunks,
   sum_by-IsPermutation amount (held_in account.space ledger) (own ++ others)
@@ -28,3 +29,9 @@ own_sum_within ledger account amount served chunks = omega (
 
     others : List Chunk
     others = chunks_in account.space (others_than account.owner ledger.loans)
+
+-- So that over the account's chunks is within it.
+pub own_sum_within : (ledger : Ledger) (account : AccountState) (amount : Chunk → ℕ) → Serves ledger account
+    → AreChunks account.space account.chunks
+    → sum_by amount account.chunks ≤ sum_by amount (held_in account.space ledger)
+own_sum_within ledger account amount served chunks = omega (arith, own_sum ledger account amount served chunks)

@@ -8,7 +8,7 @@ use Rattle.std.proofs.lemmas.Bool.{cases_eq, cases_lt}
 use Rattle.std.proofs.lemmas.List.{get_or-replicate, get_or-set_other, get_or-set_same, get_or_past, get_or_read}
 use Rattle.ms_buddy.specs.Leaves.{LentLeaf, free_of, has_level, is_of}
 use Rattle.ms_buddy.proofs.FreeLeafLemmas.{free_of-none}
-use Rattle.ms_buddy.proofs.LeafLevelLemmas.{has_level-one, has_level-or, none_has}
+use Rattle.ms_buddy.proofs.bits.LeafLevelLemmas.{has_level-one, has_level-or, none_has}
 use Rattle.ms_pool.specs.Trees.{AreGathered, HaveGroups, HaveLevels, IsIndex}
 
 -- The levels of one more root.

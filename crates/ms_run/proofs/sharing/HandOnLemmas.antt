@@ -1,7 +1,7 @@
 -- A loader handed on from seat to seat by its two accounts: each seat serves its own loaders before
 -- and after, and no owner is of both. For `hand_on`.
 use Rattle.std.proofs.Common.{◌≡◌, ◌≢◌, ◌≤◌, ◌+◌, ℕ, true, Some, None, List, [], ◌∷◌, ◌++◌, map, length, refl, sym, ap}
-use Rattle.std.proofs.Common.{◌∙◌, subst, ◌⊎◌, inl, inr, ⊎_elim, arith, ◌<◌, IsTrue, false, Option, IfSome}
+use Rattle.std.proofs.Common.{◌∙◌, subst, ◌⊎◌, inl, inr, ⊎_elim, arith, ◌<◌, IsTrue, false}
 use Rattle.std.specs.List.{AllByRecursion}
 use Rattle.std.specs.Option.{is_some}
 use Rattle.std.specs.Ordering.{nat_cmp}
@@ -10,7 +10,7 @@ use Rattle.std.proofs.lemmas.List.{length-append, map-append}
 use Rattle.std.proofs.lemmas.List.Sums.{sum_by-append}
 use Rattle.std.proofs.lemmas.List.Elements.{recursion_from_All, All-from_recursion}
 use Rattle.std.proofs.lemmas.Option.{none-some}
-use Rattle.std.proofs.lemmas.Map.Views.{All-map-remove_entry, All-values-insert_entry, IfSome-lookup_from_All}
+use Rattle.std.proofs.lemmas.Map.Views.{All-map-remove_entry, All-values-insert_entry}
 use Rattle.ms_base.specs.declared.kind.Space.{Space}
 use Rattle.ms_base.specs.declared.kind.Space.TheVariants.{NonClass, Class}
 use Rattle.ms_base.specs.declared.span.Chunk.{Chunk}
@@ -30,7 +30,8 @@ use Rattle.ms_shared.proofs.HandLemmas.{handed_serves, left_serves, taker_serves
 use Rattle.ms_run.specs.Dealing.{Loaded, AreBeside, IsHanded}
 use Rattle.ms_loaders.proofs.steps.CallLemmas.{missing}
 use Rattle.ms_loaders.proofs.steps.CloseLemmas.{accounts_joined}
-use Rattle.ms_loaders.proofs.steps.ServedLemmas.{accounts_split, all_joined, all_parts, is_it, it_is, owners_split}
+use Rattle.ms_loaders.proofs.steps.ServedLemmas.{accounts_split, all_joined, all_parts, is_it, it_is, named_sound}
+use Rattle.ms_loaders.proofs.steps.ServedLemmas.{owners_split}
 use Rattle.ms_loaders.proofs.steps.ServedLemmas.{served_still, times, times_split}
 use Rattle.ms_loaders.proofs.sums.FitLemmas.{owner_of}
 use Rattle.ms_loaders.proofs.steps.UnloadLemmas.{both_all}
@@ -139,8 +140,7 @@ module _ (name : ℕ) (v : LoaderView) (loaders others : Loaded) (from to : Seat
   left_opened Class = omega (arith, its.manned.opened Class, long)
 
   v_sound : IsSoundView v
-  v_sound = subst (λ (o : Option LoaderView). IfSome o IsSoundView) found
-      (IfSome-lookup_from_All IsSoundView (is_at (nat_cmp name)) loaders its.manned.sound)
+  v_sound = named_sound loaders name v found its.manned.sound
 
   module _ (none : named others name ≡ None) where
     gap : Gap others name

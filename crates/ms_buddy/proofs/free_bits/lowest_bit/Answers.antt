@@ -1,5 +1,5 @@
 use Rattle.std.proofs.Common.{arith}
-use Rattle.ms_buddy.proofs.BitLemmas.{lowest_later_bit, no_later_bit}
+use Rattle.ms_buddy.proofs.bits.BitLemmas.{lowest_later_bit, no_later_bit}
 use Rattle.ms_buddy.proofs.free_bits.lowest_bit.Goals as goal
 
 pub returns-then-later-eq0-clause-none : goal.returns-then-later-eq0-clause-none

@@ -1,4 +1,4 @@
-use Rattle.ms_buddy.proofs.NumberLemmas.{number_fits, number_is}
+use Rattle.ms_buddy.proofs.bits.NumberLemmas.{number_fits, number_is}
 use Rattle.ms_buddy.proofs.free_bits.number.Goals as goal
 
 pub returns-clause-same : goal.returns-clause-same

@@ -1,4 +1,4 @@
-use Rattle.ms_buddy.proofs.NumberLemmas.{holder_fits}
+use Rattle.ms_buddy.proofs.bits.NumberLemmas.{holder_fits}
 use Rattle.ms_buddy.proofs.free_bits.start_of_holder.Goals as goal
 
 pub returns-clause-in_root : goal.returns-clause-in_root

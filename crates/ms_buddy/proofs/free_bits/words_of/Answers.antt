@@ -1,4 +1,4 @@
-use Rattle.ms_buddy.proofs.NumberLemmas.{words_at}
+use Rattle.ms_buddy.proofs.bits.NumberLemmas.{words_at}
 use Rattle.ms_buddy.proofs.free_bits.words_of.Goals as goal
 
 pub returns-clause-size : goal.returns-clause-size

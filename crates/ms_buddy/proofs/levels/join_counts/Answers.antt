@@ -1,6 +1,6 @@
 use Rattle.std.proofs.Common.{◌≡◌, ◌<◌, ◌+◌, ℕ, subst, arith}
 use Rattle.ms_buddy.specs.Counts.{AreShifted}
-use Rattle.ms_buddy.proofs.StepLemmas.{one_joined}
+use Rattle.ms_buddy.proofs.searches.StepLemmas.{one_joined}
 use Rattle.ms_buddy.proofs.levels.join_counts.Goals as goal
 
 pub returns : goal.returns

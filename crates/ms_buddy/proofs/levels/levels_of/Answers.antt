@@ -1,6 +1,6 @@
 -- The level is told where it has any.
 use Rattle.std.proofs.Common.{arith}
-use Rattle.ms_buddy.proofs.StepLemmas.{one_passed, one_told}
+use Rattle.ms_buddy.proofs.searches.StepLemmas.{one_passed, one_told}
 use Rattle.ms_buddy.proofs.levels.levels_of.Goals as goal
 use Rattle.ms_buddy.proofs.levels.levels_of.Goals.{then-counts-level-ne0, else-counts-level-ne0}
 

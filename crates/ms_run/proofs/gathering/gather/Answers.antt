@@ -7,7 +7,7 @@ use Rattle.ms_run.specs.Joined.{seat_of}
 use Rattle.ms_run.specs.Metering.{used_words_of}
 use Rattle.ms_run.specs.Shares.{IsGathered}
 use Rattle.ms_run.proofs.sharing.GatherLemmas.{all_gathered, views_gathered}
-use Rattle.ms_run.proofs.PhaseSettleLemmas.{are_together, may_settle}
+use Rattle.ms_run.proofs.PhaseSettleLemmas.{are_together}
 use Rattle.ms_run.proofs.metered.MeterSumLemmas.{used_machine, used_gathered}
 use Rattle.ms_run.proofs.gathering.gather.Goals as goal
 
@@ -39,10 +39,10 @@ returns-clause-history c = record {
   ends = record {
     loaders = c.in_ok-seats.loaders;
     machine = c.from_parts.ensures.machine;
-    fits = may_settle _ c.args.shares.items _ c.committed.ensures.sound
+    together = are_together _ c.args.shares.items _ c.committed.ensures.sound
         (subst (λ (seats : List SeatState). Gathers seats c.in_ok-pool.pool) c.in_ok-seats.ensures.seats
         c.in_ok-pool.ensures.gathered)
-        c.requires.stand.manned c.in_ok-seats.ensures.loaders;
+        c.requires.stand.manned c.in_ok-seats.ensures.loaders c.in_ok-seats.ensures.named;
   };
   history = subst (λ (seats : List SeatState). IsHistory c.args.shared.first seats c.in_ok-pool.pool)
       c.in_ok-seats.ensures.seats c.in_ok-pool.ensures.history;

@@ -2,15 +2,11 @@ use Rattle.std.proofs.Common.{ap, arith, length, sym, ◌∙◌, subst}
 use Rattle.std.specs.List.{AllByRecursion}
 use Rattle.std.proofs.lemmas.List.Elements.{recursion_from_All}
 use Rattle.ms_base.specs.Names.{AreNamed}
-use Rattle.ms_run.specs.declared.share.Share.{Share}
-use Rattle.ms_run.specs.Manned.{IsManned}
+use Rattle.ms_run.specs.Shares.{IsMannedShare}
 use Rattle.std.proofs.lemmas.List.{nil_from_length}
 use Rattle.ms_run.proofs.sharing.GatherLemmas.{begin_apart, next_differs, still_differ}
 use Rattle.ms_run.proofs.sharing.TakenApartLemmas.{taken_none, taken_more, all_taken}
 use Rattle.ms_run.proofs.gathering.take_apart.Goals as goal
-
-abbrev ShareIsManned : Share → Type 0
-ShareIsManned share = IsManned share.seat.knows share.loaders
 
 pub loop-share-init : goal.loop-share-init
 loop-share-init c =
@@ -21,7 +17,7 @@ loop-share-init c =
       omega (arith, more.len, more.capacity, c.len-2.ensures, ap length all, c.args.shares.ok.0),
       begin_apart c.requires.apart.0 _ _ _ c.requires.apart.1 c.new-loaders.ensures all,
       subst AreNamed (sym c.new-loaders.ensures) (λ k h. absurd (omega arith)),
-      subst (AllByRecursion ShareIsManned) (sym all) (recursion_from_All ShareIsManned _ c.requires.manned),
+      subst (AllByRecursion IsMannedShare) (sym all) (recursion_from_All IsMannedShare _ c.requires.manned),
     )
 
 pub push_reserved-requires : goal.push_reserved-requires
@@ -35,7 +31,7 @@ join-requires-clause-others c = next_differs _ c.in-Some.share _ _ c.in-Some.ens
 
 pub join-requires-clause-part_named : goal.join-requires-clause-part_named
 join-requires-clause-part_named c =
-    (subst (AllByRecursion ShareIsManned) c.in-Some.ensures.steps.0 c.loop-share.invariant.5).0.names
+    (subst (AllByRecursion IsMannedShare) c.in-Some.ensures.steps.0 c.loop-share.invariant.5).0.names
 
 pub loop-share-preserved : goal.loop-share-preserved
 loop-share-preserved c =
@@ -47,7 +43,7 @@ loop-share-preserved c =
       omega (arith, c.loop-share.invariant.2, ap length next, metered.len, metered.capacity),
       still_differ _ _ c.in-Some.share _ _ next c.loop-share.invariant.3 c.in_ok-loaders.ensures.joined,
       c.in_ok-loaders.ensures.named,
-      (subst (AllByRecursion ShareIsManned) next c.loop-share.invariant.5).1,
+      (subst (AllByRecursion IsMannedShare) next c.loop-share.invariant.5).1,
     )
 
 pub returns-clause-seats : goal.returns-clause-seats

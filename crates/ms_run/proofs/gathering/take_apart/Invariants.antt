@@ -1,8 +1,7 @@
 use Rattle.std.proofs.Common.{◌+◌, ◌≤◌, length, vec_len, vec_capacity}
 use Rattle.std.specs.List.{AllByRecursion}
 use Rattle.ms_base.specs.Names.{AreNamed}
-use Rattle.ms_run.specs.declared.share.Share.{Share}
-use Rattle.ms_run.specs.Manned.{IsManned}
+use Rattle.ms_run.specs.Shares.{IsMannedShare}
 use Rattle.ms_run.proofs.sharing.GatherLemmas.{AreOthers}
 use Rattle.ms_run.proofs.sharing.TakenApartLemmas.{AreTaken}
 use Rattle.ms_run.proofs.gathering.take_apart.Given as goal
@@ -16,4 +15,4 @@ invariant-loop-share l =
     × (vec_len l.meters + length l.share-iterator.rest.items ≤ vec_capacity l.meters)
     × AreOthers l.loaders l.share-iterator.rest.items
     × AreNamed l.loaders
-    × AllByRecursion (λ (share : Share). IsManned share.seat.knows share.loaders) l.share-iterator.rest.items
+    × AllByRecursion IsMannedShare l.share-iterator.rest.items

@@ -3,8 +3,8 @@ use Rattle.std.proofs.Common.{rules, ◌≡◌, ◌/◌, ℕ, ap, sym, ◌∙◌
 use Rattle.ms_buddy.specs.Counts.{number_of}
 use Rattle.ms_buddy.specs.FreeBits.{bit_of}
 use Rattle.ms_buddy.specs.Leaves.{span_at}
-use Rattle.ms_buddy.proofs.BitLemmas.{clear_bit}
-use Rattle.ms_buddy.proofs.NumberLemmas.{and_above, number_above, number_of-root, number_of-small}
+use Rattle.ms_buddy.proofs.bits.BitLemmas.{clear_bit}
+use Rattle.ms_buddy.proofs.bits.NumberLemmas.{and_above, number_above, number_of-root, number_of-small}
 use Rattle.ms_buddy.proofs.free_bits.FreeBits.holder.Goals as goal
 
 pub returns-then-has-clause-set : goal.returns-then-has-clause-set

@@ -3,10 +3,10 @@ use Rattle.std.proofs.Common.{rules, ◌≡◌, ◌/◌, ℕ, ap, sym, ◌∙◌
 use Rattle.ms_buddy.specs.Counts.{buddy_of, holder_of, number_of}
 use Rattle.ms_buddy.specs.FreeBits.{bit_of}
 use Rattle.ms_buddy.specs.Leaves.{span_at}
-use Rattle.ms_buddy.proofs.BesideLemmas.{join_done, none_put, put_above, was_clear, was_set}
-use Rattle.ms_buddy.proofs.BitLemmas.{clear_bit}
-use Rattle.ms_buddy.proofs.BuddyLemmas.{number_of-holder}
-use Rattle.ms_buddy.proofs.NumberLemmas.{and_above, number_above, number_of-small}
+use Rattle.ms_buddy.proofs.bits.BesideLemmas.{join_done, none_put, put_above, was_clear, was_set}
+use Rattle.ms_buddy.proofs.bits.BitLemmas.{clear_bit}
+use Rattle.ms_buddy.proofs.bits.BuddyLemmas.{number_of-holder}
+use Rattle.ms_buddy.proofs.bits.NumberLemmas.{and_above, number_above, number_of-small}
 use Rattle.ms_buddy.proofs.free_bits.FreeBits.merge.Goals as goal
 use Rattle.ms_buddy.proofs.free_bits.FreeBits.merge.Goals.{then-loop-free-test+else-has, else-loop-free-test}
 

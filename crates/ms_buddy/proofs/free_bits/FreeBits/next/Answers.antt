@@ -1,6 +1,6 @@
 -- The lowest bit of the word that the loop has reached is the answer, where it is below the end.
 use Rattle.std.proofs.Common.{◌+◌, ◌*◌, ◌/◌, arith}
-use Rattle.ms_buddy.proofs.BitLemmas.{lowest_later, none_passed}
+use Rattle.ms_buddy.proofs.bits.BitLemmas.{lowest_later, none_passed}
 use Rattle.ms_buddy.proofs.free_bits.FreeBits.next.Goals as goal
 
 pub returns-then-found-end-clause-found : goal.returns-then-found-end-clause-found

@@ -1,6 +1,6 @@
 -- The numbers passed have no bit set.
 use Rattle.std.proofs.Common.{◌-◌, ◌≤◌}
-use Rattle.ms_buddy.proofs.BitLemmas.{NoneSet}
+use Rattle.ms_buddy.proofs.bits.BitLemmas.{NoneSet}
 use Rattle.ms_buddy.proofs.free_bits.FreeBits.next.Given as goal
 
 abbrev pub invariant-loop-at : goal.invariant-loop-at

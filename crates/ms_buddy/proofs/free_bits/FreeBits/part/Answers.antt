@@ -3,8 +3,8 @@ use Rattle.std.proofs.Common.{◌≡◌, ◌/◌, ℕ, ap, subst, ◌∙◌, ari
 use Rattle.ms_buddy.specs.Counts.{beside, buddy_of, holder_of, number_of}
 use Rattle.ms_buddy.specs.FreeBits.{ArePut}
 use Rattle.ms_buddy.specs.Leaves.{span_at}
-use Rattle.ms_buddy.proofs.BesideLemmas.{none_put, part_done, put_above}
-use Rattle.ms_buddy.proofs.NumberLemmas.{number_above, number_of-small}
+use Rattle.ms_buddy.proofs.bits.BesideLemmas.{none_put, part_done, put_above}
+use Rattle.ms_buddy.proofs.bits.NumberLemmas.{number_above, number_of-small}
 use Rattle.ms_buddy.proofs.free_bits.FreeBits.part.Goals as goal
 
 pub loop-level-init : goal.loop-level-init

@@ -1,6 +1,6 @@
 -- A word has a bit exactly where the second row says so.
 use Rattle.std.proofs.Common.{refl, arith}
-use Rattle.ms_buddy.proofs.BitLemmas.{changed, row_changed}
+use Rattle.ms_buddy.proofs.bits.BitLemmas.{changed, row_changed}
 use Rattle.ms_buddy.proofs.free_bits.FreeBits.put.Goals as goal
 
 pub returns-clause-bits : goal.returns-clause-bits

@@ -1,6 +1,6 @@
 -- The bit of the root is set in words of zeros.
 use Rattle.std.proofs.Common.{ℕ, ◌∙◌, ◌==◌, ap, cond}
-use Rattle.ms_buddy.proofs.BitLemmas.{no_bit, none_filled}
+use Rattle.ms_buddy.proofs.bits.BitLemmas.{no_bit, none_filled}
 use Rattle.ms_buddy.proofs.free_bits.FreeBits.whole.Goals as goal
 
 pub returns-clause-bits : goal.returns-clause-bits

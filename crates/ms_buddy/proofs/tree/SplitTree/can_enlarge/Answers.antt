@@ -5,10 +5,10 @@ use Rattle.std.specs.List.{list_any}
 use Rattle.ms_base.specs.Level.{highest_level, size_of}
 use Rattle.ms_buddy.specs.FreeBits.{bit_of}
 use Rattle.ms_buddy.specs.Leaves.{AreLeaves, free_of, is_same, span_at}
-use Rattle.ms_buddy.proofs.FreeBitLemmas.{free_by_bit}
+use Rattle.ms_buddy.proofs.bits.FreeBitLemmas.{free_by_bit}
 use Rattle.ms_buddy.proofs.FreeLeafLemmas.{free_of-kept}
 use Rattle.ms_buddy.proofs.KeptTreeLemmas.{are_leaves}
-use Rattle.ms_buddy.proofs.LeaderLemmas.{IsLeaderThere, follower_cannot, follower_place, leader_can, leader_there, parent_size, root_cannot}
+use Rattle.ms_buddy.proofs.changes.LeaderLemmas.{IsLeaderThere, follower_cannot, follower_place, leader_can, leader_there, parent_size, root_cannot}
 use Rattle.ms_buddy.proofs.tree.SplitTree.can_enlarge.Given.{Over}
 use Rattle.ms_buddy.proofs.tree.SplitTree.can_enlarge.Goals.{Else-span-words-ne0, then-level-eq0-via-then-level-eq0}
 use Rattle.ms_buddy.proofs.tree.SplitTree.can_enlarge.Goals.{then-level-eq0-via-else-level-eq0+then-span-words-ne0}

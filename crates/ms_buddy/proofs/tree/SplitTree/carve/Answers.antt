@@ -11,10 +11,10 @@ use Rattle.ms_buddy.specs.Leaves.{fits_in, free_of, is_same, leaf_of, span_at, w
 use Rattle.ms_buddy.proofs.CallLemmas.{IsAsked, Lends, asked, err_holds, fits_there, front_fits, holder_listed}
 use Rattle.ms_buddy.proofs.CallLemmas.{kept_then, lent_then, node_then, none_fits, not_whole, ok_holds, parts_then}
 use Rattle.ms_buddy.proofs.CallLemmas.{place_then}
-use Rattle.ms_buddy.proofs.CarvedLemmas.{clash}
+use Rattle.ms_buddy.proofs.changes.CarvedLemmas.{clash}
 use Rattle.ms_buddy.proofs.FreeLeafLemmas.{free_of-kept}
-use Rattle.ms_buddy.proofs.FreeNumberLemmas.{tree_may_part}
-use Rattle.ms_buddy.proofs.TreeCountLemmas.{room_to_part, some_to_part}
+use Rattle.ms_buddy.proofs.bits.FreeNumberLemmas.{tree_may_part}
+use Rattle.ms_buddy.proofs.counts.TreeCountLemmas.{room_to_part, some_to_part}
 use Rattle.ms_buddy.proofs.tree.SplitTree.carve.Given.{Over}
 use Rattle.ms_buddy.proofs.tree.SplitTree.carve.Goals as goal
 use Rattle.ms_buddy.proofs.tree.SplitTree.carve.Goals.{After-holder, In_default, In-Some, Else-is_err}

@@ -5,10 +5,10 @@ use Rattle.ms_buddy.specs.Counts.{follower_of}
 use Rattle.ms_buddy.specs.Leaves.{can_enlarge, free_of, with_parent}
 use Rattle.ms_buddy.proofs.CallLemmas.{IsLentHere, follower_in_root, front_fits, lent_here, may_become, parent_put}
 use Rattle.ms_buddy.proofs.CallLemmas.{same_length}
-use Rattle.ms_buddy.proofs.EnlargedLemmas.{MayBecome, enlarged}
+use Rattle.ms_buddy.proofs.changes.EnlargedLemmas.{MayBecome, enlarged}
 use Rattle.ms_buddy.proofs.FreeLeafLemmas.{free_of-kept}
-use Rattle.ms_buddy.proofs.FreeNumberLemmas.{enlarged_bits}
-use Rattle.ms_buddy.proofs.TreeCountLemmas.{parted_counts, room_to_part, some_to_part}
+use Rattle.ms_buddy.proofs.bits.FreeNumberLemmas.{enlarged_bits}
+use Rattle.ms_buddy.proofs.counts.TreeCountLemmas.{parted_counts, room_to_part, some_to_part}
 use Rattle.ms_buddy.proofs.tree.SplitTree.enlarge.Given.{Over}
 use Rattle.ms_buddy.proofs.tree.SplitTree.enlarge.Goals as goal
 use Rattle.ms_buddy.proofs.tree.SplitTree.enlarge.Goals.{After-self, Else-not-can_enlarge}

@@ -1,6 +1,6 @@
 -- Each free leaf starts at the first word or past it.
 use Rattle.std.proofs.Common.{◌∙◌}
-use Rattle.ms_buddy.proofs.FromLemmas.{from_start}
+use Rattle.ms_buddy.proofs.searches.FromLemmas.{from_start}
 use Rattle.ms_buddy.proofs.tree.SplitTree.free_leaves.Goals as goal
 
 pub returns : goal.returns

@@ -3,7 +3,7 @@ use Rattle.std.proofs.Common.{ap, ◌∙◌}
 use Rattle.std.specs.List.{list_any}
 use Rattle.ms_buddy.specs.Leaves.{free_of, is_of}
 use Rattle.ms_buddy.proofs.FreeLeafLemmas.{free_of-kept}
-use Rattle.ms_buddy.proofs.TreeCountLemmas.{levels_told}
+use Rattle.ms_buddy.proofs.counts.TreeCountLemmas.{levels_told}
 use Rattle.ms_buddy.proofs.tree.SplitTree.free_levels.Goals as goal
 
 pub returns : goal.returns

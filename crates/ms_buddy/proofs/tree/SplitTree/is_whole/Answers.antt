@@ -1,7 +1,7 @@
 -- The root is free exactly where no leaf is lent, and then its one free leaf is the whole.
 use Rattle.std.proofs.Common.{ap, sym, ◌∙◌}
 use Rattle.ms_buddy.specs.Leaves.{free_of}
-use Rattle.ms_buddy.proofs.FreeBitLemmas.{whole_by_bit}
+use Rattle.ms_buddy.proofs.bits.FreeBitLemmas.{whole_by_bit}
 use Rattle.ms_buddy.proofs.FreeLeafLemmas.{free_of-kept, free_of-none, free_tree, whole_tree, whole_tree_is_free}
 use Rattle.ms_buddy.proofs.KeptTreeLemmas.{are_leaves}
 use Rattle.ms_buddy.proofs.tree.SplitTree.is_whole.Goals as goal

@@ -1,6 +1,6 @@
 -- From offset 0 on every leaf of the level counts.
 use Rattle.std.proofs.Common.{◌∙◌}
-use Rattle.ms_buddy.proofs.FoundLemmas.{find-from_start}
+use Rattle.ms_buddy.proofs.searches.FoundLemmas.{find-from_start}
 use Rattle.ms_buddy.proofs.tree.SplitTree.lowest_free.Goals as goal
 
 pub returns : goal.returns

@@ -4,10 +4,10 @@ use Rattle.std.specs.List.{AllByRecursion}
 use Rattle.ms_base.specs.declared.span.Span.{Span}
 use Rattle.ms_base.specs.Level.{highest_level}
 use Rattle.ms_buddy.specs.Leaves.{free_of}
-use Rattle.ms_buddy.proofs.FoundLemmas.{AreRising, free_rising}
+use Rattle.ms_buddy.proofs.searches.FoundLemmas.{AreRising, free_rising}
 use Rattle.ms_buddy.proofs.FreeLeafLemmas.{free_of-kept}
-use Rattle.ms_buddy.proofs.FreeNumberLemmas.{IsSpanPlace, free_places, root_place}
-use Rattle.ms_buddy.proofs.FromLemmas.{IsLowest, listed_lowest, none_lowest, none_yet, some_lowest, step}
+use Rattle.ms_buddy.proofs.bits.FreeNumberLemmas.{IsSpanPlace, free_places, root_place}
+use Rattle.ms_buddy.proofs.searches.FromLemmas.{IsLowest, listed_lowest, none_lowest, none_yet, some_lowest, step}
 use Rattle.ms_buddy.proofs.TreeHalvesLemmas.{size_of-some}
 use Rattle.ms_buddy.proofs.WalkLemmas.{all_weaker}
 use Rattle.ms_buddy.proofs.tree.SplitTree.lowest_from.Given.{Over}

@@ -1,8 +1,8 @@
 -- A whole root is one free leaf of level 0.
 use Rattle.std.proofs.Common.{refl, arith}
 use Rattle.ms_buddy.specs.Tree.{Free}
-use Rattle.ms_buddy.proofs.FreeNumberLemmas.{whole_is_marked}
-use Rattle.ms_buddy.proofs.TreeCountLemmas.{whole_is_counted}
+use Rattle.ms_buddy.proofs.bits.FreeNumberLemmas.{whole_is_marked}
+use Rattle.ms_buddy.proofs.counts.TreeCountLemmas.{whole_is_counted}
 use Rattle.ms_buddy.proofs.tree.SplitTree.new.Goals as goal
 
 pub invariant_of-result : goal.invariant_of-result

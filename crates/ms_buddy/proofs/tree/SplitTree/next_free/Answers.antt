@@ -3,8 +3,8 @@ use Rattle.std.proofs.Common.{arith, ap, ◌∙◌}
 use Rattle.std.specs.List.{find}
 use Rattle.ms_buddy.specs.Leaves.{free_of, is_of_from}
 use Rattle.ms_buddy.proofs.FreeLeafLemmas.{free_of-kept}
-use Rattle.ms_buddy.proofs.FoundLemmas.{found_lowest, found_none, found_past}
-use Rattle.ms_buddy.proofs.NumberLemmas.{first_in_row, row_end, row_end_fits}
+use Rattle.ms_buddy.proofs.searches.FoundLemmas.{found_lowest, found_none, found_past}
+use Rattle.ms_buddy.proofs.bits.NumberLemmas.{first_in_row, row_end, row_end_fits}
 use Rattle.ms_buddy.proofs.tree.SplitTree.next_free.Goals as goal
 
 pub next-requires-clause-end : goal.next-requires-clause-end

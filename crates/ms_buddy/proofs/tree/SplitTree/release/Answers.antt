@@ -4,10 +4,10 @@ use Rattle.ms_buddy.specs.Counts.{beside, holder_of}
 use Rattle.ms_buddy.specs.FreeBits.{IsMoved}
 use Rattle.ms_buddy.specs.Leaves.{without_leaf}
 use Rattle.ms_buddy.proofs.CallLemmas.{IsLentHere, Returns, lent_here, release_put, returned, same_length}
-use Rattle.ms_buddy.proofs.FoundLemmas.{alike}
+use Rattle.ms_buddy.proofs.searches.FoundLemmas.{alike}
 use Rattle.ms_buddy.proofs.FreeLeafLemmas.{free_of-tree}
-use Rattle.ms_buddy.proofs.FreeNumberLemmas.{joined_bits, tree_may_join}
-use Rattle.ms_buddy.proofs.TreeCountLemmas.{joined_counts, room_to_join, some_to_join}
+use Rattle.ms_buddy.proofs.bits.FreeNumberLemmas.{joined_bits, tree_may_join}
+use Rattle.ms_buddy.proofs.counts.TreeCountLemmas.{joined_counts, room_to_join, some_to_join}
 use Rattle.ms_buddy.proofs.tree.SplitTree.release.Given.{Over}
 use Rattle.ms_buddy.proofs.tree.SplitTree.release.Goals as goal
 use Rattle.ms_buddy.proofs.tree.SplitTree.release.Goals.{After-self, After-merge-free}

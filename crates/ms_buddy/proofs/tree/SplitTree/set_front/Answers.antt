@@ -5,7 +5,7 @@ use Rattle.ms_buddy.specs.Counts.{AreCounts}
 use Rattle.ms_buddy.specs.FreeBits.{AreFreeBits}
 use Rattle.ms_buddy.specs.Leaves.{with_front}
 use Rattle.ms_buddy.proofs.CallLemmas.{IsLentHere, front_fits, front_put, lent_here, same_length}
-use Rattle.ms_buddy.proofs.FrontedLemmas.{fronted}
+use Rattle.ms_buddy.proofs.changes.FrontedLemmas.{fronted}
 use Rattle.ms_buddy.proofs.tree.SplitTree.set_front.Given.{Over}
 use Rattle.ms_buddy.proofs.tree.SplitTree.set_front.Goals as goal
 use Rattle.ms_buddy.proofs.tree.SplitTree.set_front.Goals.{After-self}

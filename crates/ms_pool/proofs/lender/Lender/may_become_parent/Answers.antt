@@ -3,7 +3,7 @@ use Rattle.std.proofs.lemmas.List.Elements.{recursion_from_All}
 use Rattle.ms_base.specs.Level.{root_words}
 use Rattle.ms_buddy.specs.Leaves.{LentLeaf, AreLeaves, can_enlarge, free_of, is_lent, span_at}
 use Rattle.ms_pool.specs.Growing.{has_room}
-use Rattle.ms_buddy.proofs.LeaderLemmas.{no_root_can}
+use Rattle.ms_buddy.proofs.changes.LeaderLemmas.{no_root_can}
 use Rattle.ms_pool.proofs.growths.ParentLemmas.{parents_alike}
 use Rattle.ms_pool.proofs.returns.ReleasedTreeLemmas.{leaf_there}
 use Rattle.ms_pool.proofs.lender.Lender.may_become_parent.Goals as goal

@@ -6,7 +6,7 @@ use Rattle.ms_base.proofs.free.HalvesLemmas.{size_falls}
 use Rattle.ms_pool.specs.Growing.{has_room}
 use Rattle.ms_pool.specs.Ledger.{state_in}
 use Rattle.ms_pool.specs.Keeping.{ledger_of}
-use Rattle.ms_buddy.proofs.LeaderLemmas.{parent_size}
+use Rattle.ms_buddy.proofs.changes.LeaderLemmas.{parent_size}
 use Rattle.ms_pool.proofs.growths.ReachLemmas.{first_false, parent_is, reached_front, reached_none, reached_parent}
 use Rattle.ms_pool.proofs.growths.ReachLemmas.{second_false, third_false}
 use Rattle.ms_pool.proofs.lender.Lender.reaching.Goals.{else-total-size-2-via-then-total-size-2+then-may_enlarge+else-may_become_parent}

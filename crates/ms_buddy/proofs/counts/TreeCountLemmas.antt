@@ -18,8 +18,8 @@ use Rattle.ms_buddy.specs.Leaves.{has_level, is_of}
 use Rattle.ms_buddy.specs.Tree.{IsTree, free_in}
 use Rattle.ms_buddy.proofs.TreeHalvesLemmas.{size_of-halves}
 use Rattle.ms_buddy.proofs.WalkLemmas.{all_weaker, any-none}
-use Rattle.ms_buddy.proofs.CountLemmas.{count-append, count-none, count-one}
-use Rattle.ms_buddy.proofs.FreeNumberLemmas.{IsSpanPlace, free_places, root_place}
+use Rattle.ms_buddy.proofs.counts.CountLemmas.{count-append, count-none, count-one}
+use Rattle.ms_buddy.proofs.bits.FreeNumberLemmas.{IsSpanPlace, free_places, root_place}
 
 -- A tree has at most 4096 free leaves, since each has 128 words or more.
 few_free : (level start : ℕ) (node : Node) → level ≤ highest_level → IsTree level node

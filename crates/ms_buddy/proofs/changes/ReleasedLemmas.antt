@@ -12,9 +12,9 @@ use Rattle.ms_buddy.specs.Tree.{Node, Free, Lent, Split, IsPlace, IsSplit, IsTre
 use Rattle.ms_buddy.proofs.TreeHalvesLemmas.{lower_place, size_of-halves, size_of-some, upper_place}
 use Rattle.ms_buddy.proofs.SplitLemmas.{at_split, lent_part_lies_in, lower_changed, lower_found, lower_lent, upper_changed}
 use Rattle.ms_buddy.proofs.SplitLemmas.{upper_found, upper_lent, without_acts}
-use Rattle.ms_buddy.proofs.CountLemmas.{leaf_parted, lower_parted_at, upper_parted_at}
-use Rattle.ms_buddy.proofs.MergeLemmas.{is_whole, lower_merged, upper_merged, whole_found}
-use Rattle.ms_buddy.proofs.CarvedLemmas.{and_false}
+use Rattle.ms_buddy.proofs.counts.CountLemmas.{leaf_parted, lower_parted_at, upper_parted_at}
+use Rattle.ms_buddy.proofs.changes.MergeLemmas.{is_whole, lower_merged, upper_merged, whole_found}
+use Rattle.ms_buddy.proofs.changes.CarvedLemmas.{and_false}
 
 -- What results, and the level of the free leaf that the part is in then.
 pub record Released (level start : ℕ) (part : Span) (before : Node) : Type 0 where

@@ -16,7 +16,7 @@ use Rattle.ms_buddy.specs.Tree.{IsPlace, is_free, lent_in, free_in, lent_in_halv
 use Rattle.ms_buddy.proofs.TreeHalvesLemmas.{size_of-some, size_of-halves, lower_place, mod-past}
 use Rattle.ms_buddy.proofs.WalkLemmas.{LiesIn, all_joined, all_weaker, lent_levels, free_levels}
 use Rattle.ms_buddy.proofs.SplitLemmas.{AtHalves, lent_part_lies_in, lower_lent, upper_lent}
-use Rattle.ms_buddy.proofs.CarveLemmas.{ends_in, lower_is_free, upper_is_free}
+use Rattle.ms_buddy.proofs.changes.CarveLemmas.{ends_in, lower_is_free, upper_is_free}
 
 zero_test : (n : ℕ) → (n == 0) ≡ true → n ≡ 0
 zero_test n e = grind (arith, nat_tests)

@@ -13,7 +13,7 @@ use Rattle.ms_buddy.specs.Tree.{IsPlace, IsTree, free_in, is_free, lent_in}
 use Rattle.ms_buddy.proofs.TreeHalvesLemmas.{holder_is, lower_place, size_of-some, upper_place}
 use Rattle.ms_buddy.proofs.WalkLemmas.{LiesIn}
 use Rattle.ms_buddy.proofs.SplitLemmas.{AtSplit, lent_part_lies_in}
-use Rattle.ms_buddy.proofs.CountLemmas.{lower_half_parted, upper_half_parted}
+use Rattle.ms_buddy.proofs.counts.CountLemmas.{lower_half_parted, upper_half_parted}
 
 -- The part of a node's level in which a part starts that is lent in the node is the node's.
 holder_in : (part : Span) (level start : ℕ) (node : Node) → IsTree level node → IsPlace level start

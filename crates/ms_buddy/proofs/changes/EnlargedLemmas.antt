@@ -11,9 +11,9 @@ use Rattle.ms_buddy.specs.Leaves.{can_enlarge, is_lent, with_parent}
 use Rattle.ms_buddy.specs.Tree.{Node, Free, Lent, Split, IsPlace, IsSplit, IsTree, free_in, is_free, lent_in}
 use Rattle.ms_buddy.proofs.TreeHalvesLemmas.{lower_place, size_of-halves, upper_place}
 use Rattle.ms_buddy.proofs.SplitLemmas.{at_split, lower_changed, lower_lent, parent_acts, upper_changed, upper_lent}
-use Rattle.ms_buddy.proofs.EnlargeLemmas.{follower_cannot, leader_cannot, lower_can, split_not_leader, starts_here, upper_can}
-use Rattle.ms_buddy.proofs.CountLemmas.{leader_parted, lower_parted_at, upper_parted_at}
-use Rattle.ms_buddy.proofs.CarvedLemmas.{clash}
+use Rattle.ms_buddy.proofs.changes.EnlargeLemmas.{follower_cannot, leader_cannot, lower_can, split_not_leader, starts_here, upper_can}
+use Rattle.ms_buddy.proofs.counts.CountLemmas.{leader_parted, lower_parted_at, upper_parted_at}
+use Rattle.ms_buddy.proofs.changes.CarvedLemmas.{clash}
 
 -- What results.
 pub record Enlarged (level start : ℕ) (part : Span) (front : ℕ) (before : Node) : Type 0 where

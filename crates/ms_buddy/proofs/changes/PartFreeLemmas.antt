@@ -7,8 +7,8 @@ use Rattle.ms_base.specs.Level.{size_of, highest_level}
 use Rattle.ms_buddy.specs.Counts.{IsParted}
 use Rattle.ms_buddy.specs.Leaves.{leaf_of, span_at}
 use Rattle.ms_buddy.specs.Tree.{Node, Free, Lent, Split, IsTree, MayBeLent, free_in, is_free, lent_in}
-use Rattle.ms_buddy.proofs.CarveLemmas.{lower_may, upper_may}
-use Rattle.ms_buddy.proofs.CountLemmas.{lower_half_parted, upper_half_parted, whole_parted}
+use Rattle.ms_buddy.proofs.changes.CarveLemmas.{lower_may, upper_may}
+use Rattle.ms_buddy.proofs.counts.CountLemmas.{lower_half_parted, upper_half_parted, whole_parted}
 
 -- A free leaf became this node, in which that part alone is lent.
 pub record IsPartedFor (level start : ℕ) (part : Span) (owner front : ℕ) (node : Node) : Type 0 where

@@ -12,9 +12,9 @@ use Rattle.ms_buddy.specs.Leaves.{LentLeaf, covers, is_lent, is_same, span_at, s
 use Rattle.ms_buddy.specs.Tree.{Node, Free, Lent, Split, IsPlace, IsTree, free_in, lent_in}
 use Rattle.ms_buddy.proofs.TreeHalvesLemmas.{lower_place, size_of-halves, upper_place}
 use Rattle.ms_buddy.proofs.SplitLemmas.{at_split, lent_part_lies_in, lower_found, lower_lent, upper_found, upper_lent}
-use Rattle.ms_buddy.proofs.CarveLemmas.{lower_is_free, upper_is_free}
+use Rattle.ms_buddy.proofs.changes.CarveLemmas.{lower_is_free, upper_is_free}
 use Rattle.ms_buddy.proofs.WalkLemmas.{LiesIn, free_lies_in}
-use Rattle.ms_buddy.proofs.FoundLemmas.{alike}
+use Rattle.ms_buddy.proofs.searches.FoundLemmas.{alike}
 
 pub from_covers : (a b : ℕ) (c : Bool) → (nat_le a b && c) ≡ true → a ≤ b
 from_covers a b c e = grind (arith, nat_tests)

@@ -9,9 +9,9 @@ use Rattle.std.proofs.lemmas.Bool.Decides.{nat_tests}
 use Rattle.ms_base.specs.declared.span.Span.{Span}
 use Rattle.ms_base.specs.Level.{highest_level}
 use Rattle.ms_buddy.specs.Leaves.{from_on, is_of_from, is_same, lower_of}
-use Rattle.ms_buddy.proofs.CoverLemmas.{found_listed, same}
-use Rattle.ms_buddy.proofs.FoundLemmas.{AreRising}
-use Rattle.ms_buddy.proofs.CarvedLemmas.{clash}
+use Rattle.ms_buddy.proofs.searches.CoverLemmas.{found_listed, same}
+use Rattle.ms_buddy.proofs.searches.FoundLemmas.{AreRising}
+use Rattle.ms_buddy.proofs.changes.CarvedLemmas.{clash}
 use Rattle.ms_buddy.proofs.WalkLemmas.{all_weaker}
 
 -- Of the levels below one the part is the lowest from an offset on, or there is none.

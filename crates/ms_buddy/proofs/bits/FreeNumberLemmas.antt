@@ -17,9 +17,9 @@ use Rattle.ms_buddy.specs.Leaves.{is_lent, root}
 use Rattle.ms_buddy.specs.Tree.{IsPlace, IsTree, free_in, lent_in}
 use Rattle.ms_buddy.proofs.TreeHalvesLemmas.{lower_place, size_of-some, upper_place}
 use Rattle.ms_buddy.proofs.WalkLemmas.{LiesIn, all_joined, free_lies_in}
-use Rattle.ms_buddy.proofs.NumberLemmas.{holder_place, number_below, same_number}
-use Rattle.ms_buddy.proofs.CountLemmas.{number-append, number-cons, number-none, number-one}
-use Rattle.ms_buddy.proofs.BesideLemmas.{clear_one, no_halves, none_is_whole}
+use Rattle.ms_buddy.proofs.bits.NumberLemmas.{holder_place, number_below, same_number}
+use Rattle.ms_buddy.proofs.counts.CountLemmas.{number-append, number-cons, number-none, number-one}
+use Rattle.ms_buddy.proofs.bits.BesideLemmas.{clear_one, no_halves, none_is_whole}
 use Rattle.ms_buddy.proofs.SplitLemmas.{lent_part_lies_in}
 
 -- The free leaves of a node are parts of the root.

@@ -12,11 +12,11 @@ use Rattle.ms_buddy.specs.Counts.{count_of_number, number_of}
 use Rattle.ms_buddy.specs.FreeBits.{AreFreeBits, bit_of}
 use Rattle.ms_buddy.specs.Leaves.{is_same, root}
 use Rattle.ms_buddy.specs.Tree.{Free, Lent, Split, IsTree, free_in, is_free}
-use Rattle.ms_buddy.proofs.CountLemmas.{number-cons, number-none}
-use Rattle.ms_buddy.proofs.EnlargeLemmas.{not_free_whole}
-use Rattle.ms_buddy.proofs.FoundLemmas.{alike}
-use Rattle.ms_buddy.proofs.FreeNumberLemmas.{IsSpanPlace, few_of_number, free_places, root_number, root_place}
-use Rattle.ms_buddy.proofs.NumberLemmas.{same_number}
+use Rattle.ms_buddy.proofs.counts.CountLemmas.{number-cons, number-none}
+use Rattle.ms_buddy.proofs.changes.EnlargeLemmas.{not_free_whole}
+use Rattle.ms_buddy.proofs.searches.FoundLemmas.{alike}
+use Rattle.ms_buddy.proofs.bits.FreeNumberLemmas.{IsSpanPlace, few_of_number, free_places, root_number, root_place}
+use Rattle.ms_buddy.proofs.bits.NumberLemmas.{same_number}
 
 -- Parts with one number are the same.
 same_test : (part other : Span) → IsSpanPlace part → IsSpanPlace other

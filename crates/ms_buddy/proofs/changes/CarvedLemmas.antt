@@ -9,11 +9,11 @@ use Rattle.ms_buddy.specs.Counts.{IsParted, holder_of}
 use Rattle.ms_buddy.specs.Leaves.{fits_in, is_lent, leaf_of, span_at, with_leaf}
 use Rattle.ms_buddy.specs.Tree.{Node, Free, Lent, Split, IsSplit, IsTree, MayBeLent, free_in, is_free, lent_in}
 use Rattle.ms_buddy.proofs.SplitLemmas.{at_split}
-use Rattle.ms_buddy.proofs.CarveLemmas.{held_by_node, lower_added, lower_fits, lower_may, upper_added, upper_fits, upper_may}
-use Rattle.ms_buddy.proofs.CarveLemmas.{whole_fits_not}
-use Rattle.ms_buddy.proofs.EnlargeLemmas.{split_not_lent}
-use Rattle.ms_buddy.proofs.CountLemmas.{lower_parted_at, upper_parted_at}
-use Rattle.ms_buddy.proofs.PartFreeLemmas.{parted_for}
+use Rattle.ms_buddy.proofs.changes.CarveLemmas.{held_by_node, lower_added, lower_fits, lower_may, upper_added, upper_fits, upper_may}
+use Rattle.ms_buddy.proofs.changes.CarveLemmas.{whole_fits_not}
+use Rattle.ms_buddy.proofs.changes.EnlargeLemmas.{split_not_lent}
+use Rattle.ms_buddy.proofs.counts.CountLemmas.{lower_parted_at, upper_parted_at}
+use Rattle.ms_buddy.proofs.changes.PartFreeLemmas.{parted_for}
 
 -- What results, and the level of the leaf that the part lay in.
 pub record Carved (level start : ℕ) (part : Span) (owner front : ℕ) (before : Node) : Type 0 where

@@ -12,7 +12,7 @@ use Rattle.ms_buddy.specs.Counts.{buddy_of, holder_of, number_of}
 use Rattle.ms_buddy.specs.Leaves.{span_at}
 use Rattle.ms_buddy.specs.Tree.{IsPlace}
 use Rattle.ms_buddy.proofs.TreeHalvesLemmas.{lower_place, size_of-halves, size_of-some, upper_place}
-use Rattle.ms_buddy.proofs.NumberLemmas.{holder_place, number_words}
+use Rattle.ms_buddy.proofs.bits.NumberLemmas.{holder_place, number_words}
 
 -- An offset lies past the last multiple of a size by less than the size.
 pub past : (a w : ℕ) → 0 < w → a < a - a % w + w

@@ -14,9 +14,9 @@ use Rattle.ms_buddy.specs.FreeBits.{ArePut, IsMoved, MayJoin, MayPart, bit_of}
 use Rattle.ms_buddy.specs.Leaves.{span_at}
 use Rattle.ms_buddy.specs.Tree.{IsPlace}
 use Rattle.ms_buddy.proofs.TreeHalvesLemmas.{holder_is, lower_place, size_of-halves, size_of-some, upper_place}
-use Rattle.ms_buddy.proofs.NumberLemmas.{holder_place, level_back, number_below, number_from}
-use Rattle.ms_buddy.proofs.BuddyLemmas.{lower_is_buddy, number_of-holder, past, upper_is_buddy}
-use Rattle.ms_buddy.proofs.CountLemmas.{lower_beside, number-cons, number-none, number-one, none_beside, upper_beside}
+use Rattle.ms_buddy.proofs.bits.NumberLemmas.{holder_place, level_back, number_below, number_from}
+use Rattle.ms_buddy.proofs.bits.BuddyLemmas.{lower_is_buddy, number_of-holder, past, upper_is_buddy}
+use Rattle.ms_buddy.proofs.counts.CountLemmas.{lower_beside, number-cons, number-none, number-one, none_beside, upper_beside}
 
 -- The bit of a number is set or cleared, and the others stay.
 abbrev pub Changed : List ℕ → ℕ → ℕ → List ℕ → Type 0

@@ -16,10 +16,10 @@ use Rattle.ms_buddy.specs.Leaves.{is_of, is_of_from}
 use Rattle.ms_buddy.specs.Tree.{IsTree, free_in}
 use Rattle.ms_buddy.proofs.TreeHalvesLemmas.{size_of-some}
 use Rattle.ms_buddy.proofs.WalkLemmas.{LiesIn, all_joined, all_weaker, find-none, free_lies_in}
-use Rattle.ms_buddy.proofs.NumberLemmas.{first_is_low, first_is_past, first_in_row, level_of_row, number_below, number_words}
-use Rattle.ms_buddy.proofs.NumberLemmas.{same_number}
-use Rattle.ms_buddy.proofs.CountLemmas.{number-cons, number-none}
-use Rattle.ms_buddy.proofs.FreeNumberLemmas.{HasPart, IsSpanPlace, all_both, free_places, has_part, root_place}
+use Rattle.ms_buddy.proofs.bits.NumberLemmas.{first_is_low, first_is_past, first_in_row, level_of_row, number_below, number_words}
+use Rattle.ms_buddy.proofs.bits.NumberLemmas.{same_number}
+use Rattle.ms_buddy.proofs.counts.CountLemmas.{number-cons, number-none}
+use Rattle.ms_buddy.proofs.bits.FreeNumberLemmas.{HasPart, IsSpanPlace, all_both, free_places, has_part, root_place}
 
 -- The parts stand in order of address.
 abbrev pub AreRising : List Span → Type 0

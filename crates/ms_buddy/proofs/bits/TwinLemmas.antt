@@ -15,14 +15,14 @@ use Rattle.ms_buddy.specs.Leaves.{is_same, span_at}
 use Rattle.ms_buddy.specs.Tree.{Node, Free, Lent, Split, IsPlace, IsTree, free_in, is_free}
 use Rattle.ms_buddy.proofs.TreeHalvesLemmas.{holder_is, lower_place, size_of-halves, size_of-some, upper_place}
 use Rattle.ms_buddy.proofs.SplitLemmas.{at_split}
-use Rattle.ms_buddy.proofs.CarveLemmas.{ends_in, lower_is_free, upper_is_free}
-use Rattle.ms_buddy.proofs.EnlargeLemmas.{not_free_whole}
-use Rattle.ms_buddy.proofs.CarvedLemmas.{clash}
-use Rattle.ms_buddy.proofs.BesideLemmas.{next_beside, none_is_whole}
-use Rattle.ms_buddy.proofs.BuddyLemmas.{lower_is_buddy, past, upper_is_buddy}
-use Rattle.ms_buddy.proofs.FreeBitLemmas.{listed}
-use Rattle.ms_buddy.proofs.FreeNumberLemmas.{IsSpanPlace, free_places, leaf_apart, root_place}
-use Rattle.ms_buddy.proofs.NumberLemmas.{holder_place, number_below}
+use Rattle.ms_buddy.proofs.changes.CarveLemmas.{ends_in, lower_is_free, upper_is_free}
+use Rattle.ms_buddy.proofs.changes.EnlargeLemmas.{not_free_whole}
+use Rattle.ms_buddy.proofs.changes.CarvedLemmas.{clash}
+use Rattle.ms_buddy.proofs.bits.BesideLemmas.{next_beside, none_is_whole}
+use Rattle.ms_buddy.proofs.bits.BuddyLemmas.{lower_is_buddy, past, upper_is_buddy}
+use Rattle.ms_buddy.proofs.bits.FreeBitLemmas.{listed}
+use Rattle.ms_buddy.proofs.bits.FreeNumberLemmas.{IsSpanPlace, free_places, leaf_apart, root_place}
+use Rattle.ms_buddy.proofs.bits.NumberLemmas.{holder_place, number_below}
 
 is_true : (b : Bool) → (b ≡ false → ⊥) → b ≡ true
 is_true true never = refl

@@ -7,7 +7,7 @@ use Rattle.ms_base.specs.declared.span.Span.{Span}
 use Rattle.ms_base.specs.Level.{size_of}
 use Rattle.ms_buddy.specs.Leaves.{is_lent, is_same, span_at, with_front}
 use Rattle.ms_buddy.specs.Tree.{Node, Free, Lent, Split, IsSplit, IsTree, free_in, is_free, lent_in}
-use Rattle.ms_buddy.proofs.ReleasedLemmas.{or_first}
+use Rattle.ms_buddy.proofs.changes.ReleasedLemmas.{or_first}
 use Rattle.ms_buddy.proofs.SplitLemmas.{at_split, front_acts, lower_changed, lower_lent, upper_changed, upper_lent}
 
 -- What results.
