@@ -76,8 +76,6 @@ impl Books {
         ensures state { result.state ≡ empty_arena }
         ensures chunks { AreChunks result.space result.state.chunks }
     {
-        // What holds of the chunks of every account is learnt here.
-        let _ = account.held();
         Books {
             account,
             tops: Vec::new(alloc),
@@ -96,8 +94,6 @@ impl Books {
         ensures state { self.new.state ≡ empty_arena }
         ensures chunks { AreChunks self.new.space self.new.state.chunks }
     {
-        // What holds of the chunks of every account is learnt here.
-        let _ = account.held();
         empty_out(
             &self.account,
             &mut self.tops,
@@ -126,8 +122,6 @@ impl Books {
         ensures chunks { AreChunks self.now.space self.now.state.chunks }
         ensures sound { IsSound self.now.state [] }
     {
-        // What holds of the chunks of every account is learnt here.
-        let _ = self.account.held();
         &self.account
     }
 

@@ -1,11 +1,12 @@
 -- What is true of the lent leaves of each tree, and what the callers of a split tree learn of it.
 use Rattle.std.proofs.Common.{◌<◌, ◌≤◌, ℕ, ◌+◌, List, [], ◌∷◌, ◌++◌}
-use Rattle.std.proofs.Common.{refl, arith}
+use Rattle.std.proofs.Common.{refl, subst, arith}
 use Rattle.std.specs.List.{AllByRecursion}
 use Rattle.ms_base.specs.Level.{root_words, size_of}
 use Rattle.ms_base.specs.Part.{IsPart}
 use Rattle.ms_buddy.specs.Tree.{Node}
 use Rattle.ms_buddy.specs.Tree.{Free, Lent, Split}
+use Rattle.ms_buddy.specs.FreeBits.{IsKept}
 use Rattle.ms_buddy.specs.Leaves.{LentLeaf, AreInOrder, AreLeaves}
 use Rattle.ms_buddy.specs.Tree.{IsPlace, IsTree, lent_in}
 use Rattle.ms_buddy.proofs.TreeHalvesLemmas.{lower_place, upper_place}
@@ -72,3 +73,9 @@ are_leaves node tree = record {
   where
     root_place : IsPlace 0 0
     root_place = record { level_fits = omega arith; aligned = refl; in_root = omega arith }
+
+-- So what is kept of a root says it of its lent leaves.
+pub kept_leaves : (lent : List LentLeaf) (places : ℕ) (counts words filled : List ℕ)
+    → IsKept lent places counts words filled → AreLeaves lent
+kept_leaves lent places counts words filled kept =
+    subst AreLeaves kept.lent_is (are_leaves kept.node kept.tree.tree)

@@ -224,7 +224,8 @@ impl<A: Allocator> SplitTree<A> {
         requires lent { IsTrue (is_lent self.old span) }
         requires some { 0 < front }
         requires within { front ≤ size_of span.level }
-        ensures { self.new ≡ with_front span front self.old }
+        ensures front { self.new ≡ with_front span front self.old }
+        ensures leaves { AreLeaves self.new }
     {
         self.places
             .change((span.start / PLACE) as usize, span.level, front as u32);
@@ -237,6 +238,7 @@ impl<A: Allocator> SplitTree<A> {
         requires { IsTrue (is_lent self.old span) }
         ensures lent { self.new ≡ without_leaf span self.old }
         ensures free { find (covers span.start) (free_of self.new) ≡ Some result }
+        ensures leaves { AreLeaves self.new }
     {
         let start = span.start;
         let lent = span.level.number();
@@ -259,6 +261,7 @@ impl<A: Allocator> SplitTree<A> {
         ensures room { IsOk result ↔ IsTrue (can_enlarge span (free_of self.old)) }
         ensures no_room { IfErr result (λ refusal. refusal ≡ Refusal.NoRoom span.level) }
         ensures unchanged { OnErr result (self.new ≡ self.old) }
+        ensures leaves { OnOk result (AreLeaves self.new) }
     {
         let no_room = Err(Refusal::NoRoom { level: span.level });
         let start = span.start;
@@ -301,6 +304,7 @@ impl<A: Allocator> SplitTree<A> {
         ensures refusal { IfErr result
             (λ refusal. IsCarveRefusal (span_at at level) (free_of self.old) refusal) }
         ensures unchanged { OnErr result (self.new ≡ self.old) }
+        ensures leaves { OnOk result (AreLeaves self.new) }
     {
         // Learnt here: the level is at most 12, so its words are those of a part.
         let lent = level.number();

@@ -115,6 +115,7 @@ impl Nodes {
         ensures numbers { IfErr result (λ refusal.
             refusal ≡ Refusal.ReserveLimit (length self.old.slots) self.old.limits.nodes) }
         ensures unchanged { OnErr result (self.new ≡ self.old) }
+        ensures sound { AreSound self.new }
     {
         match self.slots.lowest_missing() {
             Some(slot) if self.reserved < self.node_limit => {
@@ -159,6 +160,7 @@ impl Nodes {
             ≡ Refusal.CommitLimit (length self.old.granules) self.old.limits.granules
             (count_missing self.old.granules first count)) }
         ensures unchanged { OnErr result (self.new ≡ self.old) }
+        ensures sound { AreSound self.new }
     {
         let need = self.missing(first, count);
         if need > self.granule_limit - self.committed {

@@ -130,8 +130,6 @@ fn allocate_in_row<S: ChunkSource>(
         return Err(Refusal::BlockExists);
     }
     let block = arena.alloc(source, words)?;
-    // That the account's chunks are chunks of its space is learnt here.
-    let _ = arena.account();
     table.put(name, block);
     Ok(block)
 }
@@ -161,8 +159,6 @@ fn allocate_beside<S: ChunkSource>(
                 return Err(wanting_room(words));
             }
             let block = arena.alloc(source, words)?;
-            // That the account's chunks are chunks of its space is learnt here.
-            let _ = arena.account();
             let _ = slot.insert(SmallBlock::new(block));
             Ok(block)
         }

@@ -35,6 +35,7 @@ pub record AreCounted (chunks : List Chunk) (counted : Counted) : Type 0 where
 
 -- A chunk more can be counted; a chunk less, and so many less.
 pub record HasRoomFor (counted : Counted) (chunk : Chunk) : Type 0 where
+  pub low : chunk.level < level_count
   pub lent : get_or counted.lent chunk.level 0 + 1 < 2 ^ 32
   pub capacity : counted.capacity + size_of chunk.level < 2 ^ 64
   pub fronts : counted.fronts + chunk.front < 2 ^ 64

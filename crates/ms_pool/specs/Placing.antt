@@ -3,7 +3,7 @@ use Rattle.std.specs.Prelude.{◌≡◌, ◌<◌, ◌≤◌, ◌⊎◌, ℕ, ◌
 use Rattle.std.specs.List.{All}
 use Rattle.ms_base.specs.declared.kind.Space.{Space}
 use Rattle.ms_base.specs.declared.span.Chunk.{Chunk}
-use Rattle.ms_base.specs.Level.{root_words, size_of}
+use Rattle.ms_base.specs.Level.{highest_level, root_words, size_of}
 use Rattle.ms_base.specs.Part.{IsPart, is_reserved, slot_of}
 use Rattle.ms_commit.specs.Nodes.{slots_of}
 use Rattle.ms_buddy.specs.Leaves.{LentLeaf, can_enlarge, free_of, is_lent, span_at}
@@ -30,6 +30,7 @@ tree_of trees chunk = get_or trees (chunk.start / root_words) []
 pub record MayBeRaised (trees : List (List LentLeaf)) (chunk greater : Chunk) : Type 0 where
   pub there : chunk.start < root_words * length trees
   pub lent : IsTrue (is_lent (tree_of trees chunk) (span_at (chunk.start % root_words) chunk.level))
+  pub low : chunk.level ≤ highest_level
   pub start : greater.start ≡ chunk.start
   pub some : 1 ≤ greater.front
   pub within : greater.front ≤ size_of greater.level
@@ -56,6 +57,7 @@ pub record IsLentThere (lender : Lender) (space : Space) (chunk : Chunk) : Type 
 
 -- It may become the greater one: whose front is no smaller, lies in the space and keeps the limit.
 pub record MayBeReplaced (lender : Lender) (space : Space) (chunk greater : Chunk) : Type 0 where
+  pub low : chunk.level ≤ highest_level
   pub start : greater.start ≡ chunk.start
   pub placed : IsPart greater.start greater.level
   pub some : 1 ≤ greater.front

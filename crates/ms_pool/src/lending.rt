@@ -408,6 +408,7 @@ fn lowest_missing(nodes: &Nodes) -> Option<u32>
 
 /// Reserves a slot where it isn't reserved; then it is the lowest, and one more may be.
 fn reserve(nodes: &mut Nodes, slot: u32)
+    requires sound { AreSound nodes.old }
     requires lowest { is_reserved (all_slots nodes.old) slot ≡ false → slot ≡ lowest_unreserved nodes.old.slots }
     requires left { is_reserved (all_slots nodes.old) slot ≡ false → length nodes.old.slots < nodes.old.limits.nodes }
     ensures reserved { nodes.new ≡ with_reserved nodes.old slot }
@@ -419,8 +420,6 @@ fn reserve(nodes: &mut Nodes, slot: u32)
             Err(_) => unreachable!(),
         }
     }
-    // What holds of all nodes is learnt here.
-    let _ = nodes.reserved();
 }
 
 /// Commits the granules of a front, of which so many are missing; they lie in reserved slots and
@@ -451,6 +450,4 @@ fn commit(nodes: &mut Nodes, granule: u64, chunk: &Chunk, need: u64)
         Ok(_) => {}
         Err(_) => unreachable!(),
     }
-    // What holds of all nodes is learnt here.
-    let _ = nodes.committed();
 }

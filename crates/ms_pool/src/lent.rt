@@ -136,8 +136,6 @@ fn count_greater(counted: &mut Counted, chunk: &Chunk, greater: &Chunk)
     requires room { HasRoomFor counted.old greater.now }
     ensures { Moves counted.old (chunk.now ∷ []) (greater.now ∷ []) counted.new }
 {
-    // That a level is at most 12 is learnt here.
-    let _ = greater.level.number();
     discount_chunk(counted, chunk);
     count_chunk(counted, greater);
 }

@@ -101,6 +101,7 @@ impl Pool {
             (λ span. Adds self.old.limits.policy wanted most words account.old span account.new) }
         ensures unchanged { OnErr result (account.new ≡ account.old) }
         ensures took { Took self.old account.old wanted most words result self.new }
+        ensures before { IsSoundLedger self.old }
     {
         self.lender.take(account, wanted, most, words)
     }
@@ -121,6 +122,7 @@ impl Pool {
             (λ span. Grows self.old.limits.policy start total may_enlarge account.old span account.new) }
         ensures unchanged { OnErr result (account.new ≡ account.old) }
         ensures grew { Grew self.old account.old start total may_enlarge result self.new }
+        ensures before { IsSoundLedger self.old }
     {
         self.lender.grow(account, start, total, may_enlarge)
     }
@@ -141,7 +143,8 @@ impl Pool {
         requires both { ServesBoth Serves self.old account class_account }
         requires counted { 0 < self.old.opened }
         requires class_counted { 0 < self.old.class_opened }
-        ensures { ClosedBoth self.old account class_account self.new }
+        ensures closed { ClosedBoth self.old account class_account self.new }
+        ensures before { IsSoundLedger self.old }
     {
         self.lender.close_both(&account, &class_account);
         self.lender.spare.keep(account);
@@ -194,20 +197,13 @@ impl Pool {
         self.lender.policy
     }
 
-    /// Tells how many accounts are open, in both spaces, below 2 ^ 33. Takes no memory, and looks
-    /// at no chunk.
+    /// Tells how many accounts are open, in both spaces, below 2 ^ 33. A caller also learns here what
+    /// is true of every pool. Takes no memory, and looks at no chunk.
     pub fn accounts(&self) -> u64
-        ensures { result ≡ self.now.opened + self.now.class_opened }
+        ensures sum { result ≡ self.now.opened + self.now.class_opened }
+        ensures sound { IsSoundLedger self.now }
     {
         u64::from(self.lender.opened) + u64::from(self.lender.class_opened)
-    }
-
-    /// Says what is true of every pool.
-    fn learn(&self)
-        ensures { IsSoundLedger self.now }
-    {
-        // The borrow tells what holds of every pool.
-        let _ = &self.lender;
     }
 }
 
@@ -236,8 +232,7 @@ impl ChunkSource for Pool {
         most: Level,
         words: u64,
     ) -> Result<Span, Refusal> {
-        // What holds of every pool, account and level is learnt here.
-        self.learn();
+        // What holds of every account and level is learnt here.
         let _ = account.held();
         let _ = most.number();
         Pool::take(self, account, wanted, most, words)
@@ -250,8 +245,7 @@ impl ChunkSource for Pool {
         total: u64,
         may_enlarge: bool,
     ) -> Result<Span, Refusal> {
-        // What holds of every pool and account is learnt here.
-        self.learn();
+        // What holds of every account is learnt here.
         let _ = account.held();
         Pool::grow(self, account, start, total, may_enlarge)
     }
@@ -279,8 +273,6 @@ impl AccountSource for Pool {
     }
 
     fn close_both(&mut self, account: Account, class_account: Account) {
-        // What holds of every pool is learnt here.
-        self.learn();
         Pool::close_both(self, account, class_account);
     }
 

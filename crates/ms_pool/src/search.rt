@@ -53,8 +53,6 @@ impl Lender {
         requires asks { MayTake wanted most words }
         ensures { result ≡ first_found (state_in space (ledger_of self.now)) wanted most words }
     {
-        // That a level is at most 12 is learnt here.
-        let _ = most.number();
         let committed = Wish {
             space,
             words,
@@ -214,8 +212,6 @@ impl Lender {
             (is_reserved (all_slots self.now.nodes) slot) wish.now.words wish.now.committed level
             slot }
     {
-        // That a level has at most the words of a root is learnt here.
-        let _ = level.words();
         if self.nodes.is_reserved(slot) {
             let root = 2 * slot as usize;
             if let Some(start) = self.lowest_in_root(root, wish, level) {

@@ -161,12 +161,8 @@ fn carve_leaf(trees: &mut Vec<SplitTree<Global>>, alloc: Global, owner: u32, chu
     let root = (chunk.start / ROOT_WORDS) as usize;
     let at = chunk.start % ROOT_WORDS;
     let tree = &mut trees[root];
-    let lent = tree
-        .carve(alloc, chunk.level, at, owner, chunk.front)
-        .is_ok();
-    // What holds of the leaves of every tree is learnt here.
-    let _ = tree.is_whole();
-    lent
+    tree.carve(alloc, chunk.level, at, owner, chunk.front)
+        .is_ok()
 }
 
 /// Takes the chunk back in the tree of its root, and answers the free leaf that results.
@@ -184,13 +180,10 @@ fn put_back_leaf(trees: &mut Vec<SplitTree<Global>>, chunk: &Chunk) -> Span
         → get_or trees.new.items root [] ≡ get_or trees.old.items root [] }
 {
     let tree = &mut trees[(chunk.start / ROOT_WORDS) as usize];
-    let part = tree.release(Span {
+    tree.release(Span {
         start: chunk.start % ROOT_WORDS,
         level: chunk.level,
-    });
-    // What holds of the leaves of every tree is learnt here.
-    let _ = tree.is_whole();
-    part
+    })
 }
 
 /// Makes the chunk's leaf that of the grown chunk, in the tree of its root.
@@ -206,8 +199,6 @@ fn raise_leaf(trees: &mut Vec<SplitTree<Global>>, chunk: &Chunk, greater: &Chunk
 {
     let root = (chunk.start / ROOT_WORDS) as usize;
     let level = chunk.level;
-    // That a level is at most 12 is learnt here.
-    let _ = level.number();
     let span = Span {
         start: chunk.start % ROOT_WORDS,
         level,
@@ -221,8 +212,6 @@ fn raise_leaf(trees: &mut Vec<SplitTree<Global>>, chunk: &Chunk, greater: &Chunk
             Err(_) => unreachable!(),
         }
     }
-    // What holds of the leaves of every tree is learnt here.
-    let _ = tree.is_whole();
 }
 
 /// Makes so many trees, each of one free leaf.

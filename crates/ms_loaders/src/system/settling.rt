@@ -44,8 +44,7 @@ impl System {
         if opened > gathered {
             return Err((Refusal::Unsettled { opened, gathered }, pool, loaders));
         }
-        // What holds of every pool and of every loader is learnt here.
-        let _ = pool.committed();
+        // Whether each loader is sound is known once all have been looked at.
         loaders.learn();
         Ok(System::from_parts(alloc, pool, loaders))
     }

@@ -80,10 +80,10 @@ goes_one old new chunk raised words fronts = record {
 
 -- With a chunk less there is room for another still.
 pub room_without : (old mid : Counted) (gone : List Chunk) (chunk : Chunk)
-    → chunk.level < level_count → Moves old gone [] mid
-    → HasRoomFor old chunk → HasRoomFor mid chunk
-room_without old mid gone chunk low goes room = record {
-  lent = omega (arith, goes.lent chunk.level low, total-none (one_of chunk.level), room.lent);
+    → Moves old gone [] mid → HasRoomFor old chunk → HasRoomFor mid chunk
+room_without old mid gone chunk goes room = record {
+  low = room.low;
+  lent = omega (arith, goes.lent chunk.level room.low, total-none (one_of chunk.level), room.lent);
   capacity = omega (arith, goes.capacity, total-none words_in, room.capacity);
   fronts = omega (arith, goes.fronts, total-none front_in, room.fronts);
 }
@@ -205,6 +205,7 @@ pub room_for : (counted : Counted) (held : List Chunk) (chunk : Chunk) → AreCo
     → total words_in held ≤ first_class_word → total front_in held ≤ first_class_word → size_of chunk.level ≤ 524288
     → chunk.front ≤ size_of chunk.level → HasRoomFor counted chunk
 room_for counted held chunk are low words fronts size front = record {
+  low = low;
   lent = omega (arith, are.lent chunk.level low, ones_within chunk.level held, words);
   capacity = omega (arith, are.capacity, words, size);
   fronts = omega (arith, are.fronts, fronts, front, size);

@@ -85,6 +85,7 @@ grows_there lender account start place chunk greater total may_enlarge kept at_ 
   answered = answered;
   good = good;
   may = record {
+    low = at_.own.placed.0;
     start = there.well.start;
     placed = there.well.placed;
     some = there.well.some;

@@ -19,7 +19,7 @@ returns-clause-lent c = λ ok.
     let within : root < length trees = omega (arith, c.requires.may.there) in
     let leaf : LentLeaf = leaf_of (span_at (chunk.start % root_words) chunk.level) c.args.owner chunk.front in
     let lent : c.carve.new.self ≡ with_leaf leaf c.index_mut-tree.result.now =
-    where_ok c.carve.result _ (sym c.is_ok-lent.ensures.value ∙ ok) c.carve.ensures.lent in
+    where_ok c.carve.result _ (sym c.is_ok.ensures.value ∙ ok) c.carve.ensures.lent in
     ap (λ (t : List LentLeaf). loans_from 0 (set trees root t))
     (lent ∙ ap (with_leaf leaf)
     (get_or_read trees root c.index_mut-tree.result.now within c.index_mut-tree.ensures.value []))

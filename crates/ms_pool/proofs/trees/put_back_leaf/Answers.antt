@@ -17,8 +17,8 @@ index_mut-tree-requires c =
           (recursion_from_All AreLeaves c.args.trees.now.items c.requires.leaves) c.requires.lent).0,
     )
 
-pub release-part-requires : goal.release-part-requires
-release-part-requires c =
+pub release-requires : goal.release-requires
+release-requires c =
     let trees = c.args.trees.now.items in
     let chunk = c.args.chunk.now in
     let there = leaf_there trees chunk (recursion_from_All AreLeaves trees c.requires.leaves) c.requires.lent in
@@ -33,7 +33,7 @@ returns-clause-loans c =
     let root = chunk.start / root_words in
     let there = leaf_there trees chunk (recursion_from_All AreLeaves trees c.requires.leaves) c.requires.lent in
     ap (λ (tree : List LentLeaf). loans_from 0 (set trees root tree))
-    (c.release-part.ensures.lent
+    (c.release.ensures.lent
     ∙ ap (without_leaf (place_in chunk))
     (get_or_read trees root c.index_mut-tree.result.now there.0 c.index_mut-tree.ensures.value []))
     ∙ released_loans trees root chunk (place_in chunk) there.0 (recursion_from_All AreLeaves trees c.requires.leaves)
@@ -50,5 +50,5 @@ returns-clause-free c =
     let chunk = c.args.chunk.now in
     let there = leaf_there trees chunk (recursion_from_All AreLeaves trees c.requires.leaves) c.requires.lent in
     ap (λ (tree : List LentLeaf). find (covers (chunk.start % root_words)) (free_of tree))
-    (get_or-set_same trees (chunk.start / root_words) c.release-part.new.self [] there.0)
-    ∙ c.release-part.ensures.free
+    (get_or-set_same trees (chunk.start / root_words) c.release.new.self [] there.0)
+    ∙ c.release.ensures.free

@@ -15,6 +15,7 @@ use Rattle.ms_buddy.proofs.changes.CarvedLemmas.{clash}
 use Rattle.ms_buddy.proofs.FreeLeafLemmas.{free_of-kept}
 use Rattle.ms_buddy.proofs.bits.FreeNumberLemmas.{tree_may_part}
 use Rattle.ms_buddy.proofs.counts.TreeCountLemmas.{room_to_part, some_to_part}
+use Rattle.ms_buddy.proofs.KeptTreeLemmas.{kept_leaves}
 use Rattle.ms_buddy.proofs.tree.SplitTree.carve.Given.{Over}
 use Rattle.ms_buddy.proofs.tree.SplitTree.carve.Goals as goal
 use Rattle.ms_buddy.proofs.tree.SplitTree.carve.Goals.{After-holder, In_default, In-Some, Else-is_err}
@@ -157,3 +158,6 @@ returns-clause-no_room g c = (
   λ e. absurd (not_refused _ c.args.level refl e),
   λ e. absurd (clash _ (fits g (goal.at.returns-clause-no_room g c).In-Some) e),
 )
+
+pub returns-clause-leaves : goal.returns-clause-leaves
+returns-clause-leaves g c = kept_leaves _ _ _ _ _ (invariant_of-self-2 g c)

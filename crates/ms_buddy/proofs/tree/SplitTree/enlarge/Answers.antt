@@ -9,6 +9,7 @@ use Rattle.ms_buddy.proofs.changes.EnlargedLemmas.{MayBecome, enlarged}
 use Rattle.ms_buddy.proofs.FreeLeafLemmas.{free_of-kept}
 use Rattle.ms_buddy.proofs.bits.FreeNumberLemmas.{enlarged_bits}
 use Rattle.ms_buddy.proofs.counts.TreeCountLemmas.{parted_counts, room_to_part, some_to_part}
+use Rattle.ms_buddy.proofs.KeptTreeLemmas.{kept_leaves}
 use Rattle.ms_buddy.proofs.tree.SplitTree.enlarge.Given.{Over}
 use Rattle.ms_buddy.proofs.tree.SplitTree.enlarge.Goals as goal
 use Rattle.ms_buddy.proofs.tree.SplitTree.enlarge.Goals.{After-self, Else-not-can_enlarge}
@@ -92,3 +93,6 @@ returns-clause-lent g c =
     let is = there g (goal.at.returns-clause-lent g c).After-self in
     rw (c.change.ensures is.at.lending is.at.there) (parent_put c.self.inside.places c.args.span c.args.front _ is.at
     (c.new.ensures ∙ ap (λ (n : ℕ). n - 1) c.number-level.ensures.same) ∙ ap (with_parent c.args.span c.args.front) c.self.view_is)
+
+pub returns-clause-leaves : goal.returns-clause-leaves
+returns-clause-leaves g c = kept_leaves _ _ _ _ _ (invariant_of-self g c)

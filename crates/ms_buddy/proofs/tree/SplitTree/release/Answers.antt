@@ -8,6 +8,7 @@ use Rattle.ms_buddy.proofs.searches.FoundLemmas.{alike}
 use Rattle.ms_buddy.proofs.FreeLeafLemmas.{free_of-tree}
 use Rattle.ms_buddy.proofs.bits.FreeNumberLemmas.{joined_bits, tree_may_join}
 use Rattle.ms_buddy.proofs.counts.TreeCountLemmas.{joined_counts, room_to_join, some_to_join}
+use Rattle.ms_buddy.proofs.KeptTreeLemmas.{kept_leaves}
 use Rattle.ms_buddy.proofs.tree.SplitTree.release.Given.{Over}
 use Rattle.ms_buddy.proofs.tree.SplitTree.release.Goals as goal
 use Rattle.ms_buddy.proofs.tree.SplitTree.release.Goals.{After-self, After-merge-free}
@@ -108,3 +109,6 @@ returns-clause-free g c =
     (done.found
     ∙ ap Some (sym (alike c.part.result (holder_of c.merge-free.result c.args.span)
     (c.part.ensures.start ∙ c.start_of_holder.ensures.start) c.part.ensures.level)))
+
+pub returns-clause-leaves : goal.returns-clause-leaves
+returns-clause-leaves g c = kept_leaves _ _ _ _ _ (invariant_of-self g c)

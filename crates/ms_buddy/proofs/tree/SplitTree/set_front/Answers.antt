@@ -6,6 +6,7 @@ use Rattle.ms_buddy.specs.FreeBits.{AreFreeBits}
 use Rattle.ms_buddy.specs.Leaves.{with_front}
 use Rattle.ms_buddy.proofs.CallLemmas.{IsLentHere, front_fits, front_put, lent_here, same_length}
 use Rattle.ms_buddy.proofs.changes.FrontedLemmas.{fronted}
+use Rattle.ms_buddy.proofs.KeptTreeLemmas.{kept_leaves}
 use Rattle.ms_buddy.proofs.tree.SplitTree.set_front.Given.{Over}
 use Rattle.ms_buddy.proofs.tree.SplitTree.set_front.Goals as goal
 use Rattle.ms_buddy.proofs.tree.SplitTree.set_front.Goals.{After-self}
@@ -44,8 +45,11 @@ invariant_of-self g c =
       room = λ split. same_length c.self.inside.places (c.args.span.start / 128) _ ∙ is.kept.room (done.was split);
     })
 
-pub returns : goal.returns
-returns g c =
-    let is = there g (goal.at.returns g c).After-self in
+pub returns-clause-front : goal.returns-clause-front
+returns-clause-front g c =
+    let is = there g (goal.at.returns-clause-front g c).After-self in
     rw (c.change.ensures is.at.lending is.at.there) (front_put c.self.inside.places c.args.span c.args.front is.at
     ∙ ap (with_front c.args.span c.args.front) c.self.view_is)
+
+pub returns-clause-leaves : goal.returns-clause-leaves
+returns-clause-leaves g c = kept_leaves _ _ _ _ _ (invariant_of-self g c)

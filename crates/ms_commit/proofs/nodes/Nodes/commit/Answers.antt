@@ -37,3 +37,6 @@ returns-clause-granted c =
 pub returns-clause-commit_limit : goal.returns-clause-commit_limit
 returns-clause-commit_limit c =
     (λ e. absurd (false≢true e), λ passed. absurd (omega (arith, returns-clause-granted c, passed)))
+
+pub returns-clause-sound : goal.returns-clause-sound
+returns-clause-sound c = (invariant_of-self c).sound

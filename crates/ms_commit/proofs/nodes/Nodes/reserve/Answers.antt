@@ -15,3 +15,6 @@ invariant_of-self c = record {
   slot_some = c.self.invariant.slot_some;
   slot_few = c.self.invariant.slot_few;
 }
+
+pub returns-in-Some-clause-sound : goal.returns-in-Some-clause-sound
+returns-in-Some-clause-sound c = (invariant_of-self c).sound

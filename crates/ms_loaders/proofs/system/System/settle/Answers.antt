@@ -5,9 +5,9 @@ use Rattle.ms_loaders.proofs.system.System.settle.Goals as goal
 pub from_parts-requires : goal.from_parts-requires
 from_parts-requires c =
     let no_more : open_accounts c.args.pool ≤ accounts_in c.args.loaders =
-    omega (arith, c.accounts-opened.ensures, c.len.ensures.count, c.if-opened-gathered.false) in
+    omega (arith, c.accounts-opened.ensures.sum, c.len.ensures.count, c.if-opened-gathered.false) in
     record {
-      ledger_sound = c.committed.ensures.sound;
+      ledger_sound = c.accounts-opened.ensures.sound;
       loaders_sound = c.learn.ensures.sound;
       names = c.learn.ensures.names;
       served = record {
@@ -21,6 +21,6 @@ from_parts-requires c =
 
 pub returns-clause-exact : goal.returns-clause-exact
 returns-clause-exact c = (
-  λ _. omega (arith, c.accounts-opened.ensures, c.len.ensures.count, c.if-opened-gathered.false),
+  λ _. omega (arith, c.accounts-opened.ensures.sum, c.len.ensures.count, c.if-opened-gathered.false),
   λ _. refl,
 )

@@ -1,9 +1,14 @@
-use Rattle.std.proofs.Common.{sym, ◌∙◌, arith}
-use Rattle.ms_base.proofs.free.HalvesLemmas.{size_falls}
+use Rattle.std.proofs.Common.{◌≤◌, ◌-◌, ℕ, sym, ◌∙◌, arith}
+use Rattle.std.proofs.Math.Nat.{pow-le-pow_right}
+use Rattle.ms_base.specs.Level.{size_of}
 use Rattle.ms_pool.specs.Ledger.{state_in}
 use Rattle.ms_pool.specs.Keeping.{ledger_of}
 use Rattle.ms_pool.proofs.searches.SearchLemmas.{first_found-is, found_here, found_later}
 use Rattle.ms_pool.proofs.lender.Lender.found.Goals as goal
+
+-- A chunk of a smaller level has no fewer words.
+wider : (level most : ℕ) → level ≤ most → size_of most ≤ size_of level
+wider level most under = pow-le-pow_right {n = 2} (omega arith) {i = 19 - most} {j = 19 - level} (omega (arith, under))
 
 pub returns-in-Some : goal.returns-in-Some
 returns-in-Some c =
@@ -41,8 +46,7 @@ larger-requires-clause-fits c =
     omega (
       arith,
       c.requires.asks.fits,
-      size_falls c.args.wanted c.args.most c.requires.asks.levels
-          (omega (arith, c.number.ensures.same, c.number.ensures.below)),
+      wider c.args.wanted c.args.most c.requires.asks.levels,
     )
 
 pub larger-requires-2-clause-fits : goal.larger-requires-2-clause-fits
@@ -50,6 +54,5 @@ larger-requires-2-clause-fits c =
     omega (
       arith,
       c.requires.asks.fits,
-      size_falls c.args.wanted c.args.most c.requires.asks.levels
-          (omega (arith, c.number.ensures.same, c.number.ensures.below)),
+      wider c.args.wanted c.args.most c.requires.asks.levels,
     )

@@ -1,12 +1,19 @@
-use Rattle.std.proofs.Common.{cond, [], sym, ap, ◌∙◌}
+use Rattle.std.proofs.Common.{◌≤◌, ◌-◌, ℕ, cond, [], sym, ap, ◌∙◌, arith}
 use Rattle.std.specs.List.{find}
+use Rattle.std.proofs.Math.Nat.{pow-le-pow_right}
 use Rattle.ms_base.specs.FreeParts.{free_in_slot}
+use Rattle.ms_base.specs.Level.{root_words, size_of}
 use Rattle.ms_pool.specs.Ledger.{held_in, state_in}
 use Rattle.ms_pool.specs.Keeping.{ledger_of}
 use Rattle.ms_pool.specs.Searching.{first_in_slot, grants, part_at}
 use Rattle.ms_pool.proofs.searches.SearchLemmas.{found_here, found_later}
 use Rattle.ms_pool.proofs.searches.SlotLoopLemmas.{slot_found}
 use Rattle.ms_pool.proofs.lender.Lender.lowest_in_slot.Goals as goal
+
+-- What a chunk of some level holds a root holds.
+whole : (level words : ℕ) → words ≤ size_of level → words ≤ root_words
+whole level words fits =
+    omega (arith, fits, pow-le-pow_right {n = 2} (omega arith) {i = 19 - level} {j = 19} (omega arith))
 
 pub returns-in-Some : goal.returns-in-Some
 unfolding first_in_slot
@@ -44,3 +51,9 @@ returns c =
     let test = grants (state_in space (ledger_of lender)) wish.words wish.committed c.args.level in
     sym (ap (λ b. find test (cond b (free_in_slot (held_in space (ledger_of lender)) c.args.slot) []))
     (sym c.is_reserved.ensures ∙ c.if-is_reserved.false))
+
+pub lowest_in_root-requires-clause-fits : goal.lowest_in_root-requires-clause-fits
+lowest_in_root-requires-clause-fits c = whole c.args.level c.args.wish.now.words c.requires.fits
+
+pub lowest_in_root-requires-then-is_reserved-clause-fits : goal.lowest_in_root-requires-then-is_reserved-clause-fits
+lowest_in_root-requires-then-is_reserved-clause-fits c = whole c.args.level c.args.wish.now.words c.requires.fits

@@ -20,6 +20,7 @@ raise-requires-clause-may c =
     record {
       there = omega (arith, leaf.0);
       lent = leaf.1;
+      low = c.requires.may.low;
       start = c.requires.may.start;
       some = c.requires.may.some;
       within = c.requires.may.within;

@@ -13,10 +13,10 @@ pub returns : goal.returns
 returns c =
     let old = c.args.self.now in let new = c.close_both.new.self in
     let well =
-    both_closed_well old c.args.account c.args.class_account new c.learn.ensures (c.requires.counted NonClass)
-    (c.requires.counted Class) c.close_both.ensures in record {
+    both_closed_well old c.args.account c.args.class_account new c.close_both.ensures.before (c.requires.counted NonClass)
+    (c.requires.counted Class) c.close_both.ensures.closed in record {
       others = well.others;
       counted = both_counted old c.args.account c.args.class_account new well;
       limits = well.limits;
-      closed = c.close_both.ensures;
+      closed = c.close_both.ensures.closed;
     }

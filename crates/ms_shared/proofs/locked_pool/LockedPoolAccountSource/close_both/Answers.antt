@@ -33,12 +33,12 @@ let_go-requires-clause-moves g c =
     moves_at v c.seize-pool.result c.close_both.new.self _ pool.seat
     (close_both_moves v.knows _ c.args.account c.args.class_account c.close_both.new.self
     (own_times v.knows _ both.served) (own_times v.knows _ both.class_served)
-    some (closes_both _ v.knows _ _ c.close_both.new.self pool.sound pool.known some c.close_both.ensures)
-    c.close_both.ensures)
+    some (closes_both _ v.knows _ _ c.close_both.new.self pool.sound pool.known some c.close_both.ensures.closed)
+    c.close_both.ensures.closed)
 
 pub returns : goal.returns
 returns g c =
-    let pool = c.seize-pool.ensures in let closed = c.close_both.ensures in
+    let pool = c.seize-pool.ensures in let closed = c.close_both.ensures.closed in
     let call =
     is_call _ _ c.self.inside.seat.me.0 _ c.seize-pool.result c.close_both.new.self _ _ c.self.invariant.4 c.self.view_is pool.known
     pool.sound c.let_go.ensures.sound pool.seat c.let_go.ensures.seat (c.let_go.ensures.own ∙ pool.own) in

@@ -1,0 +1,4 @@
+use Rattle.ms_pool.proofs.pool.Pool.grow.Goals as goal
+
+pub returns-clause-before : goal.returns-clause-before
+returns-clause-before c = rw (← c.self.view_is) c.self.invariant.kept.sound
