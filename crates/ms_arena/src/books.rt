@@ -250,8 +250,6 @@ impl Books {
     {
         let last = self.account.held() as usize - 1;
         source.grow(&mut self.account, chunk.start, total, may_enlarge)?;
-        // What holds of the account's chunks now is learnt here.
-        let _ = self.account.held();
         raise(&mut self.tops, &mut self.used, last, total);
         Ok(())
     }
@@ -278,8 +276,6 @@ impl Books {
     {
         let former = self.current();
         let span = source.take(&mut self.account, wanted, most, n)?;
-        // What holds of the account's chunks now is learnt here.
-        let _ = self.account.held();
         retire(&mut self.tops, &mut self.used, &mut self.kept, former);
         self.used += n;
         self.tops.push_reserved(n);

@@ -4,7 +4,7 @@ ghost use Rattle.std.specs.Prelude.{◌≡◌, ◌+◌, ◌<◌, ◌≤◌, ◌^
 ghost use Rattle.std.specs.Prelude.{OnErr, Some, ◌-◌, ◌*◌, ◌/◌, ◌%◌, IsTrue, IsFalse, slice_get, ◌↔◌};
 ghost use Rattle.ms_base.specs.declared.kind.Space.TheVariants.{NonClass, Class};
 ghost use Rattle.ms_base.specs.Part.{is_reserved, slot_of};
-ghost use Rattle.ms_base.specs.Level.{root_words, size_of};
+ghost use Rattle.ms_base.specs.Level.{highest_level, root_words, size_of};
 ghost use Rattle.ms_pool.specs.Growing.{has_room, reached};
 ghost use Rattle.ms_pool.specs.Releasing.{is_lent_in, with_released};
 ghost use Rattle.ms_base.specs.Spaces.{by_space, first_class_slot};
@@ -12,7 +12,7 @@ ghost use Rattle.ms_base.specs.Front.{front_for};
 ghost use Rattle.ms_base.specs.PoolSteps.Pick.{lowest_unreserved};
 ghost use Rattle.ms_commit.specs.Nodes.{AreInReserved, AreSound, all_slots, granules_with, slots_of, with_granules};
 ghost use Rattle.ms_commit.specs.NumberSet.{count_missing};
-ghost use Rattle.ms_pool.specs.Account.{has_chunk_at};
+ghost use Rattle.ms_pool.specs.Account.{AreChunks, has_chunk_at};
 ghost use Rattle.ms_pool.specs.Lending.{Adds, Grows, MayTake, span_of};
 ghost use Rattle.ms_pool.specs.Source.{ServesBoth};
 ghost use Rattle.ms_pool.specs.Ledger.{Serves, opened_in, state_in, with_lent, with_grown};
@@ -48,6 +48,9 @@ impl Lender {
             (λ span. Adds self.old.policy wanted most words account.old span account.new) }
         ensures unchanged { OnErr result (account.new ≡ account.old) }
         ensures took { Took (ledger_of self.old) account.old wanted most words result (ledger_of self.new) }
+        ensures held { AreChunks account.old.space account.old.chunks }
+        ensures holds { AreChunks account.new.space account.new.chunks }
+        ensures level { most ≤ highest_level }
     {
         // That a level is at most 12 is learnt here.
         let _ = most.number();
@@ -218,6 +221,8 @@ impl Lender {
             (λ span. Grows self.old.policy start total may_enlarge account.old span account.new) }
         ensures unchanged { OnErr result (account.new ≡ account.old) }
         ensures grew { Grew (ledger_of self.old) account.old start total may_enlarge result (ledger_of self.new) }
+        ensures held { AreChunks account.old.space account.old.chunks }
+        ensures holds { AreChunks account.new.space account.new.chunks }
     {
         let space = account.space;
         let place = place_of(&account.chunks, start);

@@ -1,8 +1,9 @@
 //! The pool and its calls.
-ghost use Rattle.std.specs.Prelude.{◌≡◌, ◌+◌, ◌<◌, ◌^◌, IfOk, OnErr, IsTrue, length};
+ghost use Rattle.std.specs.Prelude.{◌≡◌, ◌+◌, ◌<◌, ◌≤◌, ◌^◌, IfOk, OnErr, IsTrue, length};
+ghost use Rattle.ms_base.specs.Level.{highest_level};
 ghost use Rattle.ms_base.specs.State.{limits_of};
 ghost use Rattle.ms_base.specs.Totals.{pool_sums};
-ghost use Rattle.ms_pool.specs.Account.{has_chunk_at};
+ghost use Rattle.ms_pool.specs.Account.{AreChunks, has_chunk_at};
 ghost use Rattle.ms_pool.specs.Lending.{Adds, Grows, MayTake};
 ghost use Rattle.ms_pool.specs.Source.{ServesBoth};
 ghost use Rattle.ms_pool.specs.Tallies.{AreTallies};
@@ -102,6 +103,9 @@ impl Pool {
         ensures unchanged { OnErr result (account.new ≡ account.old) }
         ensures took { Took self.old account.old wanted most words result self.new }
         ensures before { IsSoundLedger self.old }
+        ensures held { AreChunks account.old.space account.old.chunks }
+        ensures holds { AreChunks account.new.space account.new.chunks }
+        ensures level { most ≤ highest_level }
     {
         self.lender.take(account, wanted, most, words)
     }
@@ -123,6 +127,8 @@ impl Pool {
         ensures unchanged { OnErr result (account.new ≡ account.old) }
         ensures grew { Grew self.old account.old start total may_enlarge result self.new }
         ensures before { IsSoundLedger self.old }
+        ensures held { AreChunks account.old.space account.old.chunks }
+        ensures holds { AreChunks account.new.space account.new.chunks }
     {
         self.lender.grow(account, start, total, may_enlarge)
     }
@@ -161,10 +167,11 @@ impl Pool {
 
     /// Tells the sums over the account's space. Takes no memory.
     pub fn totals(&self, account: &Account) -> PoolTotals
-        ensures { sums_in result
+        ensures sums { sums_in result
             ≡ pool_sums (state_in account.now.space self.now) (opened_in self.now account.now.space) }
+        ensures held { AreChunks account.now.space account.now.chunks }
     {
-        self.lender.totals(account.space())
+        self.lender.totals(account.space)
     }
 
     /// Tells the sums over a space. A caller also learns here what is true of every pool. Takes no
@@ -232,9 +239,6 @@ impl ChunkSource for Pool {
         most: Level,
         words: u64,
     ) -> Result<Span, Refusal> {
-        // What holds of every account and level is learnt here.
-        let _ = account.held();
-        let _ = most.number();
         Pool::take(self, account, wanted, most, words)
     }
 
@@ -245,8 +249,6 @@ impl ChunkSource for Pool {
         total: u64,
         may_enlarge: bool,
     ) -> Result<Span, Refusal> {
-        // What holds of every account is learnt here.
-        let _ = account.held();
         Pool::grow(self, account, start, total, may_enlarge)
     }
 

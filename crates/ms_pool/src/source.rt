@@ -5,13 +5,13 @@
 //! account's chunks. Each call keeps all of them served, changes the chunks of its own accounts
 //! alone and stands in a relation that the source states itself. `take` takes memory; a source
 //! behind a lock waits in each call.
-ghost use Rattle.std.specs.Prelude.{◌≡◌, ◌≢◌, ℕ, ◌+◌, ◌<◌, Bool, [], Result, IfOk, OnErr, MatchResult};
+ghost use Rattle.std.specs.Prelude.{◌≡◌, ◌≢◌, ℕ, ◌+◌, ◌<◌, Bool, [], Result, IfOk, OnErr, OnOk, MatchResult};
 ghost use Rattle.std.specs.Prelude.{IsTrue};
 ghost use Rattle.ms_base.specs.declared.kind.Space.{Space};
 ghost use Rattle.ms_base.specs.declared.span.Span.{Span};
 ghost use Rattle.ms_base.specs.declared.refusal.Refusal.{Refusal};
 ghost use Rattle.ms_base.specs.State.{Limits};
-ghost use Rattle.ms_pool.specs.Account.{AccountState, has_chunk_at};
+ghost use Rattle.ms_pool.specs.Account.{AccountState, AreChunks, has_chunk_at};
 ghost use Rattle.ms_pool.specs.Lending.{Adds, Grows, MayTake};
 ghost use Rattle.ms_pool.specs.Source.{LeavesRest, ServesBoth};
 ghost use Rattle.ms_pool.specs.Calls.{new_account};
@@ -58,6 +58,7 @@ pub trait ChunkSource {
         ensures added { IfOk result
             (λ span. Adds (limits self.old).policy wanted most words account.old span account.new) }
         ensures unchanged { OnErr result (account.new ≡ account.old) }
+        ensures holds { OnOk result (AreChunks account.new.space account.new.chunks) }
         ensures took { took self.old account.old wanted most words result self.new };
 
     /// Makes the front of the account's chunk that starts there reach so many words, in its place:
@@ -78,6 +79,7 @@ pub trait ChunkSource {
         ensures grown { IfOk result
             (λ span. Grows (limits self.old).policy start total may_enlarge account.old span account.new) }
         ensures unchanged { OnErr result (account.new ≡ account.old) }
+        ensures holds { OnOk result (AreChunks account.new.space account.new.chunks) }
         ensures grew { grew self.old account.old start total may_enlarge result self.new };
 
     /// Takes all chunks of the account back in one step, and the account with them. Takes no

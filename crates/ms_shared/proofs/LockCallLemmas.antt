@@ -1,7 +1,7 @@
 -- A call over the lock, from the steps that it is made of: the seat finds the pool as it knows it,
 -- and knows then what the pool has become. For the calls of LockedPool.
 use Rattle.std.proofs.Common.{◌≡◌, ◌≢◌, ℕ, ◌+◌, ◌-◌, ◌<◌, Bool, List, [], ◌∷◌, ◌++◌, refl, sym, ap, ◌∙◌, subst, arith, None}
-use Rattle.std.specs.Prelude.{Result, Ok, Err, IfOk, OnErr, IfErr}
+use Rattle.std.specs.Prelude.{Result, Ok, Err, IfOk, OnErr, OnOk, IfErr}
 use Rattle.std.specs.List.Sorted.{IsPermutation}
 use Rattle.atomic_table.specs.Seated.{TableId}
 use Rattle.ms_base.specs.declared.kind.Space.{Space}
@@ -34,6 +34,11 @@ use Rattle.ms_shared.proofs.LockLemmas.{opened_after}
 use Rattle.ms_shared.proofs.MovesLemmas.{tallies_stay, tallies_rise}
 use Rattle.ms_shared.proofs.SeatDealLemmas.{seen_as}
 use Rattle.ms_shared.proofs.StrandLemmas.{first_extended}
+
+-- What holds in any case holds of an answer that is no refusal.
+pub on_ok : (answer : Result Span Refusal) (P : Type 0) → P → OnOk answer P
+on_ok (Ok span) P holds = holds
+on_ok (Err refusal) P holds = tt
 
 -- The seat before and after a call on the pool that it found.
 pub record IsCall (old new : SeatState) (before later : Ledger) : Type 0 where

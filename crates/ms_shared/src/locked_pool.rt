@@ -120,9 +120,6 @@ impl<'a, R: Wait> ChunkSource for LockedPool<'a, R> {
         most: Level,
         words: u64,
     ) -> Result<Span, Refusal> {
-        // What holds of every account and level is learnt here.
-        let _ = account.held();
-        let _ = most.number();
         let mut pool = self.shared.seize(self.rt, &mut self.seat);
         let answer = pool.take(account, wanted, most, words);
         self.shared.let_go(&mut self.seat, pool);
@@ -136,8 +133,6 @@ impl<'a, R: Wait> ChunkSource for LockedPool<'a, R> {
         total: u64,
         may_enlarge: bool,
     ) -> Result<Span, Refusal> {
-        // What holds of every account is learnt here.
-        let _ = account.held();
         let mut pool = self.shared.seize(self.rt, &mut self.seat);
         let answer = pool.grow(account, start, total, may_enlarge);
         self.shared.let_go(&mut self.seat, pool);
@@ -151,8 +146,6 @@ impl<'a, R: Wait> ChunkSource for LockedPool<'a, R> {
     }
 
     fn totals(&mut self, account: &Account) -> PoolTotals {
-        // What holds of every account is learnt here.
-        let _ = account.held();
         let pool = self.shared.seize(self.rt, &mut self.seat);
         let totals = pool.totals(account);
         self.shared.let_go(&mut self.seat, pool);

@@ -55,7 +55,7 @@ invariant_of-self-2 g c =
     (sym c.self.view_is) c.requires.may.more in
     books_grown _ _ _ _ c.args.total (c.held.result - 1) _ c.args.chunk c.self.inside.account c.grow.new.account
     c.raise.new.tops.items c.self.invariant (grown g c)
-    c.held-2.ensures.chunks more (ap (λ (h : ℕ). h - 1) c.held.ensures.count) c.raise.ensures.tops
+    c.in_ok-grow.ensures.holds more (ap (λ (h : ℕ). h - 1) c.held.ensures.count) c.raise.ensures.tops
     c.raise.ensures.counted.used
 
 pub returns-clause-grown : goal.returns-clause-grown
@@ -79,7 +79,7 @@ pub returns-clause-awaits : goal.returns-clause-awaits
 returns-clause-awaits g c = λ start n starts sum live sound.
     grown_awaits _ _ _ _ c.args.total n (c.held.result - 1) start c.args.chunk c.self.inside.account c.grow.new.account
     c.raise.new.tops.items c.self.invariant (grown g c)
-    c.held-2.ensures.chunks
+    c.in_ok-grow.ensures.holds
     (subst (λ (books : BooksView). c.args.total ≡ current_top books.state + n) (sym c.self.view_is) sum)
     (omega (arith, sum, c.requires.may.more))
     (subst (λ (books : BooksView). start ≡ c.args.chunk.start + current_top books.state) (sym c.self.view_is) starts)

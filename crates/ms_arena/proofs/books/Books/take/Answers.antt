@@ -24,7 +24,7 @@ taken g c =
     c.in_ok-span.span c.take.new.account
     c.retire.new.tops.items c.push_reserved.new.self.items c.retire.new.kept.kept c.self.invariant
     (former_of _ _ c.current-former.result c.self.view_is c.current-former.ensures.chunk c.current-former.ensures.top)
-    refl refl c.in_ok-span.ensures.added c.held.ensures.chunks c.requires.may.some c.requires.may.fits
+    refl refl c.in_ok-span.ensures.added c.in_ok-span.ensures.holds c.requires.may.some c.requires.may.fits
     c.retire.ensures.tops c.push_reserved.ensures.items c.retire.ensures.kept
 
 pub retire-requires-clause-small : goal.retire-requires-clause-small
@@ -48,7 +48,7 @@ overflow_add-self g c =
 pub invariant_of-self-2 : goal.invariant_of-self-2
 invariant_of-self-2 g c =
     books_taken _ _ _ _ _ c.retire.new.used _ c.args.n c.in_ok-span.span c.retire.new.tops.items c.self.invariant _
-    c.held.ensures.chunks
+    c.in_ok-span.ensures.holds
     (taken g c) c.push_reserved.ensures.items c.retire.ensures.counted.used refl
 
 pub returns-clause-taken : goal.returns-clause-taken

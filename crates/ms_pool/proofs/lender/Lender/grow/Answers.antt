@@ -154,3 +154,6 @@ returns-clause-counted c =
 
 pub returns-clause-unchanged : goal.returns-clause-unchanged
 returns-clause-unchanged c = tt
+
+pub returns-clause-holds : goal.returns-clause-holds
+returns-clause-holds c = invariant_of-account c

@@ -125,3 +125,6 @@ returns-clause-took c =
       answer = sym (ap span_of c.chunk_at-chunk.ensures);
       after = c.if-not-lend.ensures.lent refl;
     })
+
+pub returns-clause-holds : goal.returns-clause-holds
+returns-clause-holds c = invariant_of-account-2 c

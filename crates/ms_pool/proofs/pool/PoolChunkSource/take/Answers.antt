@@ -1,4 +1,3 @@
-use Rattle.std.proofs.Common.{arith}
 use Rattle.ms_pool.proofs.ledger.KeepsLemmas.{keeps_rest}
 use Rattle.ms_pool.proofs.ledger.TookLemmas.{MayAsk, took_keeps, took_serves}
 use Rattle.ms_pool.proofs.pool.PoolChunkSource.take.Goals as goal
@@ -7,11 +6,11 @@ pub returns-clause-served : goal.returns-clause-served
 returns-clause-served c =
     let asks : MayAsk c.args.wanted c.args.most c.args.words = record {
       may = c.requires.asks;
-      real = omega (arith, c.number.ensures.same, c.number.ensures.below);
+      real = c.take.ensures.level;
     } in
     took_serves c.args.self.now c.args.account.now c.args.wanted c.args.most c.args.words c.take.result c.take.new.self
     c.take.new.account
-    c.take.ensures.before c.requires.served c.held.ensures.chunks asks c.take.ensures.took c.take.ensures.added
+    c.take.ensures.before c.requires.served c.take.ensures.held asks c.take.ensures.took c.take.ensures.added
     c.take.ensures.unchanged
 
 pub returns-clause-rest : goal.returns-clause-rest

@@ -3,7 +3,7 @@ use Rattle.std.specs.Prelude.{IfOk}
 use Rattle.ms_base.specs.State.{Limits}
 use Rattle.ms_pool.specs.Lending.{Grows}
 use Rattle.ms_shared.specs.SeatView.{SeatState, ServesBy}
-use Rattle.ms_shared.proofs.LockCallLemmas.{moves_at, is_call, over_lock, served_by_pool, own_times, serves_then}
+use Rattle.ms_shared.proofs.LockCallLemmas.{moves_at, is_call, on_ok, over_lock, served_by_pool, own_times, serves_then}
 use Rattle.ms_shared.proofs.LockCallLemmas.{leaves_rest, grow_raises, grew_owner}
 use Rattle.ms_shared.proofs.MovesLemmas.{kept_moves, grew_tallies}
 use Rattle.ms_shared.proofs.TellsLemmas.{grow_tells}
@@ -24,7 +24,7 @@ let_go-requires-clause-moves g c =
     (kept_moves v.knows c.args.account.now.owner c.seize-pool.result c.grow-answer.new.self
     (own_times v.knows c.args.account.now serves)
     (grew_keeps _ _ _ _ _ c.grow-answer.result _ pool.sound (served_by_pool _ v.knows _ pool.known serves)
-    c.held.ensures.chunks grew)
+    c.grow-answer.ensures.held grew)
     (grew_tallies _ _ _ _ _ c.grow-answer.result _ grew))
 
 pub returns : goal.returns
@@ -37,14 +37,15 @@ returns g c =
     let its = served_by_pool _ _ _ call.known c.requires.served in record {
       served = serves_then _ _ _ _ call c.args.account.now c.grow-answer.new.account c.requires.served
           (grew_owner _ _ _ _ _ _ result e.grown e.unchanged)
-          (grew_serves _ _ _ _ _ result _ _ call.sound its c.held.ensures.chunks e.grew e.grown e.unchanged);
+          (grew_serves _ _ _ _ _ result _ _ call.sound its c.grow-answer.ensures.held e.grew e.grown e.unchanged);
       rest = leaves_rest _ _ _ _ call c.args.account.now.owner
-          (grew_keeps _ _ _ _ _ result _ call.sound its c.held.ensures.chunks e.grew);
+          (grew_keeps _ _ _ _ _ result _ call.sound its c.grow-answer.ensures.held e.grew);
       grown = subst
           (λ (l : Limits). IfOk result
           (λ span. Grows l.policy c.args.start c.args.total c.args.may_enlarge c.args.account.now span
           c.grow-answer.new.account)) call.known.limits e.grown;
       unchanged = e.unchanged;
+      holds = on_ok result _ e.holds;
       grew = record {
         event = over_lock _ _ _ _ _ call e.grew;
         tallies = grow_raises _ _ _ _ call _ _ _ _ result e.grew;

@@ -1,9 +1,9 @@
-use Rattle.std.proofs.Common.{arith, sym, subst, ◌∙◌}
+use Rattle.std.proofs.Common.{sym, subst, ◌∙◌}
 use Rattle.std.specs.Prelude.{IfOk}
 use Rattle.ms_base.specs.State.{Limits}
 use Rattle.ms_pool.specs.Lending.{Adds}
 use Rattle.ms_shared.specs.SeatView.{SeatState, ServesBy}
-use Rattle.ms_shared.proofs.LockCallLemmas.{moves_at, is_call, over_lock, served_by_pool, own_times, serves_then}
+use Rattle.ms_shared.proofs.LockCallLemmas.{moves_at, is_call, on_ok, over_lock, served_by_pool, own_times, serves_then}
 use Rattle.ms_shared.proofs.LockCallLemmas.{leaves_rest, take_raises, took_owner}
 use Rattle.ms_shared.proofs.TellsLemmas.{take_tells}
 use Rattle.ms_shared.proofs.MovesLemmas.{kept_moves, take_tallies}
@@ -33,18 +33,19 @@ returns g c =
     c.let_go.ensures.seat (c.let_go.ensures.own ∙ pool.own) in
     let asks : MayAsk c.args.wanted c.args.most c.args.words = record {
       may = c.requires.asks;
-      real = omega (arith, c.number.ensures.same, c.number.ensures.below);
+      real = e.level;
     } in record {
       served = serves_then _ _ _ _ call c.args.account.now c.take-answer.new.account c.requires.served
           (took_owner _ _ _ _ _ _ result e.added e.unchanged)
           (took_serves _ _ _ _ _ result _ _ call.sound (served_by_pool _ _ _ call.known c.requires.served)
-          c.held.ensures.chunks asks e.took e.added e.unchanged);
+          c.take-answer.ensures.held asks e.took e.added e.unchanged);
       rest = leaves_rest _ _ _ _ call c.args.account.now.owner (took_keeps _ _ _ _ _ result _ e.took);
       added = subst
           (λ (l : Limits). IfOk result
           (λ span. Adds l.policy c.args.wanted c.args.most c.args.words c.args.account.now span
           c.take-answer.new.account)) call.known.limits e.added;
       unchanged = e.unchanged;
+      holds = on_ok result _ e.holds;
       took = record {
         event = over_lock _ _ _ _ _ call e.took;
         tallies = take_raises _ _ _ _ call _ _ _ _ result e.took;

@@ -22,7 +22,7 @@ returns g c =
       limits = limits_stay _ _ _ _ call;
       totalled =
           record {
-            event = over_lock _ _ _ _ _ call (c.totals-totals.ensures, refl);
-            own = counts_own c.seize-pool.result _ _ _ call.known c.requires c.held.ensures.chunks c.totals-totals.ensures;
+            event = over_lock _ _ _ _ _ call (c.totals-totals.ensures.sums, refl);
+            own = counts_own c.seize-pool.result _ _ _ call.known c.requires c.totals-totals.ensures.held c.totals-totals.ensures.sums;
           };
     }
